@@ -1,0 +1,4 @@
+pub mod Calendar
+pub mod Order
+pub mod Text
+pub mod Faults

@@ -1,0 +1,4 @@
+pub mod ReadLemmas
+pub mod CommandLineLemmas
+pub mod TextLemmas
+pub mod DayLemmas

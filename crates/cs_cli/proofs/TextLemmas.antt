@@ -1,0 +1,6 @@
+-- A text that is made part by part.
+use Rattle.std.proofs.Common.{◌≡◌, ℕ, List, ◌++◌, ◌∙◌, ap, append_assoc}
+
+-- two parts, one behind the other
+pub two_parts : (old mid new x y : List ℕ) → mid ≡ old ++ x → new ≡ mid ++ y → new ≡ old ++ (x ++ y)
+two_parts old mid new x y e f = f ∙ ap (λ t. t ++ y) e ∙ append_assoc old x y

@@ -1,0 +1,64 @@
+-- What `day` prints.
+use Rattle.std.specs.Prelude.{ℕ, ◌+◌, ◌-◌, ◌*◌, ◌/◌, ◌%◌, ◌==◌, List, [], ◌∷◌, ◌++◌, map, flat_map, length, codes, decimal, if◌then◌else◌, nat_le}
+use Rattle.std.specs.List.{range_with_len}
+use Rattle.cs_civil.specs.Calendar.{Kind, kind}
+use Rattle.cs_civil.specs.Text.{two_digits, day_text}
+use Rattle.cs_schedule.specs.Times.{Times, is_due}
+use Rattle.cs_schedule.specs.Minutes.{minutes_where}
+use Rattle.cs_windows.specs.declared.window.Window.{Window}
+use Rattle.cs_windows.specs.Windows.{Job, windows_on}
+
+-- `HH:MM` of a minute of a day, `24:00` at its end
+unfoldable pub clock : ℕ → List ℕ
+clock minute = two_digits (minute / 60) ++ 58 ∷ two_digits (minute % 60)
+
+-- ` the day before`, ` 2 days before`: nothing for the printed day itself
+unfoldable pub days_apart : ℕ → List ℕ → List ℕ
+days_apart days side =
+    if days == 0 then []
+    else (if days == 1 then codes " the day " ++ side
+    else 32 ∷ (decimal days ++ (codes " days " ++ side)))
+
+-- where a window begins
+unfoldable pub start_text : Window → List ℕ
+start_text w = clock w.from ++ days_apart w.day_back (codes "before")
+
+-- where a window ends, by the first minute behind it, counted from the start of the printed day
+unfoldable pub end_text : ℕ → List ℕ
+end_text end =
+    if nat_le end 1440 then clock end
+    else clock (end % 1440) ++ days_apart (end / 1440) (codes "after")
+
+-- `  23:30 the day before to 00:30`
+unfoldable pub window_text : Window → List ℕ
+window_text w = codes "  " ++ (start_text w ++ (codes " to " ++ (end_text (w.from + w.reach - 1440 * w.day_back) ++ 10 ∷ [])))
+
+-- the name of a weekday
+unfoldable pub weekday_text : ℕ → List ℕ
+weekday_text dow =
+    if dow == 0 then codes "Sun" else (if dow == 1 then codes "Mon" else (if dow == 2 then codes "Tue"
+    else (if dow == 3 then codes "Wed" else (if dow == 4 then codes "Thu" else (if dow == 5 then codes "Fri" else codes "Sat")))))
+
+-- `line 1: due 2`, where the job is due twice
+unfoldable pub due_text : ℕ → Times → Kind → List ℕ
+due_text number times day = codes "line " ++ (decimal number ++ (codes ": due " ++ (decimal (length (minutes_where (is_due times day))) ++ 10 ∷ [])))
+
+-- a job whose runs last so long
+abbrev pub job : Times → ℕ → Job Kind
+job times max = record { begins = is_due times; lasts = max }
+
+-- the printed day and the three days before it, eldest first
+unfoldable pub four_days : ℕ → List Kind
+four_days n = map kind (range_with_len (n - 3) 4)
+
+-- a command line: how often it is due, and the windows of its runs, those begun on earlier days first
+unfoldable pub job_text : ℕ → ℕ → ℕ → Times → List ℕ
+job_text n max number times = due_text number times (kind n) ++ flat_map window_text (windows_on (job times max ∷ []) (four_days n))
+
+-- a blank, the weekday's name, and the end of the line
+unfoldable pub weekday_part : ℕ → List ℕ
+weekday_part dow = 32 ∷ (weekday_text dow ++ 10 ∷ [])
+
+-- `2024-09-13 Fri`
+unfoldable pub date_line : ℕ → List ℕ
+date_line n = day_text n ++ weekday_part (kind n).dow

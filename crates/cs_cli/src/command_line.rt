@@ -1,0 +1,177 @@
+//! The words of a call.
+ghost use Rattle.std.specs.Prelude.{◌≡◌, [], IfOk, false, map, unwrap_or};
+ghost use Rattle.std.specs.Char.{is_ascii_digit};
+ghost use Rattle.std.specs.List.{list_all};
+ghost use Rattle.clap.specs.Words.{app_of, first_of, found_of, rows_of, rule_of};
+ghost use Rattle.clap.specs.declared.builder.command.Command.TheViews.{out-Command as fields_of};
+ghost use Rattle.cs_cli.specs.CommandLine.{cronsafe_app, day_app, number_of, required_rule};
+ghost use Rattle.cs_cli.specs.Asked.{DayAsked, FaultOf, Parses};
+ghost use Rattle.cs_cli.specs.declared.command_line.UsageFault.TheVariants.{OutOfMemory as no_memory};
+
+use clap::error::ErrorKind;
+use clap::{Arg, ArgMatches, Command, Error};
+use std::alloc::{AllocError, AllocFailed, Global};
+use std::convert::AsStr;
+
+/// What `day` is asked.
+#[derive(Clone, Copy, Debug)]
+pub struct DayWords<'a> {
+    /// The path of a crontab.
+    pub table: &'a str,
+    /// The text of a date.
+    pub date: &'a str,
+    /// The longest time of each job, in minutes.
+    pub max: u64,
+}
+
+/// Why words are no call.
+#[derive(Debug, Drop)]
+pub enum UsageFault {
+    /// Help is asked for: its text.
+    Help(String),
+    /// The words are no call of the program: what is wrong with them.
+    NoCall(String),
+    /// There was no room for the words or the text.
+    OutOfMemory,
+}
+
+impl From<AllocError> for UsageFault {
+    ghost from_gives = { λ _ e. e ≡ no_memory };
+
+    fn from(_error: AllocError) -> UsageFault {
+        UsageFault::OutOfMemory
+    }
+}
+
+impl<T: Drop> From<AllocFailed<T>> for UsageFault {
+    ghost from_gives = { λ _ e. e ≡ no_memory };
+
+    fn from(_error: AllocFailed<T>) -> UsageFault {
+        UsageFault::OutOfMemory
+    }
+}
+
+const ABOUT: &str = "Checks crontab(5) tables before they go live.";
+
+const DAY_ABOUT: &str =
+    "Shows when the jobs of a crontab are due on a date, and which minutes each may occupy.";
+
+const DAY_EXAMPLE: &str = "Example, a report at noon on the 13th and on each Friday:
+  printf '0 12 13 * 5 /bin/report\\n' | cronsafe day - 2024-09-13 60
+
+It prints, for each command line, how often it is due on that date, and the ranges of minutes
+that its runs may occupy: those begun on that date and those begun up to three days before.";
+
+const TABLE_HELP: &str = "Path of a crontab, or - for standard input";
+
+const DATE_HELP: &str = "The date, YYYY-MM-DD, from 1970-01-04 to 9999-12-31";
+
+const MAX_HELP: &str = "The longest time of each run in minutes, from 1 to 4320";
+
+/// An argument that stands without a name, and has to.
+fn required_arg<'a>(alloc: Global, id: &'a str, help: &'a str) -> Arg<'a>
+    ensures rule { rule_of result ≡ required_rule id.now }
+    ensures local { result.global ≡ false }
+{
+    Arg::new(alloc, id).required(true).help(help)
+}
+
+/// `day TABLE DATE MAX`.
+fn day_command<'a>(alloc: Global) -> Result<Command<'a>, AllocError>
+    ensures app { IfOk result (λ c. app_of c ≡ day_app) }
+    ensures local { IfOk result (λ c. (fields_of c).has_globals ≡ false) }
+{
+    Command::new(alloc, "day")
+        .about(DAY_ABOUT)
+        .after_help(DAY_EXAMPLE)
+        .arg(required_arg(alloc, "TABLE", TABLE_HELP))?
+        .arg(required_arg(alloc, "DATE", DATE_HELP))?
+        .arg(required_arg(alloc, "MAX", MAX_HELP))
+}
+
+/// The command line of the program.
+fn command<'a>(alloc: Global) -> Result<Command<'a>, AllocError>
+    ensures { IfOk result (λ c. app_of c ≡ cronsafe_app) }
+{
+    let cronsafe = Command::new(alloc, "cronsafe")
+        .about(ABOUT)
+        .disable_help_subcommand(true)
+        .subcommand_required(true);
+    cronsafe.subcommand(day_command(alloc)?)
+}
+
+/// What a fault of `clap` is here.
+fn fault_of(alloc: Global, error: &Error) -> UsageFault
+    ensures { FaultOf error.now result }
+{
+    let kind = error.kind();
+    if kind == ErrorKind::OutOfMemory {
+        return UsageFault::OutOfMemory;
+    }
+    match error.to_string(alloc) {
+        Ok(text) if kind == ErrorKind::DisplayHelp => UsageFault::Help(text),
+        Ok(text) => UsageFault::NoCall(text),
+        Err(_) => UsageFault::OutOfMemory,
+    }
+}
+
+/// Whether all bytes are decimal digits.
+fn has_only_digits(bytes: &[u8]) -> bool
+    ensures { result ≡ list_all is_ascii_digit bytes.now }
+{
+    bytes.iter().all(|b| b.is_ascii_digit())
+}
+
+/// The number that decimal digits write, if it fits.
+#[tactic(auto, using(crate::proofs::CommandLineLemmas::number_read, crate::proofs::CommandLineLemmas::number_refused))]
+fn digits(text: &str) -> Option<u64>
+    ensures { result ≡ number_of text.now }
+{
+    if !has_only_digits(text.as_bytes()) {
+        return None;
+    }
+    text.parse::<u64>().ok()
+}
+
+/// The first value of an argument, and nothing where it has none.
+#[tactic(auto, using(crate::proofs::CommandLineLemmas::first_value_rows))]
+fn text_of<'a>(given: &ArgMatches<'a>, id: &str) -> &'a str
+    ensures { result.now ≡ unwrap_or (first_of id.now (rows_of (found_of given.now))) [] }
+{
+    match given.get_str(id) {
+        Some(text) => text,
+        None => "",
+    }
+}
+
+/// What the entries of `day` ask.
+fn day_words<'a>(alloc: Global, given: &ArgMatches<'a>) -> Result<DayWords<'a>, UsageFault>
+    ensures { DayAsked (rows_of (found_of given.now)) result }
+{
+    let table = text_of(given, "TABLE");
+    let date = text_of(given, "DATE");
+    let max_text = text_of(given, "MAX");
+    match digits(max_text) {
+        Some(max) => Ok(DayWords { table, date, max }),
+        None => Err(UsageFault::NoCall(format!(in alloc;
+            "error: MAX is no number: {max_text}\n"
+        )?)),
+    }
+}
+
+/// What the words of a call ask, the first of which is the program's name.
+pub fn parse_words<'a, S: AsStr>(alloc: Global, words: &'a [S]) -> Result<DayWords<'a>, UsageFault>
+    ensures { Parses (map S.text words.entry.now) result }
+{
+    let matches = match command(alloc)?.try_get_matches_from(words) {
+        Ok(matches) => matches,
+        Err(error) => return Err(fault_of(alloc, &error)),
+    };
+    match matches.subcommand() {
+        Some((_, given)) => day_words(alloc, given),
+        None => Err(UsageFault::NoCall(String::from_str(
+            alloc,
+            "error: a subcommand is wanted\n",
+        )?)),
+    }
+}

@@ -1,0 +1,18 @@
+//! The program `cronsafe`, as a function of its words, its inputs and two outputs.
+#![tactic(auto)]
+
+mod command_line;
+mod day;
+mod day_text;
+mod inputs;
+mod machine;
+mod outputs;
+mod response;
+mod run;
+
+pub use command_line::{DayWords, UsageFault, parse_words};
+pub use inputs::{CannotRead, Inputs, ReadFault, read_up_to};
+pub use machine::{Machine, run_program};
+pub use outputs::{CannotWrite, Output, Printer};
+pub use response::{Response, Status};
+pub use run::{respond, run_words};

@@ -1,0 +1,67 @@
+//! What the program writes to.
+ghost use Rattle.std.specs.Prelude.{◌≡◌, ℕ, List, Option, None, Bool, true, false, OnErr, OnOk};
+ghost use Rattle.std.specs.Io.KnownBytes.{Appends};
+
+use std::io::Write;
+
+/// An output that did not take all of a text.
+#[derive(Clone, Copy, Debug, PartialEq, Eq)]
+pub struct CannotWrite;
+
+/// Standard output or standard error: texts are written to it one behind the other.
+pub trait Output {
+    /// The bytes that it holds, where they are known.
+    ghost contents: { Self → Option (List ℕ) } = { λ _. None };
+
+    /// Whether a write has failed.
+    ghost failed: { Self → Bool };
+
+    /// Writes all of a text.
+    fn print(&mut self, text: &[u8]) -> Result<(), CannotWrite>
+        ensures works { OnOk result (Appends (contents self.old) (contents self.new) text.now) }
+        ensures stays { OnOk result (failed self.new ≡ failed self.old) }
+        ensures fails { OnErr result (failed self.new ≡ true) };
+}
+
+/// A writer as an output of the program.
+#[derive(Debug, Drop)]
+pub struct Printer<W: Write> {
+    writer: W,
+    has_failed: bool,
+}
+
+impl<W: Write> Printer<W> {
+    /// The output that writes to a writer, of which no write has failed.
+    pub fn new(writer: W) -> Printer<W>
+        ensures writer { result.writer ≡ writer }
+        ensures fresh { result.has_failed ≡ false }
+    {
+        Printer {
+            writer,
+            has_failed: false,
+        }
+    }
+
+    /// The writer again.
+    pub fn into_writer(self) -> W
+        ensures { result ≡ self.writer }
+    {
+        self.writer
+    }
+}
+
+impl<W: Write> Output for Printer<W> {
+    ghost contents = { λ printer. W.contents printer.writer };
+
+    ghost failed = { λ printer. printer.has_failed };
+
+    fn print(&mut self, text: &[u8]) -> Result<(), CannotWrite> {
+        match self.writer.write_all(text) {
+            Ok(()) => Ok(()),
+            Err(_) => {
+                self.has_failed = true;
+                Err(CannotWrite)
+            }
+        }
+    }
+}

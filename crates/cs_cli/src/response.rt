@@ -1,0 +1,130 @@
+//! What a call of the program writes, and the status that it ends with.
+ghost use Rattle.std.specs.Prelude.{◌≡◌, [], IfOk, string_bytes};
+ghost use Rattle.cs_cli.specs.Response.{bad_input, cannot_read, complaint, done, status_of};
+
+use cs_civil::Bytes;
+use std::alloc::{AllocError, Global};
+use std::marker::Model;
+
+/// How a call of the program ends.
+#[derive(Clone, Copy, Debug, PartialEq, Eq)]
+pub enum Status {
+    /// What is asked was done, or help was shown.
+    Done,
+    /// The words or a file hold a fault.
+    BadInput,
+    /// The words are no call.
+    NoCall,
+    /// Memory ran out.
+    NoMemory,
+    /// A file could not be read, or standard output not written.
+    DeviceFailed,
+}
+
+impl Status {
+    /// The number that the process ends with.
+    pub fn code(self) -> u8
+        ensures { result ≡ status_of self }
+    {
+        match self {
+            Status::Done => 0,
+            Status::BadInput => 3,
+            Status::NoCall => 4,
+            Status::NoMemory => 5,
+            Status::DeviceFailed => 6,
+        }
+    }
+}
+
+/// A status, what is written to standard output, and what to standard error.
+#[derive(Debug, Drop)]
+pub struct Response {
+    ends: Status,
+    shown: Bytes,
+    told: Bytes,
+}
+
+impl Model for Response {
+    ghost use Rattle.cs_cli.specs.Response.{Ending, status_of};
+
+    ghost Value = { Ending };
+
+    ghost view = { λ r. record { status = status_of r.ends; out = r.shown; err = r.told } };
+}
+
+impl Response {
+    /// The status.
+    pub fn status(&self) -> Status
+        ensures { status_of result ≡ self.now.status }
+    {
+        self.ends
+    }
+
+    /// What is written to standard output.
+    pub fn out(&self) -> &[u8]
+        ensures { result.now ≡ self.now.out }
+    {
+        self.shown.as_slice()
+    }
+
+    /// What is written to standard error.
+    pub fn err(&self) -> &[u8]
+        ensures { result.now ≡ self.now.err }
+    {
+        self.told.as_slice()
+    }
+
+    /// What is asked was done.
+    pub(crate) fn done(alloc: Global, text: Vec<u8>) -> Response
+        ensures { result ≡ done text.items }
+    {
+        Response {
+            ends: Status::Done,
+            shown: Bytes::from_vec(text),
+            told: Bytes::new(alloc),
+        }
+    }
+
+    /// The words are no call.
+    pub(crate) fn no_call(alloc: Global, text: Vec<u8>) -> Response
+        ensures { result ≡ record { status = 4; out = []; err = text.items } }
+    {
+        Response {
+            ends: Status::NoCall,
+            shown: Bytes::new(alloc),
+            told: Bytes::from_vec(text),
+        }
+    }
+
+    /// The words or a file hold a fault.
+    pub(crate) fn bad_input(alloc: Global, fault: &str) -> Result<Response, AllocError>
+        ensures { IfOk result (λ r. r ≡ bad_input fault.now) }
+    {
+        Ok(Response {
+            ends: Status::BadInput,
+            shown: Bytes::new(alloc),
+            told: complaint(alloc, fault)?,
+        })
+    }
+
+    /// A file could not be read.
+    pub(crate) fn cannot_read(alloc: Global, path: &str) -> Result<Response, AllocError>
+        ensures { IfOk result (λ r. r ≡ cannot_read path.now) }
+    {
+        let fault = format!(in alloc; "can't read {path}")?;
+        Ok(Response {
+            ends: Status::DeviceFailed,
+            shown: Bytes::new(alloc),
+            told: complaint(alloc, fault.as_str())?,
+        })
+    }
+}
+
+/// The line of a fault.
+#[tactic(auto, unfolding(crate::specs::Response::complaint))]
+fn complaint(alloc: Global, fault: &str) -> Result<Bytes, AllocError>
+    ensures { IfOk result (λ line. line ≡ complaint fault.now) }
+{
+    let line = format!(in alloc; "cronsafe: {fault}\n")?;
+    Ok(Bytes::from_vec(line.into_bytes()))
+}

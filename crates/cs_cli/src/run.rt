@@ -1,0 +1,76 @@
+//! The program, as a function of its words, its inputs and two outputs.
+ghost use Rattle.std.specs.Prelude.{◌≡◌, ◌⊎◌, true, IfOk, map};
+ghost use Rattle.cs_cli.specs.Response.{Answers};
+ghost use Rattle.cs_cli.specs.Run.{Ends, Runs, Writes};
+ghost use Rattle.cs_cli.specs.Response.{status_of};
+
+use crate::command_line::{UsageFault, parse_words};
+use crate::day::day;
+use crate::inputs::Inputs;
+use crate::outputs::{CannotWrite, Output};
+use crate::response::{Response, Status};
+use std::alloc::{AllocError, Global};
+use std::convert::AsStr;
+
+/// The answer to the words of a call, of which the first is the program's name. The only error is
+/// want of memory.
+pub fn respond<S: AsStr, I: Inputs>(
+    alloc: Global,
+    words: &[S],
+    inputs: &mut I,
+) -> Result<Response, AllocError>
+    ensures { IfOk result (Answers (map S.text words.now) (I.left inputs.old) (I.failed inputs.old) (I.failed inputs.new)) }
+{
+    match parse_words(alloc, words) {
+        Ok(request) => day(alloc, &request, inputs),
+        Err(UsageFault::Help(text)) => Ok(Response::done(alloc, text.into_bytes())),
+        Err(UsageFault::NoCall(text)) => Ok(Response::no_call(alloc, text.into_bytes())),
+        Err(UsageFault::OutOfMemory) => Err(AllocError),
+    }
+}
+
+/// Writes a text to standard error. What it does not take is lost.
+fn tell<E: Output>(err: &mut E, text: &[u8])
+    ensures { (E.failed err.new ≡ true) ⊎ Writes text.now (record { contents = E.contents err.old; failed = E.failed err.old }) (record { contents = E.contents err.new; failed = E.failed err.new }) }
+{
+    match err.print(text) {
+        Ok(()) => {}
+        Err(CannotWrite) => {}
+    }
+}
+
+/// Writes an answer, and gives the status: that of a failed device where standard output does not
+/// take its text. What standard error does not take is lost.
+fn finish<O: Output, E: Output>(response: &Response, out: &mut O, err: &mut E) -> Status
+    ensures { Ends response.now (record { contents = O.contents out.old; failed = O.failed out.old }) (record { contents = O.contents out.new; failed = O.failed out.new })
+        (record { contents = E.contents err.old; failed = E.failed err.old }) (record { contents = E.contents err.new; failed = E.failed err.new }) (status_of result) }
+{
+    if out.print(response.out()).is_err() {
+        return Status::DeviceFailed;
+    }
+    tell(err, response.err());
+    response.status()
+}
+
+/// Runs the program on its words, of which the first is its name, and gives the status that the
+/// process ends with: 0 done or help, 3 a fault in the words or in a file, 4 no call, 5 want of
+/// memory, 6 a file that can't be read or standard output that can't be written.
+pub fn run_words<S: AsStr, I: Inputs, O: Output, E: Output>(
+    alloc: Global,
+    words: &[S],
+    inputs: &mut I,
+    out: &mut O,
+    err: &mut E,
+) -> u8
+    ensures { Runs (map S.text words.now) (I.left inputs.old) (I.failed inputs.old) (I.failed inputs.new)
+        (record { contents = O.contents out.old; failed = O.failed out.old }) (record { contents = O.contents out.new; failed = O.failed out.new })
+        (record { contents = E.contents err.old; failed = E.failed err.old }) (record { contents = E.contents err.new; failed = E.failed err.new }) result }
+{
+    match respond(alloc, words, inputs) {
+        Ok(response) => finish(&response, out, err).code(),
+        Err(AllocError) => {
+            tell(err, b"cronsafe: out of memory\n".as_slice());
+            Status::NoMemory.code()
+        }
+    }
+}

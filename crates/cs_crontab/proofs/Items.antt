@@ -1,0 +1,227 @@
+-- What is read of a field is written so, and what is written so is read.
+use Rattle.std.proofs.Common.{◌≡◌, ◌≢◌, ℕ, ◌<◌, ◌≤◌, ◌⊎◌, Bool, true, false, cond, ◌||◌, nat_eq, nat_lt, List, [], ◌∷◌, ◌++◌, length, Result, Ok, Err, refl, sym, ap, subst, ◌∙◌, arith, inl, inr}
+use Rattle.std.specs.List.{list_all}
+use Rattle.std.proofs.lemmas.Bool.{le-ltb, ltb-false, eqb-true, eqb-false, false_from_ne_true}
+use Rattle.std.proofs.lemmas.List.{append-nil, nil_from_length}
+use Rattle.cs_schedule.specs.Times.{Choice}
+use Rattle.cs_schedule.specs.Numbers.{numbers_where, is_every}
+use Rattle.cs_schedule.specs.declared.part.Part.{Part}
+use Rattle.cs_crontab.specs.declared.fault.LineFault.{LineFault}
+use Rattle.cs_crontab.specs.declared.fault.LineFault.TheVariants as faults
+use Rattle.cs_crontab.specs.Text.{front, after, is_digit, decimal, decimal_from}
+use Rattle.cs_schedule.specs.Part.{first_of, last_of}
+use Rattle.cs_crontab.specs.Format.{counted, begins_with}
+use Rattle.cs_crontab.specs.Reading.{◌>>=◌, number_at, step_at, every, end_at, range_at, numbers_at, item_at, field_of, is_nothing}
+use Rattle.cs_crontab.specs.Grammar.{Are, StopsAt, IsNumber, IsStep, IsItem, IsField}
+use Rattle.cs_crontab.proofs.Spans.{front_again, after_again, parts_joined, front_passes, after_stops}
+
+abbrev done : {A : Type 0} → A → Result A LineFault
+done x = Ok x
+
+-- the value of a step that did not fail, and of a test that did not
+pub bind_ok : {A B : Type 0} (r : Result A LineFault) (f : A → Result B LineFault) (y : B) → (r >>= f) ≡ Ok y → (x : A) × (r ≡ Ok x) × (f x ≡ Ok y)
+bind_ok (Ok x) f y e = (x, refl, e)
+bind_ok (Err d) f y e = absurd cc
+
+pub guard_ok : {A : Type 0} (b : Bool) (d : LineFault) (r : Result A LineFault) (y : A) → cond b (Err d) r ≡ Ok y → (b ≡ false) × (r ≡ Ok y)
+guard_ok true d r y e = absurd cc
+guard_ok false d r y e = (refl, e)
+
+pub ok_is : {A : Type 0} (x y : A) → done x ≡ done y → x ≡ y
+ok_is x y e = cc
+
+or_false : (a b : Bool) → (a || b) ≡ false → (a ≡ false) × (b ≡ false)
+or_false true b e = absurd cc
+or_false false b e = (refl, e)
+
+pub some_from : (xs : List ℕ) → nat_eq (length xs) 0 ≡ false → xs ≢ []
+some_from [] e eq = absurd cc
+some_from (x ∷ xs) e eq = cc
+
+pub some_to : (xs : List ℕ) → xs ≢ [] → nat_eq (length xs) 0 ≡ false
+some_to [] some = absurd (some refl)
+some_to (x ∷ xs) some = false_from_ne_true (nat_eq (length (x ∷ xs)) 0) (λ e. absurd (omega (arith, eqb-true (length (x ∷ xs)) 0 e)))
+
+-- ---- numbers
+
+pub number_takes : (part : Part) (text : List ℕ) (a : ℕ × List ℕ) → number_at part text ≡ Ok a → (x : List ℕ) × (text ≡ x ++ a.1) × IsNumber part x a.0 × StopsAt is_digit a.1
+unfolding number_at
+number_takes part text a e =
+    let digits : List ℕ = front is_digit text in
+    let n : ℕ = decimal digits in
+    let one = guard_ok (nat_eq (length digits) 0) faults.BadNumber (cond (nat_lt n (first_of part) || nat_lt (last_of part) n) (Err faults.OutOfField) (Ok (n, after is_digit text))) a e in
+    let two = guard_ok (nat_lt n (first_of part) || nat_lt (last_of part) n) faults.OutOfField (Ok (n, after is_digit text)) a one.1 in
+    let within = or_false (nat_lt n (first_of part)) (nat_lt (last_of part) n) two.0 in
+    let is : (n, after is_digit text) ≡ a = ok_is (n, after is_digit text) a two.1 in
+    let found : (x : List ℕ) × (text ≡ x ++ after is_digit text) × IsNumber part x n × StopsAt is_digit (after is_digit text) =
+    (digits, sym (parts_joined is_digit text), record { digits = (front_passes is_digit text, some_from digits one.0); value = refl; low = ltb-false n (first_of part) within.0; high = ltb-false (last_of part) n within.1 }, after_stops is_digit text)
+    in
+    subst (λ (b : ℕ × List ℕ). (x : List ℕ) × (text ≡ x ++ b.1) × IsNumber part x b.0 × StopsAt is_digit b.1) is found
+
+pub number_again : (part : Part) (x rest : List ℕ) (n : ℕ) → IsNumber part x n → StopsAt is_digit rest → number_at part (x ++ rest) ≡ Ok (n, rest)
+unfolding number_at
+number_again part x rest n is stop =
+    let low : first_of part ≤ decimal x = omega (arith, is.low, is.value) in
+    let high : decimal x ≤ last_of part = omega (arith, is.high, is.value) in
+    rw (front_again is_digit x rest is.digits.0 stop, after_again is_digit x rest is.digits.0 stop, some_to x is.digits.1, le-ltb (decimal x) (first_of part) low, le-ltb (last_of part) (decimal x) high)
+    (ap (λ (v : ℕ). done (v, rest)) (sym is.value))
+
+-- ---- steps
+
+nothing_counts : nat_eq (decimal (front is_digit [])) 0 ≡ false → ⊥
+unfolding front decimal_from
+nothing_counts e = absurd cc
+
+pub step_takes : (text : List ℕ) (n : ℕ) → step_at text ≡ Ok (n, []) → IsStep text n
+unfolding step_at
+step_takes [] n e = inl (refl, sym (ap (λ (p : ℕ × List ℕ). p.0) (ok_is (1, []) (n, []) e)))
+step_takes (b ∷ bs) n e = by_test (nat_eq b 47) refl e
+  where
+    digits : List ℕ
+    digits = front is_digit bs
+
+    by_test : (t : Bool) → nat_eq b 47 ≡ t → cond {A = Result (ℕ × List ℕ) LineFault} t (cond (nat_eq (decimal (front is_digit bs)) 0) (Err faults.BadStep) (Ok (decimal (front is_digit bs), after is_digit bs))) (Ok (1, b ∷ bs)) ≡ Ok (n, []) → IsStep (b ∷ bs) n
+    by_test true is e =
+        let g = guard_ok (nat_eq (decimal (front is_digit bs)) 0) faults.BadStep (Ok (decimal (front is_digit bs), after is_digit bs)) (n, []) e in
+        let both = ok_is (decimal (front is_digit bs), after is_digit bs) (n, []) g.1 in
+        let n-is : decimal (front is_digit bs) ≡ n = ap (λ (p : ℕ × List ℕ). p.0) both in
+        let nothing : after is_digit bs ≡ [] = ap (λ (p : ℕ × List ℕ). p.1) both in
+        let whole : front is_digit bs ≡ bs = sym (append-nil (front is_digit bs)) ∙ ap (λ (l : List ℕ). front is_digit bs ++ l) (sym nothing) ∙ parts_joined is_digit bs in
+        let positive : 0 < n = omega (arith, n-is, eqb-false (decimal (front is_digit bs)) 0 g.0) in
+        let some : bs ≢ [] = λ empty. let P : List ℕ → Type 0 = λ l. nat_eq (decimal (front is_digit l)) 0 ≡ false in nothing_counts (subst P empty g.0) in
+        inr (bs, ap (λ (c : ℕ). c ∷ bs) (eqb-true b 47 is), (ap (list_all is_digit) (sym whole) ∙ front_passes is_digit bs, some), sym n-is ∙ ap decimal whole, positive)
+    by_test false is e = absurd (cc (ap (λ (p : ℕ × List ℕ). p.1) (ok_is (1, b ∷ bs) (n, []) e)))
+
+pub step_again : (text : List ℕ) (n : ℕ) → IsStep text n → step_at text ≡ Ok (n, [])
+unfolding step_at
+step_again text n (inl none) = rw (none.0, none.1) refl
+step_again text n (inr (digits, is, are, value, positive)) =
+    let whole : front is_digit digits ≡ digits = ap (front is_digit) (sym (append-nil digits)) ∙ front_again is_digit digits [] are.0 tt in
+    let nothing : after is_digit digits ≡ [] = ap (after is_digit) (sym (append-nil digits)) ∙ after_again is_digit digits [] are.0 tt in
+    let some : nat_eq (decimal digits) 0 ≡ false = false_from_ne_true (nat_eq (decimal digits) 0) (λ e. absurd (omega (arith, value, positive, eqb-true (decimal digits) 0 e))) in
+    ap step_at is ∙ rw (whole, nothing, some) (ap (λ (v : ℕ). done (v, [])) (sym value))
+
+step_stops : (text : List ℕ) (n : ℕ) → IsStep text n → StopsAt is_digit text
+step_stops text n (inl none) = rw none.0 tt
+step_stops text n (inr (digits, is, are, value, positive)) = rw is refl
+
+-- ---- items
+
+-- `z` and a step, behind `a-`
+end_takes : (part : Part) (a : ℕ) (text : List ℕ) (ns : List ℕ) → end_at part a text ≡ Ok (ns, []) → (y step : List ℕ) × (z n : ℕ) × (text ≡ y ++ step) × IsNumber part y z × (a ≤ z) × IsStep step n × (ns ≡ numbers_where (is_every a z n))
+unfolding end_at
+end_takes part a text ns e =
+    let one = bind_ok (number_at part text) (λ z. cond (nat_lt z.0 a) (Err faults.Reversed) (every a z.0 (step_at z.1))) (ns, []) e in
+    let z = one.0 in
+    let two = guard_ok (nat_lt z.0 a) faults.Reversed (every a z.0 (step_at z.1)) (ns, []) one.2 in
+    let three = bind_ok (step_at z.1) (λ n. Ok (numbers_where (is_every a z.0 n.0), n.1)) (ns, []) two.1 in
+    let n = three.0 in
+    let both = ok_is (numbers_where (is_every a z.0 n.0), n.1) (ns, []) three.2 in
+    let nothing : n.1 ≡ [] = ap (λ (p : List ℕ × List ℕ). p.1) both in
+    let number = number_takes part text z one.1 in
+    let stepped : step_at z.1 ≡ Ok (n.0, []) = three.1 ∙ ap (λ (l : List ℕ). done (n.0, l)) nothing in
+    (number.0, z.1, z.0, n.0, number.1, number.2, ltb-false z.0 a two.0, step_takes z.1 n.0 stepped, sym (ap (λ (p : List ℕ × List ℕ). p.0) both))
+
+end_again : (part : Part) (a : ℕ) (y step : List ℕ) (z n : ℕ) → IsNumber part y z → a ≤ z → IsStep step n → end_at part a (y ++ step) ≡ Ok (numbers_where (is_every a z n), [])
+unfolding end_at
+end_again part a y step z n number ordered stepped =
+    rw (number_again part y step z number (step_stops step n stepped), le-ltb z a ordered, step_again step n stepped) refl
+
+-- what stands behind a number of an item: nothing, or `-`
+abbrev Tail : Part → ℕ → List ℕ → List ℕ → Type 0
+Tail part a text ns =
+    ((text ≡ []) × (ns ≡ numbers_where (is_every a a 1))) ⊎
+    ((y step : List ℕ) × (z n : ℕ) × (text ≡ 45 ∷ (y ++ step)) × IsNumber part y z × (a ≤ z) × IsStep step n × (ns ≡ numbers_where (is_every a z n)))
+
+single_is : (a : ℕ) (rest ns : List ℕ) → every a a (Ok (1, rest)) ≡ Ok (ns, []) → (rest ≡ []) × (ns ≡ numbers_where (is_every a a 1))
+single_is a rest ns e =
+    let both = ok_is (numbers_where (is_every a a 1), rest) (ns, []) e in
+    (ap (λ (p : List ℕ × List ℕ). p.1) both, sym (ap (λ (p : List ℕ × List ℕ). p.0) both))
+
+range_takes : (part : Part) (a : ℕ) (text ns : List ℕ) → range_at part a text ≡ Ok (ns, []) → Tail part a text ns
+unfolding range_at
+range_takes part a [] ns e = inl (refl, (single_is a [] ns e).1)
+range_takes part a (b ∷ bs) ns e = by_test (nat_eq b 45) refl e
+  where
+    by_slash : (t : Bool) → cond t (Err faults.StepOnNumber) (every a a (Ok (1, b ∷ bs))) ≡ Ok (ns, []) → Tail part a (b ∷ bs) ns
+    by_slash true e = absurd cc
+    by_slash false e = absurd (cons_not_nil (single_is a (b ∷ bs) ns e).0)
+      where
+        cons_not_nil : b ∷ bs ≡ [] → ⊥
+        cons_not_nil q = cc
+
+    by_test : (t : Bool) → nat_eq b 45 ≡ t → cond t (end_at part a bs) (cond (nat_eq b 47) (Err faults.StepOnNumber) (every a a (Ok (1, b ∷ bs)))) ≡ Ok (ns, []) → Tail part a (b ∷ bs) ns
+    by_test true is e =
+        let r = end_takes part a bs ns e in
+        inr (r.0, r.1, r.2, r.3, ap (λ (c : ℕ). c ∷ bs) (eqb-true b 45 is) ∙ ap (λ (l : List ℕ). 45 ∷ l) r.4, r.5, r.6, r.7, r.8)
+    by_test false is e = by_slash (nat_eq b 47) e
+
+pub item_takes : (part : Part) (text ns : List ℕ) → item_at part text ≡ Ok (ns, []) → IsItem part text ns
+unfolding item_at numbers_at
+item_takes part [] ns e = absurd cc
+item_takes part (b ∷ bs) ns e = by_test (nat_eq b 42) refl e
+  where
+    star : Result (List ℕ × List ℕ) LineFault
+    star = every (first_of part) (last_of part) (step_at bs)
+
+    by_test : (t : Bool) → nat_eq b 42 ≡ t → cond t (every (first_of part) (last_of part) (step_at bs)) (number_at part (b ∷ bs) >>= λ a. range_at part a.0 a.1) ≡ Ok (ns, []) → IsItem part (b ∷ bs) ns
+    by_test true is e =
+        let one = bind_ok (step_at bs) (λ n. Ok (numbers_where (is_every (first_of part) (last_of part) n.0), n.1)) (ns, []) e in
+        let n = one.0 in
+        let both = ok_is (numbers_where (is_every (first_of part) (last_of part) n.0), n.1) (ns, []) one.2 in
+        let nothing : n.1 ≡ [] = ap (λ (p : List ℕ × List ℕ). p.1) both in
+        let stepped : step_at bs ≡ Ok (n.0, []) = one.1 ∙ ap (λ (l : List ℕ). done (n.0, l)) nothing in
+        inl (bs, n.0, ap (λ (c : ℕ). c ∷ bs) (eqb-true b 42 is), step_takes bs n.0 stepped, sym (ap (λ (p : List ℕ × List ℕ). p.0) both))
+    by_test false is e =
+        let one = bind_ok (number_at part (b ∷ bs)) (λ a. range_at part a.0 a.1) (ns, []) e in
+        let a = one.0 in
+        let number = number_takes part (b ∷ bs) a one.1 in
+        elim (range_takes part a.0 a.1 ns one.2) [
+          | inl last ↦
+              let whole : b ∷ bs ≡ number.0 = number.1 ∙ ap (λ (l : List ℕ). number.0 ++ l) last.0 ∙ append-nil number.0 in
+              let P : List ℕ → Type 0 = λ l. IsNumber part l a.0 in
+              inr (inl (a.0, subst P (sym whole) number.2, last.1))
+          | inr r ↦ inr (inr (number.0, r.0, r.1, a.0, r.2, r.3, number.1 ∙ ap (λ (l : List ℕ). number.0 ++ l) r.4, number.2, r.5, r.6, r.7, r.8))
+        ]
+
+-- a number doesn't begin with `*`
+numbers_first : (part : Part) (x rest : List ℕ) → Are is_digit x → item_at part (x ++ rest) ≡ numbers_at part (x ++ rest)
+unfolding item_at
+numbers_first part [] rest are = absurd (are.1 refl)
+numbers_first part (d ∷ ds) rest are = by_digit (nat_eq d 42) refl
+  where
+    by_digit : (t : Bool) → nat_eq d 42 ≡ t → cond (nat_eq d 42) (every (first_of part) (last_of part) (step_at (ds ++ rest))) (numbers_at part (d ∷ (ds ++ rest))) ≡ numbers_at part (d ∷ (ds ++ rest))
+    by_digit true is = absurd (not_star (subst (λ (c : ℕ). list_all is_digit (c ∷ ds) ≡ true) (eqb-true d 42 is) are.0))
+      where
+        not_star : list_all is_digit (42 ∷ ds) ≡ true → ⊥
+        not_star q = cc
+    by_digit false is = rw is refl
+
+pub item_again : (part : Part) (text ns : List ℕ) → IsItem part text ns → item_at part text ≡ Ok (ns, [])
+unfolding item_at numbers_at range_at
+item_again part text ns (inl (step, n, is, stepped, value)) = ap (item_at part) is ∙ rw (step_again step n stepped) (ap (λ (l : List ℕ). done (l, [])) (sym value))
+item_again part text ns (inr (inl (a, number, value))) =
+    ap (item_at part) (sym (append-nil text)) ∙ numbers_first part text [] number.digits ∙ rw (number_again part text [] a number tt) (ap (λ (l : List ℕ). done (l, [])) (sym value))
+item_again part text ns (inr (inr (x, y, step, a, z, n, is, first, last, ordered, stepped, value))) =
+    ap (item_at part) is ∙ numbers_first part x (45 ∷ (y ++ step)) first.digits
+    ∙ rw (number_again part x (45 ∷ (y ++ step)) a first refl, end_again part a y step z n last ordered stepped) (ap (λ (l : List ℕ). done (l, [])) (sym value))
+
+-- ---- fields
+
+pub field_takes : (part : Part) (word : List ℕ) (field : Choice) → field_of part word ≡ Ok field → IsField part word field
+unfolding field_of
+field_takes part word field e =
+    let made : List ℕ → Choice = λ ns. record { star = begins_with 42 word; numbers = counted part ns } in
+    let one = bind_ok (item_at part word) (λ item. cond (is_nothing item.1) (Ok (made item.0)) (Err faults.BadNumber)) field e in
+    let item = one.0 in
+    let two = chosen (is_nothing item.1) (made item.0) field one.2 in
+    let nothing : item.1 ≡ [] = nil_from_length item.1 (eqb-true (length item.1) 0 two.0) in
+    (item.0, item_takes part word item.0 (one.1 ∙ ap (λ (l : List ℕ). done (item.0, l)) nothing), sym two.1)
+  where
+    chosen : (b : Bool) (x y : Choice) → cond b (Ok x) (Err faults.BadNumber) ≡ Ok y → (b ≡ true) × (x ≡ y)
+    chosen true x y e = (refl, ok_is x y e)
+    chosen false x y e = absurd cc
+
+pub field_again : (part : Part) (word : List ℕ) (field : Choice) → IsField part word field → field_of part word ≡ Ok field
+unfolding field_of
+field_again part word field (ns, item, value) = rw (item_again part word ns item) (ap (λ (f : Choice). done f) (sym value))

@@ -1,0 +1,10 @@
+pub mod Fronts
+pub mod Lines
+pub mod Parts
+pub mod Spans
+pub mod Items
+pub mod Whole
+pub mod Entries
+pub mod Tables
+pub mod Loop
+pub mod Fields

@@ -1,0 +1,26 @@
+use Rattle.std.proofs.Common.{◌≡◌, ◌∙◌, ap, arith, ℕ, List, Ok}
+use Rattle.cs_crontab.specs.Text.{front, is_digit, decimal}
+use Rattle.cs_crontab.proofs.Parts.{number_none, number_low, number_high, number_in, last_below, first_below}
+use Rattle.cs_crontab.proofs.field.number.Goals as goal
+
+pub returns-then-rest-text-clause-gives : goal.returns-then-rest-text-clause-gives
+returns-then-rest-text-clause-gives c = number_none c.args.part c.args.text.now (omega (arith, c.digits-value.ensures.parts))
+
+pub returns-then-value-first-clause-gives : goal.returns-then-value-first-clause-gives
+returns-then-value-first-clause-gives c =
+    let below = last_below c.args.part in
+    let ordered = first_below c.args.part in
+    number_low c.args.part c.args.text.now (omega (arith, c.digits-value.ensures.parts)) (omega (arith, c.digits-value.ensures.value, c.from-first.ensures, c.first.ensures, below, ordered))
+
+pub returns-then-last-value-clause-gives : goal.returns-then-last-value-clause-gives
+returns-then-last-value-clause-gives c =
+    let below = last_below c.args.part in
+    number_high c.args.part c.args.text.now (omega (arith, c.digits-value.ensures.parts)) (omega (arith, c.digits-value.ensures.value, c.from-last.ensures, c.last.ensures, below))
+
+pub returns-clause-gives : goal.returns-clause-gives
+returns-clause-gives c =
+    let n : ℕ = decimal (front is_digit c.args.text.now) in
+    let below = last_below c.args.part in
+    let whole : c.digits-value.result.0 ≡ n = omega (arith, c.digits-value.ensures.value, c.from-last.ensures, c.last.ensures, below) in
+    number_in c.args.part c.args.text.now (omega (arith, c.digits-value.ensures.parts)) (omega (arith, c.from-first.ensures, c.first.ensures)) (omega (arith, c.from-last.ensures, c.last.ensures))
+    ∙ ap (λ (x : ℕ × List ℕ). Ok x) (cc)

@@ -1,0 +1,125 @@
+-- The grammar of a crontab: how each value is written. Nothing here reads from left to right.
+use Rattle.std.specs.Prelude.{◌≡◌, ◌≢◌, ℕ, ◌+◌, ◌<◌, ◌≤◌, ◌⊎◌, Bool, true, false, nat_eq, List, [], ◌∷◌, ◌++◌, length, Result, Ok, Err}
+use Rattle.std.specs.List.{list_all, list_any}
+use Rattle.cs_schedule.specs.Times.{Choice, Times}
+use Rattle.cs_schedule.specs.Numbers.{numbers_where, is_every}
+use Rattle.cs_schedule.specs.Part.{first_of, last_of}
+use Rattle.cs_schedule.specs.declared.part.Part.{Part}
+use Rattle.cs_schedule.specs.declared.part.Part.TheVariants.{Minute, Hour, Dom, Month, Dow}
+use Rattle.cs_crontab.specs.declared.fault.LineFault.{LineFault}
+use Rattle.cs_crontab.specs.declared.fault.LineFault.TheVariants as faults
+use Rattle.cs_crontab.specs.declared.fault.TableFault.{TableFault}
+use Rattle.cs_crontab.specs.declared.fault.TableFault.TheVariants as table_faults
+use Rattle.cs_crontab.specs.declared.table.When.{When}
+use Rattle.cs_crontab.specs.declared.table.When.TheVariants.{At, Reboot}
+use Rattle.cs_crontab.specs.declared.limits.TheConstants.{MAX_TABLE, MAX_LINE, MAX_COMMANDS}
+use Rattle.cs_crontab.specs.Crontab.{Entry, Nothing, Command, Table, no_lines, with_entry}
+use Rattle.cs_crontab.specs.Format.{counted, begins_with}
+use Rattle.cs_crontab.specs.Text.{lines_of, is_blank, is_solid, is_digit, decimal}
+use Rattle.cs_crontab.specs.Reading.{line_of}
+
+-- each byte passes the test, and there is one
+abbrev pub Are : (ℕ → Bool) → List ℕ → Type 0
+Are test text = (list_all test text ≡ true) × (text ≢ [])
+
+-- the first byte, where there is one, fails the test
+abbrev pub StopsAt : (ℕ → Bool) → List ℕ → Type 0
+StopsAt test [] = Unit {0}
+StopsAt test (b ∷ bs) = test b ≡ false
+
+-- digits that stand for a number of the field
+pub record IsNumber (part : Part) (text : List ℕ) (n : ℕ) : Type 0 where
+  pub digits : Are is_digit text
+  pub value : n ≡ decimal text
+  pub low : first_of part ≤ n
+  pub high : n ≤ last_of part
+
+-- nothing, which is a step of 1, or `/` and digits
+abbrev pub IsStep : List ℕ → ℕ → Type 0
+IsStep text n = ((text ≡ []) × (n ≡ 1)) ⊎ ((digits : List ℕ) × (text ≡ 47 ∷ digits) × Are is_digit digits × (n ≡ decimal digits) × (0 < n))
+
+-- `*` and a step
+abbrev pub IsStar : Part → List ℕ → List ℕ → Type 0
+IsStar part text numbers = (step : List ℕ) × (n : ℕ) × (text ≡ 42 ∷ step) × IsStep step n × (numbers ≡ numbers_where (is_every (first_of part) (last_of part) n))
+
+-- `a`
+abbrev pub IsSingle : Part → List ℕ → List ℕ → Type 0
+IsSingle part text numbers = (a : ℕ) × IsNumber part text a × (numbers ≡ numbers_where (is_every a a 1))
+
+-- `a-z` and a step
+abbrev pub IsRange : Part → List ℕ → List ℕ → Type 0
+IsRange part text numbers =
+    (x y step : List ℕ) × (a z n : ℕ) × (text ≡ x ++ (45 ∷ (y ++ step))) × IsNumber part x a × IsNumber part y z × (a ≤ z) × IsStep step n
+    × (numbers ≡ numbers_where (is_every a z n))
+
+abbrev pub IsItem : Part → List ℕ → List ℕ → Type 0
+IsItem part text numbers = IsStar part text numbers ⊎ (IsSingle part text numbers ⊎ IsRange part text numbers)
+
+abbrev pub IsField : Part → List ℕ → Choice → Type 0
+IsField part text field = (numbers : List ℕ) × IsItem part text numbers × (field ≡ record { star = begins_with 42 text; numbers = counted part numbers })
+
+-- The fields are written in text, each with blanks behind it, and then the command.
+abbrev pub AreFields : List (Part × Choice) → List ℕ → List ℕ → Type 0
+AreFields [] text command = text ≡ command
+AreFields (f ∷ fs) text command =
+    (word gap rest : List ℕ) × (text ≡ word ++ (gap ++ rest)) × Are is_solid word × Are is_blank gap × StopsAt is_blank rest × IsField f.0 word f.1 × AreFields fs rest command
+
+abbrev pub fields_of : Times → List (Part × Choice)
+fields_of s = (Minute, s.minute) ∷ (Hour, s.hour) ∷ (Dom, s.dom) ∷ (Month, s.month) ∷ (Dow, s.dow) ∷ []
+
+-- what a text without leading blanks says: nothing where it is empty or a comment
+abbrev pub TextSays : List ℕ → Entry → Type 0
+TextSays text Nothing = (text ≡ []) ⊎ ((comment : List ℕ) × (text ≡ 35 ∷ comment))
+TextSays text (Command (At schedule) command) = AreFields (fields_of schedule) text command × (command ≢ [])
+TextSays text (Command Reboot command) = ⊥
+
+-- what a line says: blanks at its front mean nothing
+pub record Says (line : List ℕ) (entry : Entry) : Type 0 where
+  pub short : length line ≤ MAX_LINE
+  pub clean : list_any (λ b. nat_eq b 0) line ≡ false
+  pub indent : List ℕ
+  pub text : List ℕ
+  pub parts : line ≡ indent ++ text
+  pub blank : list_all is_blank indent ≡ true
+  pub says : TextSays text entry
+
+-- what lines say, of which the first has this number
+abbrev pub AreLines : ℕ → List (List ℕ) → Table → Type 0
+AreLines number [] table = table ≡ no_lines
+AreLines number (line ∷ lines) table = (entry : Entry) × (others : Table) × Says line entry × AreLines (number + 1) lines others × (table ≡ with_entry number entry others)
+
+-- the text is written as this table
+pub record IsCrontab (text : List ℕ) (table : Table) : Type 0 where
+  pub short : length text ≤ MAX_TABLE
+  pub few : length table.lines ≤ MAX_COMMANDS
+  pub lines : AreLines 1 (lines_of text) table
+
+-- The first line with a fault: the lines before it have none. The command above the limit is a fault after all others of its line.
+pub record IsFirstFault (text : List ℕ) (number : ℕ) (fault : LineFault) : Type 0 where
+  pub short : length text ≤ MAX_TABLE
+  pub before : List (List ℕ)
+  pub line : List ℕ
+  pub later : List (List ℕ)
+  pub parts : lines_of text ≡ before ++ (line ∷ later)
+  pub place : number ≡ length before + 1
+  pub table : Table
+  pub fine : AreLines 1 before table
+  pub few : length table.lines ≤ MAX_COMMANDS
+  pub stands : (line_of line ≡ Err fault) ⊎ ((fault ≡ faults.TooManyJobs) × (length table.lines ≡ MAX_COMMANDS) × ((when : When) × (command : List ℕ) × Says line (Command when command)))
+
+-- the text's fault, with the number of its line: the table's own length has line 0
+abbrev pub IsFault : List ℕ → ℕ → LineFault → Type 0
+IsFault text number fault = ((MAX_TABLE < length text) × (number ≡ 0) × (fault ≡ faults.TooLong)) ⊎ IsFirstFault text number fault
+
+-- A text is written as a table, or it has a fault.
+abbrev pub Meaning : Type 0
+Meaning = Result Table (ℕ × LineFault)
+
+abbrev pub Means : List ℕ → Meaning → Type 0
+Means text (Ok table) = IsCrontab text table
+Means text (Err fault) = IsFault text fault.0 fault.1
+
+-- What a call answered is what the text means, unless memory ran out.
+abbrev pub IsFaultOf : List ℕ → TableFault → Type 0
+IsFaultOf text table_faults.OutOfMemory = Unit {0}
+IsFaultOf text (table_faults.At line fault) = IsFault text line fault

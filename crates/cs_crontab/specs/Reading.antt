@@ -1,0 +1,122 @@
+-- What the fields of a line denote, or their first fault from left to right.
+use Rattle.std.specs.Prelude.{◌≡◌, ℕ, Bool, ◌||◌, ◌==◌, nat_lt, if◌then◌else◌, List, [], ◌∷◌, min, length, Result, Ok, Err}
+use Rattle.std.specs.List.{list_any}
+use Rattle.cs_schedule.specs.Times.{Choice, Times}
+use Rattle.cs_schedule.specs.Numbers.{numbers_where, is_every}
+use Rattle.cs_schedule.specs.Part.{first_of, last_of}
+use Rattle.cs_crontab.specs.declared.table.When.TheVariants.{At}
+use Rattle.cs_crontab.specs.declared.limits.TheConstants.{MAX_LINE}
+use Rattle.cs_schedule.specs.declared.part.Part.{Part}
+use Rattle.cs_schedule.specs.declared.part.Part.TheVariants.{Minute, Hour, Dom, Month, Dow}
+use Rattle.cs_crontab.specs.declared.fault.LineFault.{LineFault}
+use Rattle.cs_crontab.specs.declared.fault.LineFault.TheVariants as faults
+use Rattle.cs_crontab.specs.Crontab.{Entry, Nothing, Command}
+use Rattle.cs_crontab.specs.Format.{counted, begins_with, begins_setting}
+use Rattle.cs_crontab.specs.Text.{front, after, is_blank, is_solid, is_digit, decimal}
+
+infixl 10 ◌>>=◌
+abbrev pub ◌>>=◌ : {A B : Type 0} → Result A LineFault → (A → Result B LineFault) → Result B LineFault
+(Ok x) >>= f = f x
+(Err e) >>= f = Err e
+
+-- What a function answered, seen by view, is what reading gives.
+abbrev pub Gives : {X Y : Type 0} → (X → Y) → Result X LineFault → Result Y LineFault → Type 0
+Gives view (Ok x) read = read ≡ Ok (view x)
+Gives view (Err e) read = read ≡ Err e
+
+-- A part of an item is its value and what follows it.
+
+-- a number of the field
+unfoldable pub number_at : Part → List ℕ → Result (ℕ × List ℕ) LineFault
+number_at part text =
+    let digits = front is_digit text in
+    if length digits == 0 then Err faults.BadNumber
+    else if nat_lt (decimal digits) (first_of part) || nat_lt (last_of part) (decimal digits) then Err faults.OutOfField
+    else Ok (decimal digits, after is_digit text)
+
+-- `/n` with n at least 1, or nothing, which is `/1`
+unfoldable pub step_at : List ℕ → Result (ℕ × List ℕ) LineFault
+step_at [] = Ok (1, [])
+step_at (b ∷ bs) =
+    if b == 47 then if decimal (front is_digit bs) == 0 then Err faults.BadStep else Ok (decimal (front is_digit bs), after is_digit bs)
+    else Ok (1, b ∷ bs)
+
+-- a step as the code keeps it: one above 1,000 selects no other numbers than 1,000 does
+abbrev pub cut_step : Result (ℕ × List ℕ) LineFault → Result (ℕ × List ℕ) LineFault
+cut_step step = do
+  n ← step
+  Ok (min 1000 n.0, n.1)
+
+-- every n-th number from a to z, by the step that was read
+abbrev pub every : ℕ → ℕ → Result (ℕ × List ℕ) LineFault → Result (List ℕ × List ℕ) LineFault
+every a z step = do
+  n ← step
+  Ok (numbers_where (is_every a z n.0), n.1)
+
+-- `z` or `z/n`, behind `a-`
+unfoldable pub end_at : Part → ℕ → List ℕ → Result (List ℕ × List ℕ) LineFault
+end_at part a text = do
+  z ← number_at part text
+  if nat_lt z.0 a then Err faults.Reversed else every a z.0 (step_at z.1)
+
+-- `-z`, `-z/n` or nothing, behind `a`
+unfoldable pub range_at : Part → ℕ → List ℕ → Result (List ℕ × List ℕ) LineFault
+range_at part a [] = every a a (Ok (1, []))
+range_at part a (b ∷ bs) =
+    if b == 45 then end_at part a bs
+    else if b == 47 then Err faults.StepOnNumber
+    else every a a (Ok (1, b ∷ bs))
+
+-- `a`, `a-z` or `a-z/n`
+unfoldable pub numbers_at : Part → List ℕ → Result (List ℕ × List ℕ) LineFault
+numbers_at part text = do
+  a ← number_at part text
+  range_at part a.0 a.1
+
+-- `*`, `*/n`, or what begins with a number
+unfoldable pub item_at : Part → List ℕ → Result (List ℕ × List ℕ) LineFault
+item_at part [] = Err faults.BadNumber
+item_at part (b ∷ bs) = if b == 42 then every (first_of part) (last_of part) (step_at bs) else numbers_at part (b ∷ bs)
+
+abbrev pub is_nothing : List ℕ → Bool
+is_nothing text = length text == 0
+
+-- a field, which is all of its word
+unfoldable pub field_of : Part → List ℕ → Result Choice LineFault
+field_of part word = do
+  item ← item_at part word
+  if is_nothing item.1 then Ok (record { star = begins_with 42 word; numbers = counted part item.0 }) else Err faults.BadNumber
+
+-- the field that the next word is, and the text from the word after it on
+unfoldable pub field_at : Part → List ℕ → Result (Choice × List ℕ) LineFault
+field_at part text =
+    if is_nothing text then Err faults.MissingField else do
+      field ← field_of part (front is_solid text)
+      Ok (field, after is_blank (after is_solid text))
+
+-- the five fields, and the text behind them
+unfoldable pub schedule_at : List ℕ → Result (Times × List ℕ) LineFault
+schedule_at text = do
+  minute ← field_at Minute text
+  hour ← field_at Hour minute.1
+  dom ← field_at Dom hour.1
+  month ← field_at Month dom.1
+  dow ← field_at Dow month.1
+  Ok (record { minute = minute.0; hour = hour.0; dom = dom.0; month = month.0; dow = dow.0 }, dow.1)
+
+-- what a line without its leading blanks says
+unfoldable pub entry_of : List ℕ → Result Entry LineFault
+entry_of [] = Ok Nothing
+entry_of (b ∷ bs) =
+    if b == 35 then Ok Nothing
+    else if b == 64 then Err faults.UnknownWord
+    else if begins_setting b then Err faults.BadSetting
+    else do
+      found ← schedule_at (b ∷ bs)
+      if is_nothing found.1 then Err faults.NoCommand else Ok (Command (At found.0) found.1)
+
+unfoldable pub line_of : List ℕ → Result Entry LineFault
+line_of line =
+    if nat_lt MAX_LINE (length line) then Err faults.TooLong
+    else if list_any (λ b. b == 0) line then Err faults.NulByte
+    else entry_of (after is_blank line)

@@ -1,0 +1,82 @@
+ghost use Rattle.std.specs.Prelude.{◌≡◌, ◌==◌};
+ghost use Rattle.std.specs.List.{list_any};
+ghost use Rattle.cs_crontab.specs.Format.{begins_setting};
+ghost use Rattle.cs_crontab.specs.Reading.{Gives, schedule_at, entry_of, line_of};
+ghost use Rattle.cs_crontab.specs.Seen.{entry_seen};
+
+use crate::fault::LineFault;
+use crate::field::next_field;
+use crate::limits::MAX_LINE;
+use crate::table::When;
+use crate::text::skip_blanks;
+use cs_schedule::{Part, Schedule};
+
+/// What a line says.
+pub(crate) enum Entry<'a> {
+    /// Nothing: it is empty, blank or a comment.
+    Nothing,
+    /// A command, and when it is started.
+    Command(When, &'a [u8]),
+}
+
+/// The five fields, and the text behind them.
+#[tactic(auto, unfolding(crate::specs::Reading::schedule_at))]
+fn schedule(text: &[u8]) -> Result<(Schedule, &[u8]), LineFault>
+    ensures { Gives (λ x. (x.0, x.1.now)) result (schedule_at text.now) }
+{
+    let (minute, text) = next_field(Part::Minute, text)?;
+    let (hour, text) = next_field(Part::Hour, text)?;
+    let (dom, text) = next_field(Part::Dom, text)?;
+    let (month, text) = next_field(Part::Month, text)?;
+    let (dow, text) = next_field(Part::Dow, text)?;
+    Ok((Schedule::new(minute, hour, dom, month, dow), text))
+}
+
+fn begins_setting(byte: u8) -> bool
+    ensures { result ≡ begins_setting byte }
+{
+    b'A' <= byte && byte <= b'Z'
+        || b'a' <= byte && byte <= b'z'
+        || byte == b'_'
+        || byte == b'"'
+        || byte == b'\''
+}
+
+/// What a line without its leading blanks says.
+#[tactic(auto, unfolding(crate::specs::Reading::entry_of))]
+fn read_entry(text: &[u8]) -> Result<Entry<'_>, LineFault>
+    ensures { Gives entry_seen result (entry_of text.now) }
+{
+    match text {
+        [] | [b'#', ..] => Ok(Entry::Nothing),
+        [b'@', ..] => Err(LineFault::UnknownWord),
+        [first, ..] if begins_setting(*first) => Err(LineFault::BadSetting),
+        _ => {
+            let (schedule, command) = schedule(text)?;
+            if command.is_empty() {
+                return Err(LineFault::NoCommand);
+            }
+            Ok(Entry::Command(When::At(schedule), command))
+        }
+    }
+}
+
+fn has_nul(line: &[u8]) -> bool
+    ensures { result ≡ list_any (λ b. b == 0) line.now }
+{
+    line.iter().any(|byte| *byte == 0)
+}
+
+/// What a line says.
+#[tactic(auto, unfolding(crate::specs::Reading::line_of))]
+pub(crate) fn read_line(line: &[u8]) -> Result<Entry<'_>, LineFault>
+    ensures { Gives entry_seen result (line_of line.now) }
+{
+    if line.len() > MAX_LINE {
+        return Err(LineFault::TooLong);
+    }
+    if has_nul(line) {
+        return Err(LineFault::NulByte);
+    }
+    read_entry(skip_blanks(line))
+}

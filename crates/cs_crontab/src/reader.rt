@@ -1,0 +1,107 @@
+ghost use Rattle.std.specs.Prelude.{◌≡◌, ◌≤◌, length, IfOk, IfErr};
+ghost use Rattle.cs_crontab.specs.declared.limits.TheConstants.{MAX_TABLE};
+ghost use Rattle.cs_crontab.specs.Crontab.{no_lines};
+ghost use Rattle.cs_crontab.specs.Reading.{line_of};
+ghost use Rattle.cs_crontab.specs.Text.{lines_of};
+ghost use Rattle.cs_crontab.specs.Grammar.{IsCrontab, IsFaultOf, Means, Meaning};
+ghost use Rattle.cs_crontab.specs.Table.{Denotes, added, lines_from, crontab_of};
+
+use crate::fault::{LineFault, TableFault};
+use crate::limits::{MAX_COMMANDS, MAX_TABLE};
+use crate::line::{Entry, read_line};
+use crate::table::{Crontab, Line};
+use crate::text::first_line;
+use cs_civil::{Bytes, Sequence};
+use std::alloc::Global;
+use std::marker::Model;
+
+/// The lines that were read so far.
+#[derive(Drop)]
+struct Draft {
+    commands: Sequence<Line>,
+}
+
+impl Model for Draft {
+    ghost use Rattle.cs_crontab.specs.Crontab.{Table};
+
+    ghost Value = { Table };
+
+    ghost view = { λ a. record { lines = a.commands } };
+}
+
+impl Draft {
+    fn new(alloc: Global) -> Draft
+        ensures { result ≡ no_lines }
+    {
+        Draft {
+            commands: Sequence::new(alloc),
+        }
+    }
+
+    /// Adds what the line with that number says.
+    fn add(&mut self, alloc: Global, number: u32, line: &[u8]) -> Result<(), TableFault>
+        ensures { Denotes (λ _. self.new) (added number self.old (line_of line.now)) result }
+    {
+        let fault = match read_line(line) {
+            Err(fault) => fault,
+            Ok(Entry::Nothing) => return Ok(()),
+            Ok(Entry::Command(when, command)) => {
+                if self.commands.len() < MAX_COMMANDS {
+                    let command = Bytes::from_slice(alloc, command)?;
+                    self.commands.push(Line::new(number, when, command))?;
+                    return Ok(());
+                }
+                LineFault::TooManyJobs
+            }
+        };
+        Err(TableFault::At {
+            line: number,
+            fault,
+        })
+    }
+}
+
+fn read_lines(alloc: Global, bytes: &[u8]) -> Result<Draft, TableFault>
+    requires { length bytes.now ≤ MAX_TABLE }
+    ensures { Denotes (λ draft. draft) (lines_from 1 no_lines (lines_of bytes.now)) result }
+{
+    let mut draft = Draft::new(alloc);
+    let mut number = 0u32;
+    let mut rest = bytes;
+    while !rest.is_empty() {
+        let (line, after) = first_line(rest);
+        number += 1;
+        draft.add(alloc, number, line)?;
+        rest = after;
+    }
+    Ok(draft)
+}
+
+#[tactic(auto, unfolding(crate::specs::Table::crontab_of))]
+fn read_table(alloc: Global, bytes: &[u8]) -> Result<Crontab, TableFault>
+    ensures { Denotes (λ table. table) (crontab_of bytes.now) result }
+{
+    if bytes.len() > MAX_TABLE {
+        return Err(TableFault::At {
+            line: 0,
+            fault: LineFault::TooLong,
+        });
+    }
+    let draft = read_lines(alloc, bytes)?;
+    Ok(Crontab::new(draft.commands))
+}
+
+/// The crontab that the bytes denote (crontab(5)), or its first fault.
+///
+/// Faults come in the order of [`LineFault`]'s numbers where they are of the table's or a line's length and of a zero byte,
+/// then from left to right in the line; that of too many commands comes after all others of its line.
+pub fn read_crontab(alloc: Global, bytes: &[u8]) -> Result<Crontab, TableFault>
+    // What is read is written so.
+    ensures table { IfOk result (IsCrontab bytes.now) }
+    // A fault stands there, and is the first; nothing is said of want of memory.
+    ensures fault { IfErr result (IsFaultOf bytes.now) }
+    // The bytes mean nothing else, and what they mean is answered unless memory runs out.
+    ensures only { (meaning : Meaning) → Means bytes.now meaning → Denotes (λ table. table) meaning result }
+{
+    read_table(alloc, bytes)
+}

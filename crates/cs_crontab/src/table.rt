@@ -1,0 +1,100 @@
+ghost use Rattle.std.specs.Prelude.{◌≡◌, ◌<◌, ◌≤◌, length, AllPairs};
+ghost use Rattle.cs_crontab.specs.declared.limits.TheConstants.{MAX_COMMANDS};
+
+use cs_civil::{Bytes, Sequence};
+use cs_schedule::Schedule;
+use std::marker::Model;
+
+/// When a command is started.
+#[derive(Debug, Drop)]
+pub enum When {
+    /// At the minutes that match five time and date fields.
+    At(Schedule),
+    /// Once, at startup: `@reboot`.
+    Reboot,
+}
+
+/// A command line of a crontab.
+#[derive(Debug, Drop)]
+pub struct Line {
+    place: u32,
+    time: When,
+    text: Bytes,
+}
+
+impl Model for Line {
+    ghost use Rattle.cs_crontab.specs.Crontab.{CommandLine};
+
+    ghost Value = { CommandLine };
+
+    ghost view = { λ a. record { number = a.place; when = a.time; command = a.text } };
+}
+
+impl Line {
+    pub(crate) fn new(number: u32, when: When, command: Bytes) -> Line
+        ensures { result ≡ record { number = number; when = when; command = command } }
+    {
+        Line {
+            place: number,
+            time: when,
+            text: command,
+        }
+    }
+
+    /// The number of the line, counted from 1 over all lines of the table.
+    pub fn number(&self) -> u32
+        ensures { result ≡ self.now.number }
+    {
+        self.place
+    }
+
+    /// When its command is started.
+    pub fn when(&self) -> &When
+        ensures { result.now ≡ self.now.when }
+    {
+        &self.time
+    }
+
+    /// The command, to the end of the line, trailing blanks included.
+    pub fn command(&self) -> &[u8]
+        ensures { result.now ≡ self.now.command }
+    {
+        self.text.as_slice()
+    }
+}
+
+/// What a crontab says: at most [`MAX_COMMANDS`](crate::MAX_COMMANDS) command lines, in order of their numbers.
+#[derive(Debug, Drop)]
+pub struct Crontab {
+    commands: Sequence<Line>,
+}
+
+impl Model for Crontab {
+    ghost use Rattle.cs_crontab.specs.Crontab.{Table, IsOrdered};
+
+    ghost Value = { Table };
+
+    ghost view = { λ a. record { lines = a.commands } };
+
+    ghost invariant = { λ a. IsOrdered (record { lines = a.commands }) };
+}
+
+impl Crontab {
+    ghost use Rattle.cs_crontab.specs.Crontab.{IsOrdered};
+
+    pub(crate) fn new(lines: Sequence<Line>) -> Crontab
+        requires { IsOrdered (record { lines = lines }) }
+        ensures { result ≡ record { lines = lines } }
+    {
+        Crontab { commands: lines }
+    }
+
+    /// The command lines, in order of their numbers.
+    pub fn lines(&self) -> &[Line]
+        ensures value { result.now ≡ self.now.lines }
+        ensures few { length self.now.lines ≤ MAX_COMMANDS }
+        ensures rising { AllPairs (λ x y. x.number < y.number) self.now.lines }
+    {
+        self.commands.as_slice()
+    }
+}

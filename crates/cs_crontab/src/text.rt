@@ -1,0 +1,70 @@
+ghost use Rattle.std.specs.Prelude.{◌≡◌, ◌≢◌, [], ◌∷◌, ◌<◌, ◌+◌, length, min, IfSome, IfNone};
+ghost use Rattle.cs_crontab.specs.Text.{is_blank, is_solid, is_digit, front, after, lines_of, decimal};
+
+use memchr::memchr;
+
+fn is_blank(byte: u8) -> bool
+    ensures { result ≡ is_blank byte }
+{
+    byte == b' ' || byte == b'\t'
+}
+
+fn is_digit(byte: u8) -> bool
+    ensures { result ≡ is_digit byte }
+{
+    b'0' <= byte && byte <= b'9'
+}
+
+/// The text without the blanks at its front.
+#[tactic(auto, unfolding(crate::specs::Text::after))]
+pub(crate) fn skip_blanks(text: &[u8]) -> &[u8]
+    ensures { result.now ≡ after is_blank text.now }
+{
+    let mut rest = text;
+    while let [first, others @ ..] = rest {
+        if !is_blank(*first) {
+            return rest;
+        }
+        rest = others;
+    }
+    rest
+}
+
+/// The word at the front, and what follows it.
+pub(crate) fn word(text: &[u8]) -> (&[u8], &[u8])
+    ensures word { result.0.now ≡ front is_solid text.now }
+    ensures rest { result.1.now ≡ after is_solid text.now }
+{
+    let mut len = 0;
+    while len < text.len() && !is_blank(text[len]) {
+        len += 1;
+    }
+    text.split_at(len)
+}
+
+/// The number that the digits at the front stand for, or 1,000 where it is larger, and what follows them.
+pub(crate) fn digits(text: &[u8]) -> (u16, &[u8])
+    ensures value { result.0 ≡ min 1000 (decimal (front is_digit text.now)) }
+    ensures rest { result.1.now ≡ after is_digit text.now }
+    ensures parts { length (front is_digit text.now) + length result.1.now ≡ length text.now }
+{
+    let mut value = 0u16;
+    let mut len = 0;
+    while len < text.len() && is_digit(text[len]) {
+        value = (value * 10 + u16::from(text[len] - b'0')).min(1000);
+        len += 1;
+    }
+    (value, &text[len..])
+}
+
+/// The first line, and what follows its newline.
+pub(crate) fn first_line(text: &[u8]) -> (&[u8], &[u8])
+    requires { text.now ≢ [] }
+    ensures line { lines_of text.now ≡ result.0.now ∷ lines_of result.1.now }
+    ensures shorter { length result.1.now < length text.now }
+{
+    match memchr(b'\n', text) {
+        Some(at) => (&text[..at], &text[at + 1..]),
+        None => (text, &text[text.len()..]),
+    }
+}

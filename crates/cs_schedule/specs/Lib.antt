@@ -1,0 +1,4 @@
+pub mod Numbers
+pub mod Part
+pub mod Times
+pub mod Minutes

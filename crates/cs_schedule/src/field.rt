@@ -1,0 +1,63 @@
+ghost use Rattle.std.specs.Prelude.{◌≡◌};
+ghost use Rattle.cs_schedule.specs.Numbers.{has};
+
+use crate::numbers::Numbers;
+use std::marker::Model;
+
+/// What one time and date field says: its numbers, and whether its text begins with `*`, so that it restricts nothing.
+#[derive(Debug, Drop)]
+pub struct Field {
+    starred: bool,
+    chosen: Numbers,
+}
+
+impl Model for Field {
+    ghost use Rattle.cs_schedule.specs.Times.{Choice};
+
+    ghost Value = { Choice };
+
+    ghost view = { λ a. record { star = a.starred; numbers = a.chosen } };
+}
+
+impl Field {
+    /// The field with these numbers.
+    pub fn new(star: bool, numbers: Numbers) -> Field
+        ensures { result ≡ record { star = star; numbers = numbers } }
+    {
+        Field {
+            starred: star,
+            chosen: numbers,
+        }
+    }
+
+    /// The same field once more.
+    pub fn copy(&self) -> Field
+        ensures { result ≡ self.now }
+    {
+        Field {
+            starred: self.starred,
+            chosen: self.chosen.copy(),
+        }
+    }
+
+    /// Whether its text begins with `*`.
+    pub fn begins_with_star(&self) -> bool
+        ensures { result ≡ self.now.star }
+    {
+        self.starred
+    }
+
+    /// Its numbers.
+    pub fn numbers(&self) -> &Numbers
+        ensures { result.now ≡ self.now.numbers }
+    {
+        &self.chosen
+    }
+
+    /// Whether the number is one of its numbers.
+    pub fn has(&self, number: u8) -> bool
+        ensures { result ≡ has self.now.numbers number }
+    {
+        self.chosen.has(number)
+    }
+}

@@ -1,0 +1,16 @@
+//! When a command of a crontab is due.
+#![tactic(auto)]
+
+mod field;
+mod minute_set;
+mod numbers;
+mod part;
+mod schedule;
+#[cfg(test)]
+mod tests;
+
+pub use field::Field;
+pub use minute_set::{MinuteSet, Minutes};
+pub use numbers::Numbers;
+pub use part::Part;
+pub use schedule::Schedule;

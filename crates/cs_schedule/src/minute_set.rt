@@ -1,0 +1,158 @@
+ghost use Rattle.std.specs.Prelude.{◌≡◌, ◌<◌, ◌≤◌, ◌+◌, ◌/◌, ◌%◌, [], ℕ, length, nat_eq, ◌||◌, ◌&&◌, ◌↔◌, IsTrue};
+ghost use Rattle.std.specs.Iterator.{YieldsFirst, item_count};
+ghost use Rattle.cs_schedule.specs.Numbers.{has};
+ghost use Rattle.cs_schedule.specs.Minutes.{is_in, minutes_in, minutes_where};
+
+use crate::numbers::Numbers;
+use std::iter::FusedIterator;
+use std::marker::Model;
+
+/// Minutes of a day, from 0 for 00:00 to 1,439 for 23:59, as one bit each.
+#[derive(Debug, Drop)]
+pub struct MinuteSet {
+    words: [u64; 23],
+}
+
+impl Model for MinuteSet {
+    ghost use Rattle.std.specs.Prelude.{ℕ, List};
+    ghost use Rattle.cs_schedule.specs.Minutes.{minutes_in};
+
+    ghost Value = { List ℕ };
+
+    ghost view = { λ s. minutes_in s.words };
+}
+
+/// Sets the bit of a minute.
+fn put(words: &mut [u64; 23], minute: u16)
+    requires { minute < 1440 }
+    ensures { (k : ℕ) → k < 1440 → is_in words.new k ≡ (nat_eq k minute || is_in words.old k) }
+{
+    let place = (minute / 64) as usize;
+    words[place] |= 1u64 << (minute % 64);
+}
+
+/// Sets the bits of the minutes of an hour that are among the numbers.
+fn put_hour(words: &mut [u64; 23], hour: u8, numbers: &Numbers)
+    requires { hour < 24 }
+    ensures { (k : ℕ) → k < 1440 → is_in words.new k ≡ (is_in words.old k || (nat_eq (k / 60) hour && has numbers.now (k % 60))) }
+{
+    for minute in 0..60 {
+        if numbers.has(minute) {
+            put(words, u16::from(hour) * 60 + u16::from(minute));
+        }
+    }
+}
+
+fn is_set(words: &[u64; 23], minute: u16) -> bool
+    requires { minute < 1440 }
+    ensures { result ≡ is_in words.now minute }
+{
+    (words[(minute / 64) as usize] >> (minute % 64)) & 1 == 1
+}
+
+impl MinuteSet {
+    /// No minute.
+    pub fn new() -> MinuteSet
+        ensures { result ≡ [] }
+    {
+        MinuteSet { words: [0; 23] }
+    }
+
+    /// The minutes of a day whose hour is one of the hours and whose minute of the hour is one of the minutes.
+    pub(crate) fn of_times(hours: &Numbers, minutes: &Numbers) -> MinuteSet
+        ensures { result ≡ minutes_where (λ k. has hours.now (k / 60) && has minutes.now (k % 60)) }
+    {
+        let mut words = [0u64; 23];
+        for hour in 0..24 {
+            if hours.has(hour) {
+                put_hour(&mut words, hour, minutes);
+            }
+        }
+        MinuteSet { words }
+    }
+
+    /// Adds a minute of the day.
+    pub fn insert(&mut self, minute: u16)
+        requires { minute < 1440 }
+        ensures { self.new ≡ minutes_where (λ k. nat_eq k minute || has self.old k) }
+    {
+        put(&mut self.words, minute);
+    }
+
+    /// Whether the minute is one of the set: false from 1,440 on.
+    pub fn has(&self, minute: u16) -> bool
+        ensures { result ≡ has self.now minute }
+    {
+        minute < 1_440 && is_set(&self.words, minute)
+    }
+
+    /// How many minutes there are, at most 1,440.
+    pub fn len(&self) -> usize
+        ensures value { result ≡ length self.now }
+        ensures within { result ≤ 1440 }
+    {
+        let mut count = 0;
+        for minute in 0..1440 {
+            if is_set(&self.words, minute) {
+                count += 1;
+            }
+        }
+        count
+    }
+
+    /// Whether there are none.
+    pub fn is_empty(&self) -> bool
+        ensures { IsTrue result ↔ (self.now ≡ []) }
+    {
+        self.len() == 0
+    }
+
+    /// The minutes, rising.
+    pub fn iter(&self) -> Minutes
+        ensures { result ≡ self.now }
+    {
+        Minutes {
+            words: self.words,
+            next: 0,
+        }
+    }
+}
+
+/// The minutes of a set that are left, rising.
+#[derive(Debug, Drop)]
+pub struct Minutes {
+    words: [u64; 23],
+    next: u16,
+}
+
+impl Model for Minutes {
+    ghost use Rattle.std.specs.Prelude.{ℕ, List, ◌≤◌};
+    ghost use Rattle.cs_schedule.specs.Minutes.{minutes_from};
+
+    ghost Value = { List ℕ };
+
+    ghost view = { λ s. minutes_from s.words s.next };
+
+    ghost invariant = { λ s. s.next ≤ 1440 };
+}
+
+impl Iterator for Minutes {
+    type Item = u16;
+
+    ghost next_gives = { YieldsFirst (λ s. s) };
+
+    ghost remaining = { item_count (λ s. s) };
+
+    fn next(&mut self) -> Option<u16> {
+        while self.next < 1440 {
+            let minute = self.next;
+            self.next += 1;
+            if is_set(&self.words, minute) {
+                return Some(minute);
+            }
+        }
+        None
+    }
+}
+
+impl FusedIterator for Minutes {}

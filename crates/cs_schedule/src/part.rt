@@ -1,0 +1,43 @@
+ghost use Rattle.std.specs.Prelude.{◌≡◌};
+
+/// Which of the five time and date fields of a command line (crontab(5)).
+#[derive(Clone, Copy, Debug, PartialEq, Eq)]
+pub enum Part {
+    /// The minute of the hour.
+    Minute,
+    /// The hour of the day.
+    Hour,
+    /// The day of the month.
+    Dom,
+    /// The month of the year.
+    Month,
+    /// The day of the week.
+    Dow,
+}
+
+impl Part {
+    ghost use Rattle.cs_schedule.specs.Part.{first_of, last_of};
+
+    /// The first number that may be written.
+    pub fn first(self) -> u8
+        ensures { result ≡ first_of self }
+    {
+        match self {
+            Part::Minute | Part::Hour | Part::Dow => 0,
+            Part::Dom | Part::Month => 1,
+        }
+    }
+
+    /// The last number that may be written. Of weekdays that is 7, another Sunday.
+    pub fn last(self) -> u8
+        ensures { result ≡ last_of self }
+    {
+        match self {
+            Part::Minute => 59,
+            Part::Hour => 23,
+            Part::Dom => 31,
+            Part::Month => 12,
+            Part::Dow => 7,
+        }
+    }
+}

@@ -1,0 +1,111 @@
+ghost use Rattle.std.specs.Prelude.{◌≡◌, ◌/◌, ◌%◌};
+ghost use Rattle.cs_civil.specs.Calendar.{kind};
+ghost use Rattle.cs_schedule.specs.declared.part.Part.TheVariants as part;
+ghost use Rattle.cs_schedule.specs.Minutes.{minutes_where};
+ghost use Rattle.cs_schedule.specs.Times.{IsWithin, choice_of, is_day_due, is_due};
+
+use crate::field::Field;
+use crate::minute_set::MinuteSet;
+use crate::part::Part;
+use cs_civil::{DayKind, Minute, kind_of};
+use std::marker::Model;
+
+/// When a command is due: the five time and date fields of crontab(5), each with numbers of its range alone.
+#[derive(Debug, Drop)]
+pub struct Schedule {
+    minute: Field,
+    hour: Field,
+    dom: Field,
+    month: Field,
+    dow: Field,
+}
+
+impl Model for Schedule {
+    ghost use Rattle.cs_schedule.specs.Times.{Times, IsPossible};
+
+    ghost Value = { Times };
+
+    ghost view = { λ s. record { minute = s.minute; hour = s.hour; dom = s.dom; month = s.month; dow = s.dow } };
+
+    ghost invariant = { λ s. IsPossible (record { minute = s.minute; hour = s.hour; dom = s.dom; month = s.month; dow = s.dow }) };
+}
+
+impl Schedule {
+    /// The schedule with these fields.
+    pub fn new(minute: Field, hour: Field, dom: Field, month: Field, dow: Field) -> Schedule
+        requires minute { IsWithin part.Minute minute.numbers }
+        requires hour { IsWithin part.Hour hour.numbers }
+        requires dom { IsWithin part.Dom dom.numbers }
+        requires month { IsWithin part.Month month.numbers }
+        requires dow { IsWithin part.Dow dow.numbers }
+        ensures { result ≡ record { minute = minute; hour = hour; dom = dom; month = month; dow = dow } }
+    {
+        Schedule {
+            minute,
+            hour,
+            dom,
+            month,
+            dow,
+        }
+    }
+
+    /// The same schedule once more.
+    pub fn copy(&self) -> Schedule
+        ensures { result ≡ self.now }
+    {
+        Schedule {
+            minute: self.minute.copy(),
+            hour: self.hour.copy(),
+            dom: self.dom.copy(),
+            month: self.month.copy(),
+            dow: self.dow.copy(),
+        }
+    }
+
+    /// One of its fields, whose numbers lie in their range, weekdays from 0 for Sunday to 6.
+    pub fn field(&self, part: Part) -> &Field
+        ensures value { result.now ≡ choice_of self.now part }
+        ensures within { IsWithin part (choice_of self.now part).numbers }
+    {
+        match part {
+            Part::Minute => &self.minute,
+            Part::Hour => &self.hour,
+            Part::Dom => &self.dom,
+            Part::Month => &self.month,
+            Part::Dow => &self.dow,
+        }
+    }
+
+    fn matches_day(&self, kind: DayKind) -> bool
+        ensures { result ≡ is_day_due self.now kind }
+    {
+        let dom = self.dom.has(kind.dom());
+        let dow = self.dow.has(kind.dow());
+        let day = if self.dom.begins_with_star() || self.dow.begins_with_star() {
+            dom && dow
+        } else {
+            dom || dow
+        };
+        self.month.has(kind.month()) && day
+    }
+
+    /// Whether the command is due at this minute.
+    pub fn matches(&self, minute: Minute) -> bool
+        ensures { result ≡ is_due self.now (kind (minute / 1440)) (minute % 1440) }
+    {
+        let time = minute.minute_of_day();
+        self.hour.has((time / 60) as u8)
+            && self.minute.has((time % 60) as u8)
+            && self.matches_day(kind_of(minute.day()))
+    }
+
+    /// The minutes at which the command is due on a day of this kind.
+    pub fn minutes_of(&self, kind: DayKind) -> MinuteSet
+        ensures { result ≡ minutes_where (is_due self.now kind) }
+    {
+        if !self.matches_day(kind) {
+            return MinuteSet::new();
+        }
+        MinuteSet::of_times(self.hour.numbers(), self.minute.numbers())
+    }
+}

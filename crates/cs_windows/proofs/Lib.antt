@@ -1,0 +1,5 @@
+pub mod Exact
+pub mod Members
+pub mod Minutes
+pub mod Rising
+pub mod Starts

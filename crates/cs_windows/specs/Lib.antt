@@ -1,0 +1,4 @@
+pub mod Window
+pub mod Windows
+pub mod Occupied
+pub mod Starter

@@ -1,0 +1,12 @@
+-- What a job occupies, as its windows see it.
+use Rattle.std.specs.Prelude.{◌==◌}
+use Rattle.cs_civil.specs.Calendar.{Kind}
+use Rattle.cs_schedule.specs.Times.{is_due}
+use Rattle.cs_windows.specs.declared.occupied.Occupied.{Occupied}
+use Rattle.cs_windows.specs.declared.occupied.Occupied.TheVariants.{Cron, CatchUp}
+use Rattle.cs_windows.specs.Windows.{Job}
+
+-- a window begins where the schedule is due, or at one minute of every day
+abbrev pub job_of : Occupied → Job Kind
+job_of (Cron schedule reach) = record { begins = is_due schedule; lasts = reach }
+job_of (CatchUp from reach) = record { begins = λ day minute. minute == from; lasts = reach }

@@ -1,0 +1,98 @@
+ghost use Rattle.std.specs.Prelude.{◌≡◌, ℕ, [], ◌∷◌, ◌<◌, ◌≤◌, ◌++◌, ◌↔◌, IfNone, IfOk, IfSome, OnOk, Contains, filter, length, map};
+ghost use Rattle.cs_windows.specs.Occupied.{job_of};
+ghost use Rattle.cs_windows.specs.Starter.{begun, begun_by};
+ghost use Rattle.cs_windows.specs.Window.{IsRising, reaches};
+ghost use Rattle.cs_windows.specs.Windows.{IsWindowOn, starting, windows_from, windows_on};
+
+use crate::occupied::Occupied;
+use crate::starter::Starter;
+use crate::window::{MINUTES_OF_DAY, Window, may_reach};
+use cs_civil::DayKind;
+use std::alloc::{AllocError, Global};
+
+/// The starts of a job on a day, if one of its windows may reach the day so many days after it.
+fn starter_on(job: usize, own: &Occupied, day: DayKind, day_back: u8) -> Option<Starter>
+    ensures kept { IfSome result (λ starter. (minute : ℕ) → minute < MINUTES_OF_DAY → begun minute (starter ∷ []) ≡ begun_by day day_back minute job (job_of own.now)) }
+    ensures left_out { IfNone result ((minute : ℕ) → minute < MINUTES_OF_DAY → begun_by day day_back minute job (job_of own.now) ≡ []) }
+{
+    let reach = own.reach();
+    if !may_reach(day_back, reach) {
+        return None;
+    }
+    Some(Starter {
+        job,
+        day_back,
+        reach,
+        starts: own.starts_on(day),
+    })
+}
+
+/// The starts of each job of which a window may begin on this day and reach the day so many days after it.
+fn starters_on(
+    alloc: Global,
+    occupied: &[Occupied],
+    day: DayKind,
+    day_back: u8,
+) -> Result<Vec<Starter>, AllocError>
+    ensures { IfOk result (λ starters. (minute : ℕ) → minute < MINUTES_OF_DAY → begun minute starters.items ≡ filter reaches (starting day day_back minute 0 (map job_of occupied.now))) }
+{
+    let mut starters = Vec::new(alloc);
+    for (job, own) in occupied.iter().enumerate() {
+        if let Some(starter) = starter_on(job, own, day, day_back) {
+            starters.push(starter)?;
+        }
+    }
+    Ok(starters)
+}
+
+/// Adds the windows that begin at one minute and reach the day looked at.
+fn add_begun(windows: &mut Vec<Window>, starters: &[Starter], minute: u16) -> Result<(), AllocError>
+    ensures { OnOk result (windows.new.items ≡ windows.old.items ++ begun minute starters.now) }
+{
+    for starter in starters {
+        if let Some(window) = starter.window_at(minute) {
+            windows.push(window)?;
+        }
+    }
+    Ok(())
+}
+
+/// Adds the windows that begin on a day and reach the day so many days after it.
+fn add_day(
+    alloc: Global,
+    windows: &mut Vec<Window>,
+    occupied: &[Occupied],
+    day: DayKind,
+    day_back: u8,
+) -> Result<(), AllocError>
+    ensures { OnOk result (windows.new.items ≡ windows.old.items ++ filter reaches (windows_from (map job_of occupied.now) day day_back)) }
+{
+    let starters = starters_on(alloc, occupied, day, day_back)?;
+    for minute in 0..MINUTES_OF_DAY {
+        add_begun(windows, &starters, minute)?;
+    }
+    Ok(())
+}
+
+/// The windows begun on successive days, given eldest first, that reach the last of them, by start, then job.
+///
+/// A window that began days before is listed as long as it reaches the last day: midnight is no cut. A window of
+/// reach 0 holds no minute and is in no list. Four days are enough for each reach up to three days (4,320 minutes),
+/// and for a longer one those windows are missing that began before the first day given. The only error is want of memory.
+pub fn windows_on(
+    alloc: Global,
+    occupied: &[Occupied],
+    days: &[DayKind],
+) -> Result<Vec<Window>, AllocError>
+    requires { length days.now ≤ 4 }
+    ensures listed { IfOk result (λ windows. windows.items ≡ windows_on (map job_of occupied.now) days.now) }
+    ensures rising { IfOk result (λ windows. IsRising windows.items) }
+    ensures exact { IfOk result (λ windows. (w : Window) → Contains windows.items w ↔ IsWindowOn (map job_of occupied.now) days.now w) }
+{
+    let mut windows = Vec::new(alloc);
+    for (place, day) in days.iter().enumerate() {
+        let day_back = (days.len() - 1 - place) as u8;
+        add_day(alloc, &mut windows, occupied, *day, day_back)?;
+    }
+    Ok(windows)
+}

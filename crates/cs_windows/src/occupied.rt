@@ -1,0 +1,52 @@
+ghost use Rattle.std.specs.Prelude.{◌≡◌, ◌==◌, ℕ, ◌<◌};
+ghost use Rattle.cs_schedule.specs.Numbers.{has};
+
+use crate::window::MINUTES_OF_DAY;
+use cs_civil::DayKind;
+use cs_schedule::{MinuteSet, Schedule};
+
+/// What a job occupies: the windows in which its runs may go on.
+///
+/// A window of a cron job begins at each minute at which its schedule is due (`crontab(5)`), and lasts `reach`
+/// minutes. The catch-up window of an anacron job (`anacron(8)`) begins at minute `from` of every day, and lasts
+/// `reach` minutes; where `from` is no minute of a day, there is none.
+#[derive(Debug, Drop)]
+pub enum Occupied {
+    Cron { schedule: Schedule, reach: u16 },
+    CatchUp { from: u16, reach: u16 },
+}
+
+impl Occupied {
+    ghost use Rattle.cs_windows.specs.Occupied.{job_of};
+
+    /// How many minutes a window lasts.
+    pub(crate) fn reach(&self) -> u16
+        ensures { result ≡ (job_of self.now).lasts }
+    {
+        match self {
+            Occupied::Cron { schedule: _, reach } => *reach,
+            Occupied::CatchUp { from: _, reach } => *reach,
+        }
+    }
+
+    /// The minutes of the day at which a window begins.
+    pub(crate) fn starts_on(&self, day: DayKind) -> MinuteSet
+        ensures { (minute : ℕ) → minute < MINUTES_OF_DAY → has result minute ≡ (job_of self.now).begins day minute }
+    {
+        match self {
+            Occupied::Cron { schedule, reach: _ } => schedule.minutes_of(day),
+            Occupied::CatchUp { from, reach: _ } => minutes_at(*from),
+        }
+    }
+}
+
+/// The set of one minute, or of none where it is no minute of a day.
+fn minutes_at(from: u16) -> MinuteSet
+    ensures { (minute : ℕ) → minute < MINUTES_OF_DAY → has result minute ≡ (minute == from) }
+{
+    let mut minutes = MinuteSet::new();
+    if from < MINUTES_OF_DAY {
+        minutes.insert(from);
+    }
+    minutes
+}

@@ -1,0 +1,104 @@
+use crate::{Occupied, Window, touches, windows_on};
+use cs_civil::DayKind;
+use cs_schedule::{Field, Numbers, Schedule};
+use std::test::Fail;
+
+/// `30 23 * * *`
+fn late() -> Schedule {
+    Schedule::new(
+        Field::new(false, Numbers::every(30, 30, 1)),
+        Field::new(false, Numbers::every(23, 23, 1)),
+        Field::new(true, Numbers::every(1, 31, 1)),
+        Field::new(true, Numbers::every(1, 12, 1)),
+        Field::new(true, Numbers::every(0, 6, 1)),
+    )
+}
+
+/// `0 12 * * 0`
+fn sunday_noon() -> Schedule {
+    Schedule::new(
+        Field::new(false, Numbers::every(0, 0, 1)),
+        Field::new(false, Numbers::every(12, 12, 1)),
+        Field::new(true, Numbers::every(1, 31, 1)),
+        Field::new(true, Numbers::every(1, 12, 1)),
+        Field::new(false, Numbers::every(0, 0, 1)),
+    )
+}
+
+fn window(job: usize, day_back: u8, from: u16, reach: u16) -> Window {
+    Window {
+        job,
+        day_back,
+        from,
+        reach,
+    }
+}
+
+/// Each job's windows of 15 to 18 September 2024, a Sunday to a Wednesday, that reach the Wednesday.
+#[test]
+fn windows_of_a_wednesday(rt: HostRuntime) -> Result<(), Fail> {
+    let days = [
+        DayKind::new(9, 15, 0).expect(&rt, "a kind"),
+        DayKind::new(9, 16, 1).expect(&rt, "a kind"),
+        DayKind::new(9, 17, 2).expect(&rt, "a kind"),
+        DayKind::new(9, 18, 3).expect(&rt, "a kind"),
+    ];
+    let mut occupied = Vec::new(rt.alloc());
+    for reach in [30, 31, 60, 0] {
+        occupied.push(Occupied::Cron {
+            schedule: late(),
+            reach,
+        })?;
+    }
+    for reach in [3_600, 3_601, 4_320] {
+        occupied.push(Occupied::Cron {
+            schedule: sunday_noon(),
+            reach,
+        })?;
+    }
+    occupied.push(Occupied::CatchUp {
+        from: 1_410,
+        reach: 40,
+    })?;
+    occupied.push(Occupied::CatchUp {
+        from: 1_440,
+        reach: 40,
+    })?;
+    let windows = windows_on(rt.alloc(), &occupied, &days)?;
+    let wanted = [
+        window(5, 3, 720, 3_601),
+        window(6, 3, 720, 4_320),
+        window(1, 1, 1_410, 31),
+        window(2, 1, 1_410, 60),
+        window(7, 1, 1_410, 40),
+        window(0, 0, 1_410, 30),
+        window(1, 0, 1_410, 31),
+        window(2, 0, 1_410, 60),
+        window(7, 0, 1_410, 40),
+    ];
+    assert_eq!(rt; windows.as_slice(), wanted.as_slice());
+    Ok(())
+}
+
+#[test]
+fn minutes_that_a_window_holds(rt: HostRuntime) {
+    for (day_back, from, reach, lo, hi, held) in [
+        (0, 1_410, 60, 0, 1_410, false),
+        (0, 1_410, 60, 0, 1_411, true),
+        (0, 1_410, 60, 1_469, 1_500, true),
+        (0, 1_410, 60, 1_470, 1_500, false),
+        (1, 1_410, 60, 29, 1_440, true),
+        (1, 1_410, 60, 30, 1_440, false),
+        (3, 720, 4_320, 719, 720, true),
+        (3, 720, 4_320, 720, 721, false),
+        (0, 0, 100, 50, 50, false),
+        (0, 0, 100, 60, 50, false),
+        (0, 720, 0, 0, 1_440, false),
+    ] {
+        assert_eq!(rt;
+            touches(&window(0, day_back, from, reach), lo, hi),
+            held,
+            "{day_back} {from} {reach} {lo} {hi}"
+        );
+    }
+}

@@ -141,7 +141,7 @@ pub(crate) fn add_job(
     let due = schedule.minutes_of(kind_of(day)).len();
     text.extend_from_slice(format!(in alloc; "line {number}: due {due}\n")?.as_bytes())?;
     let occupied = [Occupied::Cron {
-        schedule: schedule.copy(),
+        schedule,
         reach: max,
     }];
     let windows = windows_on(alloc, occupied.as_slice(), four_days(day).as_slice())?;

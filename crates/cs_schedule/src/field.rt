@@ -30,16 +30,6 @@ impl Field {
         }
     }
 
-    /// The same field once more.
-    pub fn copy(&self) -> Field
-        ensures { result ≡ self.now }
-    {
-        Field {
-            starred: self.starred,
-            chosen: self.chosen.copy(),
-        }
-    }
-
     /// Whether its text begins with `*`.
     pub fn begins_with_star(&self) -> bool
         ensures { result ≡ self.now.star }

@@ -49,19 +49,6 @@ impl Schedule {
         }
     }
 
-    /// The same schedule once more.
-    pub fn copy(&self) -> Schedule
-        ensures { result ≡ self.now }
-    {
-        Schedule {
-            minute: self.minute.copy(),
-            hour: self.hour.copy(),
-            dom: self.dom.copy(),
-            month: self.month.copy(),
-            dow: self.dow.copy(),
-        }
-    }
-
     /// One of its fields, whose numbers lie in their range, weekdays from 0 for Sunday to 6.
     pub fn field(&self, part: Part) -> &Field
         ensures value { result.now ≡ choice_of self.now part }

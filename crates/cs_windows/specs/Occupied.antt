@@ -8,5 +8,5 @@ use Rattle.cs_windows.specs.Windows.{Job}
 
 -- a window begins where the schedule is due, or at one minute of every day
 abbrev pub job_of : Occupied → Job Kind
-job_of (Cron schedule reach) = record { begins = is_due schedule; lasts = reach }
+job_of (Cron schedule reach) = record { begins = is_due schedule.now; lasts = reach }
 job_of (CatchUp from reach) = record { begins = λ day minute. minute == from; lasts = reach }

@@ -11,7 +11,7 @@ use cs_civil::DayKind;
 use std::alloc::{AllocError, Global};
 
 /// The starts of a job on a day, if one of its windows may reach the day so many days after it.
-fn starter_on(job: usize, own: &Occupied, day: DayKind, day_back: u8) -> Option<Starter>
+fn starter_on(job: usize, own: &Occupied<'_>, day: DayKind, day_back: u8) -> Option<Starter>
     ensures kept { IfSome result (λ starter. (minute : ℕ) → minute < MINUTES_OF_DAY → begun minute (starter ∷ []) ≡ begun_by day day_back minute job (job_of own.now)) }
     ensures left_out { IfNone result ((minute : ℕ) → minute < MINUTES_OF_DAY → begun_by day day_back minute job (job_of own.now) ≡ []) }
 {
@@ -30,7 +30,7 @@ fn starter_on(job: usize, own: &Occupied, day: DayKind, day_back: u8) -> Option<
 /// The starts of each job of which a window may begin on this day and reach the day so many days after it.
 fn starters_on(
     alloc: Global,
-    occupied: &[Occupied],
+    occupied: &[Occupied<'_>],
     day: DayKind,
     day_back: u8,
 ) -> Result<Vec<Starter>, AllocError>
@@ -61,7 +61,7 @@ fn add_begun(windows: &mut Vec<Window>, starters: &[Starter], minute: u16) -> Re
 fn add_day(
     alloc: Global,
     windows: &mut Vec<Window>,
-    occupied: &[Occupied],
+    occupied: &[Occupied<'_>],
     day: DayKind,
     day_back: u8,
 ) -> Result<(), AllocError>
@@ -81,7 +81,7 @@ fn add_day(
 /// and for a longer one those windows are missing that began before the first day given. The only error is want of memory.
 pub fn windows_on(
     alloc: Global,
-    occupied: &[Occupied],
+    occupied: &[Occupied<'_>],
     days: &[DayKind],
 ) -> Result<Vec<Window>, AllocError>
     requires { length days.now ≤ 4 }

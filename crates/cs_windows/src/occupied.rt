@@ -10,13 +10,13 @@ use cs_schedule::{MinuteSet, Schedule};
 /// A window of a cron job begins at each minute at which its schedule is due (`crontab(5)`), and lasts `reach`
 /// minutes. The catch-up window of an anacron job (`anacron(8)`) begins at minute `from` of every day, and lasts
 /// `reach` minutes; where `from` is no minute of a day, there is none.
-#[derive(Debug, Drop)]
-pub enum Occupied {
-    Cron { schedule: Schedule, reach: u16 },
+#[derive(Clone, Copy, Debug)]
+pub enum Occupied<'a> {
+    Cron { schedule: &'a Schedule, reach: u16 },
     CatchUp { from: u16, reach: u16 },
 }
 
-impl Occupied {
+impl Occupied<'_> {
     ghost use Rattle.cs_windows.specs.Occupied.{job_of};
 
     /// How many minutes a window lasts.

@@ -43,16 +43,18 @@ fn windows_of_a_wednesday(rt: HostRuntime) -> Result<(), Fail> {
         DayKind::new(9, 17, 2).expect(&rt, "a kind"),
         DayKind::new(9, 18, 3).expect(&rt, "a kind"),
     ];
+    let late = late();
+    let noon = sunday_noon();
     let mut occupied = Vec::new(rt.alloc());
     for reach in [30, 31, 60, 0] {
         occupied.push(Occupied::Cron {
-            schedule: late(),
+            schedule: &late,
             reach,
         })?;
     }
     for reach in [3_600, 3_601, 4_320] {
         occupied.push(Occupied::Cron {
-            schedule: sunday_noon(),
+            schedule: &noon,
             reach,
         })?;
     }

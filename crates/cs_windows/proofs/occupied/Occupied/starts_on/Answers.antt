@@ -9,4 +9,4 @@ use Rattle.cs_windows.proofs.occupied.Occupied.starts_on.Goals as goal
 pub returns-in-Cron : goal.returns-in-Cron
 returns-in-Cron c minute lt =
     ap (λ (minutes : List ℕ). has minutes minute) c.minutes_of.ensures
-    ∙ (has-minutes_where (is_due c.in-Cron.schedule c.args.day) minute lt ∙ ap (λ (o : Occupied). (job_of o).begins c.args.day minute) (sym c.in-Cron.is))
+    ∙ (has-minutes_where (is_due c.in-Cron.schedule.now c.args.day) minute lt ∙ ap (λ (o : Occupied). (job_of o).begins c.args.day minute) (sym c.in-Cron.is))

@@ -1,5 +1,5 @@
 //! The program over the machine's words, files and streams.
-ghost use Rattle.std.specs.Prelude.{◌≡◌, ◌≤◌, IfSome, length};
+ghost use Rattle.std.specs.Prelude.{◌≡◌, ◌≤◌, IfSome, false, length};
 
 use crate::inputs::{CannotRead, Inputs};
 use crate::outputs::{Output, Printer};
@@ -19,8 +19,10 @@ pub struct Machine<'a, R: Files + Input> {
 }
 
 impl<'a, R: Files + Input> Machine<'a, R> {
-    /// The machine's inputs, of which none is open.
-    pub fn new(rt: &'a R) -> Machine<'a, R> {
+    /// The machine's inputs, of which none is open and no read has failed.
+    pub fn new(rt: &'a R) -> Machine<'a, R>
+        ensures { result.has_failed ≡ false }
+    {
         Machine {
             rt,
             open: None,

@@ -1,0 +1,17 @@
+//! The worked examples of the program, each a call of it over files in memory.
+#![tactic(auto)]
+
+#[cfg(test)]
+mod day_rows;
+#[cfg(test)]
+mod device_rows;
+#[cfg(test)]
+mod fault_rows;
+#[cfg(test)]
+mod files;
+#[cfg(test)]
+mod memory_rows;
+#[cfg(test)]
+mod runs;
+#[cfg(test)]
+mod usage_rows;

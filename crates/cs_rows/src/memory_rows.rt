@@ -1,0 +1,103 @@
+//! Refused growths of memory.
+use crate::files::{Files, readable};
+use cs_cli::{Printer, run_words};
+use short_memory::Hoard;
+use std::alloc::Global;
+use std::io::Cursor;
+use std::process::Abort;
+use std::test::Fail;
+
+/// The status of a call, and how much it wrote to the two outputs.
+fn run_in(alloc: Global, words: &[&str], out: &mut [u8], err: &mut [u8]) -> (u8, u64, u64) {
+    let files = [
+        readable("jobs", b"0 12 13 * 5 /bin/report\n"),
+        readable("bad", b"60 * * * * a"),
+    ];
+    let mut inputs = Files::new(files.as_slice(), 4_096);
+    let mut out = Printer::new(Cursor::new(out));
+    let mut err = Printer::new(Cursor::new(err));
+    let status = run_words(alloc, words, &mut inputs, &mut out, &mut err);
+    (
+        status,
+        out.into_writer().position(),
+        err.into_writer().position(),
+    )
+}
+
+/// Runs a call again and again, with hardly any memory at first and 16 bytes more each time. Each
+/// run has to say that memory ran out and nothing else, until one has another answer: this one,
+/// and how often memory ran out before.
+fn run_starved<R: Abort + AllocGlobal>(
+    rt: &R,
+    words: &[&str],
+    out: &mut [u8],
+    err: &mut [u8],
+) -> Result<((u8, u64, u64), u32), Fail> {
+    let mut hoard = Hoard::new(rt.alloc(), 16)?;
+    hoard.take_rest();
+    for refusals in 0..60_000 {
+        let (status, shown, told) = run_in(rt.alloc(), words, out, err);
+        if status != 5 {
+            hoard.free_all();
+            return Ok(((status, shown, told), refusals));
+        }
+        assert!(rt;
+            shown == 0 && told == 24 && err.starts_with(b"cronsafe: out of memory\n".as_slice())
+        );
+        assert!(rt; hoard.give_back(16));
+    }
+    Ok(((5, 0, 0), 60_000))
+}
+
+/// Words, and the answer to them: a status and two texts.
+type Row<'a> = (&'a [&'a str], u8, &'a [u8], &'a [u8]);
+
+#[test]
+fn refused_growths(rt: HostRuntime) -> Result<(), Fail> {
+    let rows: [Row<'_>; 3] = [
+        (
+            &["cronsafe", "day", "jobs", "2024-09-13", "60"],
+            0,
+            b"2024-09-13 Fri\nline 1: due 1\n  12:00 to 13:00\n",
+            b"",
+        ),
+        (
+            &["cronsafe", "day", "bad", "2024-09-13", "60"],
+            3,
+            b"",
+            b"cronsafe: crontab line 1: 7 OutOfField\n",
+        ),
+        (
+            &["cronsafe", "day", "absent", "2024-09-13", "60"],
+            6,
+            b"",
+            b"cronsafe: can't read absent\n",
+        ),
+    ];
+    for (words, status, shown, told) in rows {
+        let mut out = [0u8; 200];
+        let mut err = [0u8; 200];
+        let (answer, refusals) = run_starved(&rt, words, out.as_mut_slice(), err.as_mut_slice())?;
+        assert_eq!(rt; answer, (status, shown.len() as u64, told.len() as u64));
+        assert!(rt; out.starts_with(shown) && err.starts_with(told));
+        assert!(rt; refusals > 100, "{refusals} refusals at {status}");
+    }
+    Ok(())
+}
+
+#[test]
+fn refused_growths_of_help(rt: HostRuntime) -> Result<(), Fail> {
+    let rows: [(&[&str], u8); 2] = [
+        (&["cronsafe", "day", "--help"], 0),
+        (&["cronsafe", "day", "jobs", "2024-09-13", "x"], 4),
+    ];
+    for (words, want) in rows {
+        let mut out = [0u8; 4_096];
+        let mut err = [0u8; 4_096];
+        let (answer, refusals) = run_starved(&rt, words, out.as_mut_slice(), err.as_mut_slice())?;
+        let (status, shown, told) = answer;
+        assert!(rt; status == want && (shown == 0) == (want == 4) && (told == 0) == (want == 0));
+        assert!(rt; refusals > 100, "{refusals} refusals at {want}");
+    }
+    Ok(())
+}

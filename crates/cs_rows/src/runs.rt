@@ -1,0 +1,47 @@
+//! A call of the program, and what it gave.
+use crate::files::{File, Files, readable};
+use cs_cli::{Inputs, Printer, run_words};
+use std::alloc::Global;
+use std::test::Fail;
+
+/// The status that a call ended with, and what it wrote.
+#[derive(Drop)]
+pub(crate) struct Ran {
+    pub(crate) status: u8,
+    pub(crate) out: Vec<u8>,
+    pub(crate) err: Vec<u8>,
+}
+
+impl Ran {
+    /// Whether the call ended with the status, and wrote these two texts.
+    pub(crate) fn is(&self, status: u8, out: &[u8], err: &[u8]) -> bool {
+        self.status == status && self.out.as_slice() == out && self.err.as_slice() == err
+    }
+}
+
+/// Runs the program on words.
+pub(crate) fn run_on<I: Inputs>(alloc: Global, words: &[&str], inputs: &mut I) -> Ran {
+    let mut out = Printer::new(Vec::new(alloc));
+    let mut err = Printer::new(Vec::new(alloc));
+    let status = run_words(alloc, words, inputs, &mut out, &mut err);
+    Ran {
+        status,
+        out: out.into_writer(),
+        err: err.into_writer(),
+    }
+}
+
+/// Runs the program on the words of a command line, parted by single blanks, over files.
+pub(crate) fn run(alloc: Global, line: &str, files: &[File]) -> Result<Ran, Fail> {
+    let words = line.split(' ').collect::<Vec<&str>>(alloc)?;
+    let mut inputs = Files::new(files, 4_096);
+    Ok(run_on(alloc, words.as_slice(), &mut inputs))
+}
+
+/// Runs `cronsafe day - DATE MAX` on the text of a crontab.
+pub(crate) fn run_day(alloc: Global, table: &[u8], date: &str, max: &str) -> Ran {
+    let words = ["cronsafe", "day", "-", date, max];
+    let files = [readable("-", table)];
+    let mut inputs = Files::new(files.as_slice(), 4_096);
+    run_on(alloc, words.as_slice(), &mut inputs)
+}

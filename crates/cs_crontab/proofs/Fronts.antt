@@ -39,7 +39,7 @@ module _ (p : ℕ → Bool) (xs : List ℕ) (i : ℕ) where
       ∙ append_assoc (take i xs) (get_or xs i 0 ∷ []) (front p (drop (i + 1) xs))
       ∙ ap (λ (l : List ℕ). take i xs ++ l) (sym (front_more below passes))
 
--- one digit more, where the number is cut at 1,000
+-- one digit more, where the number is cut at 1,000,000
 pub decimal_next : (n d : ℕ) (digits : List ℕ) → decimal_from n (d ∷ digits) ≡ decimal_from (10 * n + (d - 48)) digits
 unfolding decimal_from
 decimal_next n d digits = refl
@@ -48,10 +48,10 @@ pub decimal_end : (n : ℕ) → decimal_from n [] ≡ n
 unfolding decimal_from
 decimal_end n = refl
 
-cut_same : (m n d : ℕ) → min 1000 m ≡ min 1000 n → min 1000 (10 * m + (d - 48)) ≡ min 1000 (10 * n + (d - 48))
+cut_same : (m n d : ℕ) → min 1_000_000 m ≡ min 1_000_000 n → min 1_000_000 (10 * m + (d - 48)) ≡ min 1_000_000 (10 * n + (d - 48))
 cut_same m n d e = omega arith
 
-pub decimal_cut : (digits : List ℕ) (m n : ℕ) → min 1000 m ≡ min 1000 n → min 1000 (decimal_from m digits) ≡ min 1000 (decimal_from n digits)
+pub decimal_cut : (digits : List ℕ) (m n : ℕ) → min 1_000_000 m ≡ min 1_000_000 n → min 1_000_000 (decimal_from m digits) ≡ min 1_000_000 (decimal_from n digits)
 decimal_cut [] m n e = rw (decimal_end m, decimal_end n) e
 decimal_cut (d ∷ digits) m n e = rw (decimal_next m d digits, decimal_next n d digits) (decimal_cut digits (10 * m + (d - 48)) (10 * n + (d - 48)) (cut_same m n d e))
 

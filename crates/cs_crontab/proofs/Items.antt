@@ -1,19 +1,20 @@
 -- What is read of a field is written so, and what is written so is read.
-use Rattle.std.proofs.Common.{◌≡◌, ◌≢◌, ℕ, ◌<◌, ◌≤◌, ◌⊎◌, Bool, true, false, cond, ◌||◌, nat_eq, nat_lt, List, [], ◌∷◌, ◌++◌, length, Result, Ok, Err, refl, sym, ap, subst, ◌∙◌, arith, inl, inr}
+use Rattle.std.proofs.Common.{◌≡◌, ◌≢◌, ℕ, ◌+◌, ◌<◌, ◌≤◌, ◌⊎◌, Bool, true, false, cond, ◌||◌, nat_eq, nat_lt, nat_le, List, [], ◌∷◌, ◌++◌, length, take, drop, Option, Some, None, Result, Ok, Err, refl, sym, ap, subst, ◌∙◌, arith, inl, inr}
 use Rattle.std.specs.List.{list_all}
-use Rattle.std.proofs.lemmas.Bool.{le-ltb, ltb-false, eqb-true, eqb-false, false_from_ne_true}
-use Rattle.std.proofs.lemmas.List.{append-nil, nil_from_length}
-use Rattle.cs_schedule.specs.Times.{Choice}
+use Rattle.std.proofs.Math.Seq.{take-append_seam, drop-append_seam}
+use Rattle.std.proofs.lemmas.Bool.{le-ltb, ltb-false, leb-true, eqb-true, eqb-false, ne_eqb, false_from_ne_true}
+use Rattle.std.proofs.lemmas.List.{append-nil, nil_from_length, take-append-drop}
 use Rattle.cs_schedule.specs.Numbers.{numbers_where, is_every}
 use Rattle.cs_schedule.specs.declared.part.Part.{Part}
+use Rattle.cs_schedule.specs.Part.{first_of, last_of}
 use Rattle.cs_crontab.specs.declared.fault.LineFault.{LineFault}
 use Rattle.cs_crontab.specs.declared.fault.LineFault.TheVariants as faults
-use Rattle.cs_crontab.specs.Text.{front, after, is_digit, decimal, decimal_from}
-use Rattle.cs_schedule.specs.Part.{first_of, last_of}
-use Rattle.cs_crontab.specs.Format.{counted, begins_with}
-use Rattle.cs_crontab.specs.Reading.{◌>>=◌, number_at, step_at, every, end_at, range_at, numbers_at, item_at, field_of, is_nothing}
-use Rattle.cs_crontab.specs.Grammar.{Are, StopsAt, IsNumber, IsStep, IsItem, IsField}
-use Rattle.cs_crontab.proofs.Spans.{front_again, after_again, parts_joined, front_passes, after_stops}
+use Rattle.cs_crontab.specs.Text.{front, after, is_digit, decimal, decimal_from, StopsAt}
+use Rattle.cs_crontab.specs.Format.{place_of}
+use Rattle.cs_crontab.specs.Reading.{◌>>=◌, named, number_at, step_at, every, end_at, range_at, numbers_at, item_at, item_of, is_nothing}
+use Rattle.cs_crontab.specs.Grammar.{IsNumber, IsStep, IsItem}
+use Rattle.cs_crontab.proofs.Names.{is_letter, letter_no_digit, letter_other, name_letters, name_length}
+use Rattle.cs_crontab.proofs.Spans.{front_again, after_again, parts_joined, front_passes, and_left}
 
 abbrev done : {A : Type 0} → A → Result A LineFault
 done x = Ok x
@@ -44,27 +45,52 @@ some_to (x ∷ xs) some = false_from_ne_true (nat_eq (length (x ∷ xs)) 0) (λ 
 
 -- ---- numbers
 
-pub number_takes : (part : Part) (text : List ℕ) (a : ℕ × List ℕ) → number_at part text ≡ Ok a → (x : List ℕ) × (text ≡ x ++ a.1) × IsNumber part x a.0 × StopsAt is_digit a.1
+pub number_takes : (part : Part) (text : List ℕ) (a : ℕ × List ℕ) → number_at part text ≡ Ok a → (x : List ℕ) × (text ≡ x ++ a.1) × IsNumber part x a.0
 unfolding number_at
-number_takes part text a e =
-    let digits : List ℕ = front is_digit text in
-    let n : ℕ = decimal digits in
-    let one = guard_ok (nat_eq (length digits) 0) faults.BadNumber (cond (nat_lt n (first_of part) || nat_lt (last_of part) n) (Err faults.OutOfField) (Ok (n, after is_digit text))) a e in
-    let two = guard_ok (nat_lt n (first_of part) || nat_lt (last_of part) n) faults.OutOfField (Ok (n, after is_digit text)) a one.1 in
-    let within = or_false (nat_lt n (first_of part)) (nat_lt (last_of part) n) two.0 in
-    let is : (n, after is_digit text) ≡ a = ok_is (n, after is_digit text) a two.1 in
-    let found : (x : List ℕ) × (text ≡ x ++ after is_digit text) × IsNumber part x n × StopsAt is_digit (after is_digit text) =
-    (digits, sym (parts_joined is_digit text), record { digits = (front_passes is_digit text, some_from digits one.0); value = refl; low = ltb-false n (first_of part) within.0; high = ltb-false (last_of part) n within.1 }, after_stops is_digit text)
-    in
-    subst (λ (b : ℕ × List ℕ). (x : List ℕ) × (text ≡ x ++ b.1) × IsNumber part x b.0 × StopsAt is_digit b.1) is found
+number_takes part text a e = by_digits (nat_eq (length (front is_digit text)) 0) refl e
+  where
+    digits : List ℕ
+    digits = front is_digit text
+
+    by_place : (o : Option ℕ) → place_of part (take 3 text) ≡ o → named part o (drop 3 text) ≡ Ok a → (x : List ℕ) × (text ≡ x ++ a.1) × IsNumber part x a.0
+    by_place None is e = absurd cc
+    by_place (Some place) is e =
+        let same : (first_of part + place, drop 3 text) ≡ a = ok_is (first_of part + place, drop 3 text) a e in
+        (take 3 text, sym (take-append-drop 3 text) ∙ ap (λ (p : ℕ × List ℕ). take 3 text ++ p.1) same, inr (place, name_length part (take 3 text) place is, is, sym (ap (λ (p : ℕ × List ℕ). p.0) same)))
+
+    by_digits : (t : Bool) → nat_eq (length (front is_digit text)) 0 ≡ t
+        → cond t (named part (place_of part (take 3 text)) (drop 3 text)) (cond (nat_lt (decimal (front is_digit text)) (first_of part) || nat_lt (last_of part) (decimal (front is_digit text))) (Err faults.OutOfField) (Ok (decimal (front is_digit text), after is_digit text))) ≡ Ok a
+        → (x : List ℕ) × (text ≡ x ++ a.1) × IsNumber part x a.0
+    by_digits true is e = by_place (place_of part (take 3 text)) refl e
+    by_digits false is e =
+        let n : ℕ = decimal (front is_digit text) in
+        let two = guard_ok (nat_lt n (first_of part) || nat_lt (last_of part) n) faults.OutOfField (Ok (n, after is_digit text)) a e in
+        let within = or_false (nat_lt n (first_of part)) (nat_lt (last_of part) n) two.0 in
+        let same : (n, after is_digit text) ≡ a = ok_is (n, after is_digit text) a two.1 in
+        let found : (x : List ℕ) × (text ≡ x ++ after is_digit text) × IsNumber part x n =
+        (front is_digit text, sym (parts_joined is_digit text), inl (record { digits = (front_passes is_digit text, some_from (front is_digit text) is); value = refl; low = ltb-false n (first_of part) within.0; high = ltb-false (last_of part) n within.1 }))
+        in
+        subst (λ (b : ℕ × List ℕ). (x : List ℕ) × (text ≡ x ++ b.1) × IsNumber part x b.0) same found
+
+no_digits : (text : List ℕ) → list_all is_letter text ≡ true → text ≢ [] → (rest : List ℕ) → front is_digit (text ++ rest) ≡ []
+unfolding front
+no_digits [] letters some rest = absurd (some refl)
+no_digits (b ∷ bs) letters some rest = rw (letter_no_digit b (and_left (is_letter b) (list_all is_letter bs) letters)) refl
+
+long_some : (text : List ℕ) → length text ≡ 3 → text ≢ []
+long_some text three empty = absurd (omega (arith, three, ap (length {A = ℕ}) empty))
 
 pub number_again : (part : Part) (x rest : List ℕ) (n : ℕ) → IsNumber part x n → StopsAt is_digit rest → number_at part (x ++ rest) ≡ Ok (n, rest)
 unfolding number_at
-number_again part x rest n is stop =
+number_again part x rest n (inl is) stop =
     let low : first_of part ≤ decimal x = omega (arith, is.low, is.value) in
     let high : decimal x ≤ last_of part = omega (arith, is.high, is.value) in
     rw (front_again is_digit x rest is.digits.0 stop, after_again is_digit x rest is.digits.0 stop, some_to x is.digits.1, le-ltb (decimal x) (first_of part) low, le-ltb (last_of part) (decimal x) high)
     (ap (λ (v : ℕ). done (v, rest)) (sym is.value))
+number_again part x rest n (inr (place, three, found, value)) stop =
+    let name : take 3 (x ++ rest) ≡ x = ap (λ k. take k (x ++ rest)) (sym three) ∙ take-append_seam x rest in
+    let behind : drop 3 (x ++ rest) ≡ rest = ap (λ k. drop k (x ++ rest)) (sym three) ∙ drop-append_seam x rest in
+    rw (no_digits x (name_letters part x place found) (long_some x three) rest, name, behind, found) (ap (λ (v : ℕ). done (v, rest)) (sym value))
 
 -- ---- steps
 
@@ -184,44 +210,53 @@ item_takes part (b ∷ bs) ns e = by_test (nat_eq b 42) refl e
           | inr r ↦ inr (inr (number.0, r.0, r.1, a.0, r.2, r.3, number.1 ∙ ap (λ (l : List ℕ). number.0 ++ l) r.4, number.2, r.5, r.6, r.7, r.8))
         ]
 
--- a number doesn't begin with `*`
-numbers_first : (part : Part) (x rest : List ℕ) → Are is_digit x → item_at part (x ++ rest) ≡ numbers_at part (x ++ rest)
-unfolding item_at
-numbers_first part [] rest are = absurd (are.1 refl)
-numbers_first part (d ∷ ds) rest are = by_digit (nat_eq d 42) refl
+-- the first byte of a number, which is a digit or a letter
+pub number_first : (part : Part) (x : List ℕ) (n : ℕ) → IsNumber part x n → (b : ℕ) × (more : List ℕ) × (x ≡ b ∷ more) × ((is_digit b ≡ true) ⊎ (is_letter b ≡ true))
+number_first part [] n (inl is) = absurd (is.digits.1 refl)
+number_first part (b ∷ bs) n (inl is) = (b, bs, refl, inl (and_left (is_digit b) (list_all is_digit bs) is.digits.0))
+number_first part x n (inr (place, three, found, value)) = by_text x (long_some x three) (name_letters part x place found)
   where
-    by_digit : (t : Bool) → nat_eq d 42 ≡ t → cond (nat_eq d 42) (every (first_of part) (last_of part) (step_at (ds ++ rest))) (numbers_at part (d ∷ (ds ++ rest))) ≡ numbers_at part (d ∷ (ds ++ rest))
-    by_digit true is = absurd (not_star (subst (λ (c : ℕ). list_all is_digit (c ∷ ds) ≡ true) (eqb-true d 42 is) are.0))
-      where
-        not_star : list_all is_digit (42 ∷ ds) ≡ true → ⊥
-        not_star q = cc
-    by_digit false is = rw is refl
+    by_text : (y : List ℕ) → y ≢ [] → list_all is_letter y ≡ true → (b : ℕ) × (more : List ℕ) × (y ≡ b ∷ more) × ((is_digit b ≡ true) ⊎ (is_letter b ≡ true))
+    by_text [] some letters = absurd (some refl)
+    by_text (b ∷ bs) some letters = (b, bs, refl, inr (and_left (is_letter b) (list_all is_letter bs) letters))
+
+-- neither is `*`
+no_star : (b : ℕ) → (is_digit b ≡ true) ⊎ (is_letter b ≡ true) → nat_eq b 42 ≡ false
+no_star b (inl digit) = let low = leb-true 48 b (and_left (nat_le 48 b) (nat_le b 57) digit) in ne_eqb b 42 (λ same. absurd (omega (arith, low, same)))
+no_star b (inr letter) = letter_other b 42 (omega arith) letter
+
+numbers_first : (part : Part) (x rest : List ℕ) (n : ℕ) → IsNumber part x n → item_at part (x ++ rest) ≡ numbers_at part (x ++ rest)
+unfolding item_at
+numbers_first part x rest n is =
+    let f = number_first part x n is in
+    let star : nat_eq f.0 42 ≡ false = no_star f.0 f.3 in
+    let P : List ℕ → Type 0 = λ y. item_at part (y ++ rest) ≡ numbers_at part (y ++ rest) in
+    subst P (sym f.2) (rw star refl)
 
 pub item_again : (part : Part) (text ns : List ℕ) → IsItem part text ns → item_at part text ≡ Ok (ns, [])
 unfolding item_at numbers_at range_at
 item_again part text ns (inl (step, n, is, stepped, value)) = ap (item_at part) is ∙ rw (step_again step n stepped) (ap (λ (l : List ℕ). done (l, [])) (sym value))
 item_again part text ns (inr (inl (a, number, value))) =
-    ap (item_at part) (sym (append-nil text)) ∙ numbers_first part text [] number.digits ∙ rw (number_again part text [] a number tt) (ap (λ (l : List ℕ). done (l, [])) (sym value))
+    ap (item_at part) (sym (append-nil text)) ∙ numbers_first part text [] a number ∙ rw (number_again part text [] a number tt) (ap (λ (l : List ℕ). done (l, [])) (sym value))
 item_again part text ns (inr (inr (x, y, step, a, z, n, is, first, last, ordered, stepped, value))) =
-    ap (item_at part) is ∙ numbers_first part x (45 ∷ (y ++ step)) first.digits
+    ap (item_at part) is ∙ numbers_first part x (45 ∷ (y ++ step)) a first
     ∙ rw (number_again part x (45 ∷ (y ++ step)) a first refl, end_again part a y step z n last ordered stepped) (ap (λ (l : List ℕ). done (l, [])) (sym value))
 
--- ---- fields
+-- ---- items that are all of their text
 
-pub field_takes : (part : Part) (word : List ℕ) (field : Choice) → field_of part word ≡ Ok field → IsField part word field
-unfolding field_of
-field_takes part word field e =
-    let made : List ℕ → Choice = λ ns. record { star = begins_with 42 word; numbers = counted part ns } in
-    let one = bind_ok (item_at part word) (λ item. cond (is_nothing item.1) (Ok (made item.0)) (Err faults.BadNumber)) field e in
+pub whole_takes : (part : Part) (text numbers : List ℕ) → item_of part text ≡ Ok numbers → IsItem part text numbers
+unfolding item_of
+whole_takes part text numbers e =
+    let one = bind_ok (item_at part text) (λ item. cond (is_nothing item.1) (Ok item.0) (Err faults.BadNumber)) numbers e in
     let item = one.0 in
-    let two = chosen (is_nothing item.1) (made item.0) field one.2 in
+    let two = chosen (is_nothing item.1) item.0 numbers one.2 in
     let nothing : item.1 ≡ [] = nil_from_length item.1 (eqb-true (length item.1) 0 two.0) in
-    (item.0, item_takes part word item.0 (one.1 ∙ ap (λ (l : List ℕ). done (item.0, l)) nothing), sym two.1)
+    item_takes part text numbers (one.1 ∙ ap (λ (l : List ℕ). done (item.0, l)) nothing ∙ ap (λ (ns : List ℕ). done (ns, [])) two.1)
   where
-    chosen : (b : Bool) (x y : Choice) → cond b (Ok x) (Err faults.BadNumber) ≡ Ok y → (b ≡ true) × (x ≡ y)
+    chosen : (b : Bool) (x y : List ℕ) → cond b (Ok x) (Err faults.BadNumber) ≡ Ok y → (b ≡ true) × (x ≡ y)
     chosen true x y e = (refl, ok_is x y e)
     chosen false x y e = absurd cc
 
-pub field_again : (part : Part) (word : List ℕ) (field : Choice) → IsField part word field → field_of part word ≡ Ok field
-unfolding field_of
-field_again part word field (ns, item, value) = rw (item_again part word ns item) (ap (λ (f : Choice). done f) (sym value))
+pub whole_again : (part : Part) (text numbers : List ℕ) → IsItem part text numbers → item_of part text ≡ Ok numbers
+unfolding item_of
+whole_again part text numbers is = rw (item_again part text numbers is) refl

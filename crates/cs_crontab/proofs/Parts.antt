@@ -1,5 +1,5 @@
 -- The parts of an item, by the tests that the code makes.
-use Rattle.std.proofs.Common.{◌≡◌, ℕ, ◌-◌, ◌%◌, ◌<◌, ◌≤◌, Bool, true, false, cond, ◌||◌, ◌&&◌, nat_eq, nat_lt, nat_le, List, [], ◌∷◌, length, min, Ok, Err, Result, refl, sym, ap, ◌∙◌, arith, inl, inr}
+use Rattle.std.proofs.Common.{◌≡◌, ℕ, ◌-◌, ◌%◌, ◌<◌, ◌≤◌, Bool, true, false, cond, ◌||◌, ◌&&◌, nat_eq, nat_lt, nat_le, List, [], ◌∷◌, length, min, take, drop, Ok, Err, Result, refl, sym, ap, ◌∙◌, arith, inl, inr}
 use Rattle.std.proofs.lemmas.Bool.{cases_lt, lt-ltb, le-ltb, eq-eqb, false_from_ne_true, eqb-true}
 use Rattle.std.proofs.Math.Nat.{mod-eq_of_lt}
 use Rattle.cs_schedule.specs.Numbers.{numbers_where, is_every}
@@ -10,7 +10,8 @@ use Rattle.cs_schedule.specs.declared.part.Part.TheVariants as parts
 use Rattle.cs_crontab.specs.declared.fault.LineFault.TheVariants as faults
 use Rattle.cs_crontab.specs.Text.{front, after, is_digit, decimal}
 use Rattle.cs_schedule.specs.Part.{first_of, last_of}
-use Rattle.cs_crontab.specs.Reading.{number_at, every, cut_step}
+use Rattle.cs_crontab.specs.Format.{place_of}
+use Rattle.cs_crontab.specs.Reading.{named, number_at, every, cut_step}
 
 some_digits : (digits : List ℕ) → 0 < length digits → nat_eq (length digits) 0 ≡ false
 some_digits [] some = absurd (omega arith)
@@ -21,7 +22,7 @@ or_true true = refl
 or_true false = refl
 
 module _ (part : Part) (text : List ℕ) where
-  pub number_none : length (front is_digit text) ≡ 0 → number_at part text ≡ Err faults.BadNumber
+  pub number_none : length (front is_digit text) ≡ 0 → number_at part text ≡ named part (place_of part (take 3 text)) (drop 3 text)
   unfolding number_at
   number_none none = rw (eq-eqb (length (front is_digit text)) 0 none) refl
 
@@ -46,21 +47,21 @@ last_below part = elim part as (λ p. last_of p < 64) [ parts.Minute ↦ omega a
 pub first_below : (part : Part) → first_of part ≤ last_of part
 first_below part = elim part as (λ p. first_of p ≤ last_of p) [ parts.Minute ↦ omega arith | parts.Hour ↦ omega arith | parts.Dom ↦ omega arith | parts.Month ↦ omega arith | parts.Dow ↦ omega arith ]
 
--- A step above 1,000 selects what 1,000 does: no number but the first.
-cut_mod : (k s : ℕ) → k < 64 → k % min 1000 s ≡ k % s
+-- A step above 1,000,000 selects what 1,000,000 does: no number but the first.
+cut_mod : (k s : ℕ) → k < 64 → k % min 1_000_000 s ≡ k % s
 cut_mod k s below =
-    elim (cases_lt s 1000) [
+    elim (cases_lt s 1_000_000) [
       | inl lt ↦ ap (λ n. k % n) (omega arith)
       | inr le ↦
-          let cut : min 1000 s ≡ 1000 = omega arith in
-          let one : k % 1000 ≡ k = mod-eq_of_lt (omega arith) in
+          let cut : min 1_000_000 s ≡ 1_000_000 = omega arith in
+          let one : k % 1_000_000 ≡ k = mod-eq_of_lt (omega arith) in
           let other : k % s ≡ k = mod-eq_of_lt (omega arith) in
           ap (λ n. k % n) cut ∙ one ∙ sym other
     ]
 
-every_same : (first last s : ℕ) → numbers_where (is_every first last (min 1000 s)) ≡ numbers_where (is_every first last s)
+every_same : (first last s : ℕ) → numbers_where (is_every first last (min 1_000_000 s)) ≡ numbers_where (is_every first last s)
 every_same first last s =
-    numbers_same (is_every first last (min 1000 s)) (is_every first last s) (λ k below.
+    numbers_same (is_every first last (min 1_000_000 s)) (is_every first last s) (λ k below.
     let near : k - first < 64 = omega arith in ap (λ r. (nat_le first k && nat_le k last) && nat_eq r 0) (cut_mod (k - first) s near))
 
 abbrev done : ℕ × List ℕ → Result (ℕ × List ℕ) LineFault
@@ -69,8 +70,8 @@ done x = Ok x
 pub every_cut : (first last : ℕ) (step : Result (ℕ × List ℕ) LineFault) (n : ℕ) (rest : List ℕ) → cut_step step ≡ Ok (n, rest) → every first last step ≡ Ok (numbers_where (is_every first last n), rest)
 every_cut first last (Err e) n rest h = absurd cc
 every_cut first last (Ok s) n rest h =
-    let same : done (min 1000 s.0, s.1) ≡ done (n, rest) = h in
-    let pairs : ◌≡◌ {A = ℕ × List ℕ} (min 1000 s.0, s.1) (n, rest) = cc in
-    let n-is : min 1000 s.0 ≡ n = ap (λ (p : ℕ × List ℕ). p.0) pairs in
+    let same : done (min 1_000_000 s.0, s.1) ≡ done (n, rest) = h in
+    let pairs : ◌≡◌ {A = ℕ × List ℕ} (min 1_000_000 s.0, s.1) (n, rest) = cc in
+    let n-is : min 1_000_000 s.0 ≡ n = ap (λ (p : ℕ × List ℕ). p.0) pairs in
     let rest-is : s.1 ≡ rest = ap (λ (p : ℕ × List ℕ). p.1) pairs in
     rw (← n-is, ← rest-is, every_same first last s.0) refl

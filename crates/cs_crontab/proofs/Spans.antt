@@ -1,14 +1,13 @@
 -- The front and the rest of a text that is written of two parts.
 use Rattle.std.proofs.Common.{◌≡◌, ℕ, Bool, true, false, cond, ◌&&◌, List, [], ◌∷◌, ◌++◌, refl, ap}
 use Rattle.std.specs.List.{list_all}
-use Rattle.cs_crontab.specs.Text.{front, after}
-use Rattle.cs_crontab.specs.Grammar.{StopsAt}
+use Rattle.cs_crontab.specs.Text.{front, after, StopsAt}
 
-and_left : (a b : Bool) → (a && b) ≡ true → a ≡ true
+pub and_left : (a b : Bool) → (a && b) ≡ true → a ≡ true
 and_left true b e = refl
 and_left false b e = absurd cc
 
-and_right : (a b : Bool) → (a && b) ≡ true → b ≡ true
+pub and_right : (a b : Bool) → (a && b) ≡ true → b ≡ true
 and_right true b e = e
 and_right false b e = absurd cc
 
@@ -53,3 +52,12 @@ module _ (p : ℕ → Bool) where
       by_test : (t : Bool) → p b ≡ t → StopsAt p (after p bs) → StopsAt p (cond t (after p bs) (b ∷ bs))
       by_test true is e = e
       by_test false is e = is
+
+-- a weaker test passes too
+pub list_all_weaker : (p q : ℕ → Bool) → ((b : ℕ) → p b ≡ true → q b ≡ true) → (xs : List ℕ) → list_all p xs ≡ true → list_all q xs ≡ true
+list_all_weaker p q weaker [] all = refl
+list_all_weaker p q weaker (b ∷ bs) all = rw (weaker b (and_left (p b) (list_all p bs) all)) (list_all_weaker p q weaker bs (and_right (p b) (list_all p bs) all))
+
+pub list_all_joined : (p : ℕ → Bool) (xs ys : List ℕ) → list_all p xs ≡ true → list_all p ys ≡ true → list_all p (xs ++ ys) ≡ true
+list_all_joined p [] ys first second = second
+list_all_joined p (b ∷ bs) ys first second = rw (and_left (p b) (list_all p bs) first) (list_all_joined p bs ys (and_right (p b) (list_all p bs) first) second)

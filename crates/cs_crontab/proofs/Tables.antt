@@ -12,7 +12,7 @@ use Rattle.cs_crontab.specs.declared.fault.TableFault.TheVariants as table_fault
 use Rattle.cs_crontab.specs.declared.table.When.{When}
 use Rattle.cs_crontab.specs.declared.table.Crontab.{Crontab}
 use Rattle.cs_crontab.specs.declared.limits.TheConstants.{MAX_TABLE, MAX_COMMANDS}
-use Rattle.cs_crontab.specs.Crontab.{CommandLine, Entry, Nothing, Command, Table, no_lines, with_entry, IsOrdered}
+use Rattle.cs_crontab.specs.Crontab.{SettingLine, CommandLine, Entry, Nothing, Setting, Command, Table, no_lines, with_entry, IsOrdered}
 use Rattle.cs_crontab.specs.Text.{lines_of}
 use Rattle.cs_crontab.specs.Reading.{line_of}
 use Rattle.cs_crontab.specs.Grammar.{Says, AreLines, IsCrontab, IsFault, IsFaultOf, Means}
@@ -38,49 +38,76 @@ err_is d f e = cc
 
 -- one table's lines and then another's
 abbrev joined : Table → Table → Table
-joined a b = record { lines = a.lines ++ b.lines }
+joined a b = record { settings = a.settings ++ b.settings; lines = a.lines ++ b.lines }
+
+abbrev table_of : List SettingLine → List CommandLine → Table
+table_of settings lines = record { settings = settings; lines = lines }
 
 joined-none : (a : Table) → joined a no_lines ≡ a
-joined-none a = ap (λ (ls : List CommandLine). record { lines = ls }) (append-nil a.lines)
+joined-none a = ap (λ (ss : List SettingLine). table_of ss (a.lines ++ [])) (append-nil a.settings) ∙ ap (table_of a.settings) (append-nil a.lines)
 
 -- a table with one line's entry at its end
 abbrev grown : ℕ → Entry → Table → Table
 grown number entry table = joined table (with_entry number entry no_lines)
 
+abbrev setting_line : ℕ → List ℕ → List ℕ → SettingLine
+setting_line number name value = record { number = number; name = name; value = value }
+
+abbrev command_line : ℕ → When → List ℕ → CommandLine
+command_line number when command = record { number = number; when = when; command = command }
+
 joined-grown : (number : ℕ) (entry : Entry) (a b : Table) → joined a (with_entry number entry b) ≡ joined (grown number entry a) b
 joined-grown number Nothing a b = ap (λ (t : Table). joined t b) (sym (joined-none a))
+joined-grown number (Setting name value) a b =
+    ap (λ (ss : List SettingLine). table_of ss (a.lines ++ b.lines)) (sym (append_assoc a.settings (setting_line number name value ∷ []) b.settings))
+    ∙ ap (λ (ls : List CommandLine). table_of ((a.settings ++ (setting_line number name value ∷ [])) ++ b.settings) (ls ++ b.lines)) (sym (append-nil a.lines))
 joined-grown number (Command when command) a b =
-    ap (λ (ls : List CommandLine). record { lines = ls }) (sym (append_assoc a.lines (record { number = number; when = when; command = command } ∷ []) b.lines))
+    ap (table_of (a.settings ++ b.settings)) (sym (append_assoc a.lines (command_line number when command ∷ []) b.lines))
+    ∙ ap (λ (ss : List SettingLine). table_of (ss ++ b.settings) ((a.lines ++ (command_line number when command ∷ [])) ++ b.lines)) (sym (append-nil a.settings))
+
+-- the table with a setting, and with a command, at its end
+setting_grown : (number : ℕ) (name value : List ℕ) (table : Table) → table_of (table.settings ++ (setting_line number name value ∷ [])) table.lines ≡ grown number (Setting name value) table
+setting_grown number name value table = ap (table_of (table.settings ++ (setting_line number name value ∷ []))) (sym (append-nil table.lines))
+
+command_grown : (number : ℕ) (when : When) (command : List ℕ) (table : Table) → table_of table.settings (table.lines ++ (command_line number when command ∷ [])) ≡ grown number (Command when command) table
+command_grown number when command table = ap (λ (ss : List SettingLine). table_of ss (table.lines ++ (command_line number when command ∷ []))) (sym (append-nil table.settings))
 
 -- ---- one line more
 
-added_takes : (number : ℕ) (table more : Table) (line : List ℕ) → length table.lines ≤ MAX_COMMANDS → added number table (line_of line) ≡ Ok more
-    → (entry : Entry) × Says line entry × (more ≡ grown number entry table) × (length more.lines ≤ MAX_COMMANDS)
+-- what is read of one line more
+abbrev Grows : ℕ → Table → Table → List ℕ → Type 0
+Grows number table more line = (entry : Entry) × Says line entry × (more ≡ grown number entry table) × (length more.lines ≤ MAX_COMMANDS)
+
+added_takes : (number : ℕ) (table more : Table) (line : List ℕ) → length table.lines ≤ MAX_COMMANDS → added number table (line_of line) ≡ Ok more → Grows number table more line
 added_takes number table more line few e = by_read (line_of line) refl e
   where
-    by_room : (when : When) (command : List ℕ) → line_of line ≡ Ok (Command when command) → (t : Bool) → nat_lt (length table.lines) MAX_COMMANDS ≡ t → cond t (Ok (grown number (Command when command) table)) (Err (number, faults.TooManyJobs)) ≡ done more
-        → (entry : Entry) × Says line entry × (more ≡ grown number entry table) × (length more.lines ≤ MAX_COMMANDS)
+    by_room : (when : When) (command : List ℕ) → line_of line ≡ Ok (Command when command) → (t : Bool) → nat_lt (length table.lines) MAX_COMMANDS ≡ t
+        → cond t (Ok (table_of table.settings (table.lines ++ (command_line number when command ∷ [])))) (Err (number, faults.TooManyJobs)) ≡ done more → Grows number table more line
     by_room when command is true room e =
-        let one : grown number (Command when command) table ≡ more = ok_is (grown number (Command when command) table) more e in (
+        let one : table_of table.settings (table.lines ++ (command_line number when command ∷ [])) ≡ more = ok_is (table_of table.settings (table.lines ++ (command_line number when command ∷ []))) more e in (
           Command when command,
           line_takes line (Command when command) is,
-          sym one,
-          omega (arith, ap (λ (t : Table). length t.lines) one, length-append table.lines (record { number = number; when = when; command = command } ∷ []), ltb-true (length table.lines) MAX_COMMANDS room),
+          sym one ∙ command_grown number when command table,
+          omega (arith, ap (λ (t : Table). length t.lines) one, length-append table.lines (command_line number when command ∷ []), ltb-true (length table.lines) MAX_COMMANDS room),
         )
     by_room when command is false full e = absurd cc
 
-    by_read : (r : Result Entry LineFault) → line_of line ≡ r → added number table r ≡ Ok more → (entry : Entry) × Says line entry × (more ≡ grown number entry table) × (length more.lines ≤ MAX_COMMANDS)
+    by_read : (r : Result Entry LineFault) → line_of line ≡ r → added number table r ≡ Ok more → Grows number table more line
     by_read (Err f) is e = absurd cc
     by_read (Ok Nothing) is e =
         let same : table ≡ more = ok_is table more e in
         (Nothing, line_takes line Nothing is, sym same ∙ sym (joined-none table), omega (arith, few, ap (λ (t : Table). length t.lines) same))
+    by_read (Ok (Setting name value)) is e =
+        let one : table_of (table.settings ++ (setting_line number name value ∷ [])) table.lines ≡ more = ok_is (table_of (table.settings ++ (setting_line number name value ∷ [])) table.lines) more e in
+        (Setting name value, line_takes line (Setting name value) is, sym one ∙ setting_grown number name value table, omega (arith, few, ap (λ (t : Table). length t.lines) one))
     by_read (Ok (Command when command)) is e = by_room when command is (nat_lt (length table.lines) MAX_COMMANDS) refl e
 
 added_again : (number : ℕ) (table : Table) (line : List ℕ) (entry : Entry) → Says line entry → length (grown number entry table).lines ≤ MAX_COMMANDS → added number table (line_of line) ≡ Ok (grown number entry table)
 added_again number table line Nothing is few = rw (line_again line Nothing is) (ap (λ (t : Table). done t) (sym (joined-none table)))
+added_again number table line (Setting name value) is few = rw (line_again line (Setting name value) is) (ap (λ (t : Table). done t) (setting_grown number name value table))
 added_again number table line (Command when command) is few =
-    let room : nat_lt (length table.lines) MAX_COMMANDS ≡ true = lt-ltb (length table.lines) MAX_COMMANDS (omega (arith, few, length-append table.lines (record { number = number; when = when; command = command } ∷ []))) in
-    rw (line_again line (Command when command) is, room) refl
+    let room : nat_lt (length table.lines) MAX_COMMANDS ≡ true = lt-ltb (length table.lines) MAX_COMMANDS (omega (arith, few, length-append table.lines (command_line number when command ∷ []))) in
+    rw (line_again line (Command when command) is, room) (ap (λ (t : Table). done t) (command_grown number when command table))
 
 -- ---- the lines
 
@@ -131,7 +158,7 @@ record Stops (n : ℕ) (table : Table) (lines : List (List ℕ)) (number : ℕ) 
 added_fails : (n : ℕ) (table : Table) (line : List ℕ) (number : ℕ) (fault : LineFault) → length table.lines ≤ MAX_COMMANDS → added n table (line_of line) ≡ Err (number, fault) → (number ≡ n) × Stands table number line fault
 added_fails n table line number fault few e = by_read (line_of line) refl e
   where
-    by_room : (when : When) (command : List ℕ) → line_of line ≡ Ok (Command when command) → (t : Bool) → nat_lt (length table.lines) MAX_COMMANDS ≡ t → cond t (done (grown n (Command when command) table)) (Err (n, faults.TooManyJobs)) ≡ Err (number, fault) → (number ≡ n) × Stands table number line fault
+    by_room : (when : When) (command : List ℕ) → line_of line ≡ Ok (Command when command) → (t : Bool) → nat_lt (length table.lines) MAX_COMMANDS ≡ t → cond t (done (table_of table.settings (table.lines ++ (command_line n when command ∷ [])))) (Err (n, faults.TooManyJobs)) ≡ Err (number, fault) → (number ≡ n) × Stands table number line fault
     by_room when command is true room e = absurd cc
     by_room when command is false full e =
         let same = err_is (n, faults.TooManyJobs) (number, fault) e in
@@ -143,6 +170,7 @@ added_fails n table line number fault few e = by_read (line_of line) refl e
         let f-is : f ≡ fault = ap (λ (g : Fault). g.1) same in
         (sym (ap (λ (g : Fault). g.0) same), inl (is ∙ ap (λ (g : LineFault). Err g) f-is))
     by_read (Ok Nothing) is e = absurd cc
+    by_read (Ok (Setting name value)) is e = absurd cc
     by_read (Ok (Command when command)) is e = by_room when command is (nat_lt (length table.lines) MAX_COMMANDS) refl e
 
 lines_fail : (n : ℕ) (table : Table) (lines : List (List ℕ)) (number : ℕ) (fault : LineFault) → length table.lines ≤ MAX_COMMANDS → lines_from n table lines ≡ Err (number, fault) → Stops n table lines number fault
@@ -250,29 +278,39 @@ meant text (Err (number, fault)) is = fault_again text number fault is
 
 -- ---- the order of the lines
 
-later : (n : ℕ) (lines : List (List ℕ)) (table : Table) → AreLines n lines table → All (λ x. n ≤ x.number) table.lines
-later n [] table none = let P : Table → Type 0 = λ t. All (λ x. n ≤ x.number) t.lines in subst P (sym none) (All-nil (λ x. n ≤ x.number))
+later : (n : ℕ) (lines : List (List ℕ)) (table : Table) → AreLines n lines table → All (λ x. n ≤ x.number) table.lines × All (λ x. n ≤ x.number) table.settings
+later n [] table none = let P : Table → Type 0 = λ t. All (λ x. n ≤ x.number) t.lines × All (λ x. n ≤ x.number) t.settings in subst P (sym none) (All-nil (λ x. n ≤ x.number), All-nil (λ x. n ≤ x.number))
 later n (line ∷ lines) table (entry, others, first, more, is) =
-    let P : Table → Type 0 = λ t. All (λ x. n ≤ x.number) t.lines in
-    subst P (sym is) (by_entry entry (All-weaker (λ x. n + 1 ≤ x.number) (λ x. n ≤ x.number) (λ x above. omega (arith, above)) others.lines (later (n + 1) lines others more)))
+    let P : Table → Type 0 = λ t. All (λ x. n ≤ x.number) t.lines × All (λ x. n ≤ x.number) t.settings in
+    let rest = later (n + 1) lines others more in
+    subst P (sym is)
+    (by_entry entry (All-weaker (λ x. n + 1 ≤ x.number) (λ x. n ≤ x.number) (λ x above. omega (arith, above)) others.lines rest.0) (All-weaker (λ x. n + 1 ≤ x.number) (λ x. n ≤ x.number) (λ x above. omega (arith, above)) others.settings rest.1))
   where
-    by_entry : (e : Entry) → All (λ x. n ≤ x.number) others.lines → All (λ x. n ≤ x.number) (with_entry n e others).lines
-    by_entry Nothing rest = rest
-    by_entry (Command when command) rest = All-cons (λ x. n ≤ x.number) (record { number = n; when = when; command = command }) others.lines (omega arith) rest
+    by_entry : (e : Entry) → All (λ x. n ≤ x.number) others.lines → All (λ x. n ≤ x.number) others.settings → All (λ x. n ≤ x.number) (with_entry n e others).lines × All (λ x. n ≤ x.number) (with_entry n e others).settings
+    by_entry Nothing ls ss = (ls, ss)
+    by_entry (Setting name value) ls ss = (ls, All-cons (λ x. n ≤ x.number) (setting_line n name value) others.settings (omega arith) ss)
+    by_entry (Command when command) ls ss = (All-cons (λ x. n ≤ x.number) (command_line n when command) others.lines (omega arith) ls, ss)
 
-rising : (n : ℕ) (lines : List (List ℕ)) (table : Table) → AreLines n lines table → AllPairs (λ x y. x.number < y.number) table.lines
-rising n [] table none = let P : Table → Type 0 = λ t. AllPairs (λ x y. x.number < y.number) t.lines in subst P (sym none) (λ i j d low high. absurd (omega (arith, high)))
+Rises : Table → Type 0
+Rises t = AllPairs (λ x y. x.number < y.number) t.lines × AllPairs (λ x y. x.number < y.number) t.settings
+
+rising : (n : ℕ) (lines : List (List ℕ)) (table : Table) → AreLines n lines table → Rises table
+unfolding Rises
+rising n [] table none = subst Rises (sym none) (λ i j d low high. absurd (omega (arith, high)), λ i j d low high. absurd (omega (arith, high)))
 rising n (line ∷ lines) table (entry, others, first, more, is) =
-    let P : Table → Type 0 = λ t. AllPairs (λ x y. x.number < y.number) t.lines in
-    subst P (sym is) (by_entry entry (rising (n + 1) lines others more))
+    let rest = rising (n + 1) lines others more in
+    let above = later (n + 1) lines others more in
+    subst Rises (sym is)
+    (by_entry entry (All-weaker (λ x. n + 1 ≤ x.number) (λ x. n < x.number) (λ x high. omega (arith, high)) others.lines above.0) (All-weaker (λ x. n + 1 ≤ x.number) (λ x. n < x.number) (λ x high. omega (arith, high)) others.settings above.1) rest.0 rest.1)
   where
-    by_entry : (e : Entry) → AllPairs (λ x y. x.number < y.number) others.lines → AllPairs (λ x y. x.number < y.number) (with_entry n e others).lines
-    by_entry Nothing rest = rest
-    by_entry (Command when command) rest =
-        AllPairs-cons (λ x y. x.number < y.number) (record { number = n; when = when; command = command }) others.lines
-        (All-weaker (λ x. n + 1 ≤ x.number) (λ x. n < x.number) (λ x above. omega (arith, above)) others.lines (later (n + 1) lines others more)) rest
+    by_entry : (e : Entry) → All (λ x. n < x.number) others.lines → All (λ x. n < x.number) others.settings → AllPairs (λ x y. x.number < y.number) others.lines → AllPairs (λ x y. x.number < y.number) others.settings → Rises (with_entry n e others)
+    by_entry Nothing ls ss rl rs = (rl, rs)
+    by_entry (Setting name value) ls ss rl rs = (rl, AllPairs-cons (λ x y. x.number < y.number) (setting_line n name value) others.settings ss rs)
+    by_entry (Command when command) ls ss rl rs = (AllPairs-cons (λ x y. x.number < y.number) (command_line n when command) others.lines ls rl, rs)
 
 pub ordered : (text : List ℕ) (table : Table) → lines_from 1 no_lines (lines_of text) ≡ Ok table → IsOrdered table
+unfolding Rises
 ordered text table e =
     let l = lines_take 1 no_lines table (lines_of text) (omega arith) e in
-    record { few = l.3; rising = rising 1 (lines_of text) table (subst (AreLines 1 (lines_of text)) (sym l.2) l.1) }
+    let r = rising 1 (lines_of text) table (subst (AreLines 1 (lines_of text)) (sym l.2) l.1) in
+    record { few = l.3; rising = r.0; settings_rising = r.1 }

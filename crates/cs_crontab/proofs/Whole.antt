@@ -1,17 +1,17 @@
--- What is read of a line is written so, and what is written so is read.
+-- Five fields: what is read is written so, and what is written so is read.
 use Rattle.std.proofs.Common.{◌≡◌, ◌≢◌, ℕ, Bool, true, false, not, ◌&&◌, List, [], ◌∷◌, ◌++◌, Result, Ok, refl, sym, ap, subst, ◌∙◌}
 use Rattle.std.specs.List.{list_all}
-use Rattle.cs_schedule.specs.Times.{Choice}
-use Rattle.cs_schedule.specs.Times.{Times}
+use Rattle.cs_schedule.specs.Times.{Choice, Times}
 use Rattle.cs_schedule.specs.declared.part.Part.{Part}
 use Rattle.cs_schedule.specs.declared.part.Part.TheVariants as parts
 use Rattle.cs_crontab.specs.declared.fault.LineFault.{LineFault}
 use Rattle.cs_crontab.specs.declared.fault.LineFault.TheVariants as faults
-use Rattle.cs_crontab.specs.Text.{front, after, is_blank, is_solid}
+use Rattle.cs_crontab.specs.Text.{front, after, is_blank, is_solid, Are, StopsAt}
 use Rattle.cs_crontab.specs.Reading.{◌>>=◌, field_of, field_at, schedule_at, is_nothing}
-use Rattle.cs_crontab.specs.Grammar.{Are, StopsAt, IsField, AreFields, fields_of}
+use Rattle.cs_crontab.specs.Grammar.{IsField, AreFields, fields_of}
 use Rattle.cs_crontab.proofs.Spans.{front_again, after_again, parts_joined, front_passes, after_stops}
-use Rattle.cs_crontab.proofs.Items.{bind_ok, guard_ok, ok_is, some_from, some_to, field_takes, field_again}
+use Rattle.cs_crontab.proofs.Items.{bind_ok, guard_ok, ok_is, some_from, some_to}
+use Rattle.cs_crontab.proofs.Fields.{field_takes, field_again}
 
 abbrev done : {A : Type 0} → A → Result A LineFault
 done x = Ok x
@@ -24,12 +24,12 @@ field_some : (part : Part) (text : List ℕ) (x : Choice × List ℕ) → field_
 unfolding field_at
 field_some part text x e = some_from text (guard_ok (is_nothing text) faults.MissingField (field_of part (front is_solid text) >>= λ field. Ok (field, after is_blank (after is_solid text))) x e).0
 
-front_some : (text : List ℕ) → text ≢ [] → StopsAt is_blank text → front is_solid text ≢ []
+pub front_some : (text : List ℕ) → text ≢ [] → StopsAt is_blank text → front is_solid text ≢ []
 unfolding front
 front_some [] some stop = absurd (some refl)
 front_some (b ∷ bs) some stop = rw stop (λ e. cc)
 
-gap_some : (xs : List ℕ) → StopsAt is_solid xs → after is_blank xs ≢ [] → front is_blank xs ≢ []
+pub gap_some : (xs : List ℕ) → StopsAt is_solid xs → after is_blank xs ≢ [] → front is_blank xs ≢ []
 unfolding front after
 gap_some [] stop some = absurd (some refl)
 gap_some (b ∷ bs) stop some = let blank : is_blank b ≡ true = not_false (is_blank b) stop in rw blank (λ e. cc)
@@ -52,7 +52,7 @@ field_step part text x stop e some =
     in
     subst (λ (p : Choice × List ℕ). Step part text p.0 p.1) is made
 
-gap_stops : (gap rest : List ℕ) → Are is_blank gap → StopsAt is_solid (gap ++ rest)
+pub gap_stops : (gap rest : List ℕ) → Are is_blank gap → StopsAt is_solid (gap ++ rest)
 gap_stops [] rest are = absurd (are.1 refl)
 gap_stops (b ∷ bs) rest are = blank_first (is_blank b) (list_all is_blank bs) are.0
   where

@@ -6,7 +6,14 @@ use Rattle.cs_crontab.specs.declared.limits.TheConstants.{MAX_COMMANDS}
 -- what one line says
 pub data Entry : Type 0 where
   Nothing : Entry
-  Command : When → List ℕ → Entry
+  Setting : (name value : List ℕ) → Entry
+  Command : When → (command : List ℕ) → Entry
+
+-- a setting of the environment, and the number of its line, counted from 1
+pub record SettingLine : Type 0 where
+  pub number : ℕ
+  pub name : List ℕ
+  pub value : List ℕ
 
 -- a command, when it is started, and the number of its line, counted from 1
 pub record CommandLine : Type 0 where
@@ -15,17 +22,20 @@ pub record CommandLine : Type 0 where
   pub command : List ℕ
 
 pub record Table : Type 0 where
+  pub settings : List SettingLine
   pub lines : List CommandLine
 
 abbrev pub no_lines : Table
-no_lines = record { lines = [] }
+no_lines = record { settings = []; lines = [] }
 
 -- what a line with that number says, and then what the lines behind it say
 abbrev pub with_entry : ℕ → Entry → Table → Table
 with_entry number Nothing table = table
-with_entry number (Command when command) table = record { lines = record { number = number; when = when; command = command } ∷ table.lines }
+with_entry number (Setting name value) table = record { settings = record { number = number; name = name; value = value } ∷ table.settings; lines = table.lines }
+with_entry number (Command when command) table = record { settings = table.settings; lines = record { number = number; when = when; command = command } ∷ table.lines }
 
--- There are not too many commands, and each stands on a later line than those before it.
+-- There are not too many commands, and settings and commands each stand on a later line than those before them.
 pub record IsOrdered (table : Table) : Type 0 where
   pub few : length table.lines ≤ MAX_COMMANDS
   pub rising : AllPairs (λ x y. x.number < y.number) table.lines
+  pub settings_rising : AllPairs (λ x y. x.number < y.number) table.settings

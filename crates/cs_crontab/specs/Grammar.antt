@@ -1,6 +1,6 @@
 -- The grammar of a crontab: how each value is written. Nothing here reads from left to right.
-use Rattle.std.specs.Prelude.{◌≡◌, ◌≢◌, ℕ, ◌+◌, ◌<◌, ◌≤◌, ◌⊎◌, Bool, true, false, nat_eq, List, [], ◌∷◌, ◌++◌, length, Result, Ok, Err}
-use Rattle.std.specs.List.{list_all, list_any}
+use Rattle.std.specs.Prelude.{◌≡◌, ◌≢◌, ℕ, ◌+◌, ◌<◌, ◌≤◌, ◌⊎◌, true, false, nat_eq, List, [], ◌∷◌, ◌++◌, length, codes, Some, Result, Ok, Err}
+use Rattle.std.specs.List.{list_all, list_any, join_with_byte}
 use Rattle.cs_schedule.specs.Times.{Choice, Times}
 use Rattle.cs_schedule.specs.Numbers.{numbers_where, is_every}
 use Rattle.cs_schedule.specs.Part.{first_of, last_of}
@@ -13,26 +13,25 @@ use Rattle.cs_crontab.specs.declared.fault.TableFault.TheVariants as table_fault
 use Rattle.cs_crontab.specs.declared.table.When.{When}
 use Rattle.cs_crontab.specs.declared.table.When.TheVariants.{At, Reboot}
 use Rattle.cs_crontab.specs.declared.limits.TheConstants.{MAX_TABLE, MAX_LINE, MAX_COMMANDS}
-use Rattle.cs_crontab.specs.Crontab.{Entry, Nothing, Command, Table, no_lines, with_entry}
-use Rattle.cs_crontab.specs.Format.{counted, begins_with}
-use Rattle.cs_crontab.specs.Text.{lines_of, is_blank, is_solid, is_digit, decimal}
+use Rattle.cs_crontab.specs.Crontab.{Entry, Nothing, Setting, Command, Table, no_lines, with_entry}
+use Rattle.cs_crontab.specs.Format.{place_of, counted, all_of, begins_with, begins_as_setting, times_of_word}
+use Rattle.cs_crontab.specs.Setting.{IsSetting}
+use Rattle.cs_crontab.specs.Text.{Are, StopsAt, lines_of, is_blank, is_solid, is_digit, decimal}
 use Rattle.cs_crontab.specs.Reading.{line_of}
 
--- each byte passes the test, and there is one
-abbrev pub Are : (ℕ → Bool) → List ℕ → Type 0
-Are test text = (list_all test text ≡ true) × (text ≢ [])
-
--- the first byte, where there is one, fails the test
-abbrev pub StopsAt : (ℕ → Bool) → List ℕ → Type 0
-StopsAt test [] = Unit {0}
-StopsAt test (b ∷ bs) = test b ≡ false
-
 -- digits that stand for a number of the field
-pub record IsNumber (part : Part) (text : List ℕ) (n : ℕ) : Type 0 where
+pub record IsDigits (part : Part) (text : List ℕ) (n : ℕ) : Type 0 where
   pub digits : Are is_digit text
   pub value : n ≡ decimal text
   pub low : first_of part ≤ n
   pub high : n ≤ last_of part
+
+-- three letters that are the name of a number of the field: the first name is that of its first number
+abbrev pub IsName : Part → List ℕ → ℕ → Type 0
+IsName part text n = (place : ℕ) × (length text ≡ 3) × (place_of part text ≡ Some place) × (n ≡ first_of part + place)
+
+abbrev pub IsNumber : Part → List ℕ → ℕ → Type 0
+IsNumber part text n = IsDigits part text n ⊎ IsName part text n
 
 -- nothing, which is a step of 1, or `/` and digits
 abbrev pub IsStep : List ℕ → ℕ → Type 0
@@ -55,8 +54,15 @@ IsRange part text numbers =
 abbrev pub IsItem : Part → List ℕ → List ℕ → Type 0
 IsItem part text numbers = IsStar part text numbers ⊎ (IsSingle part text numbers ⊎ IsRange part text numbers)
 
+abbrev pub AreItems : Part → List (List ℕ) → List (List ℕ) → Type 0
+AreItems part [] items = items ≡ []
+AreItems part (text ∷ texts) items = (numbers : List ℕ) × (others : List (List ℕ)) × IsItem part text numbers × AreItems part texts others × (items ≡ numbers ∷ others)
+
+-- one item or more, parted by commas
 abbrev pub IsField : Part → List ℕ → Choice → Type 0
-IsField part text field = (numbers : List ℕ) × IsItem part text numbers × (field ≡ record { star = begins_with 42 text; numbers = counted part numbers })
+IsField part text field =
+    (texts items : List (List ℕ)) × (texts ≢ []) × (text ≡ join_with_byte 44 texts) × AreItems part texts items
+    × (field ≡ record { star = begins_with 42 text; numbers = counted part (all_of items) })
 
 -- The fields are written in text, each with blanks behind it, and then the command.
 abbrev pub AreFields : List (Part × Choice) → List ℕ → List ℕ → Type 0
@@ -67,11 +73,27 @@ AreFields (f ∷ fs) text command =
 abbrev pub fields_of : Times → List (Part × Choice)
 fields_of s = (Minute, s.minute) ∷ (Hour, s.hour) ∷ (Dom, s.dom) ∷ (Month, s.month) ∷ (Dow, s.dow) ∷ []
 
--- what a text without leading blanks says: nothing where it is empty or a comment
+-- five fields and then the command
+abbrev pub AreTimes : List ℕ → When → List ℕ → Type 0
+AreTimes text (At schedule) command = AreFields (fields_of schedule) text command
+AreTimes text Reboot command = ⊥
+
+-- what a word stands for
+abbrev pub IsWordFor : List ℕ → When → Type 0
+IsWordFor word (At schedule) = times_of_word word ≡ Some schedule
+IsWordFor word Reboot = word ≡ codes "reboot"
+
+-- `@` and a word, blanks, and then the command
+abbrev pub IsWordLine : List ℕ → When → List ℕ → Type 0
+IsWordLine text when command =
+    (word gap : List ℕ) × (text ≡ 64 ∷ (word ++ (gap ++ command))) × Are is_solid word × Are is_blank gap × StopsAt is_blank command × IsWordFor word when
+
+-- What a text without leading blanks says: nothing where it is empty or a comment.
+-- A setting begins with a letter, `_` or a quote (this profile).
 abbrev pub TextSays : List ℕ → Entry → Type 0
 TextSays text Nothing = (text ≡ []) ⊎ ((comment : List ℕ) × (text ≡ 35 ∷ comment))
-TextSays text (Command (At schedule) command) = AreFields (fields_of schedule) text command × (command ≢ [])
-TextSays text (Command Reboot command) = ⊥
+TextSays text (Setting name value) = (begins_as_setting text ≡ true) × IsSetting text name value
+TextSays text (Command when command) = (AreTimes text when command ⊎ IsWordLine text when command) × (command ≢ [])
 
 -- what a line says: blanks at its front mean nothing
 pub record Says (line : List ℕ) (entry : Entry) : Type 0 where

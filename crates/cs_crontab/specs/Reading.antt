@@ -1,17 +1,20 @@
 -- What the fields of a line denote, or their first fault from left to right.
-use Rattle.std.specs.Prelude.{◌≡◌, ℕ, Bool, ◌||◌, ◌==◌, nat_lt, if◌then◌else◌, List, [], ◌∷◌, min, length, Result, Ok, Err}
-use Rattle.std.specs.List.{list_any}
+use Rattle.std.specs.Prelude.{◌≡◌, ℕ, Bool, ◌||◌, ◌==◌, ◌+◌, nat_lt, if◌then◌else◌, List, [], ◌∷◌, min, length, take, drop, codes, Option, Some, None, Result, Ok, Err}
+use Rattle.std.specs.List.{list_any, slice_split}
+use Rattle.std.specs.Str.{bytes_eq}
 use Rattle.cs_schedule.specs.Times.{Choice, Times}
 use Rattle.cs_schedule.specs.Numbers.{numbers_where, is_every}
 use Rattle.cs_schedule.specs.Part.{first_of, last_of}
-use Rattle.cs_crontab.specs.declared.table.When.TheVariants.{At}
+use Rattle.cs_crontab.specs.declared.table.When.{When}
+use Rattle.cs_crontab.specs.declared.table.When.TheVariants.{At, Reboot}
 use Rattle.cs_crontab.specs.declared.limits.TheConstants.{MAX_LINE}
 use Rattle.cs_schedule.specs.declared.part.Part.{Part}
 use Rattle.cs_schedule.specs.declared.part.Part.TheVariants.{Minute, Hour, Dom, Month, Dow}
 use Rattle.cs_crontab.specs.declared.fault.LineFault.{LineFault}
 use Rattle.cs_crontab.specs.declared.fault.LineFault.TheVariants as faults
-use Rattle.cs_crontab.specs.Crontab.{Entry, Nothing, Command}
-use Rattle.cs_crontab.specs.Format.{counted, begins_with, begins_setting}
+use Rattle.cs_crontab.specs.Crontab.{Entry, Nothing, Setting, Command}
+use Rattle.cs_crontab.specs.SettingReading.{setting_of}
+use Rattle.cs_crontab.specs.Format.{place_of, counted, all_of, is_comma, begins_with, begins_setting, times_of_word}
 use Rattle.cs_crontab.specs.Text.{front, after, is_blank, is_solid, is_digit, decimal}
 
 infixl 10 ◌>>=◌
@@ -26,11 +29,16 @@ Gives view (Err e) read = read ≡ Err e
 
 -- A part of an item is its value and what follows it.
 
--- a number of the field
+-- the number that a name at some place stands for
+abbrev pub named : Part → Option ℕ → List ℕ → Result (ℕ × List ℕ) LineFault
+named part None rest = Err faults.BadNumber
+named part (Some place) rest = Ok (first_of part + place, rest)
+
+-- a number of the field, in digits or by its name
 unfoldable pub number_at : Part → List ℕ → Result (ℕ × List ℕ) LineFault
 number_at part text =
     let digits = front is_digit text in
-    if length digits == 0 then Err faults.BadNumber
+    if length digits == 0 then named part (place_of part (take 3 text)) (drop 3 text)
     else if nat_lt (decimal digits) (first_of part) || nat_lt (last_of part) (decimal digits) then Err faults.OutOfField
     else Ok (decimal digits, after is_digit text)
 
@@ -41,11 +49,11 @@ step_at (b ∷ bs) =
     if b == 47 then if decimal (front is_digit bs) == 0 then Err faults.BadStep else Ok (decimal (front is_digit bs), after is_digit bs)
     else Ok (1, b ∷ bs)
 
--- a step as the code keeps it: one above 1,000 selects no other numbers than 1,000 does
+-- a step as the code keeps it: one above 1,000,000 selects no other numbers than 1,000,000 does
 abbrev pub cut_step : Result (ℕ × List ℕ) LineFault → Result (ℕ × List ℕ) LineFault
 cut_step step = do
   n ← step
-  Ok (min 1000 n.0, n.1)
+  Ok (min 1_000_000 n.0, n.1)
 
 -- every n-th number from a to z, by the step that was read
 abbrev pub every : ℕ → ℕ → Result (ℕ × List ℕ) LineFault → Result (List ℕ × List ℕ) LineFault
@@ -81,11 +89,35 @@ item_at part (b ∷ bs) = if b == 42 then every (first_of part) (last_of part) (
 abbrev pub is_nothing : List ℕ → Bool
 is_nothing text = length text == 0
 
+-- an item, which is all of its text
+unfoldable pub item_of : Part → List ℕ → Result (List ℕ) LineFault
+item_of part text = do
+  item ← item_at part text
+  if is_nothing item.1 then Ok item.0 else Err faults.BadNumber
+
+unfoldable pub items_of : Part → List (List ℕ) → Result (List (List ℕ)) LineFault
+items_of part [] = Ok []
+items_of part (text ∷ texts) = do
+  item ← item_of part text
+  items ← items_of part texts
+  Ok (item ∷ items)
+
+-- the numbers of the items that commas part
+unfoldable pub list_of : Part → List ℕ → Result (List ℕ) LineFault
+list_of part word = do
+  items ← items_of part (slice_split is_comma word)
+  Ok (all_of items)
+
+-- the items behind a comma, or behind no comma
+abbrev pub items_behind : Option (List ℕ) → List (List ℕ)
+items_behind None = []
+items_behind (Some text) = slice_split is_comma text
+
 -- a field, which is all of its word
 unfoldable pub field_of : Part → List ℕ → Result Choice LineFault
 field_of part word = do
-  item ← item_at part word
-  if is_nothing item.1 then Ok (record { star = begins_with 42 word; numbers = counted part item.0 }) else Err faults.BadNumber
+  numbers ← list_of part word
+  Ok (record { star = begins_with 42 word; numbers = counted part numbers })
 
 -- the field that the next word is, and the text from the word after it on
 unfoldable pub field_at : Part → List ℕ → Result (Choice × List ℕ) LineFault
@@ -104,16 +136,40 @@ schedule_at text = do
   dow ← field_at Dow month.1
   Ok (record { minute = minute.0; hour = hour.0; dom = dom.0; month = month.0; dow = dow.0 }, dow.1)
 
+abbrev pub timed : Option Times → Result When LineFault
+timed None = Err faults.UnknownWord
+timed (Some schedule) = Ok (At schedule)
+
+-- what the word behind `@` stands for
+unfoldable pub when_of : List ℕ → Result When LineFault
+when_of word =
+    if bytes_eq word (codes "reboot") then Ok Reboot
+    else timed (times_of_word word)
+
+-- a command, which is not empty
+abbrev pub commanded : When → List ℕ → Result Entry LineFault
+commanded when command = if is_nothing command then Err faults.NoCommand else Ok (Command when command)
+
+-- what a line says behind its `@`
+unfoldable pub word_line : List ℕ → Result Entry LineFault
+word_line text = do
+  when ← when_of (front is_solid text)
+  commanded when (after is_blank (after is_solid text))
+
+abbrev pub set : Option (List ℕ × List ℕ) → Result Entry LineFault
+set None = Err faults.BadSetting
+set (Some found) = Ok (Setting found.0 found.1)
+
 -- what a line without its leading blanks says
 unfoldable pub entry_of : List ℕ → Result Entry LineFault
 entry_of [] = Ok Nothing
 entry_of (b ∷ bs) =
     if b == 35 then Ok Nothing
-    else if b == 64 then Err faults.UnknownWord
-    else if begins_setting b then Err faults.BadSetting
+    else if b == 64 then word_line bs
+    else if begins_setting b then set (setting_of (b ∷ bs))
     else do
       found ← schedule_at (b ∷ bs)
-      if is_nothing found.1 then Err faults.NoCommand else Ok (Command (At found.0) found.1)
+      commanded (At found.0) found.1
 
 unfoldable pub line_of : List ℕ → Result Entry LineFault
 line_of line =

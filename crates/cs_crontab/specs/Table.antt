@@ -5,7 +5,7 @@ use Rattle.cs_crontab.specs.declared.fault.LineFault.TheVariants.{TooLong, TooMa
 use Rattle.cs_crontab.specs.declared.fault.TableFault.{TableFault}
 use Rattle.cs_crontab.specs.declared.fault.TableFault.TheVariants.{At, OutOfMemory}
 use Rattle.cs_crontab.specs.declared.limits.TheConstants.{MAX_TABLE, MAX_COMMANDS}
-use Rattle.cs_crontab.specs.Crontab.{Entry, Nothing, Command, Table, no_lines}
+use Rattle.cs_crontab.specs.Crontab.{Entry, Nothing, Setting, Command, Table, no_lines}
 use Rattle.cs_crontab.specs.Text.{lines_of}
 use Rattle.cs_crontab.specs.Reading.{line_of}
 
@@ -31,8 +31,9 @@ abbrev pub ◌>>=◌ : {A B : Type 0} → Result A Fault → (A → Result B Fau
 abbrev pub added : ℕ → Table → Result Entry LineFault → Result Table Fault
 added number table (Err fault) = Err (number, fault)
 added number table (Ok Nothing) = Ok table
+added number table (Ok (Setting name value)) = Ok (record { settings = table.settings ++ (record { number = number; name = name; value = value } ∷ []); lines = table.lines })
 added number table (Ok (Command when command)) =
-    if nat_lt (length table.lines) MAX_COMMANDS then Ok (record { lines = table.lines ++ (record { number = number; when = when; command = command } ∷ []) })
+    if nat_lt (length table.lines) MAX_COMMANDS then Ok (record { settings = table.settings; lines = table.lines ++ (record { number = number; when = when; command = command } ∷ []) })
     else Err (number, TooManyJobs)
 
 -- the table with the lines behind it, of which the first has this number

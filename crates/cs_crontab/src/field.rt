@@ -1,27 +1,41 @@
-ghost use Rattle.std.specs.Prelude.{◌≡◌, ◌<◌, ◌≤◌, length, IfOk};
-ghost use Rattle.cs_schedule.specs.Part.{first_of, last_of};
+ghost use Rattle.std.specs.Prelude.{◌≡◌, ◌<◌, ◌≤◌, ◌∷◌, length, take, drop, IfOk, IfSome};
+ghost use Rattle.std.specs.List.{slice_split};
+ghost use Rattle.std.specs.Option.{option_map};
 ghost use Rattle.cs_schedule.specs.Times.{IsWithin};
-ghost use Rattle.cs_crontab.specs.Format.{counted, begins_with};
-ghost use Rattle.cs_crontab.specs.Reading.{Gives, number_at, step_at, cut_step, every, end_at, range_at, numbers_at, item_at, field_of, field_at};
+ghost use Rattle.cs_crontab.specs.Format.{place_of, counted, begins_with, is_comma};
+ghost use Rattle.cs_crontab.specs.Reading.{Gives, named, number_at, step_at, cut_step, every, end_at, range_at, numbers_at, item_at, items_behind, item_of, list_of, field_of, field_at};
 
 use crate::fault::LineFault;
+use crate::name::name_place;
 use crate::text::{digits, skip_blanks, word};
 use cs_schedule::{Field, Numbers, Part};
+use memchr::memchr;
 
+/// The number that the name at the front stands for, and what follows it.
+fn named(part: Part, text: &[u8]) -> Result<(u8, &[u8]), LineFault>
+    ensures { Gives (λ x. (x.0, x.1.now)) result (named part (place_of part (take 3 text.now)) (drop 3 text.now)) }
+{
+    let (name, rest) = text.split_at(text.len().min(3));
+    match name_place(part, name) {
+        Some(place) => Ok((part.first() + place as u8, rest)),
+        None => Err(LineFault::BadNumber),
+    }
+}
+
+/// The number at the front, in digits or by its name, and what follows it.
 #[tactic(auto, unfolding(crate::specs::Reading::number_at))]
 fn number(part: Part, text: &[u8]) -> Result<(u8, &[u8]), LineFault>
-    ensures gives { Gives (λ x. (x.0, x.1.now)) result (number_at part text.now) }
-    ensures high { IfOk result (λ x. x.0 ≤ last_of part) }
+    ensures { Gives (λ x. (x.0, x.1.now)) result (number_at part text.now) }
 {
     let (value, rest) = digits(text);
     if rest.len() == text.len() {
-        return Err(LineFault::BadNumber);
+        return named(part, text);
     }
-    let first = u16::from(part.first());
+    let first = u32::from(part.first());
     if value < first {
         return Err(LineFault::OutOfField);
     }
-    let last = u16::from(part.last());
+    let last = u32::from(part.last());
     if last < value {
         return Err(LineFault::OutOfField);
     }
@@ -29,7 +43,7 @@ fn number(part: Part, text: &[u8]) -> Result<(u8, &[u8]), LineFault>
 }
 
 #[tactic(auto, unfolding(crate::specs::Reading::step_at))]
-fn step(text: &[u8]) -> Result<(u16, &[u8]), LineFault>
+fn step(text: &[u8]) -> Result<(u32, &[u8]), LineFault>
     ensures gives { Gives (λ x. (x.0, x.1.now)) result (cut_step (step_at text.now)) }
     ensures positive { IfOk result (λ x. 0 < x.0) }
 {
@@ -90,15 +104,52 @@ fn item(part: Part, text: &[u8]) -> Result<(Numbers, &[u8]), LineFault>
     }
 }
 
+/// The text in front of the first comma, and what follows the comma.
+fn first_item(text: &[u8]) -> (&[u8], Option<&[u8]>)
+    ensures items { slice_split is_comma text.now ≡ result.0.now ∷ items_behind (option_map (λ x. x.now) result.1) }
+    ensures shorter { IfSome result.1 (λ x. length x.now < length text.now) }
+{
+    match memchr(b',', text) {
+        Some(at) => (&text[..at], Some(&text[at + 1..])),
+        None => (text, None),
+    }
+}
+
+/// The numbers of an item, which is all of its text.
+#[tactic(auto, unfolding(crate::specs::Reading::item_of))]
+fn whole_item(part: Part, text: &[u8]) -> Result<Numbers, LineFault>
+    ensures { result ≡ item_of part text.now }
+{
+    let (numbers, rest) = item(part, text)?;
+    if !rest.is_empty() {
+        return Err(LineFault::BadNumber);
+    }
+    Ok(numbers)
+}
+
+/// The numbers of the items that commas part.
+fn list(part: Part, word: &[u8]) -> Result<Numbers, LineFault>
+    ensures { result ≡ list_of part word.now }
+{
+    let mut numbers = Numbers::none();
+    let mut rest = word;
+    loop {
+        let (text, behind) = first_item(rest);
+        let item = whole_item(part, text)?;
+        numbers = numbers.union(&item);
+        match behind {
+            None => return Ok(numbers),
+            Some(more) => rest = more,
+        }
+    }
+}
+
 /// A field, which is all of its word.
 #[tactic(auto, unfolding(crate::specs::Reading::field_of))]
 fn field(part: Part, word: &[u8]) -> Result<Field, LineFault>
     ensures { result ≡ field_of part word.now }
 {
-    let (numbers, rest) = item(part, word)?;
-    if !rest.is_empty() {
-        return Err(LineFault::BadNumber);
-    }
+    let numbers = list(part, word)?;
     let star = matches!(word, [b'*', ..]);
     let numbers = match part {
         Part::Dow => numbers.in_week(),

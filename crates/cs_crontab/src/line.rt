@@ -1,20 +1,24 @@
 ghost use Rattle.std.specs.Prelude.{◌≡◌, ◌==◌};
 ghost use Rattle.std.specs.List.{list_any};
 ghost use Rattle.cs_crontab.specs.Format.{begins_setting};
-ghost use Rattle.cs_crontab.specs.Reading.{Gives, schedule_at, entry_of, line_of};
+ghost use Rattle.cs_crontab.specs.Reading.{Gives, schedule_at, when_of, commanded, word_line, entry_of, line_of};
 ghost use Rattle.cs_crontab.specs.Seen.{entry_seen};
 
 use crate::fault::LineFault;
 use crate::field::next_field;
 use crate::limits::MAX_LINE;
+use crate::setting::read_setting;
 use crate::table::When;
-use crate::text::skip_blanks;
+use crate::text::{skip_blanks, word};
+use crate::word::word_schedule;
 use cs_schedule::{Part, Schedule};
 
 /// What a line says.
 pub(crate) enum Entry<'a> {
     /// Nothing: it is empty, blank or a comment.
     Nothing,
+    /// A name and its value.
+    Setting(&'a [u8], &'a [u8]),
     /// A command, and when it is started.
     Command(When, &'a [u8]),
 }
@@ -42,6 +46,39 @@ fn begins_setting(byte: u8) -> bool
         || byte == b'\''
 }
 
+/// What the word behind `@` stands for.
+#[tactic(auto, unfolding(crate::specs::Reading::when_of))]
+fn word_time(word: &[u8]) -> Result<When, LineFault>
+    ensures { result ≡ when_of word.now }
+{
+    if word == b"reboot".as_slice() {
+        return Ok(When::Reboot);
+    }
+    match word_schedule(word) {
+        Some(schedule) => Ok(When::At(schedule)),
+        None => Err(LineFault::UnknownWord),
+    }
+}
+
+fn commanded(when: When, command: &[u8]) -> Result<Entry<'_>, LineFault>
+    ensures { Gives entry_seen result (commanded when command.now) }
+{
+    if command.is_empty() {
+        return Err(LineFault::NoCommand);
+    }
+    Ok(Entry::Command(when, command))
+}
+
+/// What a line says behind its `@`.
+#[tactic(auto, unfolding(crate::specs::Reading::word_line))]
+fn word_line(text: &[u8]) -> Result<Entry<'_>, LineFault>
+    ensures { Gives entry_seen result (word_line text.now) }
+{
+    let (word, rest) = word(text);
+    let when = word_time(word)?;
+    commanded(when, skip_blanks(rest))
+}
+
 /// What a line without its leading blanks says.
 #[tactic(auto, unfolding(crate::specs::Reading::entry_of))]
 fn read_entry(text: &[u8]) -> Result<Entry<'_>, LineFault>
@@ -49,14 +86,14 @@ fn read_entry(text: &[u8]) -> Result<Entry<'_>, LineFault>
 {
     match text {
         [] | [b'#', ..] => Ok(Entry::Nothing),
-        [b'@', ..] => Err(LineFault::UnknownWord),
-        [first, ..] if begins_setting(*first) => Err(LineFault::BadSetting),
-        _ => {
+        [b'@', rest @ ..] => word_line(rest),
+        [first, ..] if begins_setting(*first) => match read_setting(text) {
+            Some((name, value)) => Ok(Entry::Setting(name, value)),
+            None => Err(LineFault::BadSetting),
+        },
+        [_, ..] => {
             let (schedule, command) = schedule(text)?;
-            if command.is_empty() {
-                return Err(LineFault::NoCommand);
-            }
-            Ok(Entry::Command(When::At(schedule), command))
+            commanded(When::At(schedule), command)
         }
     }
 }

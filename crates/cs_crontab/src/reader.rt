@@ -9,7 +9,7 @@ ghost use Rattle.cs_crontab.specs.Table.{Denotes, added, lines_from, crontab_of}
 use crate::fault::{LineFault, TableFault};
 use crate::limits::{MAX_COMMANDS, MAX_TABLE};
 use crate::line::{Entry, read_line};
-use crate::table::{Crontab, Line};
+use crate::table::{Crontab, Line, Setting};
 use crate::text::first_line;
 use cs_civil::{Bytes, Sequence};
 use std::alloc::Global;
@@ -18,6 +18,7 @@ use std::marker::Model;
 /// The lines that were read so far.
 #[derive(Drop)]
 struct Draft {
+    variables: Sequence<Setting>,
     commands: Sequence<Line>,
 }
 
@@ -26,7 +27,7 @@ impl Model for Draft {
 
     ghost Value = { Table };
 
-    ghost view = { λ a. record { lines = a.commands } };
+    ghost view = { λ a. record { settings = a.variables; lines = a.commands } };
 }
 
 impl Draft {
@@ -34,6 +35,7 @@ impl Draft {
         ensures { result ≡ no_lines }
     {
         Draft {
+            variables: Sequence::new(alloc),
             commands: Sequence::new(alloc),
         }
     }
@@ -45,6 +47,12 @@ impl Draft {
         let fault = match read_line(line) {
             Err(fault) => fault,
             Ok(Entry::Nothing) => return Ok(()),
+            Ok(Entry::Setting(name, value)) => {
+                let name = Bytes::from_slice(alloc, name)?;
+                let value = Bytes::from_slice(alloc, value)?;
+                self.variables.push(Setting::new(number, name, value))?;
+                return Ok(());
+            }
             Ok(Entry::Command(when, command)) => {
                 if self.commands.len() < MAX_COMMANDS {
                     let command = Bytes::from_slice(alloc, command)?;
@@ -88,7 +96,7 @@ fn read_table(alloc: Global, bytes: &[u8]) -> Result<Crontab, TableFault>
         });
     }
     let draft = read_lines(alloc, bytes)?;
-    Ok(Crontab::new(draft.commands))
+    Ok(Crontab::new(draft.variables, draft.commands))
 }
 
 /// The crontab that the bytes denote (crontab(5)), or its first fault.

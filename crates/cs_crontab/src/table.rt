@@ -63,9 +63,60 @@ impl Line {
     }
 }
 
-/// What a crontab says: at most [`MAX_COMMANDS`](crate::MAX_COMMANDS) command lines, in order of their numbers.
+/// A setting of the environment.
+#[derive(Debug, Drop)]
+pub struct Setting {
+    line: u32,
+    key: Bytes,
+    content: Bytes,
+}
+
+impl Model for Setting {
+    ghost use Rattle.cs_crontab.specs.Crontab.{SettingLine};
+
+    ghost Value = { SettingLine };
+
+    ghost view = { λ a. record { number = a.line; name = a.key; value = a.content } };
+}
+
+impl Setting {
+    /// The setting with that name and value on the line of that number.
+    pub fn new(number: u32, name: Bytes, value: Bytes) -> Setting
+        ensures { result ≡ record { number = number; name = name; value = value } }
+    {
+        Setting {
+            line: number,
+            key: name,
+            content: value,
+        }
+    }
+
+    /// The number of the line, counted from 1 over all lines of the table.
+    pub fn number(&self) -> u32
+        ensures { result ≡ self.now.number }
+    {
+        self.line
+    }
+
+    /// The name, without its quotes.
+    pub fn name(&self) -> &[u8]
+        ensures { result.now ≡ self.now.name }
+    {
+        self.key.as_slice()
+    }
+
+    /// The value, without its quotes.
+    pub fn value(&self) -> &[u8]
+        ensures { result.now ≡ self.now.value }
+    {
+        self.content.as_slice()
+    }
+}
+
+/// What a crontab says: its settings, and at most [`MAX_COMMANDS`](crate::MAX_COMMANDS) command lines, each in order of their numbers.
 #[derive(Debug, Drop)]
 pub struct Crontab {
+    variables: Sequence<Setting>,
     commands: Sequence<Line>,
 }
 
@@ -74,19 +125,30 @@ impl Model for Crontab {
 
     ghost Value = { Table };
 
-    ghost view = { λ a. record { lines = a.commands } };
+    ghost view = { λ a. record { settings = a.variables; lines = a.commands } };
 
-    ghost invariant = { λ a. IsOrdered (record { lines = a.commands }) };
+    ghost invariant = { λ a. IsOrdered (record { settings = a.variables; lines = a.commands }) };
 }
 
 impl Crontab {
     ghost use Rattle.cs_crontab.specs.Crontab.{IsOrdered};
 
-    pub(crate) fn new(lines: Sequence<Line>) -> Crontab
-        requires { IsOrdered (record { lines = lines }) }
-        ensures { result ≡ record { lines = lines } }
+    pub(crate) fn new(settings: Sequence<Setting>, lines: Sequence<Line>) -> Crontab
+        requires { IsOrdered (record { settings = settings; lines = lines }) }
+        ensures { result ≡ record { settings = settings; lines = lines } }
     {
-        Crontab { commands: lines }
+        Crontab {
+            variables: settings,
+            commands: lines,
+        }
+    }
+
+    /// The settings, in order of their numbers.
+    pub fn settings(&self) -> &[Setting]
+        ensures value { result.now ≡ self.now.settings }
+        ensures rising { AllPairs (λ x y. x.number < y.number) self.now.settings }
+    {
+        self.variables.as_slice()
     }
 
     /// The command lines, in order of their numbers.

@@ -1,9 +1,13 @@
+//! Lines, words and numbers of a table's text, as crontabs and anacrontabs have them.
 ghost use Rattle.std.specs.Prelude.{◌≡◌, ◌≢◌, [], ◌∷◌, ◌<◌, ◌+◌, length, min, IfSome, IfNone};
+ghost use Rattle.std.specs.List.{list_all};
 ghost use Rattle.cs_crontab.specs.Text.{is_blank, is_solid, is_digit, front, after, lines_of, decimal};
+ghost use Rattle.cs_crontab.specs.SettingReading.{trimmed};
 
 use memchr::memchr;
 
-fn is_blank(byte: u8) -> bool
+/// Whether the byte is a space or a tab.
+pub fn is_blank(byte: u8) -> bool
     ensures { result ≡ is_blank byte }
 {
     byte == b' ' || byte == b'\t'
@@ -17,7 +21,7 @@ fn is_digit(byte: u8) -> bool
 
 /// The text without the blanks at its front.
 #[tactic(auto, unfolding(crate::specs::Text::after))]
-pub(crate) fn skip_blanks(text: &[u8]) -> &[u8]
+pub fn skip_blanks(text: &[u8]) -> &[u8]
     ensures { result.now ≡ after is_blank text.now }
 {
     let mut rest = text;
@@ -30,8 +34,29 @@ pub(crate) fn skip_blanks(text: &[u8]) -> &[u8]
     rest
 }
 
+/// Whether all bytes are blanks.
+pub fn are_blank(text: &[u8]) -> bool
+    ensures { result ≡ list_all is_blank text.now }
+{
+    text.iter().all(|byte| is_blank(*byte))
+}
+
+/// The text without the blanks at its end.
+pub fn trim_end(text: &[u8]) -> &[u8]
+    ensures { result.now ≡ trimmed text.now }
+{
+    let mut rest = text;
+    while let [others @ .., last] = rest {
+        if !is_blank(*last) {
+            return rest;
+        }
+        rest = others;
+    }
+    rest
+}
+
 /// The word at the front, and what follows it.
-pub(crate) fn word(text: &[u8]) -> (&[u8], &[u8])
+pub fn word(text: &[u8]) -> (&[u8], &[u8])
     ensures word { result.0.now ≡ front is_solid text.now }
     ensures rest { result.1.now ≡ after is_solid text.now }
 {
@@ -42,23 +67,23 @@ pub(crate) fn word(text: &[u8]) -> (&[u8], &[u8])
     text.split_at(len)
 }
 
-/// The number that the digits at the front stand for, or 1,000 where it is larger, and what follows them.
-pub(crate) fn digits(text: &[u8]) -> (u16, &[u8])
-    ensures value { result.0 ≡ min 1000 (decimal (front is_digit text.now)) }
+/// The number that the digits at the front stand for, or 1,000,000 where it is larger, and what follows them.
+pub fn digits(text: &[u8]) -> (u32, &[u8])
+    ensures value { result.0 ≡ min 1_000_000 (decimal (front is_digit text.now)) }
     ensures rest { result.1.now ≡ after is_digit text.now }
     ensures parts { length (front is_digit text.now) + length result.1.now ≡ length text.now }
 {
-    let mut value = 0u16;
+    let mut value = 0u32;
     let mut len = 0;
     while len < text.len() && is_digit(text[len]) {
-        value = (value * 10 + u16::from(text[len] - b'0')).min(1000);
+        value = (value * 10 + u32::from(text[len] - b'0')).min(1_000_000);
         len += 1;
     }
     (value, &text[len..])
 }
 
 /// The first line, and what follows its newline.
-pub(crate) fn first_line(text: &[u8]) -> (&[u8], &[u8])
+pub fn first_line(text: &[u8]) -> (&[u8], &[u8])
     requires { text.now ≢ [] }
     ensures line { lines_of text.now ≡ result.0.now ∷ lines_of result.1.now }
     ensures shorter { length result.1.now < length text.now }

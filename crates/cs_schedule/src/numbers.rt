@@ -26,11 +26,11 @@ fn put(word: u64, number: u8) -> u64
     word | 1u64 << number
 }
 
-fn is_every(first: u8, last: u8, step: u16, number: u8) -> bool
+fn is_every(first: u8, last: u8, step: u32, number: u8) -> bool
     requires { 0 < step }
     ensures { result ≡ is_every first last step number }
 {
-    first <= number && number <= last && u16::from(number - first) % step == 0
+    first <= number && number <= last && u32::from(number - first) % step == 0
 }
 
 impl Numbers {
@@ -48,7 +48,7 @@ impl Numbers {
     }
 
     /// The first number, and each `step`-th after it up to the last, of those below 64.
-    pub fn every(first: u8, last: u8, step: u16) -> Numbers
+    pub fn every(first: u8, last: u8, step: u32) -> Numbers
         requires { 0 < step }
         ensures value { result ≡ numbers_where (is_every first last step) }
         ensures within { All (λ n. (first ≤ n) × (n ≤ last)) result }

@@ -14,11 +14,11 @@ loop-len-preserved c =
     let others : List ℕ = front is_digit (drop (i + 1) text) in
     let passes : is_digit d ≡ true = sym c.is_digit.ensures ∙ c.if-is_digit.true in
     let one = ap (decimal_from v) (front_more is_digit text i c.loop-len-test.true passes) ∙ decimal_next v d others in
-    let cut : min 1000 c.min-value.result ≡ min 1000 (10 * v + (d - 48)) = omega (arith, c.min-value.ensures, c.from.ensures) in
+    let cut : min 1_000_000 c.min-value.result ≡ min 1_000_000 (10 * v + (d - 48)) = omega (arith, c.min-value.ensures, c.from.ensures) in
     record {
       within = omega arith;
       capped = omega arith;
-      value = decimal_cut others c.min-value.result (10 * v + (d - 48)) cut ∙ ap (min 1000) (sym one) ∙ c.loop-len.invariant.value;
+      value = decimal_cut others c.min-value.result (10 * v + (d - 48)) cut ∙ ap (min 1_000_000) (sym one) ∙ c.loop-len.invariant.value;
       after = sym (after_more is_digit text i c.loop-len-test.true passes) ∙ c.loop-len.invariant.after;
     }
 
@@ -36,9 +36,9 @@ stops c =
 pub returns-clause-value : goal.returns-clause-value
 returns-clause-value c =
     let v : ℕ = c.loop-len.value in
-    let capped : v ≤ 1000 = c.loop-len.invariant.capped in
-    let whole : v ≡ min 1000 v = omega arith in
-    whole ∙ ap (min 1000) (sym (decimal_end v) ∙ ap (decimal_from v) (sym (stops c).0)) ∙ c.loop-len.invariant.value
+    let capped : v ≤ 1_000_000 = c.loop-len.invariant.capped in
+    let whole : v ≡ min 1_000_000 v = omega arith in
+    whole ∙ ap (min 1_000_000) (sym (decimal_end v) ∙ ap (decimal_from v) (sym (stops c).0)) ∙ c.loop-len.invariant.value
 
 pub returns-clause-rest : goal.returns-clause-rest
 returns-clause-rest c = take_rest c.args.text.now c.loop-len.len ∙ sym (stops c).1 ∙ c.loop-len.invariant.after

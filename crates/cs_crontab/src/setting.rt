@@ -1,0 +1,89 @@
+//! Settings, as crontabs and anacrontabs have them.
+ghost use Rattle.std.specs.Prelude.{◌≡◌};
+ghost use Rattle.std.specs.Option.{option_map};
+ghost use Rattle.cs_crontab.specs.Text.{front, after};
+ghost use Rattle.cs_crontab.specs.Setting.{is_quote, is_name_byte};
+ghost use Rattle.cs_crontab.specs.SettingReading.{quoted_at, name_at, value_of, setting_of};
+
+use crate::text::{are_blank, is_blank, skip_blanks, trim_end};
+use memchr::memchr;
+
+fn is_quote(byte: u8) -> bool
+    ensures { result ≡ is_quote byte }
+{
+    byte == b'"' || byte == b'\''
+}
+
+fn is_name_byte(byte: u8) -> bool
+    ensures { result ≡ is_name_byte byte }
+{
+    !is_blank(byte) && byte != b'='
+}
+
+/// The text in front of the next quote of that kind, and what follows the quote.
+fn quoted(quote: u8, text: &[u8]) -> Option<(&[u8], &[u8])>
+    ensures { option_map (λ x. (x.0.now, x.1.now)) result ≡ quoted_at quote text.now }
+{
+    let at = memchr(quote, text)?;
+    Some((&text[..at], &text[at + 1..]))
+}
+
+/// The bytes of a name at the front, and what follows them.
+fn plain_name(text: &[u8]) -> (&[u8], &[u8])
+    ensures name { result.0.now ≡ front is_name_byte text.now }
+    ensures rest { result.1.now ≡ after is_name_byte text.now }
+{
+    let mut len = 0;
+    while len < text.len() && is_name_byte(text[len]) {
+        len += 1;
+    }
+    text.split_at(len)
+}
+
+/// The name at the front, and what follows it.
+#[tactic(auto, unfolding(crate::specs::SettingReading::name_at))]
+fn name(text: &[u8]) -> Option<(&[u8], &[u8])>
+    ensures { option_map (λ x. (x.0.now, x.1.now)) result ≡ name_at text.now }
+{
+    let [first, rest @ ..] = text else {
+        return None;
+    };
+    let (name, behind) = if is_quote(*first) {
+        quoted(*first, rest)?
+    } else {
+        plain_name(text)
+    };
+    if name.is_empty() {
+        return None;
+    }
+    Some((name, behind))
+}
+
+/// The value that a text without leading blanks is.
+#[tactic(auto, unfolding(crate::specs::SettingReading::value_of))]
+fn value(text: &[u8]) -> Option<&[u8]>
+    ensures { option_map (λ x. x.now) result ≡ value_of text.now }
+{
+    let [first, rest @ ..] = text else {
+        return Some(text);
+    };
+    if !is_quote(*first) {
+        return Some(trim_end(text));
+    }
+    let (value, behind) = quoted(*first, rest)?;
+    if are_blank(behind) { Some(value) } else { None }
+}
+
+/// The name and the value of a setting, `name = value`, or `None` where the text is none (crontab(5)).
+///
+/// Either may stand in quotes, and blanks round `=` and behind the value mean nothing. The text has no leading blanks.
+#[tactic(auto, unfolding(crate::specs::SettingReading::setting_of))]
+pub fn read_setting(text: &[u8]) -> Option<(&[u8], &[u8])>
+    ensures { option_map (λ x. (x.0.now, x.1.now)) result ≡ setting_of text.now }
+{
+    let (name, rest) = name(text)?;
+    let [b'=', behind @ ..] = skip_blanks(rest) else {
+        return None;
+    };
+    Some((name, value(skip_blanks(behind))?))
+}

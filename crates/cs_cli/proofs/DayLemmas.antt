@@ -2,7 +2,7 @@
 use Rattle.std.proofs.Common.{◌≡◌, ◌∙◌, ℕ, sym, ap}
 use Rattle.cs_crontab.specs.declared.fault.TableFault.{TableFault}
 use Rattle.cs_crontab.specs.declared.fault.TableFault.TheVariants.{At, OutOfMemory}
-use Rattle.cs_crontab.specs.Grammar.{Meaning}
+use Rattle.cs_crontab.specs.Faults.{Meaning}
 use Rattle.cs_crontab.specs.Table.{Fails}
 use Rattle.cs_cli.specs.Response.{Ending, TellsFault, said_of}
 

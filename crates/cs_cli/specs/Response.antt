@@ -8,8 +8,8 @@ use Rattle.cs_crontab.specs.declared.fault.TableFault.TheVariants.{At as AtLine,
 use Rattle.cs_crontab.specs.declared.table.When.{When}
 use Rattle.cs_crontab.specs.declared.table.When.TheVariants.{At, Reboot}
 use Rattle.cs_crontab.specs.Crontab.{CommandLine}
-use Rattle.cs_crontab.specs.Faults.{fault_text}
-use Rattle.cs_crontab.specs.Grammar.{Meaning, Means}
+use Rattle.cs_crontab.specs.Printed.{fault_text}
+use Rattle.cs_crontab.specs.Faults.{Meaning, Means}
 use Rattle.clap.specs.Words.{Text}
 use Rattle.cs_cli.specs.declared.response.Status.{Status}
 use Rattle.cs_cli.specs.declared.response.Status.TheVariants.{Done, BadInput, NoCall, NoMemory, DeviceFailed}

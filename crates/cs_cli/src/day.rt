@@ -1,7 +1,7 @@
 //! The subcommand `day`.
 ghost use Rattle.std.specs.Prelude.{◌≡◌, ◌≤◌, ◌++◌, IfOk, IfErr, IfSome, IsNone, OnOk, flat_map, codes};
 ghost use Rattle.cs_civil.specs.Faults.{fault_text};
-ghost use Rattle.cs_crontab.specs.Grammar.{Meaning, Means};
+ghost use Rattle.cs_crontab.specs.Faults.{Meaning, Means};
 ghost use Rattle.cs_cli.specs.Asked.{asked};
 ghost use Rattle.cs_cli.specs.Response.{AnswersDay, IsBadDate, NamesDay, TellsFault, line_text, longest_time, said_of, table_text};
 

@@ -40,7 +40,7 @@ begins_field b = nat_eq b 42 || is_digit b
 plain : (b : ℕ) → begins_field b ≡ true → (nat_eq b 35 ≡ false) × (nat_eq b 64 ≡ false) × (begins_setting b ≡ false) × (is_blank b ≡ false)
 plain b h = (grind (arith, nat_tests), grind (arith, nat_tests), grind (arith, nat_tests), grind (arith, nat_tests))
 
-plain_setting : (b : ℕ) → begins_setting b ≡ true → (nat_eq b 35 ≡ false) × (nat_eq b 64 ≡ false) × (is_blank b ≡ false)
+pub plain_setting : (b : ℕ) → begins_setting b ≡ true → (nat_eq b 35 ≡ false) × (nat_eq b 64 ≡ false) × (is_blank b ≡ false)
 plain_setting b h = (grind (arith, nat_tests), grind (arith, nat_tests), grind (arith, nat_tests))
 
 digit_begins : (b : ℕ) → is_digit b ≡ true → begins_field b ≡ true
@@ -85,7 +85,7 @@ commanded_takes when command x e =
     let g = guard_ok (is_nothing command) faults.NoCommand (Ok (Command when command)) x e in
     (some_from command g.0, ok_is (Command when command) x g.1)
 
-word_takes : (word : List ℕ) (when : When) → when_of word ≡ Ok when → (word ≢ []) × IsWordFor word when
+pub word_takes : (word : List ℕ) (when : When) → when_of word ≡ Ok when → (word ≢ []) × IsWordFor word when
 unfolding when_of
 word_takes word when e = (λ empty. no_word (ap (λ (w : List ℕ). cond (bytes_eq w (codes "reboot")) (Ok Reboot) (timed (times_of_word w))) (sym empty) ∙ e), by_reboot (bytes_eq word (codes "reboot")) refl e)
   where
@@ -100,7 +100,7 @@ word_takes word when e = (λ empty. no_word (ap (λ (w : List ℕ). cond (bytes_
     by_reboot true is e = subst (IsWordFor word) (ok_is Reboot when e) ((bytes_eq-Decides word (codes "reboot")).0 is)
     by_reboot false is e = by_times (times_of_word word) refl e
 
-word_again : (word : List ℕ) (when : When) → IsWordFor word when → when_of word ≡ Ok when
+pub word_again : (word : List ℕ) (when : When) → IsWordFor word when → when_of word ≡ Ok when
 unfolding when_of
 word_again word (At s) is = rw (not_reboot (bytes_eq word (codes "reboot")) refl, is) refl
   where

@@ -11,6 +11,7 @@ pub mod Fields
 pub mod Settings
 pub mod Whole
 pub mod Entries
+pub mod Failures
 pub mod Tables
 pub mod Variables
 pub mod Pieces

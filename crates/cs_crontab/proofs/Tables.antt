@@ -15,8 +15,10 @@ use Rattle.cs_crontab.specs.declared.limits.TheConstants.{MAX_TABLE, MAX_COMMAND
 use Rattle.cs_crontab.specs.Crontab.{SettingLine, CommandLine, Entry, Nothing, Setting, Command, Table, no_lines, with_entry, IsOrdered}
 use Rattle.cs_crontab.specs.Text.{lines_of}
 use Rattle.cs_crontab.specs.Reading.{line_of}
-use Rattle.cs_crontab.specs.Grammar.{Says, AreLines, IsCrontab, IsFault, IsFaultOf, Means}
+use Rattle.cs_crontab.specs.Grammar.{Says, AreLines, IsCrontab}
+use Rattle.cs_crontab.specs.Faults.{LineFails, IsFault, IsFaultOf, Means}
 use Rattle.cs_crontab.specs.Table.{◌>>=◌, Fault, Denotes, added, lines_from, crontab_of}
+use Rattle.cs_crontab.proofs.Failures.{line_fails, line_fails_again}
 use Rattle.cs_crontab.proofs.Entries.{line_takes, line_again}
 
 abbrev done : Table → Result Table Fault
@@ -141,7 +143,7 @@ lines_again n table others (line ∷ lines) (entry, rest, first, more, is) few =
 -- why a line is the first with a fault, after such a table
 abbrev Stands : Table → ℕ → List ℕ → LineFault → Type 0
 Stands table number line fault =
-    (line_of line ≡ Err fault) ⊎ ((fault ≡ faults.TooManyJobs) × (length table.lines ≡ MAX_COMMANDS) × ((when : When) × (command : List ℕ) × Says line (Command when command)))
+    LineFails line fault ⊎ ((fault ≡ faults.TooManyJobs) × (length table.lines ≡ MAX_COMMANDS) × ((when : When) × (command : List ℕ) × Says line (Command when command)))
 
 -- the lines before the fault, the line, and why it stands there
 record Stops (n : ℕ) (table : Table) (lines : List (List ℕ)) (number : ℕ) (fault : LineFault) : Type 0 where
@@ -168,7 +170,7 @@ added_fails n table line number fault few e = by_read (line_of line) refl e
     by_read (Err f) is e =
         let same = err_is (n, f) (number, fault) e in
         let f-is : f ≡ fault = ap (λ (g : Fault). g.1) same in
-        (sym (ap (λ (g : Fault). g.0) same), inl (is ∙ ap (λ (g : LineFault). Err g) f-is))
+        (sym (ap (λ (g : Fault). g.0) same), inl (line_fails line fault (is ∙ ap (λ (g : LineFault). Err g) f-is)))
     by_read (Ok Nothing) is e = absurd cc
     by_read (Ok (Setting name value)) is e = absurd cc
     by_read (Ok (Command when command)) is e = by_room when command is (nat_lt (length table.lines) MAX_COMMANDS) refl e
@@ -239,7 +241,7 @@ crontab_fails text number fault e = by_length (nat_lt MAX_TABLE (length text)) r
 -- ---- a fault that stands is found
 
 added_stops : (number : ℕ) (table : Table) (line : List ℕ) (fault : LineFault) → Stands table number line fault → added number table (line_of line) ≡ Err (number, fault)
-added_stops number table line fault (inl fails) = rw fails refl
+added_stops number table line fault (inl fails) = rw (line_fails_again line fault fails) refl
 added_stops number table line fault (inr (is, full, (when, command, says))) =
     rw (line_again line (Command when command) says, le-ltb (length table.lines) MAX_COMMANDS (omega (arith, full))) (ap (λ (f : LineFault). Err (number, f)) (sym is))
 

@@ -1,15 +1,11 @@
 -- The grammar of a crontab: how each value is written. Nothing here reads from left to right.
-use Rattle.std.specs.Prelude.{◌≡◌, ◌≢◌, ℕ, ◌+◌, ◌<◌, ◌≤◌, ◌⊎◌, true, false, nat_eq, List, [], ◌∷◌, ◌++◌, length, codes, Some, Result, Ok, Err}
+use Rattle.std.specs.Prelude.{◌≡◌, ◌≢◌, ℕ, ◌+◌, ◌<◌, ◌≤◌, ◌⊎◌, true, false, nat_eq, List, [], ◌∷◌, ◌++◌, length, codes, Some}
 use Rattle.std.specs.List.{list_all, list_any, join_with_byte}
 use Rattle.cs_schedule.specs.Times.{Choice, Times}
 use Rattle.cs_schedule.specs.Numbers.{numbers_where, is_every}
 use Rattle.cs_schedule.specs.Part.{first_of, last_of}
 use Rattle.cs_schedule.specs.declared.part.Part.{Part}
 use Rattle.cs_schedule.specs.declared.part.Part.TheVariants.{Minute, Hour, Dom, Month, Dow}
-use Rattle.cs_crontab.specs.declared.fault.LineFault.{LineFault}
-use Rattle.cs_crontab.specs.declared.fault.LineFault.TheVariants as faults
-use Rattle.cs_crontab.specs.declared.fault.TableFault.{TableFault}
-use Rattle.cs_crontab.specs.declared.fault.TableFault.TheVariants as table_faults
 use Rattle.cs_crontab.specs.declared.table.When.{When}
 use Rattle.cs_crontab.specs.declared.table.When.TheVariants.{At, Reboot}
 use Rattle.cs_crontab.specs.declared.limits.TheConstants.{MAX_TABLE, MAX_LINE, MAX_COMMANDS}
@@ -17,7 +13,6 @@ use Rattle.cs_crontab.specs.Crontab.{Entry, Nothing, Setting, Command, Table, no
 use Rattle.cs_crontab.specs.Format.{place_of, counted, all_of, begins_with, begins_as_setting, times_of_word}
 use Rattle.cs_crontab.specs.Setting.{IsSetting}
 use Rattle.cs_crontab.specs.Text.{Are, StopsAt, lines_of, is_blank, is_solid, is_digit, decimal}
-use Rattle.cs_crontab.specs.Reading.{line_of}
 
 -- digits that stand for a number of the field
 pub record IsDigits (part : Part) (text : List ℕ) (n : ℕ) : Type 0 where
@@ -115,33 +110,3 @@ pub record IsCrontab (text : List ℕ) (table : Table) : Type 0 where
   pub short : length text ≤ MAX_TABLE
   pub few : length table.lines ≤ MAX_COMMANDS
   pub lines : AreLines 1 (lines_of text) table
-
--- The first line with a fault: the lines before it have none. The command above the limit is a fault after all others of its line.
-pub record IsFirstFault (text : List ℕ) (number : ℕ) (fault : LineFault) : Type 0 where
-  pub short : length text ≤ MAX_TABLE
-  pub before : List (List ℕ)
-  pub line : List ℕ
-  pub later : List (List ℕ)
-  pub parts : lines_of text ≡ before ++ (line ∷ later)
-  pub place : number ≡ length before + 1
-  pub table : Table
-  pub fine : AreLines 1 before table
-  pub few : length table.lines ≤ MAX_COMMANDS
-  pub stands : (line_of line ≡ Err fault) ⊎ ((fault ≡ faults.TooManyJobs) × (length table.lines ≡ MAX_COMMANDS) × ((when : When) × (command : List ℕ) × Says line (Command when command)))
-
--- the text's fault, with the number of its line: the table's own length has line 0
-abbrev pub IsFault : List ℕ → ℕ → LineFault → Type 0
-IsFault text number fault = ((MAX_TABLE < length text) × (number ≡ 0) × (fault ≡ faults.TooLong)) ⊎ IsFirstFault text number fault
-
--- A text is written as a table, or it has a fault.
-abbrev pub Meaning : Type 0
-Meaning = Result Table (ℕ × LineFault)
-
-abbrev pub Means : List ℕ → Meaning → Type 0
-Means text (Ok table) = IsCrontab text table
-Means text (Err fault) = IsFault text fault.0 fault.1
-
--- What a call answered is what the text means, unless memory ran out.
-abbrev pub IsFaultOf : List ℕ → TableFault → Type 0
-IsFaultOf text table_faults.OutOfMemory = Unit {0}
-IsFaultOf text (table_faults.At line fault) = IsFault text line fault

@@ -7,7 +7,8 @@ pub mod Reading
 pub mod Seen
 pub mod Table
 pub mod Grammar
+pub mod Faults
 pub mod Environment
 pub mod Command
 pub mod Token
-pub mod Faults
+pub mod Printed

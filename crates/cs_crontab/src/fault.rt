@@ -1,5 +1,5 @@
 ghost use Rattle.std.specs.Prelude.{◌≡◌};
-ghost use Rattle.cs_crontab.specs.Faults.{fault_text};
+ghost use Rattle.cs_crontab.specs.Printed.{fault_text};
 ghost use Rattle.cs_crontab.specs.declared.fault.TableFault.TheVariants.{OutOfMemory};
 
 use std::alloc::{AllocError, AllocFailed};

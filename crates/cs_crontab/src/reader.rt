@@ -3,7 +3,8 @@ ghost use Rattle.cs_crontab.specs.declared.limits.TheConstants.{MAX_TABLE};
 ghost use Rattle.cs_crontab.specs.Crontab.{no_lines};
 ghost use Rattle.cs_crontab.specs.Reading.{line_of};
 ghost use Rattle.cs_crontab.specs.Text.{lines_of};
-ghost use Rattle.cs_crontab.specs.Grammar.{IsCrontab, IsFaultOf, Means, Meaning};
+ghost use Rattle.cs_crontab.specs.Grammar.{IsCrontab};
+ghost use Rattle.cs_crontab.specs.Faults.{IsFaultOf, Means, Meaning};
 ghost use Rattle.cs_crontab.specs.Table.{Denotes, added, lines_from, crontab_of};
 
 use crate::fault::{LineFault, TableFault};

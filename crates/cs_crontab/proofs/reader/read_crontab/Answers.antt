@@ -1,5 +1,5 @@
 use Rattle.std.proofs.Common.{subst}
-use Rattle.cs_crontab.specs.Grammar.{Meaning}
+use Rattle.cs_crontab.specs.Faults.{Meaning}
 use Rattle.cs_crontab.specs.Table.{Denotes}
 use Rattle.cs_crontab.proofs.Tables.{answered, meant}
 use Rattle.cs_crontab.proofs.reader.read_crontab.Goals as goal

@@ -14,6 +14,7 @@ mod sequence;
 mod tests;
 mod text;
 
+pub use date::Gregorian;
 pub use day::Day;
 pub use fault::CivilFault;
 pub use kind::{DayKind, kind_number, kind_of, next_kinds};

@@ -1,6 +1,6 @@
 use crate::{
-    Bytes, CivilFault, Day, DayKind, Minute, all_kinds, date_text, kind_number, kind_of, minute_at,
-    next_kinds, read_day, read_minute,
+    Bytes, CivilFault, Day, DayKind, Gregorian, Minute, all_kinds, date_text, kind_number, kind_of,
+    minute_at, next_kinds, read_day, read_minute,
 };
 use std::test::Fail;
 
@@ -51,6 +51,24 @@ fn texts_are_refused(rt: HostRuntime) -> Result<(), Fail> {
         assert_eq!(rt; format!(in rt.alloc(); "{fault}")?.as_str(), printed);
     }
     Ok(())
+}
+
+/// Dates with their years, months and days, of which `date -u` counts the seconds.
+#[test]
+fn dates_have_parts(rt: HostRuntime) {
+    let rows: [(&[u8], u16, u8, Option<Day>); 3] = [
+        (b"1970-01-01", 1970, 1, Day::new(0)),
+        (b"2024-01-31", 2024, 1, Day::new(19_753)),
+        (b"0000-02-29", 0, 2, None),
+    ];
+    for (text, year, month, day) in rows {
+        let date = Gregorian::read(text).expect(&rt, "a date");
+        assert_eq!(rt; (date.year(), date.month(), date.day()), (year, month, day));
+        if let Some(day) = day {
+            assert_eq!(rt; Gregorian::of_day(day), date);
+        }
+    }
+    assert!(rt; Gregorian::read(b"2023-02-29").is_none());
 }
 
 /// Days, with the month, day of the month and weekday that `date -u` gives.

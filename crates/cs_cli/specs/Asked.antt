@@ -1,5 +1,5 @@
 -- What `parse_words` answers, as what the words ask.
-use Rattle.std.specs.Prelude.{◌≡◌, ◌≢◌, List, Some, None, Result, Ok, Err, ⊤}
+use Rattle.std.specs.Prelude.{◌≡◌, ◌≢◌, ℕ, List, Option, option_map, Some, None, Result, Ok, Err, ⊤}
 use Rattle.clap.specs.Words.{Row, Text, kind_of}
 use Rattle.clap.specs.declared.error.Error.{Error}
 use Rattle.clap.specs.declared.error.kind.ErrorKind.TheVariants.{DisplayHelp}
@@ -10,7 +10,7 @@ use Rattle.cs_cli.specs.declared.command_line.UsageFault.{UsageFault}
 use Rattle.cs_cli.specs.declared.command_line.UsageFault.TheVariants.{Help, NoCall, OutOfMemory}
 
 abbrev pub asked : DayWords → Asked
-asked d = record { table = d.table.now; date = d.date.now; max = d.max }
+asked d = record { table = d.table.now; date = d.date.now; max = d.max; anacrontab = option_map (λ path. path.now) d.anacrontab; from = d.from; to = d.to }
 
 -- the words ask what is answered; help is answered where it is asked for, and a fault of the words
 -- where there is one
@@ -19,6 +19,13 @@ Parses words (Ok d) = Asks words (asked d)
 Parses words (Err (Help text)) = AsksHelp words
 Parses words (Err (NoCall text)) = IsNoCall words
 Parses words (Err OutOfMemory) = ⊤
+
+-- a number is answered where there is one, and a fault of the words where there is none
+abbrev pub NumberAsked : Option ℕ → Result ℕ UsageFault → Type 0
+NumberAsked written (Ok n) = written ≡ Some n
+NumberAsked written (Err (Help text)) = ⊥
+NumberAsked written (Err (NoCall text)) = written ≡ None
+NumberAsked written (Err OutOfMemory) = ⊤
 
 -- the same of the entries that follow `day`
 abbrev pub DayAsked : List Row → Result DayWords UsageFault → Type 0

@@ -1,8 +1,10 @@
 -- The command line, as `clap` reads it, and what its words ask.
-use Rattle.std.specs.Prelude.{◌≡◌, ◌≢◌, ◌⊎◌, ◌^◌, ℕ, List, [], Option, Some, None, true, codes, option_and_then, unwrap_or, length, if◌then◌else◌, nat_lt, ◌&&◌}
+use Rattle.std.specs.Prelude.{◌≡◌, ◌≢◌, ◌⊎◌, ◌^◌, ℕ, Bool, false, List, [], ◌∷◌, Option, Some, None, true, codes, option_and_then, unwrap_or, length, if◌then◌else◌, nat_lt, ◌&&◌}
 use Rattle.std.specs.Str.Parse.{digits_value}
 use Rattle.std.specs.Char.{is_ascii_digit}
 use Rattle.std.specs.List.{list_all}
+use Rattle.std.specs.Option.{option_map_or}
+use Rattle.std.specs.Str.{bytes_eq}
 use Rattle.clap.specs.Words.{App, IsAmong, Row, Rule, Text, fault_of, first_of, new_app, new_rule, subcommand_of, with_rule, with_subcommand}
 use Rattle.clap.specs.Simple.{on_top}
 use Rattle.clap.specs.declared.error.kind.ErrorKind.{ErrorKind}
@@ -12,9 +14,21 @@ use Rattle.clap.specs.declared.error.kind.ErrorKind.TheVariants.{DisplayHelp}
 abbrev pub required_rule : Text → Rule
 required_rule id = record (new_rule id) { required = true }
 
--- `day TABLE DATE MAX`
+-- an option with one value, `--NAME VALUE`
+abbrev pub option_rule : Text → Rule
+option_rule id = record (new_rule id) { long = Some id; value_names = 1 }
+
+-- `TABLE DATE MAX`
+abbrev pub with_words : App → App
+with_words app = with_rule (with_rule (with_rule app (required_rule (codes "TABLE"))) (required_rule (codes "DATE"))) (required_rule (codes "MAX"))
+
+-- `[--anacrontab FILE] [--from M] [--to M]`
+abbrev pub with_hours : App → App
+with_hours app = with_rule (with_rule (with_rule app (option_rule (codes "anacrontab"))) (option_rule (codes "from"))) (option_rule (codes "to"))
+
+-- `day TABLE DATE MAX [--anacrontab FILE] [--from M] [--to M]`
 abbrev pub day_app : App
-day_app = with_rule (with_rule (with_rule (new_app (codes "day")) (required_rule (codes "TABLE"))) (required_rule (codes "DATE"))) (required_rule (codes "MAX"))
+day_app = with_hours (with_words (new_app (codes "day")))
 
 -- `cronsafe`, which wants a subcommand
 abbrev pub cronsafe_app : App
@@ -27,23 +41,41 @@ number_of text =
     then (if nat_lt 0 (length text) && nat_lt (digits_value 10 text) (2 ^ 64) then Some (digits_value 10 text) else None)
     else None
 
--- what `day` is asked: a table's path, the text of a date, and a longest time in minutes
+-- what `day` is asked: a table's path, the text of a date, a longest time in minutes, the path of an
+-- anacrontab, and the catch-up hours, by their first minute of the day and the first behind them
 pub record Asked : Type 0 where
   pub table : Text
   pub date : Text
   pub max : ℕ
+  pub anacrontab : Option Text
+  pub from : ℕ
+  pub to : ℕ
 
--- the first value of an argument, and nothing where it has none
-abbrev pub value_of : Text → List Row → Text
-value_of id rows = unwrap_or (first_of id rows) []
+-- the first value of an argument, and this text where it has none
+abbrev pub value_or : Text → Text → List Row → Text
+value_or absent id rows = unwrap_or (first_of id rows) absent
 
--- what the entries of `day` ask: MAX has to be a number
+-- both paths name standard input
+abbrev pub is_dash : Text → Bool
+is_dash path = bytes_eq path (45 ∷ [])
+
+abbrev pub is_twice_standard : Text → Option Text → Bool
+is_twice_standard table anacrontab = is_dash table && option_map_or is_dash anacrontab false
+
+-- what the entries of `day` ask, where MAX, `--from` and `--to` have these numbers
+abbrev pub asked_with : List Row → ℕ → ℕ → ℕ → Option Asked
+asked_with rows max from to =
+    let table = value_or [] (codes "TABLE") rows in
+    let anacrontab = first_of (codes "anacrontab") rows in
+    if is_twice_standard table anacrontab then None
+    else Some (record { table = table; date = value_or [] (codes "DATE") rows; max = max; anacrontab = anacrontab; from = from; to = to })
+
+-- what the entries of `day` ask: MAX and the hours have to be numbers, the hours are by default the
+-- whole day, and standard input is named once at most
 abbrev pub asked_in : List Row → Option Asked
-asked_in rows = option_and_then (λ max. Some (record {
-  table = value_of (codes "TABLE") rows;
-  date = value_of (codes "DATE") rows;
-  max = max;
-})) (number_of (value_of (codes "MAX") rows))
+asked_in rows =
+    option_and_then (λ max. option_and_then (λ from. option_and_then (λ to. asked_with rows max from to)
+    (number_of (value_or (codes "1440") (codes "to") rows))) (number_of (value_or (codes "0") (codes "from") rows))) (number_of (value_or [] (codes "MAX") rows))
 
 -- what words ask, the first of which is the program's name
 abbrev pub asked_of : List Text → Option Asked

@@ -62,3 +62,16 @@ weekday_part dow = 32 ∷ (weekday_text dow ++ 10 ∷ [])
 -- `2024-09-13 Fri`
 unfoldable pub date_line : ℕ → List ℕ
 date_line n = day_text n ++ weekday_part (kind n).dow
+
+-- an anacron job whose runs last so long, and which may be started at each minute of [from, to) of a day
+abbrev pub catch_up : ℕ → ℕ → ℕ → Job Kind
+catch_up from to max = record { begins = λ day minute. minute == from; lasts = to + max - 1 - from }
+
+-- `job cron.daily: catch-up`
+unfoldable pub identifier_line : List ℕ → List ℕ
+identifier_line identifier = codes "job " ++ (identifier ++ codes ": catch-up\n")
+
+-- an anacron job: the windows in which catch-up may occupy the machine
+unfoldable pub catch_up_text : ℕ → ℕ → ℕ → ℕ → List ℕ → List ℕ
+catch_up_text n max from to identifier =
+    identifier_line identifier ++ flat_map window_text (windows_on (catch_up from to max ∷ []) (four_days n))

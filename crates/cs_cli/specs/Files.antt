@@ -16,3 +16,7 @@ IsUpTo limit text bs = (bs ≡ text) ⊎ ((limit < length bs) × (limit < length
 -- bs is what was left of this path, where that is known, or both are longer than a limit
 abbrev pub Gives : ℕ → List ℕ → (List ℕ → Option (List ℕ)) → List ℕ → Type 0
 Gives limit path left bs = IfSome (left path) (λ text. IsUpTo limit text bs)
+
+-- each path whose bytes are known is to be read from its front
+abbrev pub IsFresh : (List ℕ → Option (List ℕ)) → (List ℕ → Option (List ℕ)) → Type 0
+IsFresh whole left = (path : List ℕ) → IfSome (whole path) (λ text. left path ≡ Some text)

@@ -4,3 +4,6 @@ pub mod Asked
 pub mod DayText
 pub mod Response
 pub mod Run
+pub mod Hours
+pub mod Question
+pub mod Words

@@ -1,20 +1,26 @@
 -- What a call of the program writes, and the status that it ends with.
-use Rattle.std.specs.Prelude.{◌≡◌, ◌⊎◌, ◌≤◌, ℕ, Bool, true, List, [], ◌∷◌, ◌++◌, Option, IfSome, Ok, Err, codes, decimal, flat_map}
-use Rattle.cs_civil.specs.Calendar.{last_day}
-use Rattle.cs_civil.specs.Text.{IsDateText, day_text}
+use Rattle.std.specs.Prelude.{◌≡◌, ◌⊎◌, ℕ, Bool, true, List, [], ◌∷◌, ◌++◌, Option, Some, None, IfSome, Ok, Err, codes, decimal, flat_map}
 use Rattle.cs_crontab.specs.declared.fault.LineFault.{LineFault}
 use Rattle.cs_crontab.specs.declared.fault.TableFault.{TableFault}
 use Rattle.cs_crontab.specs.declared.fault.TableFault.TheVariants.{At as AtLine, OutOfMemory}
 use Rattle.cs_crontab.specs.declared.table.When.{When}
 use Rattle.cs_crontab.specs.declared.table.When.TheVariants.{At, Reboot}
-use Rattle.cs_crontab.specs.Crontab.{CommandLine}
+use Rattle.cs_crontab.specs.Crontab.{CommandLine, Table}
 use Rattle.cs_crontab.specs.Printed.{fault_text}
 use Rattle.cs_crontab.specs.Faults.{Meaning, Means}
+use Rattle.cs_anacrontab.specs.declared.fault.JobFault.{JobFault}
+use Rattle.cs_anacrontab.specs.declared.fault.AnacronFault.{AnacronFault}
+use Rattle.cs_anacrontab.specs.declared.fault.AnacronFault.TheVariants as anacron_fault
+use Rattle.cs_anacrontab.specs.Anacrontab.{JobLine, Table as JobTable, no_lines as no_jobs}
+use Rattle.cs_anacrontab.specs.Faults.{fault_text as job_fault_text}
+use Rattle.cs_anacrontab.specs.Grammar.{Meaning as JobMeaning, Means as MeansJobs}
+use Rattle.cs_report.specs.Warning.{warnings as warnings_text}
 use Rattle.clap.specs.Words.{Text}
 use Rattle.cs_cli.specs.declared.response.Status.{Status}
 use Rattle.cs_cli.specs.declared.response.Status.TheVariants.{Done, BadInput, NoCall, NoMemory, DeviceFailed}
 use Rattle.cs_cli.specs.CommandLine.{Asked, Asks, AsksHelp, IsNoCall}
-use Rattle.cs_cli.specs.DayText.{date_line, job_text}
+use Rattle.cs_cli.specs.DayText.{catch_up_text, date_line, job_text}
+use Rattle.cs_cli.specs.Question.{IsBadWord, IsQuestion, Question}
 
 -- a status, what is written to standard output, and what to standard error
 pub record Ending : Type 0 where
@@ -34,9 +40,9 @@ status_of DeviceFailed = 6
 unfoldable pub complaint : List ℕ → List ℕ
 complaint fault = codes "cronsafe: " ++ (fault ++ 10 ∷ [])
 
--- what is asked was done
-abbrev pub done : List ℕ → Ending
-done text = record { status = 0; out = text; err = [] }
+-- what is asked was done, and this is to be warned of
+abbrev pub done : List ℕ → List ℕ → Ending
+done text warnings = record { status = 0; out = text; err = warnings }
 
 -- the words or a file hold a fault
 abbrev pub bad_input : List ℕ → Ending
@@ -46,74 +52,80 @@ bad_input fault = record { status = 3; out = []; err = complaint fault }
 abbrev pub cannot_read : List ℕ → Ending
 cannot_read path = record { status = 6; out = []; err = complaint (codes "can't read " ++ path) }
 
--- the first day of a history, 1970-01-04
-abbrev pub first_start_day : ℕ
-first_start_day = 3
-
--- the longest time that a job may declare: three days, in minutes
-abbrev pub longest_time : ℕ
-longest_time = 4_320
-
--- the text names day n, from 1970-01-04 to 9999-12-31
-abbrev pub NamesDay : ℕ → List ℕ → Type 0
-NamesDay n text = (first_start_day ≤ n) × (n ≤ last_day) × (text ≡ day_text n)
-
--- DATE is no date, or is not in range
-abbrev pub IsBadDate : List ℕ → List ℕ → Type 0
-IsBadDate text fault =
-    ((¬ (IsDateText text)) × (fault ≡ codes "date: 1 NotADate"))
-    ⊎ (IsDateText text × ((n : ℕ) → ¬ (NamesDay n text)) × (fault ≡ codes "date: 2 OutOfRange"))
-
--- MAX is not in range
-abbrev pub IsBadMax : ℕ → List ℕ → Type 0
-IsBadMax max fault = (¬ ((1 ≤ max) × (max ≤ longest_time))) × (fault ≡ codes "declarations: 6 BadMax")
-
 -- the line of a crontab that has a fault, or 0 for all of it, and the fault
 abbrev pub crontab_fault : ℕ × LineFault → List ℕ
 crontab_fault fault = codes "crontab line " ++ (decimal fault.0 ++ (codes ": " ++ fault_text fault.1))
 
--- what is printed of a command line on day n
-abbrev pub when_text : ℕ → ℕ → ℕ → When → List ℕ
-when_text n max number (At schedule) = job_text n max number schedule
-when_text n max number Reboot = codes "line " ++ (decimal number ++ codes ": at reboot\n")
+-- and of an anacrontab
+abbrev pub anacrontab_fault : ℕ × JobFault → List ℕ
+anacrontab_fault fault = codes "anacrontab line " ++ (decimal fault.0 ++ (codes ": " ++ job_fault_text fault.1))
 
-abbrev pub line_text : ℕ → ℕ → CommandLine → List ℕ
-line_text n max line = when_text n max line.number line.when
+-- what is printed of a command line
+abbrev pub when_text : Question → ℕ → When → List ℕ
+when_text q number (At schedule) = job_text q.day q.max number schedule
+when_text q number Reboot = codes "line " ++ (decimal number ++ codes ": at reboot\n")
 
--- what `day` prints of a crontab
-unfoldable pub table_text : ℕ → ℕ → List CommandLine → List ℕ
-table_text n max lines = date_line n ++ flat_map (line_text n max) lines
+abbrev pub line_text : Question → CommandLine → List ℕ
+line_text q line = when_text q line.number line.when
 
--- what is answered of a crontab, or of its fault
-abbrev pub said_of : ℕ → ℕ → Meaning → Ending
-said_of n max (Ok table) = done (table_text n max table.lines)
-said_of n max (Err fault) = bad_input (crontab_fault fault)
+-- what is printed of an anacron job
+abbrev pub anacron_text : Question → JobLine → List ℕ
+anacron_text q job = catch_up_text q.day q.max q.from q.to job.identifier
 
--- what is answered where the table could not be read, for a fault of its own
+-- what `day` prints of both tables
+unfoldable pub tables_text : Question → List CommandLine → List JobLine → List ℕ
+tables_text q lines jobs = date_line q.day ++ (flat_map (line_text q) lines ++ flat_map (anacron_text q) jobs)
+
+-- what is answered of both tables
+abbrev pub shown : Question → Table → JobTable → Ending
+shown q table jobs = done (tables_text q table.lines jobs.lines) (warnings_text table.settings jobs.settings)
+
+-- a file is read: that failed, or this comes of each meaning of its bytes, where they are known
+abbrev pub Reading : {M : Type 0} → (List ℕ → Option (List ℕ)) → List ℕ → (List ℕ → M → Type 0) → (M → Bool → Ending → Type 0) → Bool → Ending → Type 0
+Reading files path means next failed ending =
+    ((failed ≡ true) × (ending ≡ cannot_read path))
+    ⊎ IfSome (files path) (λ bytes. (meaning : _) → means bytes meaning → next meaning failed ending)
+
+-- what is answered of an anacrontab, or of its fault, beside a crontab
+abbrev pub said_of_jobs : Question → Table → JobMeaning → Ending
+said_of_jobs q table (Ok jobs) = shown q table jobs
+said_of_jobs q table (Err fault) = bad_input (anacrontab_fault fault)
+
+-- what is answered once both tables were read
+abbrev pub AfterJobs : Question → Table → Bool → JobMeaning → Bool → Ending → Type 0
+AfterJobs q table before meaning failed ending = (failed ≡ before) × (ending ≡ said_of_jobs q table meaning)
+
+-- the anacrontab is read next, if there is one
+abbrev pub AfterTable : Question → (List ℕ → Option (List ℕ)) → Option Text → Table → Bool → Bool → Ending → Type 0
+AfterTable q files None table before failed ending = (failed ≡ before) × (ending ≡ shown q table no_jobs)
+AfterTable q files (Some path) table before failed ending = Reading files path MeansJobs (AfterJobs q table before) failed ending
+
+-- what is answered once the crontab was read
+abbrev pub AfterCrontab : Question → (List ℕ → Option (List ℕ)) → Option Text → Bool → Meaning → Bool → Ending → Type 0
+AfterCrontab q files anacrontab before (Ok table) failed ending = AfterTable q files anacrontab table before failed ending
+AfterCrontab q files anacrontab before (Err fault) failed ending = (failed ≡ before) × (ending ≡ bad_input (crontab_fault fault))
+
+-- what is answered to `day`: the first fault of DATE, MAX, the hours, the crontab and the anacrontab
+-- ends the call, and no file is read before its own turn
+abbrev pub AnswersDay : Asked → (List ℕ → Option (List ℕ)) → Bool → Bool → Ending → Type 0
+AnswersDay a files before failed ending =
+    ((fault : List ℕ) × IsBadWord a fault × (ending ≡ bad_input fault) × (failed ≡ before))
+    ⊎ ((q : Question) × IsQuestion a q × Reading files a.table Means (AfterCrontab q files a.anacrontab before) failed ending)
+
+-- what is answered to words: what they ask, help, or that they are no call
+abbrev pub Answers : List Text → (List ℕ → Option (List ℕ)) → Bool → Bool → Ending → Type 0
+Answers words files before failed ending =
+    ((a : Asked) × Asks words a × AnswersDay a files before failed ending)
+    ⊎ ((failed ≡ before)
+    × ((AsksHelp words × (ending.status ≡ 0) × (ending.err ≡ []))
+    ⊎ (IsNoCall words × (ending.status ≡ 4) × (ending.out ≡ []))))
+
+-- what is answered where a crontab could not be read, for a fault of its own
 abbrev pub TellsFault : TableFault → Ending → Type 0
 TellsFault (AtLine line fault) ending = ending ≡ bad_input (crontab_fault (line, fault))
 TellsFault OutOfMemory ending = ⊥
 
--- what is answered of the table: it could not be read, or what is said of its meaning, where its
--- bytes are known
-abbrev pub IsSaidOfTable : ℕ → Asked → Option (List ℕ) → Bool → Bool → Ending → Type 0
-IsSaidOfTable n a table failed-old failed-new response =
-    ((failed-new ≡ true) × (response ≡ cannot_read a.table))
-    ⊎ ((failed-new ≡ failed-old) × IfSome table (λ bytes. (meaning : Meaning) → Means bytes meaning → response ≡ said_of n a.max meaning))
-
--- what is answered to `day TABLE DATE MAX`, where the first fault of DATE, MAX and TABLE ends the
--- call; no file is read before its own turn
-abbrev pub AnswersDay : Asked → Option (List ℕ) → Bool → Bool → Ending → Type 0
-AnswersDay a table failed-old failed-new response =
-    ((fault : List ℕ) × IsBadDate a.date fault × (response ≡ bad_input fault) × (failed-new ≡ failed-old))
-    ⊎ ((n : ℕ) × NamesDay n a.date
-    × (((fault : List ℕ) × IsBadMax a.max fault × (response ≡ bad_input fault) × (failed-new ≡ failed-old))
-    ⊎ ((1 ≤ a.max) × (a.max ≤ longest_time) × IsSaidOfTable n a table failed-old failed-new response)))
-
--- what is answered to words: what they ask, help, or that they are no call
-abbrev pub Answers : List Text → (List ℕ → Option (List ℕ)) → Bool → Bool → Ending → Type 0
-Answers words files failed-old failed-new response =
-    ((a : Asked) × Asks words a × AnswersDay a (files a.table) failed-old failed-new response)
-    ⊎ ((failed-new ≡ failed-old)
-    × ((AsksHelp words × (response.status ≡ 0) × (response.err ≡ []))
-    ⊎ (IsNoCall words × (response.status ≡ 4) × (response.out ≡ []))))
+-- and an anacrontab
+abbrev pub TellsJobFault : AnacronFault → Ending → Type 0
+TellsJobFault (anacron_fault.At line fault) ending = ending ≡ bad_input (anacrontab_fault (line, fault))
+TellsJobFault anacron_fault.OutOfMemory ending = ⊥

@@ -24,5 +24,5 @@ Ends ending out-old out-new err-old err-new status =
 -- the words are answered, or memory ran out: then nothing is written to standard output
 abbrev pub Runs : List Text → (List ℕ → Option (List ℕ)) → Bool → Bool → Sink → Sink → Sink → Sink → ℕ → Type 0
 Runs words files failed-old failed-new out-old out-new err-old err-new status =
-    ((ending : Ending) × Answers words files failed-old failed-new ending × Ends ending out-old out-new err-old err-new status)
+    ((ending : Ending) × Answers words files failed-old failed-new ending × (ending.status ≡ 6 → failed-new ≡ true) × Ends ending out-old out-new err-old err-new status)
     ⊎ ((status ≡ 5) × (out-new ≡ out-old) × ((err-new.failed ≡ true) ⊎ Writes (codes "cronsafe: out of memory\n") err-old err-new))

@@ -1,11 +1,11 @@
 //! The words of a call.
-ghost use Rattle.std.specs.Prelude.{◌≡◌, [], IfOk, false, map, unwrap_or};
+ghost use Rattle.std.specs.Prelude.{◌≡◌, IfOk, false, map, option_map};
 ghost use Rattle.std.specs.Char.{is_ascii_digit};
 ghost use Rattle.std.specs.List.{list_all};
-ghost use Rattle.clap.specs.Words.{app_of, first_of, found_of, rows_of, rule_of};
+ghost use Rattle.clap.specs.Words.{app_of, first_of, found_of, rows_of, rule_of, with_rule};
 ghost use Rattle.clap.specs.declared.builder.command.Command.TheViews.{out-Command as fields_of};
-ghost use Rattle.cs_cli.specs.CommandLine.{cronsafe_app, day_app, number_of, required_rule};
-ghost use Rattle.cs_cli.specs.Asked.{DayAsked, FaultOf, Parses};
+ghost use Rattle.cs_cli.specs.CommandLine.{cronsafe_app, day_app, is_twice_standard, number_of, option_rule, required_rule, value_or, with_hours, with_words};
+ghost use Rattle.cs_cli.specs.Asked.{DayAsked, FaultOf, NumberAsked, Parses};
 ghost use Rattle.cs_cli.specs.declared.command_line.UsageFault.TheVariants.{OutOfMemory as no_memory};
 
 use clap::error::ErrorKind;
@@ -22,6 +22,12 @@ pub struct DayWords<'a> {
     pub date: &'a str,
     /// The longest time of each job, in minutes.
     pub max: u64,
+    /// The path of an anacrontab.
+    pub anacrontab: Option<&'a str>,
+    /// The first minute of the day at which an anacron job may be started.
+    pub from: u64,
+    /// The first minute of the day behind the catch-up hours.
+    pub to: u64,
 }
 
 /// Why words are no call.
@@ -68,6 +74,14 @@ const DATE_HELP: &str = "The date, YYYY-MM-DD, from 1970-01-04 to 9999-12-31";
 
 const MAX_HELP: &str = "The longest time of each run in minutes, from 1 to 4320";
 
+const ANACRONTAB_HELP: &str = "Path of an anacrontab, or - for standard input";
+
+const FROM_HELP: &str =
+    "First minute of the day at which an anacron job may be started [default: 0]";
+
+const TO_HELP: &str =
+    "First minute of the day at which none may be started any more [default: 1440]";
+
 /// An argument that stands without a name, and has to.
 fn required_arg<'a>(alloc: Global, id: &'a str, help: &'a str) -> Arg<'a>
     ensures rule { rule_of result ≡ required_rule id.now }
@@ -76,17 +90,61 @@ fn required_arg<'a>(alloc: Global, id: &'a str, help: &'a str) -> Arg<'a>
     Arg::new(alloc, id).required(true).help(help)
 }
 
-/// `day TABLE DATE MAX`.
+/// An option with one value, `--NAME VALUE`.
+fn option_arg<'a>(alloc: Global, name: &'a str, value: &'a str, help: &'a str) -> Arg<'a>
+    ensures rule { rule_of result ≡ option_rule name.now }
+    ensures local { result.global ≡ false }
+{
+    Arg::new(alloc, name)
+        .long(name)
+        .value_name(value)
+        .help(help)
+}
+
+/// A command with `TABLE DATE MAX`.
+fn with_words<'a>(alloc: Global, command: Command<'a>) -> Result<Command<'a>, AllocError>
+    ensures app { IfOk result (λ c. app_of c ≡ with_words (app_of command.entry)) }
+    ensures local { (fields_of command.entry).has_globals ≡ false → IfOk result (λ c. (fields_of c).has_globals ≡ false) }
+{
+    command
+        .arg(required_arg(alloc, "TABLE", TABLE_HELP))?
+        .arg(required_arg(alloc, "DATE", DATE_HELP))?
+        .arg(required_arg(alloc, "MAX", MAX_HELP))
+}
+
+/// A command with one option more.
+fn with_option<'a>(
+    alloc: Global,
+    command: Command<'a>,
+    name: &'a str,
+    value: &'a str,
+    help: &'a str,
+) -> Result<Command<'a>, AllocError>
+    ensures app { IfOk result (λ c. app_of c ≡ with_rule (app_of command.entry) (option_rule name.now)) }
+    ensures local { (fields_of command.entry).has_globals ≡ false → IfOk result (λ c. (fields_of c).has_globals ≡ false) }
+{
+    command.arg(option_arg(alloc, name, value, help))
+}
+
+/// A command with `[--anacrontab FILE] [--from M] [--to M]`.
+fn with_hours<'a>(alloc: Global, command: Command<'a>) -> Result<Command<'a>, AllocError>
+    ensures app { IfOk result (λ c. app_of c ≡ with_hours (app_of command.entry)) }
+    ensures local { (fields_of command.entry).has_globals ≡ false → IfOk result (λ c. (fields_of c).has_globals ≡ false) }
+{
+    let command = with_option(alloc, command, "anacrontab", "FILE", ANACRONTAB_HELP)?;
+    let command = with_option(alloc, command, "from", "M", FROM_HELP)?;
+    with_option(alloc, command, "to", "M", TO_HELP)
+}
+
+/// `day TABLE DATE MAX [--anacrontab FILE] [--from M] [--to M]`.
 fn day_command<'a>(alloc: Global) -> Result<Command<'a>, AllocError>
     ensures app { IfOk result (λ c. app_of c ≡ day_app) }
     ensures local { IfOk result (λ c. (fields_of c).has_globals ≡ false) }
 {
-    Command::new(alloc, "day")
+    let command = Command::new(alloc, "day")
         .about(DAY_ABOUT)
-        .after_help(DAY_EXAMPLE)
-        .arg(required_arg(alloc, "TABLE", TABLE_HELP))?
-        .arg(required_arg(alloc, "DATE", DATE_HELP))?
-        .arg(required_arg(alloc, "MAX", MAX_HELP))
+        .after_help(DAY_EXAMPLE);
+    with_hours(alloc, with_words(alloc, command)?)
 }
 
 /// The command line of the program.
@@ -133,14 +191,41 @@ fn digits(text: &str) -> Option<u64>
     text.parse::<u64>().ok()
 }
 
-/// The first value of an argument, and nothing where it has none.
+/// The first value of an argument, if it has one.
 #[tactic(auto, using(crate::proofs::CommandLineLemmas::first_value_rows))]
-fn text_of<'a>(given: &ArgMatches<'a>, id: &str) -> &'a str
-    ensures { result.now ≡ unwrap_or (first_of id.now (rows_of (found_of given.now))) [] }
+fn value_of<'a>(given: &ArgMatches<'a>, id: &str) -> Option<&'a str>
+    ensures { option_map (λ text. text.now) result ≡ first_of id.now (rows_of (found_of given.now)) }
 {
-    match given.get_str(id) {
+    given.get_str(id)
+}
+
+/// The first value of an argument, and this text where it has none.
+fn text_of<'a>(given: &ArgMatches<'a>, id: &str, absent: &'a str) -> &'a str
+    ensures { result.now ≡ value_or absent.now id.now (rows_of (found_of given.now)) }
+{
+    match value_of(given, id) {
         Some(text) => text,
-        None => "",
+        None => absent,
+    }
+}
+
+/// Whether both paths name standard input.
+fn is_twice_standard(table: &str, anacrontab: Option<&str>) -> bool
+    ensures { result ≡ is_twice_standard table.now (option_map (λ path. path.now) anacrontab.entry) }
+{
+    match anacrontab {
+        Some(path) => table == "-" && path == "-",
+        None => false,
+    }
+}
+
+/// The number of an argument.
+fn number(alloc: Global, name: &str, text: &str) -> Result<u64, UsageFault>
+    ensures { NumberAsked (number_of text.now) result }
+{
+    match digits(text) {
+        Some(number) => Ok(number),
+        None => Err(UsageFault::NoCall(format!(in alloc; "error: {name} is no number: {text}\n")?)),
     }
 }
 
@@ -148,15 +233,25 @@ fn text_of<'a>(given: &ArgMatches<'a>, id: &str) -> &'a str
 fn day_words<'a>(alloc: Global, given: &ArgMatches<'a>) -> Result<DayWords<'a>, UsageFault>
     ensures { DayAsked (rows_of (found_of given.now)) result }
 {
-    let table = text_of(given, "TABLE");
-    let date = text_of(given, "DATE");
-    let max_text = text_of(given, "MAX");
-    match digits(max_text) {
-        Some(max) => Ok(DayWords { table, date, max }),
-        None => Err(UsageFault::NoCall(format!(in alloc;
-            "error: MAX is no number: {max_text}\n"
-        )?)),
+    let max = number(alloc, "MAX", text_of(given, "MAX", ""))?;
+    let from = number(alloc, "--from", text_of(given, "from", "0"))?;
+    let to = number(alloc, "--to", text_of(given, "to", "1440"))?;
+    let table = text_of(given, "TABLE", "");
+    let anacrontab = value_of(given, "anacrontab");
+    if is_twice_standard(table, anacrontab) {
+        return Err(UsageFault::NoCall(String::from_str(
+            alloc,
+            "error: standard input can be read once only\n",
+        )?));
     }
+    Ok(DayWords {
+        table,
+        date: text_of(given, "DATE", ""),
+        max,
+        anacrontab,
+        from,
+        to,
+    })
 }
 
 /// What the words of a call ask, the first of which is the program's name.

@@ -2,8 +2,9 @@
 ghost use Rattle.std.specs.Prelude.{◌≡◌, ◌++◌, ◌-◌, ◌*◌, ◌≤◌, OnOk, IfOk, [], ◌∷◌, string_bytes, flat_map, map};
 ghost use Rattle.std.specs.List.{range_with_len};
 ghost use Rattle.cs_civil.specs.Calendar.{kind};
-ghost use Rattle.cs_cli.specs.DayText.{clock, date_line, days_apart, due_text, end_text, four_days, job_text, start_text, weekday_part, weekday_text, window_text};
+ghost use Rattle.cs_cli.specs.DayText.{catch_up_text, clock, date_line, days_apart, due_text, end_text, four_days, identifier_line, job_text, start_text, weekday_part, weekday_text, window_text};
 
+use crate::hours::Hours;
 use cs_civil::{Day, DayKind, day_text, kind_of};
 use cs_schedule::Schedule;
 use cs_windows::{Occupied, Window, windows_on};
@@ -143,6 +144,40 @@ pub(crate) fn add_job(
     let occupied = [Occupied::Cron {
         schedule,
         reach: max,
+    }];
+    let windows = windows_on(alloc, occupied.as_slice(), four_days(day).as_slice())?;
+    add_windows(alloc, text, windows.as_slice())
+}
+
+/// Adds the line that names an anacron job.
+fn add_identifier(text: &mut Vec<u8>, identifier: &[u8]) -> Result<(), AllocError>
+    ensures { OnOk result (text.new.items ≡ text.old.items ++ identifier_line identifier.now) }
+{
+    text.extend_from_slice(b"job ".as_slice())?;
+    text.extend_from_slice(identifier)?;
+    text.extend_from_slice(b": catch-up\n".as_slice())?;
+    Ok(())
+}
+
+/// Adds what is printed of an anacron job: the windows in which catch-up may occupy the machine.
+#[tactic(auto, using(crate::proofs::TextLemmas::two_parts), unfolding(crate::specs::DayText::catch_up_text))]
+pub(crate) fn add_catch_up(
+    alloc: Global,
+    text: &mut Vec<u8>,
+    identifier: &[u8],
+    hours: Hours,
+    day: Day,
+    max: u16,
+) -> Result<(), AllocError>
+    requires day { 3 ≤ day }
+    requires max { (1 ≤ max) × (max ≤ 4_320) }
+    ensures { OnOk result (text.new.items ≡ text.old.items ++ catch_up_text day max hours.from hours.to identifier.now) }
+{
+    add_identifier(text, identifier)?;
+    let from = hours.from();
+    let occupied = [Occupied::CatchUp {
+        from,
+        reach: hours.to() + max - 1 - from,
     }];
     let windows = windows_on(alloc, occupied.as_slice(), four_days(day).as_slice())?;
     add_windows(alloc, text, windows.as_slice())

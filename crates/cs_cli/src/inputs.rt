@@ -1,6 +1,6 @@
 //! What the program reads.
 ghost use Rattle.std.specs.Prelude.{◌≡◌, ◌≤◌, ◌<◌, ◌+◌, ◌^◌, ℕ, List, Option, Some, None, Bool, true, false, IfOk, IfErr, OnErr, OnOk, length};
-ghost use Rattle.cs_cli.specs.Files.{IsNextOf, Gives};
+ghost use Rattle.cs_cli.specs.Files.{IsNextOf, Gives, IsFresh};
 ghost use Rattle.cs_cli.specs.declared.inputs.ReadFault.TheVariants.{CannotRead as cannot_read, OutOfMemory as no_memory};
 
 use std::alloc::{AllocError, AllocFailed, Global};
@@ -65,6 +65,10 @@ pub fn read_up_to<I: Inputs>(
 ) -> Result<Vec<u8>, ReadFault>
     ensures bytes { IfOk result (λ v. Gives limit path.now (I.left inputs.old) v.items) }
     ensures works { OnOk result (I.failed inputs.new ≡ I.failed inputs.old) }
+    ensures whole { I.whole inputs.new ≡ I.whole inputs.old }
+
+    // a path that was read to its end, and each other one, is to be read from its front again
+    ensures fresh { IfOk result (λ v. length v.items ≤ limit → IsFresh (I.whole inputs.old) (I.left inputs.old) → IsFresh (I.whole inputs.new) (I.left inputs.new)) }
     ensures fails { IfErr result (λ e. e ≡ cannot_read → I.failed inputs.new ≡ true) }
 {
     let mut bytes = Vec::new(alloc);

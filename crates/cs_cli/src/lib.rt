@@ -4,15 +4,19 @@
 mod command_line;
 mod day;
 mod day_text;
+mod hours;
 mod inputs;
 mod machine;
 mod outputs;
+mod question;
 mod response;
 mod run;
 
 pub use command_line::{DayWords, UsageFault, parse_words};
+pub use hours::Hours;
 pub use inputs::{CannotRead, Inputs, ReadFault, read_up_to};
 pub use machine::{Machine, run_program};
 pub use outputs::{CannotWrite, Output, Printer};
+pub use question::{Question, WordFault};
 pub use response::{Response, Status};
 pub use run::{respond, run_words};

@@ -74,14 +74,14 @@ impl Response {
         self.told.as_slice()
     }
 
-    /// What is asked was done.
-    pub(crate) fn done(alloc: Global, text: Vec<u8>) -> Response
-        ensures { result ≡ done text.items }
+    /// What is asked was done, and this is to be warned of.
+    pub(crate) fn done(text: Vec<u8>, warnings: Bytes) -> Response
+        ensures { result ≡ done text.items warnings }
     {
         Response {
             ends: Status::Done,
             shown: Bytes::from_vec(text),
-            told: Bytes::new(alloc),
+            told: warnings,
         }
     }
 

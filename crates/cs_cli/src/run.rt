@@ -1,5 +1,6 @@
 //! The program, as a function of its words, its inputs and two outputs.
 ghost use Rattle.std.specs.Prelude.{◌≡◌, ◌⊎◌, true, IfOk, map};
+ghost use Rattle.cs_cli.specs.Files.{IsFresh};
 ghost use Rattle.cs_cli.specs.Response.{Answers};
 ghost use Rattle.cs_cli.specs.Run.{Ends, Runs, Writes};
 ghost use Rattle.cs_cli.specs.Response.{status_of};
@@ -9,6 +10,7 @@ use crate::day::day;
 use crate::inputs::Inputs;
 use crate::outputs::{CannotWrite, Output};
 use crate::response::{Response, Status};
+use cs_civil::Bytes;
 use std::alloc::{AllocError, Global};
 use std::convert::AsStr;
 
@@ -19,11 +21,14 @@ pub fn respond<S: AsStr, I: Inputs>(
     words: &[S],
     inputs: &mut I,
 ) -> Result<Response, AllocError>
-    ensures { IfOk result (Answers (map S.text words.now) (I.left inputs.old) (I.failed inputs.old) (I.failed inputs.new)) }
+    // Where each path of known bytes stands at its front.
+    ensures value { IsFresh (I.whole inputs.old) (I.left inputs.old)
+        → IfOk result (Answers (map S.text words.now) (I.whole inputs.old) (I.failed inputs.old) (I.failed inputs.new)) }
+    ensures status { IfOk result (λ r. r.status ≡ 6 → I.failed inputs.new ≡ true) }
 {
     match parse_words(alloc, words) {
         Ok(request) => day(alloc, &request, inputs),
-        Err(UsageFault::Help(text)) => Ok(Response::done(alloc, text.into_bytes())),
+        Err(UsageFault::Help(text)) => Ok(Response::done(text.into_bytes(), Bytes::new(alloc))),
         Err(UsageFault::NoCall(text)) => Ok(Response::no_call(alloc, text.into_bytes())),
         Err(UsageFault::OutOfMemory) => Err(AllocError),
     }
@@ -62,7 +67,8 @@ pub fn run_words<S: AsStr, I: Inputs, O: Output, E: Output>(
     out: &mut O,
     err: &mut E,
 ) -> u8
-    ensures { Runs (map S.text words.now) (I.left inputs.old) (I.failed inputs.old) (I.failed inputs.new)
+    // Where each path of known bytes stands at its front.
+    ensures { IsFresh (I.whole inputs.old) (I.left inputs.old) → Runs (map S.text words.now) (I.whole inputs.old) (I.failed inputs.old) (I.failed inputs.new)
         (record { contents = O.contents out.old; failed = O.failed out.old }) (record { contents = O.contents out.new; failed = O.failed out.new })
         (record { contents = E.contents err.old; failed = E.failed err.old }) (record { contents = E.contents err.new; failed = E.failed err.new }) result }
 {

@@ -7,9 +7,9 @@ ghost use Rattle.cs_crontab.specs.Seen.{entry_seen};
 use crate::fault::LineFault;
 use crate::field::next_field;
 use crate::limits::MAX_LINE;
-use crate::setting::read_setting;
+use crate::setting::{begins_setting, read_setting};
 use crate::table::When;
-use crate::text::{skip_blanks, word};
+use crate::text::{has_nul, skip_blanks, word};
 use crate::word::word_schedule;
 use cs_schedule::{Part, Schedule};
 
@@ -34,16 +34,6 @@ fn schedule(text: &[u8]) -> Result<(Schedule, &[u8]), LineFault>
     let (month, text) = next_field(Part::Month, text)?;
     let (dow, text) = next_field(Part::Dow, text)?;
     Ok((Schedule::new(minute, hour, dom, month, dow), text))
-}
-
-fn begins_setting(byte: u8) -> bool
-    ensures { result ≡ begins_setting byte }
-{
-    b'A' <= byte && byte <= b'Z'
-        || b'a' <= byte && byte <= b'z'
-        || byte == b'_'
-        || byte == b'"'
-        || byte == b'\''
 }
 
 /// What the word behind `@` stands for.
@@ -96,12 +86,6 @@ fn read_entry(text: &[u8]) -> Result<Entry<'_>, LineFault>
             commanded(When::At(schedule), command)
         }
     }
-}
-
-fn has_nul(line: &[u8]) -> bool
-    ensures { result ≡ list_any (λ b. b == 0) line.now }
-{
-    line.iter().any(|byte| *byte == 0)
 }
 
 /// What a line says.

@@ -2,6 +2,7 @@
 ghost use Rattle.std.specs.Prelude.{◌≡◌};
 ghost use Rattle.std.specs.Option.{option_map};
 ghost use Rattle.cs_crontab.specs.Text.{front, after};
+ghost use Rattle.cs_crontab.specs.Format.{begins_setting};
 ghost use Rattle.cs_crontab.specs.Setting.{is_quote, is_name_byte};
 ghost use Rattle.cs_crontab.specs.SettingReading.{quoted_at, name_at, value_of, setting_of};
 
@@ -18,6 +19,17 @@ fn is_name_byte(byte: u8) -> bool
     ensures { result ≡ is_name_byte byte }
 {
     !is_blank(byte) && byte != b'='
+}
+
+/// Whether a line that begins with this byte behind its blanks is a setting: a letter, `_` or a quote (this profile).
+pub fn begins_setting(byte: u8) -> bool
+    ensures { result ≡ begins_setting byte }
+{
+    b'A' <= byte && byte <= b'Z'
+        || b'a' <= byte && byte <= b'z'
+        || byte == b'_'
+        || byte == b'"'
+        || byte == b'\''
 }
 
 /// The text in front of the next quote of that kind, and what follows the quote.

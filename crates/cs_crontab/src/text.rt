@@ -1,6 +1,6 @@
 //! Lines, words and numbers of a table's text, as crontabs and anacrontabs have them.
-ghost use Rattle.std.specs.Prelude.{◌≡◌, ◌≢◌, [], ◌∷◌, ◌<◌, ◌+◌, length, min, IfSome, IfNone};
-ghost use Rattle.std.specs.List.{list_all};
+ghost use Rattle.std.specs.Prelude.{◌≡◌, ◌==◌, ◌≢◌, [], ◌∷◌, ◌<◌, ◌+◌, length, min, IfSome, IfNone};
+ghost use Rattle.std.specs.List.{list_all, list_any};
 ghost use Rattle.cs_crontab.specs.Text.{is_blank, is_solid, is_digit, front, after, lines_of, decimal};
 ghost use Rattle.cs_crontab.specs.SettingReading.{trimmed};
 
@@ -17,6 +17,13 @@ fn is_digit(byte: u8) -> bool
     ensures { result ≡ is_digit byte }
 {
     b'0' <= byte && byte <= b'9'
+}
+
+/// Whether the line holds a zero byte.
+pub fn has_nul(line: &[u8]) -> bool
+    ensures { result ≡ list_any (λ b. b == 0) line.now }
+{
+    line.iter().any(|byte| *byte == 0)
 }
 
 /// The text without the blanks at its front.

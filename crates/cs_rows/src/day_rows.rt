@@ -229,22 +229,24 @@ fn the_named_file(rt: HostRuntime) -> Result<(), Fail> {
     Ok(())
 }
 
-/// 256 command lines are shown, and one more is a fault of its line.
+/// 256 command lines are shown, and one more is a fault of its line. Reboot lines count, and
+/// settings do not.
 #[test]
 fn most_commands(rt: HostRuntime) -> Result<(), Fail> {
     let mut table = Vec::new(rt.alloc());
     let mut want = Vec::new(rt.alloc());
-    want.extend_from_slice(b"2024-09-13 Fri\n")?;
-    for line in 1..257 {
+    table.extend_from_slice(b"A=b\n@reboot a\n")?;
+    want.extend_from_slice(b"2024-09-13 Fri\nline 2: at reboot\n")?;
+    for line in 3..258 {
         table.extend_from_slice(b"0 0 * * * a\n")?;
         let shown = format!(in rt.alloc(); "line {line}: due 1\n  00:00 to 00:01\n")?;
         want.extend_from_slice(shown.as_bytes())?;
     }
     let ran = run_day(rt.alloc(), table.as_slice(), "2024-09-13", "1");
     assert!(rt; ran.is(0, want.as_slice(), b"".as_slice()));
-    table.extend_from_slice(b"\n0 0 * * * a")?;
+    table.extend_from_slice(b"\n@reboot a")?;
     let ran = run_day(rt.alloc(), table.as_slice(), "2024-09-13", "1");
-    let fault = b"cronsafe: crontab line 258: 12 TooManyJobs\n";
+    let fault = b"cronsafe: crontab line 259: 12 TooManyJobs\n";
     assert!(rt; ran.is(3, b"".as_slice(), fault.as_slice()));
     Ok(())
 }

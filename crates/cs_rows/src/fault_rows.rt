@@ -36,7 +36,7 @@ fn first_faults(rt: HostRuntime) -> Result<(), Fail> {
 
 #[test]
 fn table_faults(rt: HostRuntime) -> Result<(), Fail> {
-    let rows: [(&[u8], &str); 13] = [
+    let rows: [(&[u8], &str); 26] = [
         (b"60 * * * * a", "1: 7 OutOfField"),
         (b"5/10 * * * * a", "1: 10 StepOnNumber"),
         (b"*/0 * * * * a", "1: 9 BadStep"),
@@ -50,6 +50,19 @@ fn table_faults(rt: HostRuntime) -> Result<(), Fail> {
         (b"* 24 * * * a", "1: 7 OutOfField"),
         (b"* * 0 * * a", "1: 7 OutOfField"),
         (b"* * * * 8 a", "1: 7 OutOfField"),
+        (b"99x * * * * a", "1: 7 OutOfField"),
+        (b"* * * dec-jan * a", "1: 8 Reversed"),
+        (b"5, * * * * a", "1: 6 BadNumber"),
+        (b"* * * sun * a", "1: 6 BadNumber"),
+        (b"*/5x * * * * a", "1: 6 BadNumber"),
+        (b"1-5/ * * * * a", "1: 9 BadStep"),
+        (b"@Daily a", "1: 4 UnknownWord"),
+        (b"@reboot ", "1: 11 NoCommand"),
+        (b"jan * * * * a", "1: 3 BadSetting"),
+        (b"A=b\n\n\"C D=e\n", "3: 3 BadSetting"),
+        (b"A='b' c\n@often d\n", "1: 3 BadSetting"),
+        (b"@daily a\n@often b\n60 * * * * c\n", "2: 4 UnknownWord"),
+        (b"@reboot a\n60 x * * * b\n", "2: 7 OutOfField"),
     ];
     for (table, fault) in rows {
         let want = format!(in rt.alloc(); "cronsafe: crontab line {fault}\n")?;

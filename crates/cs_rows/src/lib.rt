@@ -2,6 +2,12 @@
 #![tactic(auto)]
 
 #[cfg(test)]
+mod anacron_fault_rows;
+#[cfg(test)]
+mod anacron_rows;
+#[cfg(test)]
+mod crontab_rows;
+#[cfg(test)]
 mod day_rows;
 #[cfg(test)]
 mod device_rows;
@@ -15,3 +21,5 @@ mod memory_rows;
 mod runs;
 #[cfg(test)]
 mod usage_rows;
+#[cfg(test)]
+mod warning_rows;

@@ -12,6 +12,8 @@ fn run_in(alloc: Global, words: &[&str], out: &mut [u8], err: &mut [u8]) -> (u8,
     let files = [
         readable("jobs", b"0 12 13 * 5 /bin/report\n"),
         readable("bad", b"60 * * * * a"),
+        readable("anacron", b"CRON_TZ=UTC\n1 5 a b\n"),
+        readable("twice", b"1 5 a b\n1 5 a b\n"),
     ];
     let mut inputs = Files::new(files.as_slice(), 4_096);
     let mut out = Printer::new(Cursor::new(out));
@@ -54,7 +56,7 @@ type Row<'a> = (&'a [&'a str], u8, &'a [u8], &'a [u8]);
 
 #[test]
 fn refused_growths(rt: HostRuntime) -> Result<(), Fail> {
-    let rows: [Row<'_>; 3] = [
+    let rows: [Row<'_>; 5] = [
         (
             &["cronsafe", "day", "jobs", "2024-09-13", "60"],
             0,
@@ -73,6 +75,36 @@ fn refused_growths(rt: HostRuntime) -> Result<(), Fail> {
             b"",
             b"cronsafe: can't read absent\n",
         ),
+        (
+            &[
+                "cronsafe",
+                "day",
+                "jobs",
+                "2024-09-13",
+                "60",
+                "--anacrontab",
+                "anacron",
+                "--to",
+                "5",
+            ],
+            0,
+            b"2024-09-13 Fri\nline 1: due 1\n  12:00 to 13:00\njob a: catch-up\n  00:00 to 01:04\n",
+            b"warning: CRON_TZ on line 1 of the anacrontab has no effect\n",
+        ),
+        (
+            &[
+                "cronsafe",
+                "day",
+                "jobs",
+                "2024-09-13",
+                "60",
+                "--anacrontab",
+                "twice",
+            ],
+            3,
+            b"",
+            b"cronsafe: anacrontab line 2: 9 TwiceNamed\n",
+        ),
     ];
     for (words, status, shown, told) in rows {
         let mut out = [0u8; 200];
@@ -87,9 +119,21 @@ fn refused_growths(rt: HostRuntime) -> Result<(), Fail> {
 
 #[test]
 fn refused_growths_of_help(rt: HostRuntime) -> Result<(), Fail> {
-    let rows: [(&[&str], u8); 2] = [
+    let rows: [(&[&str], u8); 3] = [
         (&["cronsafe", "day", "--help"], 0),
         (&["cronsafe", "day", "jobs", "2024-09-13", "x"], 4),
+        (
+            &[
+                "cronsafe",
+                "day",
+                "-",
+                "2024-09-13",
+                "60",
+                "--anacrontab",
+                "-",
+            ],
+            4,
+        ),
     ];
     for (words, want) in rows {
         let mut out = [0u8; 4_096];

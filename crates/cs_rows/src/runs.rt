@@ -45,3 +45,15 @@ pub(crate) fn run_day(alloc: Global, table: &[u8], date: &str, max: &str) -> Ran
     let mut inputs = Files::new(files.as_slice(), 4_096);
     run_on(alloc, words.as_slice(), &mut inputs)
 }
+
+/// Runs the program on the words of a command line, over a crontab on standard input and an
+/// anacrontab `jobs`.
+pub(crate) fn run_both(
+    alloc: Global,
+    line: &str,
+    crontab: &[u8],
+    anacrontab: &[u8],
+) -> Result<Ran, Fail> {
+    let files = [readable("-", crontab), readable("jobs", anacrontab)];
+    run(alloc, line, files.as_slice())
+}

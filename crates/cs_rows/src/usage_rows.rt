@@ -20,8 +20,25 @@ fn no_calls(rt: HostRuntime) -> Result<(), Fail> {
         "cronsafe day - 2024-02-30 x",
         "cronsafe day absent 2024-09-13 x",
         "cronsafe day - 2024-09-13 ",
+        "cronsafe day - 2024-09-13 60 --anacrontab",
+        "cronsafe day - 2024-09-13 60 --anacrontab -",
+        "cronsafe day - 2024-01-01 1 --anacrontab=-",
+        "cronsafe day - 2024-09-13 60 --anacrontab jobs --anacrontab jobs",
+        "cronsafe day - 2024-09-13 60 --from",
+        "cronsafe day - 2024-09-13 60 --from x",
+        "cronsafe day - 2024-09-13 60 --from ",
+        "cronsafe day - 2024-09-13 60 --from +5",
+        "cronsafe day - 2024-09-13 60 --from 5 --from 5",
+        "cronsafe day - 2024-09-13 60 --to 18446744073709551616",
+        "cronsafe day - 2024-09-13 60 --to 0x5",
+        "cronsafe day - 2024-09-13 60 --to 5 --to 6",
+        "cronsafe day - 2024-02-30 0 --from 5 --to x",
+        "cronsafe day - 2024-09-13 60 --hours 5",
     ];
-    let files = [readable("-", b"0 12 13 * 5 /bin/report\n")];
+    let files = [
+        readable("-", b"0 12 13 * 5 /bin/report\n"),
+        readable("jobs", b"1 5 a b\n"),
+    ];
     for line in rows {
         let ran = run(rt.alloc(), line, files.as_slice())?;
         assert!(rt;
@@ -50,6 +67,9 @@ fn help(rt: HostRuntime) -> Result<(), Fail> {
                 "TABLE",
                 "DATE",
                 "MAX",
+                "--anacrontab",
+                "--from",
+                "--to",
                 "Example",
                 "cronsafe day - 2024-09-13 60",
             ],

@@ -1,0 +1,7 @@
+pub mod Stamps
+pub mod Words
+pub mod Loop
+pub mod Parts
+pub mod Entries
+pub mod Names
+pub mod Tables

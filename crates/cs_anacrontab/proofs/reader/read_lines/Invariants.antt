@@ -1,0 +1,15 @@
+use Rattle.std.proofs.Common.{◌≡◌, ◌≤◌, ◌+◌, length}
+use Rattle.cs_anacrontab.specs.Anacrontab.{no_lines}
+use Rattle.cs_crontab.specs.Text.{lines_of}
+use Rattle.cs_anacrontab.specs.Table.{lines_from}
+use Rattle.cs_anacrontab.proofs.reader.read_lines.Given as goal
+
+abbrev pub invariant-loop-rest : goal.invariant-loop-rest
+invariant-loop-rest l =
+    record {
+      within : l.number + length l.rest ≤ length l.bytes;
+      so_far : lines_from (l.number + 1) l.draft (lines_of l.rest) ≡ lines_from 1 no_lines (lines_of l.bytes);
+    }
+
+abbrev pub decreases-loop-rest : goal.decreases-loop-rest
+decreases-loop-rest l = length l.rest

@@ -1,0 +1,44 @@
+-- What an anacrontab says.
+use Rattle.std.specs.Prelude.{ℕ, List, [], ◌∷◌, length, AllPairs, ◌<◌, ◌≤◌, ◌≢◌}
+use Rattle.cs_crontab.specs.Crontab.{SettingLine}
+use Rattle.cs_anacrontab.specs.declared.period.Period.{Period}
+use Rattle.cs_anacrontab.specs.declared.limits.TheConstants.{MAX_JOBS}
+
+-- what one line says
+pub data Entry : Type 0 where
+  Nothing : Entry
+  Setting : (name value : List ℕ) → Entry
+  Job : (period : Period) (delay : ℕ) (identifier command : List ℕ) → Entry
+
+-- a job, and the number of its line, counted from 1
+pub record JobLine : Type 0 where
+  pub number : ℕ
+  pub period : Period
+  pub delay : ℕ
+  pub identifier : List ℕ
+  pub command : List ℕ
+
+pub record Table : Type 0 where
+  pub settings : List SettingLine
+  pub lines : List JobLine
+
+abbrev pub no_lines : Table
+no_lines = record { settings = []; lines = [] }
+
+-- what a line with that number says, and then what the lines behind it say
+abbrev pub with_entry : ℕ → Entry → Table → Table
+with_entry number Nothing table = table
+with_entry number (Setting name value) table = record { settings = record { number = number; name = name; value = value } ∷ table.settings; lines = table.lines }
+with_entry number (Job period delay identifier command) table =
+    record { settings = table.settings; lines = record { number = number; period = period; delay = delay; identifier = identifier; command = command } ∷ table.lines }
+
+-- no two jobs have one identifier
+abbrev pub AreDistinct : List JobLine → Type 0
+AreDistinct lines = AllPairs (λ x y. x.identifier ≢ y.identifier) lines
+
+-- There are not too many jobs, no two have one identifier, and settings and jobs each stand on a later line than those before them.
+pub record IsOrdered (table : Table) : Type 0 where
+  pub few : length table.lines ≤ MAX_JOBS
+  pub distinct : AreDistinct table.lines
+  pub rising : AllPairs (λ x y. x.number < y.number) table.lines
+  pub settings_rising : AllPairs (λ x y. x.number < y.number) table.settings

@@ -1,0 +1,82 @@
+ghost use Rattle.std.specs.Prelude.{◌≡◌};
+ghost use Rattle.cs_anacrontab.specs.Faults.{fault_text};
+ghost use Rattle.cs_anacrontab.specs.declared.fault.AnacronFault.TheVariants.{OutOfMemory};
+
+use std::alloc::{AllocError, AllocFailed};
+use thiserror::Error;
+
+/// What is wrong with a line of an anacrontab, or with its length. It is printed as its number and its name, `7 BadDelay`.
+#[derive(Clone, Copy, Debug, PartialEq, Eq, Error)]
+#[error("{}", self.text())]
+pub enum JobFault {
+    /// The table or the line is longer than [`MAX_TABLE`](cs_crontab::MAX_TABLE) or [`MAX_LINE`](cs_crontab::MAX_LINE).
+    TooLong,
+    /// The line holds a zero byte.
+    NulByte,
+    /// A line that begins as a setting is none.
+    BadSetting,
+    /// The word behind `@` is none of `daily`, `weekly` and `monthly`.
+    UnknownWord,
+    /// The line ends where the delay, the identifier or the command should begin.
+    MissingField,
+    /// The period is no number of days from 1 to [`MAX_PERIOD`](crate::MAX_PERIOD).
+    BadPeriod,
+    /// The delay is no number of minutes from 0 to [`MAX_DELAY`](crate::MAX_DELAY).
+    BadDelay,
+    /// The identifier is longer than [`MAX_IDENTIFIER`](crate::MAX_IDENTIFIER), is not UTF-8, holds `/`, or is `.` or `..`.
+    BadIdentifier,
+    /// A line before it has the same identifier.
+    TwiceNamed,
+    /// A setting or a job ends with a backslash, by which anacrontab(5) would continue it on the next line.
+    Continued,
+    /// The line's job is one more than [`MAX_JOBS`](crate::MAX_JOBS).
+    TooManyJobs,
+}
+
+impl JobFault {
+    /// Its number and its name, as it is printed.
+    pub fn text(self) -> &'static str
+        ensures { result.now ≡ fault_text self }
+    {
+        match self {
+            JobFault::TooLong => "1 TooLong",
+            JobFault::NulByte => "2 NulByte",
+            JobFault::BadSetting => "3 BadSetting",
+            JobFault::UnknownWord => "4 UnknownWord",
+            JobFault::MissingField => "5 MissingField",
+            JobFault::BadPeriod => "6 BadPeriod",
+            JobFault::BadDelay => "7 BadDelay",
+            JobFault::BadIdentifier => "8 BadIdentifier",
+            JobFault::TwiceNamed => "9 TwiceNamed",
+            JobFault::Continued => "10 Continued",
+            JobFault::TooManyJobs => "11 TooManyJobs",
+        }
+    }
+}
+
+/// Why an anacrontab could not be read.
+#[derive(Clone, Copy, Debug, PartialEq, Eq, Error)]
+pub enum AnacronFault {
+    /// The first line with a fault, counted from 1, and its fault. The table's own length has line 0.
+    #[error("line {line}: {fault}")]
+    At { line: u32, fault: JobFault },
+    /// Memory ran out.
+    #[error("out of memory")]
+    OutOfMemory,
+}
+
+impl From<AllocError> for AnacronFault {
+    ghost from_gives = { λ _ e. e ≡ OutOfMemory };
+
+    fn from(_e: AllocError) -> AnacronFault {
+        AnacronFault::OutOfMemory
+    }
+}
+
+impl<T: Drop> From<AllocFailed<T>> for AnacronFault {
+    ghost from_gives = { λ _ e. e ≡ OutOfMemory };
+
+    fn from(_e: AllocFailed<T>) -> AnacronFault {
+        AnacronFault::OutOfMemory
+    }
+}

@@ -57,7 +57,15 @@ impl<T: Drop> From<AllocFailed<T>> for UsageFault {
     }
 }
 
-const ABOUT: &str = "Checks crontab(5) tables before they go live.";
+const ABOUT: &str =
+    "Shows when the jobs of crontab(5) and anacrontab(5) tables may run, before they go live.";
+
+const EXAMPLE: &str =
+    "Example, the jobs of root's table on a date, none of which lasts longer than an hour:
+  crontab -l | cronsafe day - 2024-09-13 60
+
+'cronsafe day --help' tells of each word. Status: 0 done, 3 bad input, 4 no call, 5 no memory, 6 a
+file that can't be read or standard output that can't be written.";
 
 const DAY_ABOUT: &str =
     "Shows when the jobs of a crontab are due on a date, and which minutes each may occupy.";
@@ -66,7 +74,9 @@ const DAY_EXAMPLE: &str = "Example, a report at noon on the 13th and on each Fri
   printf '0 12 13 * 5 /bin/report\\n' | cronsafe day - 2024-09-13 60
 
 It prints, for each command line, how often it is due on that date, and the ranges of minutes
-that its runs may occupy: those begun on that date and those begun up to three days before.";
+that its runs may occupy: those begun on that date and those begun up to three days before.
+With an anacrontab it also prints, for each of its jobs, when catch-up may occupy the machine:
+  cronsafe day /etc/my.cron 2024-09-13 60 --anacrontab /etc/anacrontab --from 180 --to 300";
 
 const TABLE_HELP: &str = "Path of a crontab, or - for standard input";
 
@@ -153,6 +163,7 @@ fn command<'a>(alloc: Global) -> Result<Command<'a>, AllocError>
 {
     let cronsafe = Command::new(alloc, "cronsafe")
         .about(ABOUT)
+        .after_help(EXAMPLE)
         .disable_help_subcommand(true)
         .subcommand_required(true);
     cronsafe.subcommand(day_command(alloc)?)

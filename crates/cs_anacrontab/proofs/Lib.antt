@@ -3,5 +3,6 @@ pub mod Words
 pub mod Loop
 pub mod Parts
 pub mod Entries
+pub mod Failures
 pub mod Names
 pub mod Tables

@@ -226,3 +226,9 @@ ends_elsewhere text e (front, is) = let t : is_continued text ≡ true = (ends_i
 
 pub elsewhere_ends : (text : List ℕ) → (IsContinued text → ⊥) → is_continued text ≡ false
 elsewhere_ends text other = false_from_ne_true (is_continued text) (λ e. other (_, (ends_is unsigned_Decides text (92 ∷ []) (is_continued text) refl).0 e))
+
+pub continued_takes : (text : List ℕ) → is_continued text ≡ true → IsContinued text
+continued_takes text e = (_, (ends_is unsigned_Decides text (92 ∷ []) (is_continued text) refl).0 e)
+
+pub continued_again : (text : List ℕ) → IsContinued text → is_continued text ≡ true
+continued_again text (front, is) = (ends_is unsigned_Decides text (92 ∷ []) (is_continued text) refl).1 front is

@@ -17,9 +17,11 @@ use Rattle.cs_anacrontab.specs.declared.table.Anacrontab.{Anacrontab}
 use Rattle.cs_anacrontab.specs.declared.limits.TheConstants.{MAX_JOBS}
 use Rattle.cs_anacrontab.specs.Anacrontab.{JobLine, Entry, Nothing, Setting, Job, Table, no_lines, with_entry, AreDistinct, IsOrdered}
 use Rattle.cs_anacrontab.specs.Reading.{line_of}
-use Rattle.cs_anacrontab.specs.Grammar.{Says, AreLines, IsAnacrontab, IsTwiceNamed, IsOneTooMany, IsFault, IsFaultOf, Means}
+use Rattle.cs_anacrontab.specs.Grammar.{Says, AreLines, IsAnacrontab}
+use Rattle.cs_anacrontab.specs.Faults.{LineFails, IsTwiceNamed, IsOneTooMany, IsFault, IsFaultOf, Means}
 use Rattle.cs_anacrontab.specs.Table.{◌>>=◌, Fault, Denotes, is_named, with_setting, with_job, added, lines_from, anacrontab_of}
 use Rattle.cs_anacrontab.proofs.Entries.{line_takes, line_again}
+use Rattle.cs_anacrontab.proofs.Failures.{line_fails, line_fails_again}
 use Rattle.cs_anacrontab.proofs.Names.{named_takes, named_again, unnamed_takes, unnamed_again, distinct_push, distinct_part, distinct_last}
 
 abbrev done : Table → Result Table Fault
@@ -166,7 +168,7 @@ lines_again n table others (line ∷ lines) (entry, rest, first, more, is) fits 
 
 -- why a line is the first with a fault, after such a table
 abbrev Stands : Table → List ℕ → JobFault → Type 0
-Stands table line fault = (line_of line ≡ Err fault) ⊎ (((fault ≡ faults.TwiceNamed) × IsTwiceNamed table line) ⊎ ((fault ≡ faults.TooManyJobs) × IsOneTooMany table line))
+Stands table line fault = LineFails line fault ⊎ (((fault ≡ faults.TwiceNamed) × IsTwiceNamed table line) ⊎ ((fault ≡ faults.TooManyJobs) × IsOneTooMany table line))
 
 -- the lines before the fault, the line, and why it stands there
 record Stops (n : ℕ) (table : Table) (lines : List (List ℕ)) (number : ℕ) (fault : JobFault) : Type 0 where
@@ -210,7 +212,7 @@ module _ (n : ℕ) (table : Table) (line : List ℕ) (number : ℕ) (fault : Job
       by_read (Err f) is e =
           let same = err_is (n, f) (number, fault) e in
           let f-is : f ≡ fault = ap (λ (g : Fault). g.1) same in
-          (sym (ap (λ (g : Fault). g.0) same), inl (is ∙ ap (λ (g : JobFault). Err g) f-is))
+          (sym (ap (λ (g : Fault). g.0) same), inl (line_fails line fault (is ∙ ap (λ (g : JobFault). Err g) f-is)))
       by_read (Ok Nothing) is e = absurd cc
       by_read (Ok (Setting name value)) is e = absurd cc
       by_read (Ok (Job period delay identifier command)) is e = job_fails period delay identifier command is e
@@ -281,7 +283,7 @@ anacrontab_fails text number fault e = by_length (nat_lt MAX_TABLE (length text)
 -- ---- a fault that stands is found
 
 added_stops : (number : ℕ) (table : Table) (line : List ℕ) (fault : JobFault) → Stands table line fault → added number table (line_of line) ≡ Err (number, fault)
-added_stops number table line fault (inl fails) = rw fails refl
+added_stops number table line fault (inl fails) = rw (line_fails_again line fault fails) refl
 added_stops number table line fault (inr (inl (is, (period, delay, identifier, command, before, says, held, same)))) =
     rw (line_again line (Job period delay identifier command) says, named_again identifier table.lines before held same) (ap (λ (f : JobFault). Err (number, f)) (sym is))
 added_stops number table line fault (inr (inr (is, (period, delay, identifier, command, says, all, full)))) =

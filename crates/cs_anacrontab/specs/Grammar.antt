@@ -1,5 +1,5 @@
 -- The grammar of an anacrontab: how each value is written. Nothing here reads from left to right.
-use Rattle.std.specs.Prelude.{◌≡◌, ◌≢◌, ℕ, ◌+◌, ◌<◌, ◌≤◌, ◌⊎◌, true, false, nat_eq, List, [], ◌∷◌, ◌++◌, length, All, Contains, codes, Result, Ok, Err}
+use Rattle.std.specs.Prelude.{◌≡◌, ◌≢◌, ℕ, ◌+◌, ◌≤◌, ◌⊎◌, true, false, nat_eq, List, [], ◌∷◌, ◌++◌, length, codes}
 use Rattle.std.specs.List.{list_all, list_any}
 use Rattle.std.specs.Str.{IsUtf8}
 use Rattle.cs_crontab.specs.declared.limits.TheConstants.{MAX_TABLE, MAX_LINE}
@@ -9,12 +9,7 @@ use Rattle.cs_crontab.specs.Setting.{IsSetting}
 use Rattle.cs_anacrontab.specs.declared.limits.TheConstants.{MAX_JOBS, MAX_PERIOD, MAX_DELAY, MAX_IDENTIFIER}
 use Rattle.cs_anacrontab.specs.declared.period.Period.{Period}
 use Rattle.cs_anacrontab.specs.declared.period.Period.TheVariants.{Days, Monthly}
-use Rattle.cs_anacrontab.specs.declared.fault.JobFault.{JobFault}
-use Rattle.cs_anacrontab.specs.declared.fault.JobFault.TheVariants as faults
-use Rattle.cs_anacrontab.specs.declared.fault.AnacronFault.{AnacronFault}
-use Rattle.cs_anacrontab.specs.declared.fault.AnacronFault.TheVariants as table_faults
-use Rattle.cs_anacrontab.specs.Anacrontab.{Entry, Nothing, Setting, Job, JobLine, Table, no_lines, with_entry, AreDistinct}
-use Rattle.cs_anacrontab.specs.Reading.{line_of}
+use Rattle.cs_anacrontab.specs.Anacrontab.{Entry, Nothing, Setting, Job, Table, no_lines, with_entry, AreDistinct}
 
 -- digits that stand for a number up to the highest
 pub record IsNumber (highest : ℕ) (text : List ℕ) (n : ℕ) : Type 0 where
@@ -27,7 +22,7 @@ abbrev pub IsPeriod : List ℕ → Period → Type 0
 IsPeriod text (Days n) = (IsNumber MAX_PERIOD text n × (1 ≤ n)) ⊎ (((text ≡ codes "@daily") × (n ≡ 1)) ⊎ ((text ≡ codes "@weekly") × (n ≡ 7)))
 IsPeriod text Monthly = text ≡ codes "@monthly"
 
--- a name for a stamp file
+-- a word that names a stamp file
 pub record IsIdentifier (text : List ℕ) : Type 0 where
   pub short : length text ≤ MAX_IDENTIFIER
   pub utf8 : IsUtf8 text
@@ -89,47 +84,3 @@ pub record IsAnacrontab (text : List ℕ) (table : Table) : Type 0 where
   pub few : length table.lines ≤ MAX_JOBS
   pub distinct : AreDistinct table.lines
   pub lines : AreLines 1 (lines_of text) table
-
--- a job with the identifier of one of those before it
-abbrev pub IsTwiceNamed : Table → List ℕ → Type 0
-IsTwiceNamed table line =
-    (period : Period) × (delay : ℕ) × (identifier command : List ℕ) × (before : JobLine)
-    × Says line (Job period delay identifier command) × Contains table.lines before × (before.identifier ≡ identifier)
-
--- a job with an identifier of its own behind as many as there may be
-abbrev pub IsOneTooMany : Table → List ℕ → Type 0
-IsOneTooMany table line =
-    (period : Period) × (delay : ℕ) × (identifier command : List ℕ)
-    × Says line (Job period delay identifier command) × All (λ before. before.identifier ≢ identifier) table.lines × (length table.lines ≡ MAX_JOBS)
-
--- The first line with a fault: the lines before it have none. An identifier that stood before and a job above the limit, in this
--- order, are faults after all others of their line.
-pub record IsFirstFault (text : List ℕ) (number : ℕ) (fault : JobFault) : Type 0 where
-  pub short : length text ≤ MAX_TABLE
-  pub before : List (List ℕ)
-  pub line : List ℕ
-  pub later : List (List ℕ)
-  pub parts : lines_of text ≡ before ++ (line ∷ later)
-  pub place : number ≡ length before + 1
-  pub table : Table
-  pub fine : AreLines 1 before table
-  pub few : length table.lines ≤ MAX_JOBS
-  pub distinct : AreDistinct table.lines
-  pub stands : (line_of line ≡ Err fault) ⊎ (((fault ≡ faults.TwiceNamed) × IsTwiceNamed table line) ⊎ ((fault ≡ faults.TooManyJobs) × IsOneTooMany table line))
-
--- the text's fault, with the number of its line: the table's own length has line 0
-abbrev pub IsFault : List ℕ → ℕ → JobFault → Type 0
-IsFault text number fault = ((MAX_TABLE < length text) × (number ≡ 0) × (fault ≡ faults.TooLong)) ⊎ IsFirstFault text number fault
-
--- A text is written as a table, or it has a fault.
-abbrev pub Meaning : Type 0
-Meaning = Result Table (ℕ × JobFault)
-
-abbrev pub Means : List ℕ → Meaning → Type 0
-Means text (Ok table) = IsAnacrontab text table
-Means text (Err fault) = IsFault text fault.0 fault.1
-
--- What a call answered is what the text means, unless memory ran out.
-abbrev pub IsFaultOf : List ℕ → AnacronFault → Type 0
-IsFaultOf text table_faults.OutOfMemory = Unit {0}
-IsFaultOf text (table_faults.At line fault) = IsFault text line fault

@@ -6,3 +6,4 @@ pub mod Seen
 pub mod Table
 pub mod Grammar
 pub mod Faults
+pub mod Printed

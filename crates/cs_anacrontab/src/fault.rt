@@ -1,5 +1,5 @@
 ghost use Rattle.std.specs.Prelude.{◌≡◌};
-ghost use Rattle.cs_anacrontab.specs.Faults.{fault_text};
+ghost use Rattle.cs_anacrontab.specs.Printed.{fault_text};
 ghost use Rattle.cs_anacrontab.specs.declared.fault.AnacronFault.TheVariants.{OutOfMemory};
 
 use std::alloc::{AllocError, AllocFailed};

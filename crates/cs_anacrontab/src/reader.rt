@@ -3,7 +3,8 @@ ghost use Rattle.cs_crontab.specs.declared.limits.TheConstants.{MAX_TABLE};
 ghost use Rattle.cs_crontab.specs.Text.{lines_of};
 ghost use Rattle.cs_anacrontab.specs.Anacrontab.{no_lines};
 ghost use Rattle.cs_anacrontab.specs.Reading.{line_of};
-ghost use Rattle.cs_anacrontab.specs.Grammar.{IsAnacrontab, IsFaultOf, Means, Meaning};
+ghost use Rattle.cs_anacrontab.specs.Faults.{IsFaultOf, Means, Meaning};
+ghost use Rattle.cs_anacrontab.specs.Grammar.{IsAnacrontab};
 ghost use Rattle.cs_anacrontab.specs.Table.{Denotes, is_named, with_setting, with_job, added, lines_from, anacrontab_of};
 
 use crate::fault::{AnacronFault, JobFault};

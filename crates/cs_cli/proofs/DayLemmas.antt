@@ -5,7 +5,7 @@ use Rattle.cs_crontab.specs.Crontab.{Table}
 use Rattle.cs_crontab.specs.Faults.{Meaning, Means}
 use Rattle.cs_anacrontab.specs.declared.fault.AnacronFault.{AnacronFault}
 use Rattle.cs_anacrontab.specs.declared.fault.AnacronFault.TheVariants as anacron_fault
-use Rattle.cs_anacrontab.specs.Grammar.{Meaning as JobMeaning, Means as MeansJobs}
+use Rattle.cs_anacrontab.specs.Faults.{Meaning as JobMeaning, Means as MeansJobs}
 use Rattle.cs_anacrontab.specs.Table.{Fails as JobFails}
 use Rattle.cs_cli.specs.Files.{IsUpTo}
 use Rattle.cs_cli.specs.Question.{Question}

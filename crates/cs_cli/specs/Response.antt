@@ -12,8 +12,8 @@ use Rattle.cs_anacrontab.specs.declared.fault.JobFault.{JobFault}
 use Rattle.cs_anacrontab.specs.declared.fault.AnacronFault.{AnacronFault}
 use Rattle.cs_anacrontab.specs.declared.fault.AnacronFault.TheVariants as anacron_fault
 use Rattle.cs_anacrontab.specs.Anacrontab.{JobLine, Table as JobTable, no_lines as no_jobs}
-use Rattle.cs_anacrontab.specs.Faults.{fault_text as job_fault_text}
-use Rattle.cs_anacrontab.specs.Grammar.{Meaning as JobMeaning, Means as MeansJobs}
+use Rattle.cs_anacrontab.specs.Printed.{fault_text as job_fault_text}
+use Rattle.cs_anacrontab.specs.Faults.{Meaning as JobMeaning, Means as MeansJobs}
 use Rattle.cs_report.specs.Warning.{warnings as warnings_text}
 use Rattle.clap.specs.Words.{Text}
 use Rattle.cs_cli.specs.declared.response.Status.{Status}

@@ -2,7 +2,7 @@
 ghost use Rattle.std.specs.Prelude.{◌≡◌, ◌≢◌, ◌++◌, ◌≤◌, true, IfOk, OnOk, flat_map, length, option_map};
 ghost use Rattle.cs_crontab.specs.declared.limits.TheConstants.{MAX_TABLE};
 ghost use Rattle.cs_crontab.specs.Faults.{Meaning, Means};
-ghost use Rattle.cs_anacrontab.specs.Grammar.{Meaning as JobMeaning, Means as MeansJobs};
+ghost use Rattle.cs_anacrontab.specs.Faults.{Meaning as JobMeaning, Means as MeansJobs};
 ghost use Rattle.cs_cli.specs.Asked.{asked};
 ghost use Rattle.cs_cli.specs.Files.{IsFresh};
 ghost use Rattle.cs_cli.specs.Words.{word_fault};

@@ -9,6 +9,7 @@ pub mod Quotes
 pub mod Items
 pub mod Fields
 pub mod Settings
+pub mod SettingAnswers
 pub mod Whole
 pub mod Entries
 pub mod Failures

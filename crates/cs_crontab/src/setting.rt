@@ -1,9 +1,9 @@
 //! Settings, as crontabs and anacrontabs have them.
-ghost use Rattle.std.specs.Prelude.{◌≡◌};
+ghost use Rattle.std.specs.Prelude.{◌≡◌, ℕ, List, IfSome, IsNone};
 ghost use Rattle.std.specs.Option.{option_map};
 ghost use Rattle.cs_crontab.specs.Text.{front, after};
 ghost use Rattle.cs_crontab.specs.Format.{begins_setting};
-ghost use Rattle.cs_crontab.specs.Setting.{is_quote, is_name_byte};
+ghost use Rattle.cs_crontab.specs.Setting.{is_quote, is_name_byte, IsSetting};
 ghost use Rattle.cs_crontab.specs.SettingReading.{quoted_at, name_at, value_of, setting_of};
 
 use crate::text::{are_blank, is_blank, skip_blanks, trim_end};
@@ -86,11 +86,8 @@ fn value(text: &[u8]) -> Option<&[u8]>
     if are_blank(behind) { Some(value) } else { None }
 }
 
-/// The name and the value of a setting, `name = value`, or `None` where the text is none (crontab(5)).
-///
-/// Either may stand in quotes, and blanks round `=` and behind the value mean nothing. The text has no leading blanks.
 #[tactic(auto, unfolding(crate::specs::SettingReading::setting_of))]
-pub fn read_setting(text: &[u8]) -> Option<(&[u8], &[u8])>
+fn setting(text: &[u8]) -> Option<(&[u8], &[u8])>
     ensures { option_map (λ x. (x.0.now, x.1.now)) result ≡ setting_of text.now }
 {
     let (name, rest) = name(text)?;
@@ -98,4 +95,17 @@ pub fn read_setting(text: &[u8]) -> Option<(&[u8], &[u8])>
         return None;
     };
     Some((name, value(skip_blanks(behind))?))
+}
+
+/// The name and the value of a setting, `name = value`, or `None` where the text is none (crontab(5)).
+///
+/// Either may stand in quotes, and blanks round `=` and behind the value mean nothing. The text has no leading blanks.
+pub fn read_setting(text: &[u8]) -> Option<(&[u8], &[u8])>
+    ensures written { IfSome result (λ x. IsSetting text.now x.0.now x.1.now) }
+    ensures none { IsNone result → (name value : List ℕ) → IsSetting text.now name value → ⊥ }
+
+    // the same, as a value
+    ensures value { option_map (λ x. (x.0.now, x.1.now)) result ≡ setting_of text.now }
+{
+    setting(text)
 }

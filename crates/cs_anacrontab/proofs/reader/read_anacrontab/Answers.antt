@@ -1,5 +1,5 @@
 use Rattle.std.proofs.Common.{subst}
-use Rattle.cs_anacrontab.specs.Grammar.{Meaning}
+use Rattle.cs_anacrontab.specs.Faults.{Meaning}
 use Rattle.cs_anacrontab.specs.Table.{Denotes}
 use Rattle.cs_anacrontab.proofs.Tables.{answered, meant}
 use Rattle.cs_anacrontab.proofs.reader.read_anacrontab.Goals as goal

@@ -1,4 +1,6 @@
-pub mod Window
-pub mod Windows
+pub mod Entries
 pub mod Occupied
 pub mod Starter
+pub mod Tree
+pub mod Window
+pub mod Windows

@@ -6,8 +6,10 @@ mod occupied;
 mod starter;
 #[cfg(test)]
 mod tests;
+mod tree;
 mod window;
 
 pub use list::windows_on;
 pub use occupied::Occupied;
+pub use tree::{Entry, LeafAt, MinuteTree};
 pub use window::{MINUTES_OF_DAY, Window, touches};

@@ -1,6 +1,7 @@
-use crate::{Occupied, Window, touches, windows_on};
-use cs_civil::DayKind;
+use crate::{Entry, MinuteTree, Occupied, Window, touches, windows_on};
+use cs_civil::{DayKind, Sequence};
 use cs_schedule::{Field, Numbers, Schedule};
+use std::alloc::{AllocError, Global};
 use std::test::Fail;
 
 /// `30 23 * * *`
@@ -103,4 +104,88 @@ fn minutes_that_a_window_holds(rt: HostRuntime) {
             "{day_back} {from} {reach} {lo} {hi}"
         );
     }
+}
+
+/// A leaf that lists one window of job 7, begun at noon of the day looked at, or nothing.
+fn leaf(alloc: Global, listed: bool) -> Result<Box<MinuteTree>, AllocError> {
+    let noon = Entry {
+        job: 7,
+        day_back: 0,
+        from: 720,
+    };
+    let entries = if listed {
+        Sequence::from_slice(alloc, &[noon])?
+    } else {
+        Sequence::new(alloc)
+    };
+    Ok(Box::new(alloc, MinuteTree::Leaf(entries))?)
+}
+
+#[test]
+fn leaves_that_list_a_window(rt: HostRuntime) -> Result<(), Fail> {
+    let alloc = rt.alloc();
+    let noon = [window(7, 0, 720, 60)];
+    let eve = [window(7, 1, 720, 1_440)];
+    for (at, before, after, inside, covered) in [
+        (720, false, true, true, true),
+        (720, true, false, true, false),
+        (721, false, true, true, false),
+        (780, true, false, true, true),
+        (779, true, false, true, false),
+        (1_440, true, false, false, true),
+        (2_000, false, true, false, false),
+    ] {
+        let tree = MinuteTree::Split {
+            at,
+            before: leaf(alloc, before)?,
+            after: leaf(alloc, after)?,
+        };
+        assert_eq!(rt; tree.splits_inside(), inside, "{at}");
+        assert_eq!(rt; tree.covers(&noon), covered, "{at}");
+        assert!(rt; !tree.covers(&eve), "{at}");
+    }
+    Ok(())
+}
+
+/// The range of a half is taken as it is written, also where it goes past the range of the split.
+#[test]
+fn a_split_past_its_range(rt: HostRuntime) -> Result<(), Fail> {
+    let alloc = rt.alloc();
+    let noon = [window(7, 0, 720, 60)];
+    for (listed, covered) in [(false, false), (true, true)] {
+        let past = MinuteTree::Split {
+            at: 900,
+            before: leaf(alloc, listed)?,
+            after: leaf(alloc, false)?,
+        };
+        let tree = MinuteTree::Split {
+            at: 600,
+            before: Box::new(alloc, past)?,
+            after: leaf(alloc, true)?,
+        };
+        assert_eq!(rt; tree.covers(&noon), covered);
+    }
+    Ok(())
+}
+
+#[test]
+fn the_leaf_of_a_minute(rt: HostRuntime) -> Result<(), Fail> {
+    let alloc = rt.alloc();
+    let tree = MinuteTree::Split {
+        at: 720,
+        before: leaf(alloc, false)?,
+        after: leaf(alloc, true)?,
+    };
+    assert!(rt; tree.splits_inside());
+    for (minute, lo, hi, entries) in [
+        (0, 0, 720, 0),
+        (719, 0, 720, 0),
+        (720, 720, 1_440, 1),
+        (1_439, 720, 1_440, 1),
+    ] {
+        let found = tree.leaf_at(minute);
+        assert_eq!(rt; (found.lo, found.hi), (lo, hi));
+        assert_eq!(rt; found.entries.len(), entries);
+    }
+    Ok(())
 }

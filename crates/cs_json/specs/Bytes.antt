@@ -1,0 +1,19 @@
+-- The JSON value that bytes are, and what is read off it.
+use Rattle.std.specs.Prelude.{List, [], ◌∷◌, ℕ, Option, None, if◌then◌else◌, Bool, true, ◌&&◌}
+use Rattle.std.specs.Str.{is_utf8}
+use Rattle.serde_json.specs.Data.{Data, Items, no_items, item, Members, no_members, member}
+use Rattle.serde_json.specs.Read.{read}
+
+-- the JSON value of bytes: None where they are no UTF-8, or no JSON text to serde_json
+unfoldable pub json_of : List ℕ → Option Data
+json_of bytes = if is_utf8 bytes then read bytes else None
+
+-- the items of a JSON list
+abbrev pub list_of : Items → List Data
+list_of no_items = []
+list_of (item d ds) = d ∷ list_of ds
+
+-- each member's name passes the test
+abbrev pub has_only : (List ℕ → Bool) → Members → Bool
+has_only named no_members = true
+has_only named (member k d ms) = named k && has_only named ms

@@ -1,0 +1,4 @@
+pub mod Bytes
+pub mod Gives
+pub mod Shape
+pub mod NoFloat

@@ -1,0 +1,17 @@
+//! JSON as values with a shape: bytes to a `Value`, a `Value` to a type of ours, and back to text.
+#![tactic(auto)]
+
+mod fault;
+mod members;
+mod parsing;
+mod reading;
+#[cfg(test)]
+mod tests;
+mod tuples;
+mod writing;
+
+pub use fault::{BAD_SHAPE, JsonFault, Misread};
+pub use members::{member, member_if_there, member_or, only_members, value_at};
+pub use parsing::parse;
+pub use reading::FromJson;
+pub use writing::{ToJson, write};

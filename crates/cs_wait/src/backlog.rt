@@ -1,0 +1,105 @@
+ghost use Rattle.std.specs.Prelude.{◌≡◌, ◌↔◌, List, IsTrue, IsOk, IfOk};
+ghost use Rattle.cs_wait.specs.Bounds.{IsBacklog, at};
+ghost use Rattle.cs_wait.specs.declared.backlog.Piece.{Piece};
+
+use std::marker::Model;
+
+/// How many minutes a day has.
+pub const MINUTES_OF_DAY: u16 = 1_440;
+
+/// The greatest value of a piece, in minutes of runs.
+pub const MAX_BACKLOG: u32 = 1_000_000;
+
+/// From this minute of the day on the bound is the value, less one for each minute since.
+///
+/// The value is in minutes of runs: the lock takes one off in each minute.
+#[derive(Clone, Copy, Debug, PartialEq, Eq)]
+pub struct Piece {
+    pub minute: u16,
+    pub value: u32,
+}
+
+/// A bound for each minute of a day on the minutes of runs that still wait for a group's lock or hold it.
+#[derive(Debug, Drop)]
+pub struct Backlog {
+    list: Vec<Piece>,
+}
+
+impl Model for Backlog {
+    ghost Value = { List Piece };
+
+    ghost view = { λ b. b.list.items };
+
+    ghost invariant = { λ b. IsBacklog b.list.items };
+}
+
+/// The pieces make no backlog: their minutes do not rise strictly below 1,440, or a value is not from 1 to
+/// 1,000,000.
+#[derive(Clone, Copy, Debug, PartialEq, Eq)]
+pub struct BadPiece;
+
+impl Backlog {
+    /// The backlog of these pieces. It takes no memory.
+    ///
+    /// `BadPiece` comes exactly where the minutes do not rise strictly below 1,440, or a value is not from 1 to
+    /// 1,000,000 (this profile). No piece at all is the bound 0 everywhere.
+    pub fn new(list: Vec<Piece>) -> Result<Backlog, BadPiece>
+        ensures value { IfOk result (λ b. b ≡ list.items) }
+        ensures ok { IsOk result ↔ IsBacklog list.items }
+    {
+        if is_backlog(list.as_slice()) {
+            Ok(Backlog { list })
+        } else {
+            Err(BadPiece)
+        }
+    }
+
+    /// The pieces, in order.
+    pub fn pieces(&self) -> &[Piece]
+        ensures value { result.now ≡ self.now }
+        ensures backlog { IsBacklog result.now }
+    {
+        self.list.as_slice()
+    }
+
+    /// The bound at a minute of the day: 0 before the first piece, then the value of the last piece that begins by
+    /// that minute, less one for each minute since, not below 0. A minute past the day counts on from its last piece.
+    pub fn at(&self, minute: u16) -> u32
+        ensures { result ≡ at self.now minute }
+    {
+        at_minute(self.list.as_slice(), minute)
+    }
+}
+
+/// Whether the minutes rise strictly below 1,440 and the values are in range.
+fn is_backlog(list: &[Piece]) -> bool
+    ensures { IsTrue result ↔ IsBacklog list.now }
+{
+    let mut least = 0;
+    for piece in list {
+        if piece.minute < least
+            || piece.minute >= MINUTES_OF_DAY
+            || piece.value == 0
+            || piece.value > MAX_BACKLOG
+        {
+            return false;
+        }
+        least = piece.minute + 1;
+    }
+    true
+}
+
+/// The bound that the pieces give at a minute. A piece that begins later, and all after it, decide nothing.
+fn at_minute(list: &[Piece], minute: u16) -> u32
+    requires { IsBacklog list.now }
+    ensures { result ≡ at list.now minute }
+{
+    let mut bound = 0;
+    for piece in list {
+        if piece.minute > minute {
+            return bound;
+        }
+        bound = piece.value.saturating_sub(u32::from(minute - piece.minute));
+    }
+    bound
+}

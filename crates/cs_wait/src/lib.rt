@@ -1,0 +1,12 @@
+//! Bounds on the work that waits for the lock of a group: how many minutes of runs may still be ahead.
+#![tactic(auto)]
+
+mod arrivals;
+mod backlog;
+mod stretch;
+#[cfg(test)]
+mod tests;
+
+pub use arrivals::{Arrivals, steps_ok};
+pub use backlog::{Backlog, BadPiece, MAX_BACKLOG, MINUTES_OF_DAY, Piece};
+pub use stretch::clears_by;

@@ -15,9 +15,10 @@ use Rattle.cs_anacrontab.specs.declared.fault.AnacronFault.TheVariants as table_
 use Rattle.cs_anacrontab.specs.declared.period.Period.{Period}
 use Rattle.cs_anacrontab.specs.declared.table.Anacrontab.{Anacrontab}
 use Rattle.cs_anacrontab.specs.declared.limits.TheConstants.{MAX_JOBS}
-use Rattle.cs_anacrontab.specs.Anacrontab.{JobLine, Entry, Nothing, Setting, Job, Table, no_lines, with_entry, AreDistinct, IsOrdered}
+use Rattle.cs_anacrontab.specs.Anacrontab.{JobLine, Entry, Nothing, Setting, Job, Table, no_lines, with_entry, AreDistinct, IsPossiblePeriod, IsPossible, IsOrdered}
 use Rattle.cs_anacrontab.specs.Reading.{line_of}
-use Rattle.cs_anacrontab.specs.Grammar.{Says, AreLines, IsAnacrontab}
+use Rattle.cs_anacrontab.specs.declared.period.Period.TheVariants.{Days, Monthly}
+use Rattle.cs_anacrontab.specs.Grammar.{IsPeriod, TextSays, Says, AreLines, IsAnacrontab}
 use Rattle.cs_anacrontab.specs.Faults.{LineFails, IsTwiceNamed, IsOneTooMany, IsFault, IsFaultOf, Means}
 use Rattle.cs_anacrontab.specs.Table.{◌>>=◌, Fault, Denotes, is_named, with_setting, with_job, added, lines_from, anacrontab_of}
 use Rattle.cs_anacrontab.proofs.Entries.{line_takes, line_again}
@@ -356,9 +357,31 @@ rising n (line ∷ lines) table (entry, others, first, more, is) =
     by_entry (Setting name value) ls ss rl rs = (rl, AllPairs-cons (λ x y. x.number < y.number) (setting_line n name value) others.settings ss rs)
     by_entry (Job period delay identifier command) ls ss rl rs = (AllPairs-cons (λ x y. x.number < y.number) (job_line n period delay identifier command) others.lines ls rl, rs)
 
+possible_period : (word : List ℕ) (period : Period) → IsPeriod word period → IsPossiblePeriod period
+possible_period word (Days n) (inl (number, some)) = (some, number.high)
+possible_period word (Days n) (inr (inl (is, one))) = (omega arith, omega arith)
+possible_period word (Days n) (inr (inr (is, seven))) = (omega arith, omega arith)
+possible_period word Monthly is = tt
+
+possible_text : (text : List ℕ) (n : ℕ) (period : Period) (delay : ℕ) (identifier command : List ℕ) → TextSays text (Job period delay identifier command) → IsPossible (job_line n period delay identifier command)
+possible_text text n period delay identifier command (whole, job) =
+    record { period = possible_period job.period_word period job.period_is; delay = job.delay_is.high }
+
+possible : (n : ℕ) (lines : List (List ℕ)) (table : Table) → AreLines n lines table → All IsPossible table.lines
+possible n [] table none = subst (λ (t : Table). All IsPossible t.lines) (sym none) (All-nil IsPossible)
+possible n (line ∷ lines) table (entry, others, first, more, is) =
+    subst (λ (t : Table). All IsPossible t.lines) (sym is) (by_entry entry first.text first.says (possible (n + 1) lines others more))
+  where
+    by_entry : (e : Entry) (text : List ℕ) → TextSays text e → All IsPossible others.lines → All IsPossible (with_entry n e others).lines
+    by_entry Nothing text says ls = ls
+    by_entry (Setting name value) text says ls = ls
+    by_entry (Job period delay identifier command) text says ls =
+        All-cons IsPossible (job_line n period delay identifier command) others.lines (possible_text text n period delay identifier command says) ls
+
 pub ordered : (text : List ℕ) (table : Table) → lines_from 1 no_lines (lines_of text) ≡ Ok table → IsOrdered table
 unfolding Rises
 ordered text table e =
     let l = lines_take 1 no_lines table (lines_of text) fits_nothing e in
     let r = rising 1 (lines_of text) table (subst (AreLines 1 (lines_of text)) (sym l.2) l.1) in
-    record { few = l.3.few; distinct = l.3.distinct; rising = r.0; settings_rising = r.1 }
+    let p = possible 1 (lines_of text) table (subst (AreLines 1 (lines_of text)) (sym l.2) l.1) in
+    record { few = l.3.few; possible = p; distinct = l.3.distinct; rising = r.0; settings_rising = r.1 }

@@ -1,8 +1,9 @@
 -- What an anacrontab says.
-use Rattle.std.specs.Prelude.{ℕ, List, [], ◌∷◌, length, AllPairs, ◌<◌, ◌≤◌, ◌≢◌}
+use Rattle.std.specs.Prelude.{ℕ, List, [], ◌∷◌, length, All, AllPairs, ◌<◌, ◌≤◌, ◌≢◌}
 use Rattle.cs_crontab.specs.Crontab.{SettingLine}
 use Rattle.cs_anacrontab.specs.declared.period.Period.{Period}
-use Rattle.cs_anacrontab.specs.declared.limits.TheConstants.{MAX_JOBS}
+use Rattle.cs_anacrontab.specs.declared.period.Period.TheVariants.{Days, Monthly}
+use Rattle.cs_anacrontab.specs.declared.limits.TheConstants.{MAX_JOBS, MAX_PERIOD, MAX_DELAY}
 
 -- what one line says
 pub data Entry : Type 0 where
@@ -36,9 +37,20 @@ with_entry number (Job period delay identifier command) table =
 abbrev pub AreDistinct : List JobLine → Type 0
 AreDistinct lines = AllPairs (λ x y. x.identifier ≢ y.identifier) lines
 
--- There are not too many jobs, no two have one identifier, and settings and jobs each stand on a later line than those before them.
+-- a number of days from 1 to the longest period, or a month
+abbrev pub IsPossiblePeriod : Period → Type 0
+IsPossiblePeriod (Days n) = (1 ≤ n) × (n ≤ MAX_PERIOD)
+IsPossiblePeriod Monthly = Unit {0}
+
+-- the period and the delay are in their ranges
+pub record IsPossible (job : JobLine) : Type 0 where
+  pub period : IsPossiblePeriod job.period
+  pub delay : job.delay ≤ MAX_DELAY
+
+-- There are not too many jobs, each with a period and a delay in range, no two have one identifier, and settings and jobs each stand on a later line than those before them.
 pub record IsOrdered (table : Table) : Type 0 where
   pub few : length table.lines ≤ MAX_JOBS
+  pub possible : All IsPossible table.lines
   pub distinct : AreDistinct table.lines
   pub rising : AllPairs (λ x y. x.number < y.number) table.lines
   pub settings_rising : AllPairs (λ x y. x.number < y.number) table.settings

@@ -4,7 +4,7 @@ ghost use Rattle.cs_anacrontab.specs.declared.limits.TheConstants.{MAX_JOBS, MAX
 
 use crate::period::Period;
 use cs_civil::{Bytes, Sequence};
-use cs_crontab::{Setting, env_of};
+use cs_crontab::{Setting, copy_settings, env_of};
 use std::alloc::{AllocError, Global};
 use std::marker::Model;
 
@@ -45,6 +45,18 @@ impl Job {
         }
     }
 
+    fn copy(&self, alloc: Global) -> Result<Job, AllocError>
+        ensures { IfOk result (λ job. job ≡ self.now) }
+    {
+        Ok(Job {
+            place: self.place,
+            rhythm: self.rhythm,
+            minutes: self.minutes,
+            name: Bytes::from_slice(alloc, self.name.as_slice())?,
+            text: Bytes::from_slice(alloc, self.text.as_slice())?,
+        })
+    }
+
     /// The number of the line, counted from 1 over all lines of the table.
     pub fn number(&self) -> u32
         ensures { result ≡ self.now.number }
@@ -81,6 +93,16 @@ impl Job {
     }
 }
 
+fn copy_jobs(alloc: Global, jobs: &[Job]) -> Result<Sequence<Job>, AllocError>
+    ensures { IfOk result (λ copies. copies ≡ jobs.now) }
+{
+    let mut copies = Sequence::new(alloc);
+    for job in jobs {
+        copies.push(job.copy(alloc)?)?;
+    }
+    Ok(copies)
+}
+
 /// What an anacrontab says: its settings, and at most [`MAX_JOBS`](crate::MAX_JOBS) jobs of different identifiers, each in order of
 /// their numbers.
 #[derive(Debug, Drop)]
@@ -100,7 +122,7 @@ impl Model for Anacrontab {
 }
 
 impl Anacrontab {
-    ghost use Rattle.cs_anacrontab.specs.Anacrontab.{IsOrdered, no_lines};
+    ghost use Rattle.cs_anacrontab.specs.Anacrontab.{IsOrdered, IsPossible, no_lines};
 
     /// The anacrontab of an empty file.
     pub fn none(alloc: Global) -> Anacrontab
@@ -122,6 +144,16 @@ impl Anacrontab {
         }
     }
 
+    /// The same anacrontab. The only error is want of memory.
+    pub fn copy(&self, alloc: Global) -> Result<Anacrontab, AllocError>
+        ensures { IfOk result (λ table. table ≡ self.now) }
+    {
+        Ok(Anacrontab {
+            variables: copy_settings(alloc, self.variables.as_slice())?,
+            jobs: copy_jobs(alloc, self.jobs.as_slice())?,
+        })
+    }
+
     /// The settings, in order of their numbers.
     pub fn settings(&self) -> &[Setting]
         ensures value { result.now ≡ self.now.settings }
@@ -134,6 +166,7 @@ impl Anacrontab {
     pub fn lines(&self) -> &[Job]
         ensures value { result.now ≡ self.now.lines }
         ensures few { length self.now.lines ≤ MAX_JOBS }
+        ensures possible { All IsPossible self.now.lines }
         ensures rising { AllPairs (λ x y. x.number < y.number) self.now.lines }
         ensures distinct { AllPairs (λ x y. x.identifier ≢ y.identifier) self.now.lines }
     {

@@ -22,4 +22,4 @@ pub use environment::env_of;
 pub use fault::{LineFault, TableFault};
 pub use limits::{MAX_COMMANDS, MAX_LINE, MAX_TABLE};
 pub use reader::read_crontab;
-pub use table::{Crontab, Line, Setting, When};
+pub use table::{Crontab, Line, Setting, When, copy_settings};

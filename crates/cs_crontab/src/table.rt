@@ -1,8 +1,9 @@
-ghost use Rattle.std.specs.Prelude.{◌≡◌, ◌<◌, ◌≤◌, length, AllPairs};
+ghost use Rattle.std.specs.Prelude.{◌≡◌, ◌<◌, ◌≤◌, length, AllPairs, IfOk};
 ghost use Rattle.cs_crontab.specs.declared.limits.TheConstants.{MAX_COMMANDS};
 
 use cs_civil::{Bytes, Sequence};
 use cs_schedule::Schedule;
+use std::alloc::{AllocError, Global};
 use std::marker::Model;
 
 /// When a command is started.
@@ -12,6 +13,17 @@ pub enum When {
     At(Schedule),
     /// Once, at startup: `@reboot`.
     Reboot,
+}
+
+impl When {
+    fn copy(&self) -> When
+        ensures { result ≡ self.now }
+    {
+        match self {
+            When::At(schedule) => When::At(schedule.copy()),
+            When::Reboot => When::Reboot,
+        }
+    }
 }
 
 /// A command line of a crontab.
@@ -46,6 +58,16 @@ impl Line {
         ensures { result ≡ self.now.number }
     {
         self.place
+    }
+
+    fn copy(&self, alloc: Global) -> Result<Line, AllocError>
+        ensures { IfOk result (λ line. line ≡ self.now) }
+    {
+        Ok(Line {
+            place: self.place,
+            time: self.time.copy(),
+            text: Bytes::from_slice(alloc, self.text.as_slice())?,
+        })
     }
 
     /// When its command is started.
@@ -98,6 +120,17 @@ impl Setting {
         self.line
     }
 
+    /// The same setting. The only error is want of memory.
+    pub fn copy(&self, alloc: Global) -> Result<Setting, AllocError>
+        ensures { IfOk result (λ setting. setting ≡ self.now) }
+    {
+        Ok(Setting {
+            line: self.line,
+            key: Bytes::from_slice(alloc, self.key.as_slice())?,
+            content: Bytes::from_slice(alloc, self.content.as_slice())?,
+        })
+    }
+
     /// The name, without its quotes.
     pub fn name(&self) -> &[u8]
         ensures { result.now ≡ self.now.name }
@@ -111,6 +144,27 @@ impl Setting {
     {
         self.content.as_slice()
     }
+}
+
+/// The same settings. The only error is want of memory.
+pub fn copy_settings(alloc: Global, settings: &[Setting]) -> Result<Sequence<Setting>, AllocError>
+    ensures { IfOk result (λ copies. copies ≡ settings.now) }
+{
+    let mut copies = Sequence::new(alloc);
+    for setting in settings {
+        copies.push(setting.copy(alloc)?)?;
+    }
+    Ok(copies)
+}
+
+fn copy_lines(alloc: Global, lines: &[Line]) -> Result<Sequence<Line>, AllocError>
+    ensures { IfOk result (λ copies. copies ≡ lines.now) }
+{
+    let mut copies = Sequence::new(alloc);
+    for line in lines {
+        copies.push(line.copy(alloc)?)?;
+    }
+    Ok(copies)
 }
 
 /// What a crontab says: its settings, and at most [`MAX_COMMANDS`](crate::MAX_COMMANDS) command lines, each in order of their numbers.
@@ -141,6 +195,16 @@ impl Crontab {
             variables: settings,
             commands: lines,
         }
+    }
+
+    /// The same crontab. The only error is want of memory.
+    pub fn copy(&self, alloc: Global) -> Result<Crontab, AllocError>
+        ensures { IfOk result (λ table. table ≡ self.now) }
+    {
+        Ok(Crontab {
+            variables: copy_settings(alloc, self.variables.as_slice())?,
+            commands: copy_lines(alloc, self.commands.as_slice())?,
+        })
     }
 
     /// The settings, in order of their numbers.

@@ -30,6 +30,16 @@ impl Field {
         }
     }
 
+    /// The same field.
+    pub fn copy(&self) -> Field
+        ensures { result ≡ self.now }
+    {
+        Field {
+            starred: self.starred,
+            chosen: self.chosen.copy(),
+        }
+    }
+
     /// Whether its text begins with `*`.
     pub fn begins_with_star(&self) -> bool
         ensures { result ≡ self.now.star }

@@ -47,6 +47,13 @@ impl Numbers {
         Numbers { word: 0 }
     }
 
+    /// The same numbers.
+    pub fn copy(&self) -> Numbers
+        ensures { result ≡ self.now }
+    {
+        Numbers { word: self.word }
+    }
+
     /// The first number, and each `step`-th after it up to the last, of those below 64.
     pub fn every(first: u8, last: u8, step: u32) -> Numbers
         requires { 0 < step }

@@ -1,4 +1,4 @@
-ghost use Rattle.std.specs.Prelude.{◌≡◌, ◌/◌, ◌%◌};
+ghost use Rattle.std.specs.Prelude.{◌≡◌, ◌/◌, ◌%◌, ◌<◌};
 ghost use Rattle.cs_civil.specs.Calendar.{kind};
 ghost use Rattle.cs_schedule.specs.declared.part.Part.TheVariants as part;
 ghost use Rattle.cs_schedule.specs.Minutes.{minutes_where};
@@ -49,6 +49,19 @@ impl Schedule {
         }
     }
 
+    /// The same schedule.
+    pub fn copy(&self) -> Schedule
+        ensures { result ≡ self.now }
+    {
+        Schedule {
+            minute: self.minute.copy(),
+            hour: self.hour.copy(),
+            dom: self.dom.copy(),
+            month: self.month.copy(),
+            dow: self.dow.copy(),
+        }
+    }
+
     /// One of its fields, whose numbers lie in their range, weekdays from 0 for Sunday to 6.
     pub fn field(&self, part: Part) -> &Field
         ensures value { result.now ≡ choice_of self.now part }
@@ -80,10 +93,17 @@ impl Schedule {
     pub fn matches(&self, minute: Minute) -> bool
         ensures { result ≡ is_due self.now (kind (minute / 1440)) (minute % 1440) }
     {
-        let time = minute.minute_of_day();
-        self.hour.has((time / 60) as u8)
-            && self.minute.has((time % 60) as u8)
-            && self.matches_day(kind_of(minute.day()))
+        self.is_due_on(kind_of(minute.day()), minute.minute_of_day())
+    }
+
+    /// Whether the command is due at this minute, counted from 0, of a day of this kind.
+    pub fn is_due_on(&self, kind: DayKind, minute_of_day: u16) -> bool
+        requires { minute_of_day < 1440 }
+        ensures { result ≡ is_due self.now kind minute_of_day }
+    {
+        self.minute.has((minute_of_day % 60) as u8)
+            && self.hour.has((minute_of_day / 60) as u8)
+            && self.matches_day(kind)
     }
 
     /// The minutes at which the command is due on a day of this kind.

@@ -1,7 +1,8 @@
-ghost use Rattle.std.specs.Prelude.{◌≡◌, ◌↔◌, List, IsTrue, IsOk, IfOk};
+ghost use Rattle.std.specs.Prelude.{◌≡◌, ◌↔◌, List, [], IsTrue, IsOk, IfOk};
 ghost use Rattle.cs_wait.specs.Bounds.{IsBacklog, at};
 ghost use Rattle.cs_wait.specs.declared.backlog.Piece.{Piece};
 
+use std::alloc::Global;
 use std::marker::Model;
 
 /// How many minutes a day has.
@@ -51,6 +52,15 @@ impl Backlog {
             Ok(Backlog { list })
         } else {
             Err(BadPiece)
+        }
+    }
+
+    /// The backlog of no piece: the bound 0 everywhere. It takes no memory.
+    pub fn none(alloc: Global) -> Backlog
+        ensures { result ≡ [] }
+    {
+        Backlog {
+            list: Vec::new(alloc),
         }
     }
 

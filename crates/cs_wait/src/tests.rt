@@ -58,7 +58,7 @@ fn a_bound_falls_by_one_each_minute(rt: HostRuntime) -> Result<(), Fail> {
 #[test]
 fn a_bound_goes_on_past_midnight(rt: HostRuntime) -> Result<(), Fail> {
     let night = Backlog::new(Vec::from_slice(rt.alloc(), &[piece(0, 9)])?).expect(&rt, "one piece");
-    let empty = Backlog::new(Vec::new(rt.alloc())).expect(&rt, "no piece");
+    let empty = Backlog::none(rt.alloc());
     let long = Backlog::new(Vec::from_slice(rt.alloc(), &[piece(0, 5_000)])?).expect(
         &rt,
         "one piece",

@@ -78,10 +78,10 @@ true_both : (a b : Bool) → a ≡ true → b ≡ true → (a && b) ≡ true
 true_both true b e f = f
 true_both false b e f = cc
 
-reaches_says : (w : Window) → reaches w ≡ true → (0 < w.reach) × (1440 * w.day_back < w.from + w.reach)
+pub reaches_says : (w : Window) → reaches w ≡ true → (0 < w.reach) × (1440 * w.day_back < w.from + w.reach)
 reaches_says w h = let k = both_true (nat_lt 0 w.reach) (nat_lt (1440 * w.day_back) (w.from + w.reach)) h in (ltb-true _ _ k.0, ltb-true _ _ k.1)
 
-says_reaches : (w : Window) → 0 < w.reach → 1440 * w.day_back < w.from + w.reach → reaches w ≡ true
+pub says_reaches : (w : Window) → 0 < w.reach → 1440 * w.day_back < w.from + w.reach → reaches w ≡ true
 says_reaches w a b = true_both (nat_lt 0 w.reach) (nat_lt (1440 * w.day_back) (w.from + w.reach)) (lt-ltb _ _ a) (lt-ltb _ _ b)
 
 module _ {D : Type 0} (jobs : List (Job D)) where

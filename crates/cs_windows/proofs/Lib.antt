@@ -1,6 +1,7 @@
 pub mod Exact
 pub mod Members
 pub mod Minutes
+pub mod PlannedJobs
 pub mod Rising
 pub mod Starts
 pub mod Touching

@@ -7,7 +7,7 @@ use Rattle.cs_schedule.specs.Minutes.{minutes_where}
 use Rattle.cs_schedule.proofs.Ranges.{has-filter}
 use Rattle.cs_windows.specs.declared.window.Window.{Window}
 use Rattle.cs_windows.specs.declared.starter.Starter.{Starter}
-use Rattle.cs_windows.specs.declared.occupied.Occupied.{Occupied}
+use Rattle.cs_windows.specs.declared.job_windows.Occupied.{Occupied}
 use Rattle.cs_windows.specs.Window.{window, reaches}
 use Rattle.cs_windows.specs.Windows.{Job, starting}
 use Rattle.cs_windows.specs.Starter.{window_at, begun, begun_by}

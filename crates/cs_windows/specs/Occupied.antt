@@ -2,8 +2,8 @@
 use Rattle.std.specs.Prelude.{◌==◌}
 use Rattle.cs_civil.specs.Calendar.{Kind}
 use Rattle.cs_schedule.specs.Times.{is_due}
-use Rattle.cs_windows.specs.declared.occupied.Occupied.{Occupied}
-use Rattle.cs_windows.specs.declared.occupied.Occupied.TheVariants.{Cron, CatchUp}
+use Rattle.cs_windows.specs.declared.job_windows.Occupied.{Occupied}
+use Rattle.cs_windows.specs.declared.job_windows.Occupied.TheVariants.{Cron, CatchUp}
 use Rattle.cs_windows.specs.Windows.{Job}
 
 -- a window begins where the schedule is due, or at one minute of every day

@@ -1,15 +1,19 @@
 //! Windows: the minutes in which a run may go on, once its job was due or caught up.
 #![tactic(auto)]
 
+mod job_windows;
 mod list;
-mod occupied;
+mod planned;
+mod reach;
 mod starter;
 #[cfg(test)]
 mod tests;
 mod tree;
 mod window;
 
+pub use job_windows::Occupied;
 pub use list::windows_on;
-pub use occupied::Occupied;
-pub use tree::{Entry, LeafAt, MinuteTree};
+pub use planned::occupied;
+pub use reach::JobReach;
+pub use tree::{Entry, LeafAt, MinuteTree, lists};
 pub use window::{MINUTES_OF_DAY, Window, touches};

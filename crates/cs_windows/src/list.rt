@@ -4,7 +4,7 @@ ghost use Rattle.cs_windows.specs.Starter.{begun, begun_by};
 ghost use Rattle.cs_windows.specs.Window.{IsRising, reaches};
 ghost use Rattle.cs_windows.specs.Windows.{IsWindowOn, starting, windows_from, windows_on};
 
-use crate::occupied::Occupied;
+use crate::job_windows::Occupied;
 use crate::starter::Starter;
 use crate::window::{MINUTES_OF_DAY, Window, may_reach};
 use cs_civil::DayKind;

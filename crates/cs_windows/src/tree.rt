@@ -54,8 +54,8 @@ impl Entry {
     }
 }
 
-/// Whether the window's name is listed.
-fn lists(entries: &[Entry], window: &Window) -> bool
+/// Whether one of the entries is the name of the window.
+pub fn lists(entries: &[Entry], window: &Window) -> bool
     ensures { result ≡ lists entries.now window.now }
 {
     entries.iter().any(|entry| entry.names(window))

@@ -1,0 +1,13 @@
+pub mod Elements
+pub mod Exact
+pub mod Below
+pub mod Standing
+pub mod Stretches
+pub mod Calm
+pub mod Bounded
+pub mod Says
+pub mod Chains
+pub mod Points
+pub mod Lengths
+pub mod ByKind
+pub mod Example

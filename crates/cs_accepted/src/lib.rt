@@ -1,0 +1,9 @@
+//! What makes a certificate accepted, and why an accepted plan is calm at every minute and safe in every history.
+#![tactic(auto)]
+
+mod laws;
+
+pub use laws::{
+    accepted_is_calm, accepted_is_safe, classes_have_the_windows_of_kinds, no_fault_is_accepted,
+    some_are_accepted, windows_are_exact,
+};

@@ -1,0 +1,90 @@
+-- Lists and numbers that are written read back.
+use Rattle.std.proofs.Common.{◌≡◌, ℕ, ◌+◌, ◌≤◌, min, List, [], ◌∷◌, map, Bool, true, ◌&&◌, nat_lt, nat_le, Result, Ok, refl, arith}
+use Rattle.std.proofs.lemmas.Bool.{ltb-true, leb-true}
+use Rattle.std.specs.List.{list_all}
+use Rattle.serde_json.specs.Data.{Data}
+use Rattle.serde_json.specs.View.{items_of}
+use Rattle.cs_json.specs.Bytes.{list_of}
+use Rattle.cs_json.specs.Shape.{all_as, list_as}
+use Rattle.cs_json.specs.declared.fault.JsonFault.{JsonFault}
+use Rattle.cs_wait.specs.declared.backlog.Piece.{Piece}
+use Rattle.cs_windows.specs.declared.tree.Entry.{Entry}
+use Rattle.cs_cert.specs.declared.class.Class.{Class}
+use Rattle.cs_cert.specs.declared.class.DueList.{DueList}
+use Rattle.cs_cert.specs.declared.class.GroupBacklog.{GroupBacklog}
+use Rattle.cs_cert.specs.declared.reach.JobReach.{JobReach}
+use Rattle.cs_cert.specs.Rules.{backlog_fits, class_fits, due_fits, due_list_fits, entry_fits, group_backlog_fits, is_backlog_from}
+use Rattle.cs_cert.specs.Said.{class_said, due_list_said, entry_said, group_backlog_said, held, piece_said, reach_said}
+use Rattle.cs_cert.specs.Written.{class_data, due_list_data, entry_data, group_backlog_data, list_data, number_data, piece_data, reach_data}
+use Rattle.cs_cert.proofs.Both.{and_both}
+
+-- a number in range is held as it is
+pub held_back : (top n : ℕ) → n ≤ top → min n top ≡ n
+held_back top n h = omega (arith, h)
+
+pub below_back : (top bound n : ℕ) → bound ≤ top → nat_lt n bound ≡ true → min n top ≡ n
+below_back top bound n b h = let below = ltb-true n bound h in held_back top n (omega (arith, b, below))
+
+-- a list whose items read back does, where each item passes the test
+all_back : {A : Type 0} (said : Data → Result A JsonFault) (spelled : A → Data) (test : A → Bool) → ((x : A) → test x ≡ true → said (spelled x) ≡ Ok x)
+    → (xs : List A) → list_all test xs ≡ true → all_as said (list_of (items_of (map spelled xs))) ≡ Ok xs
+all_back said spelled test back [] h = refl
+all_back said spelled test back (x ∷ xs) h =
+    let p = and_both (test x) (list_all test xs) h in
+    rw (back x p.0, all_back said spelled test back xs p.1) refl
+
+pub list_back : {A : Type 0} (said : Data → Result A JsonFault) (spelled : A → Data) (test : A → Bool) → ((x : A) → test x ≡ true → said (spelled x) ≡ Ok x)
+    → (xs : List A) → list_all test xs ≡ true → list_as said (list_data spelled xs) ≡ Ok xs
+list_back said spelled test back xs h = all_back said spelled test back xs h
+
+pub numbers_back : (top bound : ℕ) → bound ≤ top → (ns : List ℕ) → list_all (λ n. nat_lt n bound) ns ≡ true → list_as (held top) (list_data number_data ns) ≡ Ok ns
+numbers_back top bound b ns h = list_back (held top) number_data (λ n. nat_lt n bound) (λ n k. let e = below_back top bound n b k in rw e refl) ns h
+
+pub due_list_back : (d : DueList) → due_list_fits d ≡ true → due_list_said (due_list_data d) ≡ Ok d
+due_list_back d h =
+    let p = and_both _ _ h in
+    let q = and_both _ _ p.0 in
+    let r = and_both _ _ q.0 in
+    rw (below_back 65535 320 d.job (omega arith) r.0, numbers_back 65535 1440 (omega arith) d.minutes p.1) refl
+
+piece_held : (least minute value : ℕ) (rest : Bool) → (nat_le least minute && nat_lt minute 1440 && nat_le 1 value && nat_le value 1000000 && rest) ≡ true
+    → (min minute 65535 ≡ minute) × (min value 4294967295 ≡ value) × (rest ≡ true)
+piece_held least minute value rest h =
+    let a = and_both (nat_le least minute && nat_lt minute 1440 && nat_le 1 value && nat_le value 1000000) rest h in
+    let b = and_both (nat_le least minute && nat_lt minute 1440 && nat_le 1 value) (nat_le value 1000000) a.0 in
+    let c = and_both (nat_le least minute && nat_lt minute 1440) (nat_le 1 value) b.0 in
+    let d = and_both (nat_le least minute) (nat_lt minute 1440) c.0 in
+    let small = leb-true value 1000000 b.1 in
+    let early = ltb-true minute 1440 d.1 in
+    (omega (arith, early), omega (arith, small), a.1)
+
+pieces_back : (least : ℕ) (ps : List Piece) → is_backlog_from least ps ≡ true → all_as piece_said (list_of (items_of (map piece_data ps))) ≡ Ok ps
+pieces_back least [] h = refl
+pieces_back least (p ∷ ps) h =
+    let k = piece_held least p.minute p.value (is_backlog_from (p.minute + 1) ps) h in
+    rw (k.0, k.1, pieces_back (p.minute + 1) ps k.2) refl
+
+pub group_backlog_back : (b : GroupBacklog) → group_backlog_fits b ≡ true → group_backlog_said (group_backlog_data b) ≡ Ok b
+group_backlog_back b h =
+    let p = and_both _ _ h in
+    rw (below_back 255 64 b.group (omega arith) p.0, pieces_back 0 b.backlog p.1, p.1) refl
+
+pub class_back : (c : Class) → class_fits c ≡ true → class_said (class_data c) ≡ Ok c
+class_back c h =
+    let p = and_both (due_fits c.due) (backlog_fits c.backlog) h in
+    let due = and_both _ (list_all due_list_fits c.due) p.0 in
+    let backlog = and_both _ (list_all group_backlog_fits c.backlog) p.1 in
+    rw (list_back due_list_said due_list_data due_list_fits due_list_back c.due due.1, list_back group_backlog_said group_backlog_data group_backlog_fits group_backlog_back c.backlog backlog.1) refl
+
+pub reach_back : (most : ℕ) → most ≤ 65535 → (r : JobReach) → (nat_lt r.job 320 && nat_lt 0 r.reach && nat_le r.reach most) ≡ true → reach_said (reach_data r) ≡ Ok r
+reach_back most m r h =
+    let p = and_both _ _ h in
+    let q = and_both _ _ p.0 in
+    let reach = leb-true _ _ p.1 in
+    rw (below_back 65535 320 r.job (omega arith) q.0, held_back 65535 r.reach (omega (arith, m, reach))) refl
+
+pub entry_back : (days : ℕ) → days ≤ 255 → (e : Entry) → entry_fits days e ≡ true → entry_said (entry_data e) ≡ Ok e
+entry_back days d e h =
+    let p = and_both _ _ h in
+    let q = and_both _ _ p.0 in
+    rw (below_back 65535 320 e.job (omega arith) q.0, below_back 255 days e.day_back d q.1, below_back 65535 1440 e.from (omega arith) p.1) refl

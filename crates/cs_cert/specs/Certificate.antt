@@ -1,0 +1,45 @@
+-- A certificate, and what a checker asks of it.
+use Rattle.std.specs.Prelude.{ℕ, Bool, ◌&&◌, nat_eq, List, [], ◌∷◌, Option, Some, None, if◌then◌else◌}
+use Rattle.std.specs.List.{list_any}
+use Rattle.std.specs.Cmp.Lexicographic.{pointwise}
+use Rattle.cs_civil.specs.Calendar.{Kind}
+use Rattle.cs_daytree.specs.Tree.{class_in, has}
+use Rattle.cs_windows.specs.Tree.{Tree}
+use Rattle.cs_wait.specs.Bounds.{at}
+use Rattle.cs_wait.specs.declared.backlog.Piece.{Piece}
+use Rattle.cs_cert.specs.declared.certificate.Certificate.{Certificate}
+use Rattle.cs_cert.specs.declared.class.Class.{Class}
+use Rattle.cs_cert.specs.declared.class.GroupBacklog.{GroupBacklog}
+use Rattle.cs_cert.specs.declared.reach.JobReach.{JobReach}
+use Rattle.cs_cert.specs.Content.{Content, StretchTree, content_of}
+
+-- what a certificate says
+abbrev pub content : Certificate → Content
+content c = content_of c.parts
+
+-- the class of a kind of day, by its number
+abbrev pub class_of : Content → Kind → ℕ
+class_of c kind = class_in c.kinds kind
+
+-- whether a job is due at a minute of a day of the class
+abbrev pub is_due_in : Class → ℕ → ℕ → Bool
+is_due_in class job minute = list_any (λ d. nat_eq d.job job && has d.minutes minute) class.due
+
+-- the pieces of a group: none where it isn't listed
+abbrev pub pieces_of : List GroupBacklog → ℕ → List Piece
+pieces_of [] group = []
+pieces_of (b ∷ rest) group = if nat_eq b.group group then b.backlog else pieces_of rest group
+
+-- the backlog bound of a group at a minute of a day of the class: 0 where the group isn't listed
+abbrev pub bound_in : Class → ℕ → ℕ → ℕ
+bound_in class group minute = at (pieces_of class.backlog group) minute
+
+-- the reach of a job, where it is listed
+abbrev pub reach_of : List JobReach → ℕ → Option ℕ
+reach_of [] job = None
+reach_of (r ∷ rest) job = if nat_eq r.job job then Some r.reach else reach_of rest job
+
+-- the tree of a stretch of days of these classes, where it is listed
+abbrev pub tree_for : List StretchTree → List ℕ → Option Tree
+tree_for [] classes = None
+tree_for (s ∷ rest) classes = if pointwise nat_eq s.of classes then Some s.tree else tree_for rest classes

@@ -1,0 +1,137 @@
+ghost use Rattle.std.specs.Prelude.{◌≡◌, nat_lt};
+ghost use Rattle.std.specs.List.{list_all};
+ghost use Rattle.cs_daytree.specs.Rising.{each_next, rises};
+ghost use Rattle.cs_daytree.specs.Tree.{has};
+ghost use Rattle.cs_wait.specs.Bounds.{at};
+ghost use Rattle.cs_cert.specs.Certificate.{bound_in, is_due_in, pieces_of};
+ghost use Rattle.cs_cert.specs.Rules.{class_fits, due_list_fits, group_backlog_fits};
+
+use crate::limits::{MAX_GROUPS, MAX_JOBS};
+use cs_civil::Sequence;
+use cs_wait::Backlog;
+use cs_windows::MINUTES_OF_DAY;
+
+/// The minutes of a day at which a cron job is due.
+#[derive(Debug, Drop)]
+pub struct DueList {
+    pub job: u16,
+    pub minutes: Sequence<u16>,
+}
+
+/// A bound for each minute of a day on the minutes of runs that wait for the lock of a group or hold it.
+#[derive(Debug, Drop)]
+pub struct GroupBacklog {
+    pub group: u8,
+    pub backlog: Backlog,
+}
+
+/// What a certificate says of all days of one class: when each job is due, and the backlog of each group.
+///
+/// A job without a list is due at no minute, and a group without a backlog has the bound 0 everywhere.
+#[derive(Debug, Drop)]
+pub struct Class {
+    pub due: Sequence<DueList>,
+    pub backlog: Sequence<GroupBacklog>,
+}
+
+fn minutes_rise(minutes: &[u16]) -> bool
+    ensures { result ≡ rises minutes.now }
+{
+    minutes.is_sorted_by(|one, next| *one < *next)
+}
+
+fn are_of_day(minutes: &[u16]) -> bool
+    ensures { result ≡ list_all (λ minute. nat_lt minute MINUTES_OF_DAY) minutes.now }
+{
+    minutes.iter().all(|minute| *minute < MINUTES_OF_DAY)
+}
+
+impl DueList {
+    /// Whether the job can be one, and its minutes rise within the day, one at least.
+    fn fits(&self) -> bool
+        ensures { result ≡ due_list_fits self.now }
+    {
+        self.job < MAX_JOBS
+            && !self.minutes.is_empty()
+            && minutes_rise(self.minutes.as_slice())
+            && are_of_day(self.minutes.as_slice())
+    }
+}
+
+fn jobs_rise(due: &[DueList]) -> bool
+    ensures { result ≡ each_next (λ a b. nat_lt a.job b.job) due.now }
+{
+    due.is_sorted_by(|one, next| one.job < next.job)
+}
+
+fn lists_fit(due: &[DueList]) -> bool
+    ensures { result ≡ list_all due_list_fits due.now }
+{
+    due.iter().all(|list| list.fits())
+}
+
+fn groups_rise(backlog: &[GroupBacklog]) -> bool
+    ensures { result ≡ each_next (λ a b. nat_lt a.group b.group) backlog.now }
+{
+    backlog.is_sorted_by(|one, next| one.group < next.group)
+}
+
+impl GroupBacklog {
+    /// Whether the group can be one. Its pieces make a backlog as they are.
+    #[tactic(auto, using(crate::proofs::Backlogs::backlog_so))]
+    fn fits(&self) -> bool
+        ensures { result ≡ group_backlog_fits self.now }
+    {
+        let _pieces = self.backlog.pieces();
+        self.group < MAX_GROUPS
+    }
+}
+
+fn backlogs_fit(backlog: &[GroupBacklog]) -> bool
+    ensures { result ≡ list_all group_backlog_fits backlog.now }
+{
+    backlog.iter().all(|of_group| of_group.fits())
+}
+
+fn has(minutes: &[u16], minute: u16) -> bool
+    ensures { result ≡ has minutes.now minute }
+{
+    minutes.iter().any(|listed| *listed == minute)
+}
+
+fn bound_among(backlog: &[GroupBacklog], group: u8, minute: u16) -> u32
+    ensures { result ≡ at (pieces_of backlog.now group) minute }
+{
+    for of_group in backlog {
+        if of_group.group == group {
+            return of_group.backlog.at(minute);
+        }
+    }
+    0
+}
+
+impl Class {
+    /// Whether a job is due at a minute of a day of this class.
+    pub fn is_due(&self, job: u16, minute: u16) -> bool
+        ensures { result ≡ is_due_in self.now job minute }
+    {
+        self.due.as_slice().iter().any(|list| list.job == job
+            && has(list.minutes.as_slice(), minute))
+    }
+
+    /// The backlog bound of a group at a minute of a day of this class: 0 where the group isn't listed.
+    pub fn bound(&self, group: u8, minute: u16) -> u32
+        ensures { result ≡ bound_in self.now group minute }
+    {
+        bound_among(self.backlog.as_slice(), group, minute)
+    }
+
+    /// Whether jobs and groups rise, each can be one, and each due list fits.
+    pub(crate) fn fits(&self) -> bool
+        ensures { result ≡ class_fits self.now }
+    {
+        let due = self.due.as_slice();
+        let backlog = self.backlog.as_slice();
+        jobs_rise(due) && lists_fit(due) && groups_rise(backlog) && backlogs_fit(backlog)
+    }
+}

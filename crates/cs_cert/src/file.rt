@@ -1,0 +1,125 @@
+//! The text of a certificate.
+
+ghost use Rattle.std.specs.Prelude.{◌≡◌, ◌≤◌, IfOk, Ok, length};
+ghost use Rattle.serde_json.specs.View.{view};
+ghost use Rattle.serde_json.specs.Written.{compact_text};
+ghost use Rattle.cs_json.specs.Gives as json;
+ghost use Rattle.cs_cert.specs.Answers.{Gives};
+ghost use Rattle.cs_cert.specs.Certificate.{content};
+ghost use Rattle.cs_cert.specs.Content.{content_of};
+ghost use Rattle.cs_cert.specs.Denoted.{certificate_by, content_in, content_said, is_other_version, json_in, stretches_name};
+ghost use Rattle.cs_cert.specs.Written.{certificate_data};
+
+use crate::certificate::Certificate;
+use crate::fault::{CertError, CertFault};
+use crate::form::{Form, member};
+use crate::limits::MAX_CERTIFICATE;
+use crate::parts::Parts;
+use cs_json::{Misread, only_members, parse};
+use serde_json::{Value, json};
+use std::alloc::{AllocError, Global};
+
+fn parsed(alloc: Global, bytes: &[u8]) -> Result<Value, CertError>
+    ensures { Gives view result (json_in bytes.now) }
+{
+    match parse(alloc, bytes) {
+        Ok(value) => Ok(value),
+        Err(Misread::Memory) => Err(CertError::from(AllocError)),
+        Err(Misread::Fault(_)) => Err(CertError::Fault(CertFault::NotJson)),
+    }
+}
+
+fn is_other_version(value: &Value) -> bool
+    ensures { result ≡ is_other_version (view value.now) }
+{
+    match value.get("version").and_then(Value::as_number) {
+        Some(number) => match number.as_i128() {
+            Some(number) => number != 1 && number != 2,
+            None => false,
+        },
+        None => false,
+    }
+}
+
+fn stretches_name(version: u8) -> &'static str
+    ensures { result.now ≡ stretches_name version }
+{
+    if version == 2 { "stretches" } else { "pairs" }
+}
+
+#[tactic(auto, unfolding(crate::specs::Denoted::content_said))]
+fn read_parts(alloc: Global, value: &Value) -> Result<Parts, Misread>
+    ensures { json.Gives content_of result (content_said (view value.now)) }
+{
+    let version = member(alloc, value, "version")?;
+    let name = stretches_name(version);
+    only_members(value, &["classes", "kinds", "reach", "version", name])?;
+    let classes = member(alloc, value, "classes")?;
+    let kinds = member(alloc, value, "kinds")?;
+    let stretches = member(alloc, value, name)?;
+    let reach = member(alloc, value, "reach")?;
+    Ok(Parts {
+        version,
+        classes,
+        kinds,
+        stretches,
+        reach,
+    })
+}
+
+fn parts_in(alloc: Global, value: &Value) -> Result<Parts, CertError>
+    ensures { Gives content_of result (content_in (view value.now)) }
+{
+    if is_other_version(value) {
+        return Err(CertError::Fault(CertFault::BadVersion));
+    }
+    match read_parts(alloc, value) {
+        Ok(parts) => Ok(parts),
+        Err(Misread::Memory) => Err(CertError::from(AllocError)),
+        Err(Misread::Fault(_)) => Err(CertError::Fault(CertFault::BadShape)),
+    }
+}
+
+/// The certificate that a text denotes.
+///
+/// Where it denotes none, the fault of the smallest number over the whole text is answered; `OutOfMemory` only where memory ran out.
+#[tactic(auto, unfolding(crate::specs::Denoted::certificate_by))]
+pub fn read_certificate(alloc: Global, bytes: &[u8]) -> Result<Certificate, CertError>
+    ensures { Gives content result (certificate_by bytes.now) }
+{
+    if bytes.len() > MAX_CERTIFICATE {
+        return Err(CertError::Fault(CertFault::TooLong));
+    }
+    let value = parsed(alloc, bytes)?;
+    let parts = parts_in(alloc, &value)?;
+    match Certificate::of_parts(parts) {
+        Ok(certificate) => Ok(certificate),
+        Err(fault) => Err(CertError::Fault(fault)),
+    }
+}
+
+fn to_value(alloc: Global, certificate: &Certificate) -> Result<Value, AllocError>
+    ensures { IfOk result (λ v. view v ≡ certificate_data (content certificate.now)) }
+{
+    let parts = &certificate.parts;
+    let classes = parts.classes.write(alloc)?;
+    let kinds = parts.kinds.write(alloc)?;
+    let stretches = parts.stretches.write(alloc)?;
+    let reach = parts.reach.write(alloc)?;
+    if parts.version == 2 {
+        json!(in alloc; {"classes": classes, "kinds": kinds, "reach": reach, "stretches": stretches, "version": parts.version})
+    } else {
+        json!(in alloc; {"classes": classes, "kinds": kinds, "pairs": stretches, "reach": reach, "version": parts.version})
+    }
+}
+
+/// The text of a certificate: compact, with members in alphabetical order and lists in the order held. The only error is want of memory.
+///
+/// A text of at most 16,777,216 bytes is read back as the same certificate.
+pub fn write_certificate(alloc: Global, certificate: &Certificate) -> Result<Vec<u8>, AllocError>
+    ensures text { IfOk result (λ b. b.items ≡ compact_text (certificate_data (content certificate.now))) }
+    ensures reads_back { IfOk result (λ b. length b.items ≤ 16_777_216
+        → certificate_by b.items ≡ Ok (content certificate.now)) }
+{
+    to_value(alloc, certificate)?.to_vec(alloc)
+}

@@ -1,0 +1,28 @@
+//! Certificates: what is claimed of the windows of each day, and its JSON text.
+#![tactic(auto)]
+
+mod certificate;
+mod class;
+mod day_tree_form;
+mod fault;
+mod file;
+mod form;
+mod limits;
+mod list_form;
+mod making;
+mod minute_tree;
+mod minute_tree_form;
+mod number_form;
+mod parts;
+mod reach;
+mod stretch;
+#[cfg(test)]
+mod tests;
+
+pub use certificate::Certificate;
+pub use class::{Class, DueList, GroupBacklog};
+pub use fault::{CertError, CertFault};
+pub use file::{read_certificate, write_certificate};
+pub use limits::{MAX_CERTIFICATE, MAX_CLASSES, MAX_DEPTH, MAX_ENTRIES, MAX_GROUPS, MAX_JOBS};
+pub use reach::{JobReach, reach_of};
+pub use stretch::Stretch;

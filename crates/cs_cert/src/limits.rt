@@ -1,0 +1,17 @@
+/// The greatest length of a certificate's text, in bytes.
+pub const MAX_CERTIFICATE: usize = 16_777_216;
+
+/// The most classes of a certificate.
+pub const MAX_CLASSES: usize = 512;
+
+/// The greatest depth of a day tree and of a minute tree: a leaf has depth 0.
+pub const MAX_DEPTH: u8 = 24;
+
+/// The most entries of a minute tree's leaf.
+pub const MAX_ENTRIES: usize = 4_096;
+
+/// Job numbers are below this one: 256 commands of a crontab, and 64 jobs of an anacrontab.
+pub const MAX_JOBS: u16 = 320;
+
+/// Group numbers are below this one.
+pub const MAX_GROUPS: u8 = 64;

@@ -1,0 +1,114 @@
+//! Making a certificate, and reading its parts.
+
+ghost use Rattle.std.specs.Prelude.{◌≡◌, ◌<◌, length, map};
+ghost use Rattle.cs_daytree.specs.Tree.{tree_of};
+ghost use Rattle.cs_cert.specs.Answers.{Tells};
+ghost use Rattle.cs_cert.specs.Certificate.{class_of, content};
+ghost use Rattle.cs_cert.specs.Content.{content_of, stretch_of};
+ghost use Rattle.cs_cert.specs.Kept.{Keeps};
+ghost use Rattle.cs_cert.specs.Rules.{judged};
+
+use crate::certificate::Certificate;
+use crate::class::Class;
+use crate::fault::CertFault;
+use crate::parts::Parts;
+use crate::reach::JobReach;
+use crate::stretch::Stretch;
+use cs_civil::{DayKind, Sequence};
+use cs_daytree::DayTree;
+
+impl Certificate {
+    /// The certificate of these parts. It takes no memory.
+    ///
+    /// Where rules are broken the fault of the smallest number is answered, from 3 on: `BadVersion` where the version is neither 1 nor 2,
+    /// `BadShape` where a stretch has a number of days that the version does not allow, and the others as [`CertFault`] says.
+    pub fn new(
+        version: u8,
+        classes: Sequence<Class>,
+        kinds: DayTree,
+        stretches: Sequence<Stretch>,
+        reach: Sequence<JobReach>,
+    ) -> Result<Certificate, CertFault>
+        ensures { Tells content result (judged (record {
+          version = version;
+          classes = classes;
+          kinds = tree_of kinds;
+          stretches = map stretch_of stretches;
+          reach = reach;
+        })) }
+    {
+        Certificate::of_parts(Parts {
+            version,
+            classes,
+            kinds,
+            stretches,
+            reach,
+        })
+    }
+
+    /// The certificate of these parts, or the fault of the smallest number.
+    pub(crate) fn of_parts(parts: Parts) -> Result<Certificate, CertFault>
+        ensures { Tells content result (judged (content_of parts)) }
+    {
+        match parts.fault() {
+            Some(fault) => Err(fault),
+            None => Ok(Certificate { parts }),
+        }
+    }
+
+    /// The parts, which keep the rules.
+    fn parts(&self) -> &Parts
+        ensures value { result.now ≡ self.now.parts }
+        ensures kept { Keeps (content self.now) }
+    {
+        &self.parts
+    }
+
+    /// The version: 1 for stretches of two days, 2 for two to four.
+    pub fn version(&self) -> u8
+        ensures value { result ≡ (content self.now).version }
+        ensures kept { Keeps (content self.now) }
+    {
+        self.parts().version
+    }
+
+    /// The classes of days, 1 to 512, named by their place from 0.
+    pub fn classes(&self) -> &[Class]
+        ensures value { result.now ≡ (content self.now).classes }
+        ensures kept { Keeps (content self.now) }
+    {
+        self.parts().classes.as_slice()
+    }
+
+    /// The class of each kind of day. It is one of those in [`classes`](Certificate::classes).
+    pub fn kinds(&self) -> &DayTree
+        ensures value { tree_of result.now ≡ (content self.now).kinds }
+        ensures kept { Keeps (content self.now) }
+    {
+        &self.parts().kinds
+    }
+
+    /// The class of a kind of day.
+    pub fn class_of(&self, kind: DayKind) -> u32
+        ensures value { result ≡ class_of (content self.now) kind }
+        ensures there { result < length (content self.now).classes }
+    {
+        self.parts().kinds.class_of(kind)
+    }
+
+    /// The stretches, strictly rising: by length, then in order of the classes.
+    pub fn stretches(&self) -> &[Stretch]
+        ensures value { map stretch_of result.now ≡ (content self.now).stretches }
+        ensures kept { Keeps (content self.now) }
+    {
+        self.parts().stretches.as_slice()
+    }
+
+    /// The reaches, jobs strictly rising.
+    pub fn reach(&self) -> &[JobReach]
+        ensures value { result.now ≡ (content self.now).reach }
+        ensures kept { Keeps (content self.now) }
+    {
+        self.parts().reach.as_slice()
+    }
+}

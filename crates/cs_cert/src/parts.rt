@@ -1,0 +1,127 @@
+ghost use Rattle.std.specs.Prelude.{◌≡◌, Some};
+ghost use Rattle.std.specs.List.{list_all};
+ghost use Rattle.cs_cert.specs.Content.{content_of};
+ghost use Rattle.cs_cert.specs.Rules.{class_fits, classes_there, fault_of, is_version, leaves_short, lengths_fit, lists_fit, most_days, most_reach, trees_shallow, trees_split_well};
+
+use crate::class::Class;
+use crate::fault::CertFault;
+use crate::limits::{MAX_CLASSES, MAX_DEPTH};
+use crate::reach::{JobReach, reach_fits};
+use crate::stretch::{
+    Stretch, are_of_classes, are_shallow, are_split_well, have_days, have_entries,
+    have_short_leaves, rise,
+};
+use cs_civil::Sequence;
+use cs_daytree::DayTree;
+
+/// The parts of a certificate, whether they keep its rules or not.
+#[derive(Debug, Drop)]
+pub(crate) struct Parts {
+    pub(crate) version: u8,
+    pub(crate) classes: Sequence<Class>,
+    pub(crate) kinds: DayTree,
+    pub(crate) stretches: Sequence<Stretch>,
+    pub(crate) reach: Sequence<JobReach>,
+}
+
+/// The most days of a stretch.
+fn most_days(version: u8) -> u8
+    ensures { result ≡ most_days version }
+{
+    if version == 1 { 2 } else { 4 }
+}
+
+/// The greatest reach, in minutes.
+fn most_reach(version: u8) -> u16
+    ensures { result ≡ most_reach version }
+{
+    if version == 1 { 1_440 } else { 4_320 }
+}
+
+fn classes_fit(classes: &[Class]) -> bool
+    ensures { result ≡ list_all class_fits classes.now }
+{
+    classes.iter().all(|class| class.fits())
+}
+
+impl Parts {
+    #[tactic(auto, using(crate::proofs::Seen::all_seen))]
+    fn lengths_fit(&self) -> bool
+        ensures { result ≡ lengths_fit (content_of self.now) }
+    {
+        have_days(self.stretches.as_slice(), most_days(self.version))
+    }
+
+    #[tactic(auto, using(crate::proofs::Seen::all_seen))]
+    fn trees_shallow(&self) -> bool
+        ensures { result ≡ trees_shallow (content_of self.now) }
+    {
+        self.kinds.is_no_deeper_than(MAX_DEPTH) && are_shallow(self.stretches.as_slice())
+    }
+
+    #[tactic(auto, using(crate::proofs::Seen::all_seen))]
+    fn trees_split_well(&self) -> bool
+        ensures { result ≡ trees_split_well (content_of self.now) }
+    {
+        self.kinds.splits_fit() && are_split_well(self.stretches.as_slice())
+    }
+
+    #[tactic(auto, using(crate::proofs::Seen::all_seen, crate::proofs::Seen::next_seen))]
+    fn classes_there(&self) -> bool
+        ensures { result ≡ classes_there (content_of self.now) }
+    {
+        let count = self.classes.len();
+        let stretches = self.stretches.as_slice();
+        (self.kinds.greatest_class() as usize) < count
+            && are_of_classes(stretches, count)
+            && rise(stretches)
+    }
+
+    #[tactic(auto, using(crate::proofs::Seen::all_seen))]
+    fn lists_fit(&self) -> bool
+        ensures { result ≡ lists_fit (content_of self.now) }
+    {
+        reach_fits(self.reach.as_slice(), most_reach(self.version))
+            && classes_fit(self.classes.as_slice())
+            && have_entries(self.stretches.as_slice(), most_days(self.version))
+    }
+
+    #[tactic(auto, using(crate::proofs::Seen::all_seen))]
+    fn leaves_short(&self) -> bool
+        ensures { result ≡ leaves_short (content_of self.now) }
+    {
+        have_short_leaves(self.stretches.as_slice())
+    }
+
+    /// The fault of the smallest number that stands, from 3 on.
+    #[tactic(auto, unfolding(crate::specs::Rules::fault_of))]
+    pub(crate) fn fault(&self) -> Option<CertFault>
+        ensures { result ≡ fault_of (content_of self.now) }
+    {
+        if self.version != 1 && self.version != 2 {
+            return Some(CertFault::BadVersion);
+        }
+        if !self.lengths_fit() {
+            return Some(CertFault::BadShape);
+        }
+        if !self.trees_shallow() {
+            return Some(CertFault::TooDeep);
+        }
+        if !self.trees_split_well() {
+            return Some(CertFault::BadSplit);
+        }
+        if !self.classes_there() {
+            return Some(CertFault::BadClass);
+        }
+        if !self.lists_fit() {
+            return Some(CertFault::BadEntry);
+        }
+        if self.classes.len() > MAX_CLASSES {
+            return Some(CertFault::TooManyClasses);
+        }
+        if !self.leaves_short() {
+            return Some(CertFault::LeafTooLong);
+        }
+        None
+    }
+}

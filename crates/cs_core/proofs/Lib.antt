@@ -1,0 +1,5 @@
+pub mod Locks
+pub mod Order
+pub mod Namable
+pub mod Stamps
+pub mod Members

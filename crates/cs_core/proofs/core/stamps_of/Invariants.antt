@@ -1,0 +1,9 @@
+use Rattle.std.proofs.Common.{◌≡◌, ◌++◌, ◌-◌, None, length, take, replicate}
+use Rattle.cs_decl.specs.Plan.{crons}
+use Rattle.cs_core.proofs.core.stamps_of.Given as goal
+
+abbrev pub invariant-loop-place : goal.invariant-loop-place
+invariant-loop-place l = record {
+  listed : l.stamps.items ≡ take l.place (l.start.stamps ++ replicate (length l.plan.jobs - crons l.plan) None);
+  few : length l.stamps.items ≡ l.place;
+}

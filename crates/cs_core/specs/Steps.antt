@@ -1,0 +1,24 @@
+-- What a call of a core does.
+use Rattle.std.specs.Prelude.{◌≡◌, Bool, true, false, Result, Ok, Err}
+use Rattle.cs_history.specs.Plan.{Plan}
+use Rattle.cs_history.specs.Step.{State, after, reply}
+use Rattle.cs_history.specs.declared.event.Event.{Event}
+use Rattle.cs_history.specs.declared.event.Event.TheVariants.{Minute, Begin, Got, Catch, End, Down, Up}
+use Rattle.cs_history.specs.declared.reply.Reply.{Reply}
+use Rattle.cs_history.specs.declared.refusal.Refusal.{Refusal}
+use Rattle.cs_history.specs.declared.refusal.Refusal.TheVariants.{OutOfMemory}
+
+-- whether an event may add a run to a list
+abbrev pub needs_memory : Event → Bool
+needs_memory (Minute t) = false
+needs_memory (Begin j) = true
+needs_memory (Got j d) = true
+needs_memory (Catch j) = true
+needs_memory (End r) = false
+needs_memory Down = false
+needs_memory (Up t) = false
+
+-- what a call does that takes an event which is not refused: all of it, or for want of memory nothing
+abbrev pub Takes : Plan → State → Event → Result Reply Refusal → State → Type 0
+Takes p s e (Ok r) n = (r ≡ reply p s e) × (n ≡ after p s e)
+Takes p s e (Err f) n = (f ≡ OutOfMemory) × (n ≡ s)

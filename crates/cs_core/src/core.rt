@@ -1,0 +1,168 @@
+ghost use Rattle.std.specs.Prelude.{◌≡◌, ◌≤◌, IfOk, IfErr, MatchResult, None, Some, true, ◌-◌, [], ◌++◌, length, replicate, take};
+ghost use Rattle.std.specs.Option.{option_map};
+ghost use Rattle.cs_core.specs.Standing.{Standing};
+ghost use Rattle.cs_core.specs.Steps.{Takes, needs_memory};
+ghost use Rattle.cs_decl.specs.Plan.{as_plan};
+ghost use Rattle.cs_history.specs.History.{From, History};
+ghost use Rattle.cs_history.specs.Names.{jobs_left};
+ghost use Rattle.cs_history.specs.Plan.{first_start};
+ghost use Rattle.cs_history.specs.Step.{Follows, Steps, refusal, state_of};
+ghost use Rattle.cs_history.specs.declared.refusal.Refusal.TheVariants.{OutOfMemory};
+
+use crate::lists::stamp_at;
+use crate::rules::Rules;
+use arrayvec::ArrayVec;
+use cs_civil::{Day, Minute};
+use cs_decl::Plan;
+use cs_history::{Event, Going, Refusal, Reply, Run, Start};
+use std::alloc::{AllocError, Global};
+use std::marker::Model;
+
+/// A plan and the state that the events of a history have left: the minute, up or down, the jobs that are pending, the runs
+/// that wait and that run, the stamps and the open pass.
+#[derive(Debug, Drop)]
+pub struct Core {
+    pub(crate) rules: Rules,
+    pub(crate) minute: Minute,
+    pub(crate) up: bool,
+    pub(crate) due: ArrayVec<u16, 256>,
+    pub(crate) waiting: Vec<Run>,
+    pub(crate) running: Vec<Going>,
+    pub(crate) stamps: ArrayVec<Option<Day>, 64>,
+    pub(crate) begun: Minute,
+    pub(crate) left: ArrayVec<u16, 64>,
+}
+
+impl Model for Core {
+    ghost use Rattle.cs_core.specs.Standing.{Standing, AreNamable};
+    ghost use Rattle.cs_history.specs.History.{pass_of};
+
+    ghost Value = { Standing };
+
+    ghost view = { λ c. record { plan = c.rules; state = record { now = c.minute; up = c.up; pending = c.due.items; waiting = c.waiting.items; running = c.running.items; stamps = c.stamps.items; pass = pass_of c.begun c.left.items } } };
+
+    ghost invariant = { λ c. AreNamable c.waiting.items c.running.items };
+}
+
+impl Core {
+    /// A core in the state of a start: nothing runs, waits or is pending, and no pass is open. The core keeps a copy of the
+    /// plan. The only error is want of memory.
+    pub fn open(alloc: Global, plan: &Plan, start: Start) -> Result<Core, AllocError>
+        requires { first_start ≤ start.now }
+        ensures plan { IfOk result (λ core. core.plan ≡ plan.now) }
+        ensures state { IfOk result (λ core. core.state ≡ state_of (as_plan plan.now) (From start)) }
+    {
+        Ok(Core {
+            rules: Rules::new(alloc, plan)?,
+            minute: start.now(),
+            up: start.is_up(),
+            due: ArrayVec::new(),
+            waiting: Vec::new(alloc),
+            running: Vec::new(alloc),
+            stamps: stamps_of(plan, &start),
+            begun: start.now(),
+            left: ArrayVec::new(),
+        })
+    }
+
+    /// What [`step`](Core::step) would refuse the event with, want of memory aside.
+    pub fn test(&self, event: &Event) -> Result<(), Refusal>
+        ensures { MatchResult result (λ _. refusal (as_plan self.now.plan) self.now.state event.now ≡ None) (λ f. refusal (as_plan self.now.plan) self.now.state event.now ≡ Some f) }
+    {
+        match self.refusal(event) {
+            None => Ok(()),
+            Some(refusal) => Err(refusal),
+        }
+    }
+
+    /// Takes an event. Of every history that the core stands for it is the next one where it is legal; else the refusal that
+    /// comes first is answered. A refused event changes nothing, and `OutOfMemory`, which comes last, neither.
+    pub fn step(&mut self, event: Event) -> Result<Reply, Refusal>
+        ensures steps { Steps (as_plan self.old.plan) self.old.state event result self.new.state }
+        ensures history { (h : History) → self.old.state ≡ state_of (as_plan self.old.plan) h → Follows (as_plan self.old.plan) h event result self.new.state }
+        ensures plan { self.new.plan ≡ self.old.plan }
+        // Minute, End, Down and Up take no memory.
+        ensures memory { IfErr result (λ f. f ≡ OutOfMemory → needs_memory event ≡ true) }
+    {
+        self.take_unless_refused(event)
+    }
+
+    /// The present civil minute.
+    pub fn now(&self) -> Minute
+        ensures { result ≡ self.now.state.now }
+    {
+        self.minute
+    }
+
+    /// Whether the daemon is up.
+    pub fn is_up(&self) -> bool
+        ensures { result ≡ self.now.state.up }
+    {
+        self.up
+    }
+
+    /// The jobs that are due now and have not begun, by number.
+    pub fn pending(&self) -> &[u16]
+        ensures { result.now ≡ self.now.state.pending }
+    {
+        self.due.as_slice()
+    }
+
+    /// The runs that wait for a lock, in order of Begin.
+    pub fn waiting(&self) -> &[Run]
+        ensures { result.now ≡ self.now.state.waiting }
+    {
+        self.waiting.as_slice()
+    }
+
+    /// The runs that run, in order of start.
+    pub fn running(&self) -> &[Going]
+        ensures { result.now ≡ self.now.state.running }
+    {
+        self.running.as_slice()
+    }
+
+    /// The stamps, by anacron job.
+    pub fn stamps(&self) -> &[Option<Day>]
+        ensures { result.now ≡ self.now.state.stamps }
+    {
+        self.stamps.as_slice()
+    }
+
+    /// The minute at which the open pass began, if one is open.
+    pub fn pass(&self) -> Option<Minute>
+        ensures { result ≡ option_map (λ o. o.at) self.now.state.pass }
+    {
+        if self.left.is_empty() {
+            None
+        } else {
+            Some(self.begun)
+        }
+    }
+
+    /// The jobs that the open pass has still to start, the next one first. None where no pass is open.
+    pub fn left(&self) -> &[u16]
+        ensures { result.now ≡ jobs_left self.now.state.pass }
+    {
+        self.left.as_slice()
+    }
+
+    /// The plan.
+    pub fn plan(&self) -> &Plan
+        ensures { result.now ≡ self.now.plan }
+    {
+        self.rules.plan()
+    }
+}
+
+/// The stamps of a start, one for each anacron job of the plan.
+#[tactic(auto, using(crate::proofs::Order::few_anacron, crate::proofs::Stamps::next_stamp))]
+fn stamps_of(plan: &Plan, start: &Start) -> ArrayVec<Option<Day>, 64>
+    ensures { result.items ≡ take ((as_plan plan.now).jobs - (as_plan plan.now).crons) (start.now.stamps ++ replicate ((as_plan plan.now).jobs - (as_plan plan.now).crons) None) }
+{
+    let mut stamps = ArrayVec::new();
+    for place in 0..plan.jobs().len() - plan.crons() {
+        stamps.push(stamp_at(start.stamps(), place));
+    }
+    stamps
+}

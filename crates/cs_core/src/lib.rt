@@ -1,0 +1,13 @@
+//! The event core: it takes the events of a history one by one, says which may come next, and keeps the state that they leave.
+#![tactic(auto)]
+
+mod choices;
+mod core;
+mod events;
+mod laws;
+mod lists;
+mod refusals;
+mod rules;
+
+pub use core::Core;
+pub use laws::choices_are_legal_events;

@@ -1,0 +1,276 @@
+ghost use Rattle.std.specs.Prelude.{◌≡◌, ◌<◌, ◌≤◌, ◌-◌, ◌%◌, ◌/◌, ℕ, length, [], get_or, None, IfOk};
+ghost use Rattle.std.specs.List.{insert, list_any};
+ghost use Rattle.cs_crontab.specs.declared.limits.TheConstants.{MAX_COMMANDS};
+ghost use Rattle.cs_civil.specs.Calendar.{kind};
+ghost use Rattle.cs_decl.specs.Plan.{as_plan, command_of, crons, is_due, line_of};
+ghost use Rattle.cs_history.specs.History.{is_free, owed_at};
+ghost use Rattle.cs_history.specs.Plan.{by_delay, due_at, in_the_way, is_cron, is_pass_minute, is_sooner, placed_below, same_group, shares_in, takes, takes_lock};
+ghost use Rattle.cs_history.specs.Lists.{placed};
+
+use crate::lists::{runs_job, stamp_at};
+use arrayvec::ArrayVec;
+use cs_anacrontab::{Period, is_due};
+use cs_civil::{Day, DayKind, Minute, kind_of};
+use cs_crontab::When;
+use cs_decl::Plan;
+use cs_history::{Going, Mode};
+use std::alloc::{AllocError, Global};
+use std::marker::Model;
+
+/// The plan that a core runs, and its anacron jobs by delay, then line.
+#[derive(Debug, Drop)]
+pub(crate) struct Rules {
+    plan: Plan,
+    order: ArrayVec<u16, 64>,
+}
+
+impl Model for Rules {
+    ghost use Rattle.std.specs.Prelude.{◌≡◌};
+    ghost use Rattle.cs_decl.specs.Plan.{Declared, as_plan};
+    ghost use Rattle.cs_history.specs.Plan.{by_delay};
+
+    ghost Value = { Declared };
+
+    ghost view = { λ r. r.plan };
+
+    ghost invariant = { λ r. r.order.items ≡ by_delay (as_plan r.plan) };
+}
+
+/// Whether the mode takes the lock of its group.
+fn takes(mode: Mode) -> bool
+    ensures { result ≡ takes mode }
+{
+    match mode {
+        Mode::Plain => false,
+        Mode::Skip => true,
+        Mode::Wait => true,
+        Mode::Shared => true,
+    }
+}
+
+/// Whether the mode shares the lock of its group.
+fn shares(mode: Mode) -> bool
+    ensures { result ≡ shares_in mode }
+{
+    match mode {
+        Mode::Plain => false,
+        Mode::Skip => false,
+        Mode::Wait => false,
+        Mode::Shared => true,
+    }
+}
+
+impl Rules {
+    /// The rules of a plan, of which they keep a copy.
+    pub(crate) fn new(alloc: Global, plan: &Plan) -> Result<Rules, AllocError>
+        ensures { IfOk result (λ rules. rules ≡ plan.now) }
+    {
+        Ok(Rules {
+            plan: plan.copy(alloc)?,
+            order: by_delay(plan),
+        })
+    }
+
+    pub(crate) fn plan(&self) -> &Plan
+        ensures { result.now ≡ self.now }
+    {
+        &self.plan
+    }
+
+    /// How many of the jobs are cron jobs, which come first.
+    pub(crate) fn crons(&self) -> u16
+        ensures value { result ≡ crons self.now }
+        ensures few { result ≤ MAX_COMMANDS }
+    {
+        self.plan.crontab().lines().len() as u16
+    }
+
+    pub(crate) fn is_cron(&self, job: u16) -> bool
+        ensures { result ≡ is_cron (as_plan self.now) job }
+    {
+        job < self.crons()
+    }
+
+    /// How the job treats the lock of its group.
+    pub(crate) fn mode(&self, job: u16) -> Mode
+        ensures { result ≡ (as_plan self.now).mode job }
+    {
+        match self.plan.jobs().get(usize::from(job)) {
+            Some(job) => job.mode(),
+            None => Mode::Plain,
+        }
+    }
+
+    fn group(&self, job: u16) -> Option<u8>
+        ensures { result ≡ (as_plan self.now).group job }
+    {
+        match self.plan.jobs().get(usize::from(job)) {
+            Some(job) => job.group(),
+            None => None,
+        }
+    }
+
+    /// The job's declared time, in minutes.
+    pub(crate) fn limit(&self, job: u16) -> u64
+        ensures { result ≡ (as_plan self.now).limit job }
+    {
+        match self.plan.jobs().get(usize::from(job)) {
+            Some(job) => u64::from(job.max()),
+            None => 1,
+        }
+    }
+
+    fn is_same_group(&self, one: u16, other: u16) -> bool
+        ensures { result ≡ same_group (as_plan self.now) one other }
+    {
+        match (self.group(one), self.group(other)) {
+            (Some(group), Some(other)) => group == other,
+            _ => false,
+        }
+    }
+
+    /// Whether a running run of the one job is in the way of the other.
+    fn is_in_the_way(&self, job: u16, running: u16) -> bool
+        ensures { result ≡ in_the_way (as_plan self.now) job running }
+    {
+        let (mode, held) = (self.mode(job), self.mode(running));
+        takes(mode)
+            && takes(held)
+            && self.is_same_group(job, running)
+            && !(shares(mode) && shares(held))
+    }
+
+    /// Whether the lock of the job is free for it where these run.
+    #[tactic(auto, using(crate::proofs::Locks::free_without_lock))]
+    pub(crate) fn is_free(&self, running: &[Going], job: u16) -> bool
+        ensures { result ≡ is_free (as_plan self.now) running.now job }
+    {
+        !takes(self.mode(job)) || !self.is_held(running, job)
+    }
+
+    /// Whether one of these is in the way of the job.
+    fn is_held(&self, running: &[Going], job: u16) -> bool
+        ensures { result ≡ list_any (λ r. in_the_way (as_plan self.now) job r.run.job) running.now }
+    {
+        running
+            .iter()
+            .any(|going| self.is_in_the_way(job, going.run.job))
+    }
+
+    /// Whether the cron job is due at this minute of a day of this kind.
+    fn is_due_on(&self, job: u16, day: DayKind, minute_of_day: u16) -> bool
+        requires { minute_of_day < 1440 }
+        ensures { (t : ℕ) → day ≡ kind (t / 1440) → minute_of_day ≡ t % 1440 → result ≡ (as_plan self.now).due job t }
+    {
+        match self.plan.crontab().lines().get(usize::from(job)) {
+            Some(line) => match line.when() {
+                When::At(schedule) => schedule.is_due_on(day, minute_of_day),
+                When::Reboot => false,
+            },
+            None => false,
+        }
+    }
+
+    /// Writes the cron jobs that are due at a minute into a list, in place of what it held.
+    pub(crate) fn list_due(&self, minute: Minute, pending: &mut ArrayVec<u16, 256>)
+        ensures { pending.new.items ≡ due_at (as_plan self.now) minute }
+    {
+        pending.clear();
+        let kind = kind_of(minute.day());
+        let minute_of_day = minute.minute_of_day();
+        for job in 0..self.crons() {
+            if self.is_due_on(job, kind, minute_of_day) {
+                pending.push(job);
+            }
+        }
+    }
+
+    /// Whether this minute is the declared pass minute of its day.
+    pub(crate) fn is_pass_minute(&self, minute: Minute) -> bool
+        ensures { result ≡ is_pass_minute (as_plan self.now) minute }
+    {
+        match self.plan.pass() {
+            Some(pass) => minute.minute_of_day() == pass,
+            None => false,
+        }
+    }
+
+    /// The minutes that an anacron job waits from the start of a pass on.
+    pub(crate) fn delay(&self, job: u16) -> u32
+        ensures { result ≡ (as_plan self.now).delay job }
+    {
+        delay(&self.plan, job)
+    }
+
+    /// Whether the anacron job is due today.
+    fn is_owed(&self, job: u16, stamp: Option<Day>, today: Day) -> bool
+        ensures { result ≡ (as_plan self.now).owed job stamp today }
+    {
+        let line = usize::from(job).saturating_sub(self.plan.crons());
+        match self.plan.anacrontab().lines().get(line) {
+            Some(line) => is_due(line.period(), stamp, today),
+            None => is_due(Period::Monthly, stamp, today),
+        }
+    }
+
+    /// Writes the jobs that a pass has which begins at a minute into an empty list.
+    pub(crate) fn list_owed(
+        &self,
+        minute: Minute,
+        stamps: &[Option<Day>],
+        running: &[Going],
+        left: &mut ArrayVec<u16, 64>,
+    )
+        requires { left.old.items ≡ [] }
+        ensures { left.new.items ≡ owed_at (as_plan self.now) stamps.now running.now minute }
+    {
+        let today = minute.day();
+        for job in self.order.as_slice() {
+            let place = usize::from(*job).saturating_sub(self.plan.crons());
+            if self.is_owed(*job, stamp_at(stamps, place), today) && !runs_job(running, *job) {
+                left.push(*job);
+            }
+        }
+    }
+}
+
+/// The minutes that an anacron job waits from the start of a pass on.
+fn delay(plan: &Plan, job: u16) -> u32
+    ensures { result ≡ (as_plan plan.now).delay job }
+{
+    let line = usize::from(job).saturating_sub(plan.crons());
+    match plan.anacrontab().lines().get(line) {
+        Some(line) => line.delay(),
+        None => 0,
+    }
+}
+
+/// The place of the first job of a later delay.
+fn place(plan: &Plan, order: &[u16], job: u16) -> usize
+    ensures bound { result ≤ length order.now }
+    ensures place { insert order.now result job ≡ placed (is_sooner (as_plan plan.now)) job order.now }
+{
+    let minutes = delay(plan, job);
+    for (place, other) in order.iter().enumerate() {
+        if minutes < delay(plan, *other) {
+            return place;
+        }
+    }
+    order.len()
+}
+
+/// The anacron jobs by delay, then line.
+#[tactic(auto, using(crate::proofs::Order::few_anacron, crate::proofs::Order::none_below, crate::proofs::Order::one_below))]
+fn by_delay(plan: &Plan) -> ArrayVec<u16, 64>
+    ensures { result.items ≡ by_delay (as_plan plan.now) }
+{
+    let mut order = ArrayVec::new();
+    let crons = plan.crontab().lines().len();
+    let jobs = plan.jobs().len();
+    for job in crons..jobs {
+        let job = job as u16;
+        let place = place(plan, order.as_slice(), job);
+        order.insert(place, job);
+    }
+    order
+}

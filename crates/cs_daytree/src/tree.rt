@@ -1,0 +1,113 @@
+ghost use Rattle.std.specs.Prelude.{◌≡◌, ◌≤◌, nat_le};
+ghost use Rattle.cs_daytree.specs.Tree.{class_in, depth, greatest_class, has, number_of, tree_of};
+
+use cs_civil::{DayKind, Sequence};
+
+/// What a split looks at: one of the three parts of a day's kind.
+#[derive(Clone, Copy, Debug, PartialEq, Eq, Hash)]
+pub enum KindPart {
+    /// The month, from 1 to 12.
+    Month,
+    /// The day of the month, from 1 to 31.
+    Day,
+    /// The weekday, from 0 for Sunday to 6.
+    Weekday,
+}
+
+/// A class for each kind of day.
+///
+/// A split looks at one part of the kind, and `inside` decides for the kinds with one of its values there, `outside`
+/// for the others. It is possible where its values rise strictly, there is one at least, and each is a number that the splits above leave for that
+/// part, but not all of them. Trees with other splits can be made; see the calls for what they mean there.
+#[derive(Debug, Drop)]
+pub enum DayTree {
+    /// The one class of all kinds.
+    Leaf(u32),
+
+    /// Two halves.
+    Split {
+        part: KindPart,
+        values: Sequence<u8>,
+        inside: Box<DayTree>,
+        outside: Box<DayTree>,
+    },
+}
+
+impl KindPart {
+    /// The number that a kind has there.
+    fn number_of(self, kind: DayKind) -> u8
+        ensures { result ≡ number_of self kind }
+    {
+        match self {
+            KindPart::Month => kind.month(),
+            KindPart::Day => kind.dom(),
+            KindPart::Weekday => kind.dow(),
+        }
+    }
+}
+
+/// Whether the number is one of the values.
+pub(crate) fn has(values: &[u8], number: u8) -> bool
+    ensures { result ≡ has values.now number }
+{
+    values.iter().any(|value| *value == number)
+}
+
+impl DayTree {
+    /// The class of a kind: at each split the half decides that the kind's number belongs to. A tree with impossible splits
+    /// is followed in the same way.
+    pub fn class_of(&self, kind: DayKind) -> u32
+        ensures value { result ≡ class_in (tree_of self.now) kind }
+        ensures within { result ≤ greatest_class (tree_of self.now) }
+    {
+        match self {
+            DayTree::Leaf(class) => *class,
+            DayTree::Split {
+                part,
+                values,
+                inside,
+                outside,
+            } => {
+                if has(values.as_slice(), part.number_of(kind)) {
+                    inside.class_of(kind)
+                } else {
+                    outside.class_of(kind)
+                }
+            }
+        }
+    }
+
+    /// The greatest class number of a leaf.
+    pub fn greatest_class(&self) -> u32
+        ensures { result ≡ greatest_class (tree_of self.now) }
+    {
+        match self {
+            DayTree::Leaf(class) => *class,
+            DayTree::Split {
+                part: _,
+                values: _,
+                inside,
+                outside,
+            } => inside.greatest_class().max(outside.greatest_class()),
+        }
+    }
+
+    /// Whether the depth is at most the limit: a leaf has depth 0, a split one more than its deeper half.
+    pub fn is_no_deeper_than(&self, limit: u8) -> bool
+        ensures { result ≡ nat_le (depth (tree_of self.now)) limit }
+    {
+        match self {
+            DayTree::Leaf(_) => true,
+            DayTree::Split {
+                part: _,
+                values: _,
+                inside,
+                outside,
+            } => {
+                limit > 0
+                    && inside.is_no_deeper_than(limit - 1)
+                    && outside.is_no_deeper_than(limit - 1)
+            }
+        }
+    }
+}

@@ -1,0 +1,204 @@
+-- The plan of tables and declarations without a fault is whole.
+use Rattle.std.proofs.Common.{◌≡◌, ◌≢◌, ℕ, zero, suc, ◌+◌, ◌<◌, ◌≤◌, List, [], ◌∷◌, ◌++◌, Bool, true, false, ◌||◌, cond, map, length, get_or, Option, Some, None, refl, sym, ap, subst, ◌∙◌, arith, bytes_eq}
+use Rattle.std.specs.Prelude.{position, All, AllPairs}
+use Rattle.std.specs.List.{list_any, find, range_with_len}
+use Rattle.std.proofs.lemmas.List.{drop_at, length-map}
+use Rattle.std.proofs.lemmas.List.FromFn.{length-range_with_len}
+use Rattle.std.proofs.lemmas.List.Elements.{All-nil, All-cons, All-append, All-weaker}
+use Rattle.std.proofs.lemmas.List.Kept.{AllPairs-cons}
+use Rattle.std.proofs.lemmas.Slice.Eq.{bytes_eq-Decides}
+use Rattle.cs_crontab.specs.Crontab.{Table as Crontab, CommandLine}
+use Rattle.cs_crontab.specs.declared.table.When.{When}
+use Rattle.cs_crontab.specs.declared.table.When.TheVariants.{At, Reboot}
+use Rattle.cs_crontab.specs.declared.limits.TheConstants.{MAX_COMMANDS}
+use Rattle.cs_anacrontab.specs.Anacrontab.{Table as Anacrontab, JobLine, IsPossible as IsPossibleLine}
+use Rattle.cs_anacrontab.specs.declared.limits.TheConstants.{MAX_JOBS}
+use Rattle.cs_history.specs.declared.mode.Mode.TheVariants.{Plain}
+use Rattle.cs_decl.specs.declared.entries.GroupEntry.{GroupEntry}
+use Rattle.cs_decl.specs.declared.entries.CronEntry.{CronEntry}
+use Rattle.cs_decl.specs.declared.entries.AnacronEntry.{AnacronEntry}
+use Rattle.cs_decl.specs.declared.entries.Entries.{Entries}
+use Rattle.cs_decl.specs.Job.{DeclaredJob, IsPossible}
+use Rattle.cs_decl.specs.Plan.{DeclaredGroup, IsWhole, IsTimed, IsListed, places_of}
+use Rattle.cs_decl.specs.Faults.{first_again, first_twice, first_fault, at_cron, at_anacron}
+use Rattle.cs_decl.specs.Meaning.{IsValid}
+use Rattle.cs_decl.specs.Join.{is_reboot, is_of_line, is_of_job, cron_terms, anacron_terms, cron_job, anacron_job, jobs_from, declared_group, plan_of, join_faults, at_line, at_job, has_no_line, has_no_job, is_undeclared, is_undeclared_job, reboot_fault}
+use Rattle.cs_decl.specs.declared.fault.DeclFault.TheVariants as faults
+use Rattle.cs_decl.specs.declared.fault.Place.TheVariants.{Line}
+use Rattle.cs_decl.specs.declared.limits.TheConstants.{MAX_MINUTES}
+use Rattle.cs_decl.specs.Plain.{plain_job, plain_plan}
+use Rattle.cs_decl.proofs.Positions.{find_none}
+use Rattle.cs_decl.proofs.Validity.{facts, no_row, mapped_none, few_groups, cron_possible, anacron_possible, cron_listed, anacron_listed, capacity_possible, offset_possible, hours_possible, pass_possible}
+
+-- ---- jobs of lines
+
+module _ {L : Type 0} (job : ℕ → L → DeclaredJob) where
+  all_from : (P : DeclaredJob → Type 0) → ((k : ℕ) (l : L) → P (job k l)) → (k : ℕ) (lines : List L) → All P (jobs_from job k lines)
+  all_from P each k [] = All-nil P
+  all_from P each k (l ∷ lines) = All-cons P (job k l) (jobs_from job (k + 1) lines) (each k l) (all_from P each (k + 1) lines)
+
+  places_from : ((k : ℕ) (l : L) → (job k l).place ≡ k) → (k : ℕ) (lines : List L) → map (λ j. j.place) (jobs_from job k lines) ≡ range_with_len k (length lines)
+  places_from each k [] = refl
+  places_from each k (l ∷ lines) = rw (each k l, places_from each (k + 1) lines) refl
+
+  length_from : (k : ℕ) (lines : List L) → length (jobs_from job k lines) ≡ length lines
+  length_from k [] = refl
+  length_from k (l ∷ lines) = ap suc (length_from (k + 1) lines)
+
+map_append : {A B : Type 0} (f : A → B) (xs ys : List A) → map f (xs ++ ys) ≡ map f xs ++ map f ys
+map_append f [] ys = refl
+map_append f (x ∷ xs) ys = ap (λ zs. f x ∷ zs) (map_append f xs ys)
+
+-- ---- lines at times
+
+timed_line : (when : When) → is_reboot when ≡ false → when ≢ Reboot
+timed_line (At schedule) e = λ h. absurd cc
+timed_line Reboot e = absurd cc
+
+pub timed : (lines : List CommandLine) → find (λ line. is_reboot line.when) lines ≡ None → All IsTimed lines
+timed lines e = All-weaker (λ line. is_reboot line.when ≡ false) IsTimed (λ line h. timed_line line.when h) lines (find_none (λ line. is_reboot line.when) lines e)
+
+pub no_reboot : (c : Crontab) (a : Anacrontab) (d : Entries) → first_fault (join_faults c a d) ≡ None → find (λ line. is_reboot line.when) c.lines ≡ None
+unfolding join_faults
+no_reboot c a d e =
+    let e4 = reboot_fault c.lines ∷ [] in
+    let e3 = at_job faults.Undeclared (find (is_undeclared_job d.anacron) a.lines) ∷ e4 in
+    let e2 = at_line faults.Undeclared (find (is_undeclared d.cron) c.lines) ∷ e3 in
+    let e1 = at_anacron faults.NoSuchLine (position (has_no_job a.lines) d.anacron) ∷ e2 in
+    let r0 = no_row (at_cron faults.NoSuchLine (position (has_no_line c.lines) d.cron)) e1 e in
+    let r1 = no_row (at_anacron faults.NoSuchLine (position (has_no_job a.lines) d.anacron)) e2 r0.1 in
+    let r2 = no_row (at_line faults.Undeclared (find (is_undeclared d.cron) c.lines)) e3 r1.1 in
+    let r3 = no_row (at_job faults.Undeclared (find (is_undeclared_job d.anacron) a.lines)) e4 r2.1 in
+    let r4 = no_row (reboot_fault c.lines) [] r3.1 in
+    mapped_none (λ (l : CommandLine). (faults.RebootLine, Some (Line l.number))) (find (λ line. is_reboot line.when) c.lines) r4.0
+
+-- ---- names that differ
+
+other : (a b : List ℕ) → bytes_eq a b ≡ false → b ≢ a
+other a b e = λ same. let t = (bytes_eq-Decides a b).1 (sym same) in absurd cc
+
+or_none : (a b : Bool) → (a || b) ≡ false → (a ≡ false) × (b ≡ false)
+or_none false b e = (refl, e)
+or_none true b e = absurd cc
+
+any_push : (x : List ℕ) (before : List (List ℕ)) (y : List ℕ) → list_any (bytes_eq x) (before ++ y ∷ []) ≡ false → (list_any (bytes_eq x) before ≡ false) × (bytes_eq x y ≡ false)
+any_push x [] y e = (refl, (or_none (bytes_eq x y) false e).0)
+any_push x (b ∷ before) y e =
+    let p = or_none (bytes_eq x b) (list_any (bytes_eq x) (before ++ y ∷ [])) e in
+    let q = any_push x before y p.1 in
+    (rw (p.0, q.0) refl, q.1)
+
+abbrev New : List (List ℕ) → List (List ℕ) → Type 0
+New before xs = All (λ x. list_any (bytes_eq x) before ≡ false) xs × AllPairs (λ x y. x ≢ y) xs
+
+again_step : (before : List (List ℕ)) (i : ℕ) (x : List ℕ) (xs : List (List ℕ)) (b : Bool) → list_any (bytes_eq x) before ≡ b
+    → cond b (Some i) (first_again bytes_eq (before ++ x ∷ []) (i + 1) xs) ≡ None
+    → (first_again bytes_eq (before ++ x ∷ []) (i + 1) xs ≡ None → New (before ++ x ∷ []) xs) → New before (x ∷ xs)
+again_step before i x xs true is e more = absurd cc
+again_step before i x xs false is e more =
+    let rest = more e in (
+      All-cons (λ y. list_any (bytes_eq y) before ≡ false) x xs is (All-weaker (λ y. list_any (bytes_eq y) (before ++ x ∷ []) ≡ false) (λ y. list_any (bytes_eq y) before ≡ false) (λ y h. (any_push y before x h).0) xs rest.0),
+      AllPairs-cons (λ y z. y ≢ z) x xs (All-weaker (λ y. list_any (bytes_eq y) (before ++ x ∷ []) ≡ false) (λ y. x ≢ y) (λ y h. other y x (any_push y before x h).1) xs rest.0) rest.1,
+    )
+
+none_again : (before : List (List ℕ)) (i : ℕ) (xs : List (List ℕ)) → first_again bytes_eq before i xs ≡ None → New before xs
+none_again before i [] e = (All-nil (λ x. list_any (bytes_eq x) before ≡ false), λ a b d low high. absurd (omega (arith, high)))
+none_again before i (x ∷ xs) e = again_step before i x xs (list_any (bytes_eq x) before) refl e (none_again (before ++ x ∷ []) (i + 1) xs)
+
+names_at : (groups : List GroupEntry) (i : ℕ) (d : DeclaredGroup) → (get_or (map declared_group groups) i d).name ≡ get_or (map (λ g. g.name) groups) i d.name
+names_at [] i d = refl
+names_at (g ∷ groups) zero d = refl
+names_at (g ∷ groups) (suc i) d = names_at groups i d
+
+distinct_names : (groups : List GroupEntry) → first_twice bytes_eq (map (λ g. g.name) groups) ≡ None → AllPairs (λ x y. x.name ≢ y.name) (map declared_group groups)
+distinct_names groups e = λ i j d low high same.
+    (none_again [] 0 (map (λ g. g.name) groups) e).1 i j d.name low (subst (λ n. j < n) (length-map groups declared_group ∙ sym (length-map groups (λ g. g.name))) high)
+    (sym (names_at groups i d) ∙ same ∙ names_at groups j d)
+
+-- ---- the whole plan
+
+pub whole : (c : Crontab) (a : Anacrontab) (d : Entries) → IsValid d → length c.lines ≤ MAX_COMMANDS → length a.lines ≤ MAX_JOBS → All IsPossibleLine a.lines → find (λ line. is_reboot line.when) c.lines ≡ None → IsWhole (plan_of c a d)
+unfolding plan_of
+whole c a d v few_commands few_lines lines no_reboot = record {
+  few_commands = few_commands;
+  few_lines = few_lines;
+  timed = timed c.lines no_reboot;
+  lines = lines;
+  places = map_append (λ j. j.place) (jobs_from (cron_job d) 0 c.lines) (jobs_from (anacron_job d) 0 a.lines) ∙ rw (places_from (cron_job d) cron_place 0 c.lines, places_from (anacron_job d) anacron_place 0 a.lines) refl;
+  possible =
+      All-append IsPossible (jobs_from (cron_job d) 0 c.lines) (jobs_from (anacron_job d) 0 a.lines)
+      (all_from (cron_job d) IsPossible (λ k l. cron_possible d v k _ _ refl) 0 c.lines)
+      (all_from (anacron_job d) IsPossible (λ k l. anacron_possible d v k _ _ refl) 0 a.lines);
+  plain = rw (drop_at (jobs_from (cron_job d) 0 c.lines) (jobs_from (anacron_job d) 0 a.lines) (length c.lines) (length_from (cron_job d) 0 c.lines)) (all_from (anacron_job d) (λ job. job.mode ≡ Plain) anacron_plain 0 a.lines);
+  listed =
+      rw (length-map d.groups declared_group)
+      (All-append (IsListed (length d.groups)) (jobs_from (cron_job d) 0 c.lines) (jobs_from (anacron_job d) 0 a.lines)
+      (all_from (cron_job d) (IsListed (length d.groups)) (λ k l. cron_listed d.groups k _) 0 c.lines)
+      (all_from (anacron_job d) (IsListed (length d.groups)) (λ k l. anacron_listed d.groups k _) 0 a.lines));
+  few_groups = rw (length-map d.groups declared_group) (few_groups d v);
+  names = distinct_names d.groups (facts d v).distinct;
+  capacity = capacity_possible d v;
+  hours = hours_possible d v;
+  pass = pass_possible d v;
+  offset = offset_possible d v;
+}
+  where
+    cron_place : (k : ℕ) (l : CommandLine) → (cron_job d k l).place ≡ k
+    cron_place k l = placed_cron (find (is_of_line l.number) d.cron)
+      where
+        placed_cron : (o : Option CronEntry) → (cron_terms d.groups k o).place ≡ k
+        placed_cron None = refl
+        placed_cron (Some e) = refl
+
+    anacron_place : (k : ℕ) (l : JobLine) → (anacron_job d k l).place ≡ k
+    anacron_place k l = placed_anacron (find (is_of_job l.identifier) d.anacron)
+      where
+        placed_anacron : (o : Option AnacronEntry) → (anacron_terms d.groups k o).place ≡ k
+        placed_anacron None = refl
+        placed_anacron (Some e) = refl
+
+    anacron_plain : (k : ℕ) (l : JobLine) → (anacron_job d k l).mode ≡ Plain
+    anacron_plain k l = plain_anacron (find (is_of_job l.identifier) d.anacron)
+      where
+        plain_anacron : (o : Option AnacronEntry) → (anacron_terms d.groups k o).mode ≡ Plain
+        plain_anacron None = refl
+        plain_anacron (Some e) = refl
+
+-- ---- the plain plan
+
+plain_places : (max : ℕ) (places : List ℕ) → map (λ j. j.place) (map (plain_job max) places) ≡ places
+plain_places max [] = refl
+plain_places max (k ∷ places) = ap (λ ks. k ∷ ks) (plain_places max places)
+
+all_plain : (P : DeclaredJob → Type 0) (max : ℕ) → ((k : ℕ) → P (plain_job max k)) → (places : List ℕ) → All P (map (plain_job max) places)
+all_plain P max each [] = All-nil P
+all_plain P max each (k ∷ places) = All-cons P (plain_job max k) (map (plain_job max) places) (each k) (all_plain P max each places)
+
+pub plain_whole : (c : Crontab) (a : Anacrontab) (max : ℕ) → 1 ≤ max → max ≤ MAX_MINUTES → length c.lines ≤ MAX_COMMANDS → length a.lines ≤ MAX_JOBS → All IsPossibleLine a.lines → find (λ line. is_reboot line.when) c.lines ≡ None → IsWhole (plain_plan c a max)
+unfolding plain_plan
+plain_whole c a max low high few_commands few_lines lines no_reboot = record {
+  few_commands = few_commands;
+  few_lines = few_lines;
+  timed = timed c.lines no_reboot;
+  lines = lines;
+  places = map_append (λ j. j.place) (map (plain_job max) (places_of c.lines)) (map (plain_job max) (places_of a.lines)) ∙ rw (plain_places max (places_of c.lines), plain_places max (places_of a.lines)) refl;
+  possible =
+      All-append IsPossible (map (plain_job max) (places_of c.lines)) (map (plain_job max) (places_of a.lines)) (all_plain IsPossible max possible_job (places_of c.lines))
+      (all_plain IsPossible max possible_job (places_of a.lines));
+  plain =
+      rw
+      (drop_at (map (plain_job max) (places_of c.lines)) (map (plain_job max) (places_of a.lines)) (length c.lines) (length-map (places_of c.lines) (plain_job max) ∙ length-range_with_len 0 (length c.lines)))
+      (all_plain (λ job. job.mode ≡ Plain) max (λ k. refl) (places_of a.lines));
+  listed =
+      All-append (IsListed 0) (map (plain_job max) (places_of c.lines)) (map (plain_job max) (places_of a.lines)) (all_plain (IsListed 0) max (λ k. tt) (places_of c.lines))
+      (all_plain (IsListed 0) max (λ k. tt) (places_of a.lines));
+  few_groups = omega arith;
+  names = λ i j d low high. absurd (omega (arith, high));
+  capacity = (omega arith, omega arith);
+  hours = (omega arith, omega arith);
+  pass = tt;
+  offset = omega arith;
+}
+  where
+    possible_job : (k : ℕ) → IsPossible (plain_job max k)
+    possible_job k = record { max = (low, high); weight = (omega arith, omega arith); lock = λ t. absurd cc }

@@ -1,0 +1,25 @@
+use Rattle.std.proofs.Common.{rules}
+use Rattle.std.proofs.lemmas.Int.{to_z-of_z}
+use mir.Val.{SFits}
+use mir.Syntax.{w16}
+use Rattle.cs_decl.specs.Join.{plan_of}
+use Rattle.cs_decl.proofs.Wholes.{whole}
+use Rattle.cs_decl.proofs.joining.plan_of.Goals as goal
+
+pub new-requires : goal.new-requires
+unfolding plan_of
+new-requires c =
+    let fits : SFits w16 c.offset_of.result = search rules in
+    rw (
+      to_z-of_z w16 c.offset_of.result fits,
+      c.offset_of.ensures,
+      c.pass_of.ensures,
+      c.hours_of.ensures,
+      c.capacity_of.ensures,
+      c.in_ok-groups.ensures,
+      c.as_slice.ensures,
+      c.in_ok-jobs.ensures,
+      c.lines.ensures.value,
+      c.lines-2.ensures.value,
+    )
+    (whole c.args.crontab c.args.anacrontab c.args.entries.now c.requires.valid c.lines.ensures.few c.lines-2.ensures.few c.lines-2.ensures.possible c.requires.timed)

@@ -1,0 +1,6 @@
+use Rattle.cs_decl.specs.Shape.{is_anacron_member}
+use Rattle.cs_decl.proofs.reading.anacron_object.Goals as goal
+
+pub returns : goal.returns
+unfolding is_anacron_member
+returns c = rw c.as_slice.ensures at c.only_members.ensures

@@ -1,0 +1,124 @@
+-- What is wrong with declarations: a table of faults, in the order in which they are answered.
+use Rattle.std.specs.Prelude.{List, [], ◌∷◌, ◌++◌, ℕ, ◌+◌, ℤ, pos, Option, None, Some, option_map, if◌then◌else◌, Bool, false, not, ◌&&◌, bytes_eq, map, length, nat_lt, unsigned_abs, int_lt, int_le, is_none, position}
+use Rattle.std.specs.Ordering.{int_eq}
+use Rattle.std.specs.List.{list_any}
+use Rattle.cs_history.specs.Plan.{takes}
+use Rattle.cs_decl.specs.declared.limits.TheConstants.{MAX_MINUTES, MAX_WEIGHT, MAX_CAPACITY, MAX_GROUPS, MAX_OFFSET, MINUTES_OF_DAY}
+use Rattle.cs_decl.specs.declared.fault.DeclFault.{DeclFault}
+use Rattle.cs_decl.specs.declared.fault.DeclFault.TheVariants as faults
+use Rattle.cs_decl.specs.declared.fault.Place.{Place}
+use Rattle.cs_decl.specs.declared.fault.Place.TheVariants.{Group, Cron, Anacron}
+use Rattle.cs_decl.specs.declared.entries.GroupEntry.{GroupEntry}
+use Rattle.cs_decl.specs.declared.entries.CronEntry.{CronEntry}
+use Rattle.cs_decl.specs.declared.entries.Entries.{Entries}
+
+-- a fault, and where it stands, if it has a place
+abbrev pub Fault : Type 0
+Fault = DeclFault × Option Place
+
+-- ---- what stands where
+
+-- a whole number from one to another
+abbrev pub is_within : ℕ → ℕ → ℤ → Bool
+is_within low high z = int_le (pos low) z && int_le z (pos high)
+
+-- the first that is among those before it; `before` stand before it, i of them
+abbrev pub first_again : {A : Type 0} → (A → A → Bool) → List A → ℕ → List A → Option ℕ
+first_again same before i [] = None
+first_again same before i (x ∷ xs) = if list_any (same x) before then Some i else first_again same (before ++ x ∷ []) (i + 1) xs
+
+-- the place of the first that comes a second time
+abbrev pub first_twice : {A : Type 0} → (A → A → Bool) → List A → Option ℕ
+first_twice same xs = first_again same [] 0 xs
+
+-- an offset of a day or more, to either side
+abbrev pub is_bad_offset : ℤ → Bool
+is_bad_offset offset = nat_lt MAX_OFFSET (unsigned_abs offset)
+
+abbrev pub is_bad_max : ℤ → Bool
+is_bad_max max = not (is_within 1 MAX_MINUTES max)
+
+abbrev pub is_bad_weight : ℤ → Bool
+is_bad_weight weight = not (is_within 1 MAX_WEIGHT weight)
+
+-- a job that takes a lock, and has no group
+abbrev pub needs_group : CronEntry → Bool
+needs_group e = takes e.mode && is_none e.group
+
+-- a group that is none of these
+abbrev pub is_unlisted : List GroupEntry → Option (List ℕ) → Bool
+is_unlisted groups None = false
+is_unlisted groups (Some name) = not (list_any (λ g. bytes_eq name g.name) groups)
+
+-- no minutes of one day, the first before the last
+abbrev pub are_bad_hours : ℤ × ℤ → Bool
+are_bad_hours h = not (int_le (pos 0) h.0 && int_lt h.0 h.1 && int_le h.1 (pos MINUTES_OF_DAY))
+
+-- a minute of no day
+abbrev pub is_bad_pass : Option ℤ → Bool
+is_bad_pass None = false
+is_bad_pass (Some minute) = not (int_le (pos 0) minute && int_lt minute (pos MINUTES_OF_DAY))
+
+-- the place of the first group above the limit
+abbrev pub one_too_many : List GroupEntry → Option ℕ
+one_too_many groups = if nat_lt MAX_GROUPS (length groups) then Some MAX_GROUPS else None
+
+-- ---- the table
+
+abbrev pub at_group : DeclFault → Option ℕ → Option Fault
+at_group fault i = option_map (λ k. (fault, Some (Group k))) i
+
+abbrev pub at_cron : DeclFault → Option ℕ → Option Fault
+at_cron fault i = option_map (λ k. (fault, Some (Cron k))) i
+
+abbrev pub at_anacron : DeclFault → Option ℕ → Option Fault
+at_anacron fault i = option_map (λ k. (fault, Some (Anacron k))) i
+
+-- a fault that has no place
+abbrev pub where_true : DeclFault → Bool → Option Fault
+where_true fault b = if b then Some (fault, None) else None
+
+-- what is declared twice
+unfoldable pub twice_declared : Entries → List (Option Fault)
+twice_declared d =
+    at_group faults.TwiceDeclared (first_twice bytes_eq (map (λ g. g.name) d.groups))
+    ∷ at_cron faults.TwiceDeclared (first_twice int_eq (map (λ e. e.line) d.cron))
+    ∷ at_anacron faults.TwiceDeclared (first_twice bytes_eq (map (λ e. e.identifier) d.anacron))
+    ∷ []
+
+-- numbers of jobs, and the capacity, that are out of their ranges
+unfoldable pub bad_numbers : Entries → List (Option Fault)
+bad_numbers d =
+    at_cron faults.BadMax (position (λ e. is_bad_max e.max) d.cron)
+    ∷ at_anacron faults.BadMax (position (λ e. is_bad_max e.max) d.anacron)
+    ∷ at_cron faults.BadWeight (position (λ e. is_bad_weight e.weight) d.cron)
+    ∷ at_anacron faults.BadWeight (position (λ e. is_bad_weight e.weight) d.anacron)
+    ∷ where_true faults.BadCapacity (not (is_within 1 MAX_CAPACITY d.capacity))
+    ∷ []
+
+-- groups that are missing or too many
+unfoldable pub bad_groups : Entries → List (Option Fault)
+bad_groups d =
+    at_cron faults.ModeNeedsGroup (position needs_group d.cron)
+    ∷ at_cron faults.UnknownGroup (position (λ e. is_unlisted d.groups e.group) d.cron)
+    ∷ at_anacron faults.UnknownGroup (position (λ e. is_unlisted d.groups e.group) d.anacron)
+    ∷ at_group faults.TooManyGroups (one_too_many d.groups)
+    ∷ []
+
+-- hours, modes of anacron jobs, and the pass minute
+unfoldable pub bad_times : Entries → List (Option Fault)
+bad_times d =
+    where_true faults.BadHours (are_bad_hours d.hours)
+    ∷ at_anacron faults.ModeOnAnacron (position (λ e. e.has_mode) d.anacron)
+    ∷ where_true faults.BadPassMinute (is_bad_pass d.pass)
+    ∷ []
+
+-- all of them: by number, and of one number in the order groups, cron, anacron
+abbrev pub faults_of : Entries → List (Option Fault)
+faults_of d = where_true faults.BadShape (is_bad_offset d.offset) ∷ (twice_declared d ++ (bad_numbers d ++ (bad_groups d ++ bad_times d)))
+
+-- the first that stands
+abbrev pub first_fault : List (Option Fault) → Option Fault
+first_fault [] = None
+first_fault (Some f ∷ fs) = Some f
+first_fault (None ∷ fs) = first_fault fs

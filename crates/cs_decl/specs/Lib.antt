@@ -1,0 +1,10 @@
+pub mod Job
+pub mod Plan
+pub mod Printed
+pub mod Shape
+pub mod Faults
+pub mod NameSet
+pub mod Meaning
+pub mod Join
+pub mod Plain
+pub mod Law

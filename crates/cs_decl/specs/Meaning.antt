@@ -1,0 +1,60 @@
+-- What bytes declare.
+use Rattle.std.specs.Prelude.{◌≡◌, List, ℕ, Option, None, Some, Result, Ok, Err}
+use Rattle.cs_json.specs.Bytes.{json_of}
+use Rattle.cs_json.specs.declared.fault.JsonFault.{JsonFault}
+use Rattle.cs_json.specs.declared.fault.JsonFault.TheVariants as json
+use Rattle.cs_json.specs.declared.fault.Misread.{Misread}
+use Rattle.cs_json.specs.declared.fault.Misread.TheVariants.{Memory, Fault as Misreading}
+use Rattle.cs_json.specs.Gives.{or_fault}
+use Rattle.cs_decl.specs.declared.fault.DeclFault.{DeclFault}
+use Rattle.cs_decl.specs.declared.fault.DeclFault.TheVariants as faults
+use Rattle.cs_decl.specs.declared.fault.DeclError.{DeclError}
+use Rattle.cs_decl.specs.declared.fault.DeclError.TheVariants.{At, OutOfMemory}
+use Rattle.cs_decl.specs.declared.entries.Entries.{Entries}
+use Rattle.cs_decl.specs.Shape.{entries_of}
+use Rattle.cs_decl.specs.Faults.{Fault, faults_of, first_fault}
+
+-- What a call answered is what the definition answers, unless memory ran out.
+abbrev pub Fails : {X : Type 0} → DeclError → Result X Fault → Type 0
+Fails OutOfMemory answer = Unit {0}
+Fails (At fault place) answer = answer ≡ Err (fault, place)
+
+abbrev pub Answers : {X Y : Type 0} → (X → Y) → Result Y Fault → Result X DeclError → Type 0
+Answers view answer (Ok x) = answer ≡ Ok (view x)
+Answers view answer (Err e) = Fails e answer
+
+infixl 10 ◌>>=◌
+abbrev pub ◌>>=◌ : {A B : Type 0} → Result A Fault → (A → Result B Fault) → Result B Fault
+(Ok x) >>= f = f x
+(Err e) >>= f = Err e
+
+-- want of memory, or the fault of JSON among those of declarations
+abbrev pub error_of : Misread → DeclError
+error_of Memory = OutOfMemory
+error_of (Misreading json.NotJson) = At faults.NotJson None
+error_of (Misreading json.BadShape) = At faults.BadShape None
+
+-- the faults of JSON among those of declarations
+abbrev pub json_fault : JsonFault → DeclFault
+json_fault json.NotJson = faults.NotJson
+json_fault json.BadShape = faults.BadShape
+
+abbrev pub with_fault : {A : Type 0} → Result A JsonFault → Result A Fault
+with_fault (Ok x) = Ok x
+with_fault (Err f) = Err (json_fault f, None)
+
+-- the value, unless there is a fault
+abbrev pub unless : {A : Type 0} → A → Option Fault → Result A Fault
+unless d None = Ok d
+unless d (Some f) = Err f
+
+-- what the bytes declare: their JSON value has the shape, and no fault of the table stands
+unfoldable pub declared_by : List ℕ → Result Entries Fault
+declared_by bytes = do
+  json ← with_fault (or_fault json.NotJson (json_of bytes))
+  d ← with_fault (entries_of json)
+  unless d (first_fault (faults_of d))
+
+-- No fault of the table stands.
+abbrev pub IsValid : Entries → Type 0
+IsValid d = first_fault (faults_of d) ≡ None

@@ -1,0 +1,83 @@
+-- The shape of declarations, member by member: what a JSON value declares, or BadShape.
+use Rattle.std.specs.Prelude.{List, [], ◌∷◌, ℕ, pos, Option, None, Some, option_and_then, is_some, if◌then◌else◌, Bool, bytes_eq, codes, Result, Ok}
+use Rattle.serde_json.specs.Data.{Data}
+use Rattle.serde_json.specs.Find.{as_str, get}
+use Rattle.cs_json.specs.Gives.{◌>>=◌}
+use Rattle.cs_json.specs.Shape.{or_bad_shape, whole_number, text, flag, list_as, pair_as, member_as, member_or_default, member_or_none, object_with, is_among}
+use Rattle.cs_json.specs.declared.fault.JsonFault.{JsonFault}
+use Rattle.cs_history.specs.declared.mode.Mode.{Mode}
+use Rattle.cs_history.specs.declared.mode.Mode.TheVariants.{Plain, Skip, Wait, Shared}
+use Rattle.cs_decl.specs.declared.entries.GroupEntry.{GroupEntry}
+use Rattle.cs_decl.specs.declared.entries.CronEntry.{CronEntry}
+use Rattle.cs_decl.specs.declared.entries.AnacronEntry.{AnacronEntry}
+use Rattle.cs_decl.specs.declared.entries.Entries.{Entries}
+
+-- how a mode is written
+abbrev pub mode_named : List ℕ → Option Mode
+mode_named s =
+    if bytes_eq s (codes "none") then Some Plain
+    else if bytes_eq s (codes "skip") then Some Skip
+    else if bytes_eq s (codes "wait") then Some Wait
+    else if bytes_eq s (codes "shared") then Some Shared
+    else None
+
+abbrev pub mode_of : Data → Result Mode JsonFault
+mode_of d = or_bad_shape (option_and_then mode_named (as_str d))
+
+-- the members of an entry of `groups`
+unfoldable pub is_group_member : List ℕ → Bool
+is_group_member = is_among (codes "exclusive" ∷ codes "name" ∷ [])
+
+-- the members of an entry of `cron`
+unfoldable pub is_cron_member : List ℕ → Bool
+is_cron_member = is_among (codes "group" ∷ codes "line" ∷ codes "max" ∷ codes "mode" ∷ codes "weight" ∷ [])
+
+-- the members of an entry of `anacron`
+unfoldable pub is_anacron_member : List ℕ → Bool
+is_anacron_member = is_among (codes "group" ∷ codes "id" ∷ codes "max" ∷ codes "mode" ∷ codes "weight" ∷ [])
+
+-- the members of declarations
+unfoldable pub is_member : List ℕ → Bool
+is_member = is_among (codes "anacron" ∷ codes "capacity" ∷ codes "cron" ∷ codes "groups" ∷ codes "hours" ∷ codes "offset" ∷ codes "pass" ∷ [])
+
+-- an entry of `groups`: both members have to be there
+unfoldable pub group_of : Data → Result GroupEntry JsonFault
+group_of d = do
+  o ← object_with is_group_member d
+  name ← member_as text (codes "name") d
+  exclusive ← member_as flag (codes "exclusive") d
+  Ok (record { name = name; exclusive = exclusive })
+
+-- an entry of `cron`: the weight is 1 and the mode `none` where they are absent
+unfoldable pub cron_of : Data → Result CronEntry JsonFault
+cron_of d = do
+  o ← object_with is_cron_member d
+  line ← member_as whole_number (codes "line") d
+  max ← member_as whole_number (codes "max") d
+  weight ← member_or_default whole_number (pos 1) (codes "weight") d
+  group ← member_or_none text (codes "group") d
+  mode ← member_or_default mode_of Plain (codes "mode") d
+  Ok (record { line = line; max = max; weight = weight; group = group; mode = mode })
+
+-- an entry of `anacron`: of a mode it is known alone whether it is there
+unfoldable pub anacron_of : Data → Result AnacronEntry JsonFault
+anacron_of d = do
+  o ← object_with is_anacron_member d
+  identifier ← member_as text (codes "id") d
+  max ← member_as whole_number (codes "max") d
+  weight ← member_or_default whole_number (pos 1) (codes "weight") d
+  group ← member_or_none text (codes "group") d
+  Ok (record { identifier = identifier; max = max; weight = weight; group = group; has_mode = is_some (get (codes "mode") d) })
+
+-- all members: only the capacity has to be there
+unfoldable pub entries_of : Data → Result Entries JsonFault
+entries_of d = do
+  o ← object_with is_member d
+  capacity ← member_as whole_number (codes "capacity") d
+  offset ← member_or_default whole_number (pos 0) (codes "offset") d
+  hours ← member_or_default (pair_as whole_number whole_number) (pos 0, pos 1440) (codes "hours") d
+  pass ← member_or_none whole_number (codes "pass") d
+  groups ← member_or_default (list_as group_of) [] (codes "groups") d
+  cron ← member_or_default (list_as cron_of) [] (codes "cron") d
+  anacron ← member_or_default (list_as anacron_of) [] (codes "anacron") d
+  Ok (record { capacity = capacity; offset = offset; hours = hours; pass = pass; groups = groups; cron = cron; anacron = anacron })

@@ -1,0 +1,151 @@
+ghost use Rattle.std.specs.Prelude.{◌≡◌, IfOk, string_bytes};
+ghost use Rattle.cs_decl.specs.Printed.{fault_text, place_text, error_text};
+ghost use Rattle.cs_decl.specs.declared.fault.DeclError.TheVariants.{OutOfMemory};
+
+use cs_civil::Bytes;
+use std::alloc::{AllocError, AllocFailed, Global};
+use thiserror::Error;
+
+/// What is wrong with declarations, or with a plan. It is printed as its number and its name, `6 BadMax`.
+#[derive(Clone, Copy, Debug, PartialEq, Eq, Error)]
+#[error("{}", self.text())]
+pub enum DeclFault {
+    /// The bytes are no JSON text.
+    NotJson,
+    /// A member has another type, is absent or unknown, a number is not whole, or the offset is out of its range.
+    BadShape,
+    /// No command stands on the line, or no job has the identifier.
+    NoSuchLine,
+    /// A job has no entry.
+    Undeclared,
+    /// A group, a line or an identifier is declared a second time.
+    TwiceDeclared,
+    /// The longest time of a run is not from 1 to [`MAX_MINUTES`](crate::MAX_MINUTES) minutes.
+    BadMax,
+    /// The weight is not from 1 to [`MAX_WEIGHT`](crate::MAX_WEIGHT).
+    BadWeight,
+    /// The capacity is not from 1 to [`MAX_CAPACITY`](crate::MAX_CAPACITY).
+    BadCapacity,
+    /// A job that takes a lock has no group.
+    ModeNeedsGroup,
+    /// The group is not declared.
+    UnknownGroup,
+    /// The group is one more than [`MAX_GROUPS`](crate::MAX_GROUPS).
+    TooManyGroups,
+    /// The catch-up hours are no minutes of one day, the first before the last.
+    BadHours,
+    /// An anacron job has a mode.
+    ModeOnAnacron,
+    /// The crontab holds an `@reboot` line.
+    RebootLine,
+    /// The pass minute is not from 0 to 1,439.
+    BadPassMinute,
+}
+
+impl DeclFault {
+    /// Its number and its name, as it is printed.
+    pub fn text(self) -> &'static str
+        ensures { result.now ≡ fault_text self }
+    {
+        match self {
+            DeclFault::NotJson => "1 NotJson",
+            DeclFault::BadShape => "2 BadShape",
+            DeclFault::NoSuchLine => "3 NoSuchLine",
+            DeclFault::Undeclared => "4 Undeclared",
+            DeclFault::TwiceDeclared => "5 TwiceDeclared",
+            DeclFault::BadMax => "6 BadMax",
+            DeclFault::BadWeight => "7 BadWeight",
+            DeclFault::BadCapacity => "8 BadCapacity",
+            DeclFault::ModeNeedsGroup => "9 ModeNeedsGroup",
+            DeclFault::UnknownGroup => "10 UnknownGroup",
+            DeclFault::TooManyGroups => "11 TooManyGroups",
+            DeclFault::BadHours => "12 BadHours",
+            DeclFault::ModeOnAnacron => "13 ModeOnAnacron",
+            DeclFault::RebootLine => "14 RebootLine",
+            DeclFault::BadPassMinute => "15 BadPassMinute",
+        }
+    }
+}
+
+/// Where a fault stands. An entry is named by its place in its list, counted from 0.
+#[derive(Debug, PartialEq, Eq, Drop)]
+pub enum Place {
+    /// An entry of `groups`.
+    Group(usize),
+    /// An entry of `cron`.
+    Cron(usize),
+    /// An entry of `anacron`.
+    Anacron(usize),
+    /// A command line of the crontab, by its number.
+    Line(u32),
+    /// A job of the anacrontab, by its identifier.
+    Job(Bytes),
+}
+
+impl Place {
+    /// Where the fault stands, as it is printed behind the fault: ` at cron 2`, where entries are counted from 1. The only error is want of memory.
+    pub fn text(&self, alloc: Global) -> Result<Bytes, AllocError>
+        ensures { IfOk result (λ text. text ≡ place_text self.now) }
+    {
+        let text = match self {
+            Place::Group(i) => format!(in alloc; " at group {}", *i as u128 + 1)?,
+            Place::Cron(i) => format!(in alloc; " at cron {}", *i as u128 + 1)?,
+            Place::Anacron(i) => format!(in alloc; " at anacron {}", *i as u128 + 1)?,
+            Place::Line(number) => format!(in alloc; " at line {number}")?,
+            Place::Job(identifier) => {
+                let mut text = Vec::from_slice(alloc, b" at job ".as_slice())?;
+                text.extend_from_slice(identifier.as_slice())?;
+                return Ok(Bytes::from_vec(text));
+            }
+        };
+        Ok(Bytes::from_vec(text.into_bytes()))
+    }
+}
+
+/// Why there are no declarations, or no plan.
+#[derive(Debug, PartialEq, Eq, Drop, Error)]
+pub enum DeclError {
+    /// The fault, and where it stands, if it has a place.
+    #[error("{fault}")]
+    At {
+        fault: DeclFault,
+        place: Option<Place>,
+    },
+    /// Memory ran out.
+    #[error("out of memory")]
+    OutOfMemory,
+}
+
+impl DeclError {
+    /// The fault and its place, as they are printed: `6 BadMax at cron 2`. The only error is want of memory.
+    pub fn text(&self, alloc: Global) -> Result<Bytes, AllocError>
+        ensures { IfOk result (λ text. text ≡ error_text self.now) }
+    {
+        match self {
+            DeclError::At { fault, place } => {
+                let mut text = Vec::from_slice(alloc, fault.text().as_bytes())?;
+                if let Some(place) = place {
+                    text.extend_from_slice(place.text(alloc)?.as_slice())?;
+                }
+                Ok(Bytes::from_vec(text))
+            }
+            DeclError::OutOfMemory => Bytes::from_slice(alloc, b"out of memory".as_slice()),
+        }
+    }
+}
+
+impl From<AllocError> for DeclError {
+    ghost from_gives = { λ _ e. e ≡ OutOfMemory };
+
+    fn from(_e: AllocError) -> DeclError {
+        DeclError::OutOfMemory
+    }
+}
+
+impl<T: Drop> From<AllocFailed<T>> for DeclError {
+    ghost from_gives = { λ _ e. e ≡ OutOfMemory };
+
+    fn from(_e: AllocFailed<T>) -> DeclError {
+        DeclError::OutOfMemory
+    }
+}

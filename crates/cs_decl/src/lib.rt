@@ -1,0 +1,33 @@
+//! What the operator declares of the jobs of a crontab and an anacrontab, and the plan that all of it makes.
+#![tactic(auto)]
+
+mod declarations;
+mod entries;
+mod fault;
+mod group;
+mod hours;
+mod job;
+mod joining;
+mod laws;
+mod limits;
+mod lookups;
+mod names;
+mod plain;
+mod plan;
+mod reading;
+mod rows;
+mod terms;
+#[cfg(test)]
+mod tests;
+mod twice;
+
+pub use declarations::{Declarations, read_declarations};
+pub use entries::{AnacronEntry, CronEntry, Entries, GroupEntry};
+pub use fault::{DeclError, DeclFault, Place};
+pub use group::Group;
+pub use hours::Hours;
+pub use job::Job;
+pub use joining::join;
+pub use laws::first_of_faults;
+pub use limits::{MAX_CAPACITY, MAX_GROUPS, MAX_MINUTES, MAX_OFFSET, MAX_WEIGHT, MINUTES_OF_DAY};
+pub use plan::Plan;

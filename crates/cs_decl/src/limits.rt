@@ -1,0 +1,17 @@
+/// How many minutes a day has.
+pub const MINUTES_OF_DAY: u16 = 1_440;
+
+/// The longest time that may be declared of a job, in minutes: three days (this profile).
+pub const MAX_MINUTES: u16 = 4_320;
+
+/// The greatest weight of a job (this profile).
+pub const MAX_WEIGHT: u8 = 64;
+
+/// The greatest capacity (this profile).
+pub const MAX_CAPACITY: u8 = 64;
+
+/// The most groups of a plan (this profile).
+pub const MAX_GROUPS: usize = 64;
+
+/// The greatest offset from UTC, in minutes, to the east and to the west (this profile).
+pub const MAX_OFFSET: u16 = 1_439;

@@ -1,0 +1,88 @@
+//! Which lines have an entry, and which entries a line.
+ghost use Rattle.std.specs.Prelude.{◌≡◌, option_map, position};
+ghost use Rattle.std.specs.List.{find, list_any};
+ghost use Rattle.cs_decl.specs.Join.{is_of_line, is_of_job, has_no_line, has_no_job, is_reboot, is_undeclared, is_undeclared_job};
+
+use crate::entries::{AnacronEntry, CronEntry};
+use cs_anacrontab::Job as JobLine;
+use cs_crontab::{Line, When};
+
+fn has_line(lines: &[Line], entry: &CronEntry) -> bool
+    ensures { result ≡ list_any (λ line. is_of_line line.number entry.now) lines.now }
+{
+    lines
+        .iter()
+        .any(|line| entry.line == i128::from(line.number()))
+}
+
+fn has_job(lines: &[JobLine], entry: &AnacronEntry) -> bool
+    ensures { result ≡ list_any (λ line. is_of_job line.identifier entry.now) lines.now }
+{
+    lines
+        .iter()
+        .any(|line| entry.identifier.as_slice() == line.identifier())
+}
+
+fn is_reboot(line: &Line) -> bool
+    ensures { result ≡ is_reboot line.now.when }
+{
+    match line.when() {
+        When::At(_) => false,
+        When::Reboot => true,
+    }
+}
+
+fn is_declared(entries: &[CronEntry], line: &Line) -> bool
+    ensures { result ≡ list_any (is_of_line line.now.number) entries.now }
+{
+    entries
+        .iter()
+        .any(|entry| entry.line == i128::from(line.number()))
+}
+
+fn is_declared_job(entries: &[AnacronEntry], line: &JobLine) -> bool
+    ensures { result ≡ list_any (is_of_job line.now.identifier) entries.now }
+{
+    entries
+        .iter()
+        .any(|entry| entry.identifier.as_slice() == line.identifier())
+}
+
+/// The place of the first cron entry without a command. As no two entries have one line, no more of them are looked at than there
+/// are commands, and one.
+pub(crate) fn lineless(entries: &[CronEntry], lines: &[Line]) -> Option<usize>
+    ensures { result ≡ position (has_no_line lines.now) entries.now }
+{
+    entries.iter().position(|entry| !has_line(lines, entry))
+}
+
+/// The place of the first anacron entry without a job.
+pub(crate) fn jobless(entries: &[AnacronEntry], lines: &[JobLine]) -> Option<usize>
+    ensures { result ≡ position (has_no_job lines.now) entries.now }
+{
+    entries.iter().position(|entry| !has_job(lines, entry))
+}
+
+pub(crate) fn first_undeclared<'a>(entries: &[CronEntry], lines: &'a [Line]) -> Option<&'a Line>
+    ensures { option_map (λ l. l.now) result ≡ find (is_undeclared entries.now) lines.now }
+{
+    lines
+        .iter()
+        .find(|line| !is_reboot(line) && !is_declared(entries, line))
+}
+
+pub(crate) fn first_undeclared_job<'a>(
+    entries: &[AnacronEntry],
+    lines: &'a [JobLine],
+) -> Option<&'a JobLine>
+    ensures { option_map (λ l. l.now) result ≡ find (is_undeclared_job entries.now) lines.now }
+{
+    lines.iter().find(|line| !is_declared_job(entries, line))
+}
+
+/// The first `@reboot`.
+pub(crate) fn first_reboot(lines: &[Line]) -> Option<&Line>
+    ensures { option_map (λ l. l.now) result ≡ find (λ line. is_reboot line.when) lines.now }
+{
+    lines.iter().find(|line| is_reboot(line))
+}

@@ -1,0 +1,100 @@
+ghost use Rattle.std.specs.Prelude.{◌≡◌, ◌≤◌, ◌++◌, map, true, None, IfOk, OnOk};
+ghost use Rattle.std.specs.List.{find, range_with_len};
+ghost use Rattle.cs_decl.specs.declared.limits.TheConstants.{MAX_MINUTES};
+ghost use Rattle.cs_decl.specs.Plan.{places_of};
+ghost use Rattle.cs_decl.specs.Meaning.{Answers};
+ghost use Rattle.cs_decl.specs.Join.{is_reboot};
+ghost use Rattle.cs_decl.specs.Plain.{plain_job, plain_plan, plain_of, is_possible_max};
+
+use crate::fault::{DeclError, DeclFault};
+use crate::hours::Hours;
+use crate::job::Job;
+use crate::joining::at_line;
+use crate::limits::{MAX_CAPACITY, MAX_MINUTES, MINUTES_OF_DAY};
+use crate::lookups::first_reboot;
+use crate::plan::Plan;
+use cs_anacrontab::Anacrontab;
+use cs_civil::Sequence;
+use cs_crontab::Crontab;
+use cs_history::Mode;
+use std::alloc::{AllocError, Global};
+
+fn push_plain_jobs(jobs: &mut Sequence<Job>, count: usize, max: u16) -> Result<(), AllocError>
+    requires { (1 ≤ max) × (max ≤ MAX_MINUTES) }
+    ensures { OnOk result (jobs.new ≡ jobs.old ++ map (plain_job max) (range_with_len 0 count)) }
+{
+    for place in 0..count {
+        jobs.push(Job::new(place, max, 1, None, Mode::Plain))?;
+    }
+    Ok(())
+}
+
+fn plain_jobs(
+    alloc: Global,
+    crons: usize,
+    anacrons: usize,
+    max: u16,
+) -> Result<Sequence<Job>, AllocError>
+    requires { (1 ≤ max) × (max ≤ MAX_MINUTES) }
+    ensures { IfOk result (λ jobs. jobs ≡ map (plain_job max) (range_with_len 0 crons) ++ map (plain_job max) (range_with_len 0 anacrons)) }
+{
+    let mut jobs = Sequence::new(alloc);
+    push_plain_jobs(&mut jobs, crons, max)?;
+    push_plain_jobs(&mut jobs, anacrons, max)?;
+    Ok(jobs)
+}
+
+#[tactic(auto, unfolding(crate::specs::Plain::plain_plan))]
+fn plain_plan(
+    alloc: Global,
+    crontab: Crontab,
+    anacrontab: Anacrontab,
+    max: u16,
+) -> Result<Plan, AllocError>
+    requires max { (1 ≤ max) × (max ≤ MAX_MINUTES) }
+    requires timed { find (λ line. is_reboot line.when) crontab.lines ≡ None }
+    ensures { IfOk result (λ plan. plan ≡ plain_plan crontab anacrontab max) }
+{
+    let jobs = plain_jobs(alloc, crontab.lines().len(), anacrontab.lines().len(), max)?;
+    let groups = Sequence::new(alloc);
+    let hours = Hours::new(0, MINUTES_OF_DAY);
+    Ok(Plan::new(
+        crontab,
+        anacrontab,
+        jobs,
+        groups,
+        MAX_CAPACITY,
+        hours,
+        None,
+        0,
+    ))
+}
+
+impl Plan {
+    /// The plan of the tables where nothing is declared but the longest time of every run, in minutes: each job weighs 1, belongs to no
+    /// group and takes no lock; the capacity is the greatest, catch-up may start at all hours, there is no pass minute, and the clock
+    /// shows UTC.
+    ///
+    /// [`BadMax`](DeclFault::BadMax) comes where the time is not from 1 to [`MAX_MINUTES`](crate::MAX_MINUTES), and then
+    /// [`RebootLine`](DeclFault::RebootLine) where the crontab has an `@reboot`, with the first such line.
+    #[tactic(auto, unfolding(crate::specs::Plain::plain_of))]
+    pub fn plain(
+        alloc: Global,
+        crontab: Crontab,
+        anacrontab: Anacrontab,
+        max: u64,
+    ) -> Result<Plan, DeclError>
+        ensures { Answers (λ plan. plan) (plain_of crontab anacrontab max) result }
+    {
+        if max < 1 || max > u64::from(MAX_MINUTES) {
+            return Err(DeclError::At {
+                fault: DeclFault::BadMax,
+                place: None,
+            });
+        }
+        match at_line(DeclFault::RebootLine, first_reboot(crontab.lines())) {
+            None => Ok(plain_plan(alloc, crontab, anacrontab, max as u16)?),
+            Some((fault, place)) => Err(DeclError::At { fault, place }),
+        }
+    }
+}

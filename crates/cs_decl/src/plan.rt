@@ -1,0 +1,170 @@
+ghost use Rattle.std.specs.Prelude.{All, ◌≡◌, ℕ, ◌+◌, ◌<◌, ◌≤◌, length, false, Some, IfOk, IfSome, unsigned_abs};
+ghost use Rattle.cs_history.specs.Plan.{IsPlan};
+ghost use Rattle.cs_decl.specs.declared.limits.TheConstants.{MINUTES_OF_DAY, MAX_MINUTES, MAX_CAPACITY, MAX_OFFSET, MAX_GROUPS};
+
+use crate::group::Group;
+use crate::hours::Hours;
+use crate::job::Job;
+use cs_anacrontab::Anacrontab;
+use cs_civil::Sequence;
+use cs_crontab::Crontab;
+use std::alloc::{AllocError, Global};
+use std::marker::Model;
+
+/// A crontab and an anacrontab, with what the operator declares of their jobs.
+///
+/// Jobs are numbered from 0: first the commands of the crontab, then the jobs of the anacrontab, each in order of line. No command is
+/// an `@reboot`.
+#[derive(Debug, Drop)]
+pub struct Plan {
+    crontab: Crontab,
+    anacrontab: Anacrontab,
+    jobs: Sequence<Job>,
+    groups: Sequence<Group>,
+    capacity: u8,
+    hours: Hours,
+    pass: Option<u16>,
+    offset: i16,
+}
+
+impl Model for Plan {
+    ghost use Rattle.cs_decl.specs.Plan.{Declared, IsWhole};
+
+    ghost Value = { Declared };
+
+    ghost view = { λ a. record { crontab = a.crontab; anacrontab = a.anacrontab; jobs = a.jobs; groups = a.groups; capacity = a.capacity; hours = a.hours; pass = a.pass; offset = a.offset } };
+
+    ghost invariant = { λ a. IsWhole (record { crontab = a.crontab; anacrontab = a.anacrontab; jobs = a.jobs; groups = a.groups; capacity = a.capacity; hours = a.hours; pass = a.pass; offset = a.offset }) };
+}
+
+fn copy_groups(alloc: Global, groups: &[Group]) -> Result<Sequence<Group>, AllocError>
+    ensures { IfOk result (λ copies. copies ≡ groups.now) }
+{
+    let mut copies = Sequence::new(alloc);
+    for group in groups {
+        copies.push(group.copy(alloc)?)?;
+    }
+    Ok(copies)
+}
+
+impl Plan {
+    ghost use Rattle.cs_decl.specs.Plan.{IsTimed, IsWhole, crons, as_plan};
+
+    pub(crate) fn new(
+        crontab: Crontab,
+        anacrontab: Anacrontab,
+        jobs: Sequence<Job>,
+        groups: Sequence<Group>,
+        capacity: u8,
+        hours: Hours,
+        pass: Option<u16>,
+        offset: i16,
+    ) -> Plan
+        requires { IsWhole (record { crontab = crontab; anacrontab = anacrontab; jobs = jobs; groups = groups; capacity = capacity; hours = hours; pass = pass; offset = offset }) }
+        ensures { result ≡ record { crontab = crontab; anacrontab = anacrontab; jobs = jobs; groups = groups; capacity = capacity; hours = hours; pass = pass; offset = offset } }
+    {
+        Plan {
+            crontab,
+            anacrontab,
+            jobs,
+            groups,
+            capacity,
+            hours,
+            pass,
+            offset,
+        }
+    }
+
+    /// The same plan. The only error is want of memory.
+    pub fn copy(&self, alloc: Global) -> Result<Plan, AllocError>
+        ensures { IfOk result (λ plan. plan ≡ self.now) }
+    {
+        Ok(Plan {
+            crontab: self.crontab.copy(alloc)?,
+            anacrontab: self.anacrontab.copy(alloc)?,
+            jobs: Sequence::from_slice(alloc, self.jobs.as_slice())?,
+            groups: copy_groups(alloc, self.groups.as_slice())?,
+            capacity: self.capacity,
+            hours: self.hours,
+            pass: self.pass,
+            offset: self.offset,
+        })
+    }
+
+    /// The crontab. None of its commands is an `@reboot`.
+    pub fn crontab(&self) -> &Crontab
+        ensures value { result.now ≡ self.now.crontab }
+        ensures timed { All IsTimed self.now.crontab.lines }
+    {
+        &self.crontab
+    }
+
+    /// The anacrontab.
+    pub fn anacrontab(&self) -> &Anacrontab
+        ensures { result.now ≡ self.now.anacrontab }
+    {
+        &self.anacrontab
+    }
+
+    /// How many of its jobs are those of the crontab, which come first.
+    pub fn crons(&self) -> usize
+        ensures value { result ≡ crons self.now }
+        ensures within { crons self.now ≤ length self.now.jobs }
+    {
+        self.crontab.lines().len()
+    }
+
+    /// What is declared of the jobs, by number: at most 320 of them.
+    pub fn jobs(&self) -> &[Job]
+        ensures value { result.now ≡ self.now.jobs }
+        // Each line has its job, each number is in its range, and each group is there.
+        ensures whole { IsWhole self.now }
+        // So it is a plan of which histories speak.
+        ensures resolved { IsPlan (as_plan self.now) }
+        ensures few { length self.now.jobs ≤ 320 }
+        ensures limits { (j : ℕ) → (as_plan self.now).limit j ≤ MAX_MINUTES }
+        // An anacron job that ran today isn't due today.
+        ensures stamped { (j day : ℕ) → (as_plan self.now).owed j (Some day) day ≡ false }
+    {
+        self.jobs.as_slice()
+    }
+
+    /// The groups, in the order of the declarations.
+    pub fn groups(&self) -> &[Group]
+        ensures value { result.now ≡ self.now.groups }
+        ensures few { length self.now.groups ≤ MAX_GROUPS }
+    {
+        self.groups.as_slice()
+    }
+
+    /// The most that running jobs may weigh together, from 1 to [`MAX_CAPACITY`](crate::MAX_CAPACITY).
+    pub fn capacity(&self) -> u8
+        ensures value { result ≡ self.now.capacity }
+        ensures in_range { (1 ≤ self.now.capacity) × (self.now.capacity ≤ MAX_CAPACITY) }
+    {
+        self.capacity
+    }
+
+    /// The catch-up hours.
+    pub fn hours(&self) -> Hours
+        ensures { result ≡ self.now.hours }
+    {
+        self.hours
+    }
+
+    /// The minute of each day, below 1,440, at which a catch-up pass begins, if one is declared.
+    pub fn pass(&self) -> Option<u16>
+        ensures value { result ≡ self.now.pass }
+        ensures in_range { IfSome self.now.pass (λ m. m < MINUTES_OF_DAY) }
+    {
+        self.pass
+    }
+
+    /// By how many minutes the operator's clock is to the east of UTC, at most [`MAX_OFFSET`](crate::MAX_OFFSET) either way.
+    pub fn offset(&self) -> i16
+        ensures value { result ≡ self.now.offset }
+        ensures in_range { unsigned_abs self.now.offset ≤ MAX_OFFSET }
+    {
+        self.offset
+    }
+}

@@ -1,0 +1,196 @@
+ghost use Rattle.std.specs.Prelude.{◌≡◌, List, [], Some, None, Ok, map, option_map, option_and_then, string_bytes, pos, codes, is_some};
+ghost use Rattle.serde_json.specs.View.{view};
+ghost use Rattle.serde_json.specs.Find.{get};
+ghost use Rattle.cs_json.specs.Gives.{Gives};
+ghost use Rattle.cs_json.specs.Shape.{check, text, whole_number, list_as, member_as, member_or_default, member_or_none, object_with};
+ghost use Rattle.cs_history.specs.declared.mode.Mode.TheVariants.{Plain};
+ghost use Rattle.cs_decl.specs.Shape.{mode_named, mode_of, group_of, cron_of, anacron_of, entries_of, is_group_member, is_cron_member, is_anacron_member, is_member};
+ghost use Rattle.cs_decl.specs.declared.entries.GroupEntry.{GroupEntry};
+ghost use Rattle.cs_decl.specs.declared.entries.CronEntry.{CronEntry};
+ghost use Rattle.cs_decl.specs.declared.entries.AnacronEntry.{AnacronEntry};
+ghost use Rattle.cs_decl.specs.declared.entries.Entries.{Entries};
+
+use crate::entries::{AnacronEntry, CronEntry, Entries, GroupEntry};
+use cs_civil::{Bytes, Sequence};
+use cs_history::Mode;
+use cs_json::{BAD_SHAPE, FromJson, Misread, member, member_if_there, member_or, only_members};
+use serde_json::Value;
+use std::alloc::Global;
+
+// ---- members that more than one entry has
+
+fn text_member(alloc: Global, value: &Value, name: &str) -> Result<Bytes, Misread>
+    ensures { Gives (λ b. b) result (member_as text name.now (view value.now)) }
+{
+    let text: String = member(alloc, value, name)?;
+    Ok(Bytes::from_vec(text.into_bytes()))
+}
+
+fn group_member(alloc: Global, value: &Value) -> Result<Option<Bytes>, Misread>
+    ensures { Gives (λ b. b) result (member_or_none text (codes "group") (view value.now)) }
+{
+    match value.get("group") {
+        Some(_) => Ok(Some(text_member(alloc, value, "group")?)),
+        None => Ok(None),
+    }
+}
+
+fn list_member<T: FromJson>(
+    alloc: Global,
+    value: &Value,
+    name: &str,
+) -> Result<Sequence<T>, Misread>
+    ensures { Gives (map T.seen) result
+        (member_or_default (list_as T.shape) [] name.now (view value.now)) }
+{
+    let items: Vec<T> = member_or(alloc, value, name, Vec::new(alloc))?;
+    Ok(Sequence::from_vec(items))
+}
+
+/// The weight, 1 where there is none.
+fn weight_member(alloc: Global, value: &Value) -> Result<i128, Misread>
+    ensures { Gives (λ w. w) result (member_or_default whole_number (pos 1) (codes "weight") (view value.now)) }
+{
+    member_or(alloc, value, "weight", 1)
+}
+
+fn named_mode(name: &str) -> Option<Mode>
+    ensures { result ≡ mode_named name.now }
+{
+    match name {
+        "none" => Some(Mode::Plain),
+        "skip" => Some(Mode::Skip),
+        "wait" => Some(Mode::Wait),
+        "shared" => Some(Mode::Shared),
+        _ => None,
+    }
+}
+
+fn mode_member(value: &Value) -> Result<Mode, Misread>
+    ensures { Gives (λ m. m) result (member_or_default mode_of Plain (codes "mode") (view value.now)) }
+{
+    let Some(mode) = value.get("mode") else {
+        return Ok(Mode::Plain);
+    };
+    match mode.as_str() {
+        Some(name) => named_mode(name).ok_or(BAD_SHAPE),
+        None => Err(BAD_SHAPE),
+    }
+}
+
+// ---- entries
+
+#[tactic(auto, unfolding(crate::specs::Shape::is_group_member))]
+fn group_object(value: &Value) -> Result<(), Misread>
+    ensures { Gives (λ u. u) result (object_with is_group_member (view value.now)) }
+{
+    only_members(value, ["exclusive", "name"].as_slice())
+}
+
+#[tactic(auto, unfolding(crate::specs::Shape::group_of))]
+impl FromJson for GroupEntry {
+    ghost Seen = { GroupEntry };
+
+    ghost seen = { λ e. e };
+
+    ghost shape = { group_of };
+
+    fn from_json(alloc: Global, value: &Value) -> Result<GroupEntry, Misread> {
+        group_object(value)?;
+        Ok(GroupEntry {
+            name: text_member(alloc, value, "name")?,
+            exclusive: member(alloc, value, "exclusive")?,
+        })
+    }
+}
+
+#[tactic(auto, unfolding(crate::specs::Shape::is_cron_member))]
+fn cron_object(value: &Value) -> Result<(), Misread>
+    ensures { Gives (λ u. u) result (object_with is_cron_member (view value.now)) }
+{
+    only_members(value, ["group", "line", "max", "mode", "weight"].as_slice())
+}
+
+#[tactic(auto, unfolding(crate::specs::Shape::cron_of))]
+impl FromJson for CronEntry {
+    ghost Seen = { CronEntry };
+
+    ghost seen = { λ e. e };
+
+    ghost shape = { cron_of };
+
+    fn from_json(alloc: Global, value: &Value) -> Result<CronEntry, Misread> {
+        cron_object(value)?;
+        Ok(CronEntry {
+            line: member(alloc, value, "line")?,
+            max: member(alloc, value, "max")?,
+            weight: weight_member(alloc, value)?,
+            group: group_member(alloc, value)?,
+            mode: mode_member(value)?,
+        })
+    }
+}
+
+#[tactic(auto, unfolding(crate::specs::Shape::is_anacron_member))]
+fn anacron_object(value: &Value) -> Result<(), Misread>
+    ensures { Gives (λ u. u) result (object_with is_anacron_member (view value.now)) }
+{
+    only_members(value, ["group", "id", "max", "mode", "weight"].as_slice())
+}
+
+#[tactic(auto, unfolding(crate::specs::Shape::anacron_of))]
+impl FromJson for AnacronEntry {
+    ghost Seen = { AnacronEntry };
+
+    ghost seen = { λ e. e };
+
+    ghost shape = { anacron_of };
+
+    fn from_json(alloc: Global, value: &Value) -> Result<AnacronEntry, Misread> {
+        anacron_object(value)?;
+        Ok(AnacronEntry {
+            identifier: text_member(alloc, value, "id")?,
+            max: member(alloc, value, "max")?,
+            weight: weight_member(alloc, value)?,
+            group: group_member(alloc, value)?,
+            has_mode: value.get("mode").is_some(),
+        })
+    }
+}
+
+// ---- all members
+
+#[tactic(auto, unfolding(crate::specs::Shape::is_member))]
+fn whole_object(value: &Value) -> Result<(), Misread>
+    ensures { Gives (λ u. u) result (object_with is_member (view value.now)) }
+{
+    only_members(
+        value,
+        [
+            "anacron", "capacity", "cron", "groups", "hours", "offset", "pass",
+        ]
+        .as_slice(),
+    )
+}
+
+#[tactic(auto, unfolding(crate::specs::Shape::entries_of))]
+impl FromJson for Entries {
+    ghost Seen = { Entries };
+
+    ghost seen = { λ e. e };
+
+    ghost shape = { entries_of };
+
+    fn from_json(alloc: Global, value: &Value) -> Result<Entries, Misread> {
+        whole_object(value)?;
+        Ok(Entries {
+            capacity: member(alloc, value, "capacity")?,
+            offset: member_or(alloc, value, "offset", 0)?,
+            hours: member_or(alloc, value, "hours", (0, 1_440))?,
+            pass: member_if_there(alloc, value, "pass")?,
+            groups: list_member(alloc, value, "groups")?,
+            cron: list_member(alloc, value, "cron")?,
+            anacron: list_member(alloc, value, "anacron")?,
+        })
+    }
+}

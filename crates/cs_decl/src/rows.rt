@@ -1,0 +1,197 @@
+//! The table of faults, row by row.
+ghost use Rattle.std.specs.Prelude.{◌≡◌, IfOk, Some, position, map, option_map, bytes_eq};
+ghost use Rattle.std.specs.List.{list_any};
+ghost use Rattle.cs_decl.specs.Faults.{is_within, is_bad_offset, is_bad_max, is_bad_weight, needs_group, is_unlisted, are_bad_hours, is_bad_pass, first_fault, twice_declared, bad_numbers, bad_groups, bad_times, faults_of};
+
+use crate::entries::{AnacronEntry, CronEntry, Entries};
+use crate::fault::{DeclFault, Place};
+use crate::limits::{
+    MAX_CAPACITY, MAX_GROUPS, MAX_MINUTES, MAX_OFFSET, MAX_WEIGHT, MINUTES_OF_DAY,
+};
+use crate::names::{unlisted_anacron, unlisted_cron};
+use crate::twice::{twice_group, twice_identifier, twice_line};
+use cs_history::Mode;
+use std::alloc::{AllocError, Global};
+
+/// A fault, and where it stands, if it has a place.
+pub(crate) type Found = (DeclFault, Option<Place>);
+
+fn is_within(low: u16, high: u16, number: i128) -> bool
+    ensures { result ≡ is_within low high number }
+{
+    i128::from(low) <= number && number <= i128::from(high)
+}
+
+fn has_bad_offset(entries: &Entries) -> bool
+    ensures { result ≡ is_bad_offset entries.now.offset }
+{
+    entries.offset.unsigned_abs() > u128::from(MAX_OFFSET)
+}
+
+fn is_bad_max(max: i128) -> bool
+    ensures { result ≡ is_bad_max max }
+{
+    !is_within(1, MAX_MINUTES, max)
+}
+
+fn is_bad_weight(weight: i128) -> bool
+    ensures { result ≡ is_bad_weight weight }
+{
+    !is_within(1, u16::from(MAX_WEIGHT), weight)
+}
+
+fn needs_group(entry: &CronEntry) -> bool
+    ensures { result ≡ needs_group entry.now }
+{
+    let takes_lock = match entry.mode {
+        Mode::Plain => false,
+        Mode::Skip | Mode::Wait | Mode::Shared => true,
+    };
+    takes_lock && entry.group.is_none()
+}
+
+fn are_bad_hours(hours: (i128, i128)) -> bool
+    ensures { result ≡ are_bad_hours hours }
+{
+    !(0 <= hours.0 && hours.0 < hours.1 && hours.1 <= i128::from(MINUTES_OF_DAY))
+}
+
+fn is_bad_pass(pass: Option<i128>) -> bool
+    ensures { result ≡ is_bad_pass pass }
+{
+    match pass {
+        Some(minute) => !(0 <= minute && minute < i128::from(MINUTES_OF_DAY)),
+        None => false,
+    }
+}
+
+// ---- rows
+
+#[tactic(auto, unfolding(crate::specs::Faults::twice_declared))]
+fn twice_declared(alloc: Global, entries: &Entries) -> Result<Option<Found>, AllocError>
+    ensures { IfOk result (λ f. f ≡ first_fault (twice_declared entries.now)) }
+{
+    if let Some(i) = twice_group(alloc, entries.groups.as_slice())? {
+        return Ok(Some((DeclFault::TwiceDeclared, Some(Place::Group(i)))));
+    }
+    if let Some(i) = twice_line(alloc, entries.cron.as_slice())? {
+        return Ok(Some((DeclFault::TwiceDeclared, Some(Place::Cron(i)))));
+    }
+    if let Some(i) = twice_identifier(alloc, entries.anacron.as_slice())? {
+        return Ok(Some((DeclFault::TwiceDeclared, Some(Place::Anacron(i)))));
+    }
+    Ok(None)
+}
+
+fn bad_cron_max(cron: &[CronEntry]) -> Option<usize>
+    ensures { result ≡ position (λ e. is_bad_max e.max) cron.now }
+{
+    cron.iter().position(|entry| is_bad_max(entry.max))
+}
+
+fn bad_anacron_max(anacron: &[AnacronEntry]) -> Option<usize>
+    ensures { result ≡ position (λ e. is_bad_max e.max) anacron.now }
+{
+    anacron.iter().position(|entry| is_bad_max(entry.max))
+}
+
+fn bad_cron_weight(cron: &[CronEntry]) -> Option<usize>
+    ensures { result ≡ position (λ e. is_bad_weight e.weight) cron.now }
+{
+    cron.iter().position(|entry| is_bad_weight(entry.weight))
+}
+
+fn bad_anacron_weight(anacron: &[AnacronEntry]) -> Option<usize>
+    ensures { result ≡ position (λ e. is_bad_weight e.weight) anacron.now }
+{
+    anacron.iter().position(|entry| is_bad_weight(entry.weight))
+}
+
+#[tactic(auto, unfolding(crate::specs::Faults::bad_numbers))]
+fn bad_numbers(entries: &Entries) -> Option<Found>
+    ensures { result ≡ first_fault (bad_numbers entries.now) }
+{
+    if let Some(i) = bad_cron_max(entries.cron.as_slice()) {
+        return Some((DeclFault::BadMax, Some(Place::Cron(i))));
+    }
+    if let Some(i) = bad_anacron_max(entries.anacron.as_slice()) {
+        return Some((DeclFault::BadMax, Some(Place::Anacron(i))));
+    }
+    if let Some(i) = bad_cron_weight(entries.cron.as_slice()) {
+        return Some((DeclFault::BadWeight, Some(Place::Cron(i))));
+    }
+    if let Some(i) = bad_anacron_weight(entries.anacron.as_slice()) {
+        return Some((DeclFault::BadWeight, Some(Place::Anacron(i))));
+    }
+    if !is_within(1, u16::from(MAX_CAPACITY), entries.capacity) {
+        return Some((DeclFault::BadCapacity, None));
+    }
+    None
+}
+
+fn first_needing_group(cron: &[CronEntry]) -> Option<usize>
+    ensures { result ≡ position needs_group cron.now }
+{
+    cron.iter().position(|entry| needs_group(entry))
+}
+
+fn first_with_mode(anacron: &[AnacronEntry]) -> Option<usize>
+    ensures { result ≡ position (λ e. e.has_mode) anacron.now }
+{
+    anacron.iter().position(|entry| entry.has_mode)
+}
+
+#[tactic(auto, unfolding(crate::specs::Faults::bad_groups))]
+fn bad_groups(alloc: Global, entries: &Entries) -> Result<Option<Found>, AllocError>
+    ensures { IfOk result (λ f. f ≡ first_fault (bad_groups entries.now)) }
+{
+    if let Some(i) = first_needing_group(entries.cron.as_slice()) {
+        return Ok(Some((DeclFault::ModeNeedsGroup, Some(Place::Cron(i)))));
+    }
+    if let Some(i) = unlisted_cron(alloc, entries)? {
+        return Ok(Some((DeclFault::UnknownGroup, Some(Place::Cron(i)))));
+    }
+    if let Some(i) = unlisted_anacron(alloc, entries)? {
+        return Ok(Some((DeclFault::UnknownGroup, Some(Place::Anacron(i)))));
+    }
+    if entries.groups.len() > MAX_GROUPS {
+        return Ok(Some((DeclFault::TooManyGroups, Some(Place::Group(MAX_GROUPS)))));
+    }
+    Ok(None)
+}
+
+#[tactic(auto, unfolding(crate::specs::Faults::bad_times))]
+fn bad_times(entries: &Entries) -> Option<Found>
+    ensures { result ≡ first_fault (bad_times entries.now) }
+{
+    if are_bad_hours(entries.hours) {
+        return Some((DeclFault::BadHours, None));
+    }
+    if let Some(i) = first_with_mode(entries.anacron.as_slice()) {
+        return Some((DeclFault::ModeOnAnacron, Some(Place::Anacron(i))));
+    }
+    if is_bad_pass(entries.pass) {
+        return Some((DeclFault::BadPassMinute, None));
+    }
+    None
+}
+
+/// The first fault of the table.
+#[tactic(auto, using(crate::proofs::Order::first_twice_declared, crate::proofs::Order::first_bad_number, crate::proofs::Order::first_bad_group, crate::proofs::Order::past_groups))]
+pub(crate) fn fault_of(alloc: Global, entries: &Entries) -> Result<Option<Found>, AllocError>
+    ensures { IfOk result (λ f. f ≡ first_fault (faults_of entries.now)) }
+{
+    if has_bad_offset(entries) {
+        return Ok(Some((DeclFault::BadShape, None)));
+    }
+    if let Some(found) = twice_declared(alloc, entries)? {
+        return Ok(Some(found));
+    }
+    if let Some(found) = bad_numbers(entries) {
+        return Ok(Some(found));
+    }
+    if let Some(found) = bad_groups(alloc, entries)? {
+        return Ok(Some(found));
+    }
+    Ok(bad_times(entries))
+}

@@ -1,0 +1,9 @@
+pub mod Lists
+pub mod Plan
+pub mod History
+pub mod Step
+pub mod Names
+pub mod Journal
+pub mod Calm
+pub mod Printed
+pub mod Examples

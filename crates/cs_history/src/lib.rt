@@ -1,0 +1,24 @@
+//! What happens to the jobs of a crontab and an anacrontab, event by event, and what a history of such events leaves.
+#![tactic(auto)]
+
+mod event;
+mod laws;
+mod mode;
+mod refusal;
+mod reply;
+mod run;
+mod script;
+mod start;
+mod stories;
+
+pub use event::Event;
+pub use laws::{journals_grow, names_differ, states_follow_histories};
+pub use mode::Mode;
+pub use refusal::Refusal;
+pub use reply::Reply;
+pub use run::{Going, Run};
+pub use script::Script;
+pub use start::{MAX_STAMPS, Start};
+pub use stories::{
+    clock_and_outages, locks_and_waiting, passes_and_stamps, safe_and_unsafe, windows_and_calm,
+};

@@ -1,0 +1,60 @@
+ghost use Rattle.std.specs.Prelude.{◌≡◌, ◌≤◌, length};
+
+use arrayvec::ArrayVec;
+use cs_civil::{Day, Minute};
+use std::marker::Model;
+
+/// How many stamps a start holds, and how many jobs an anacrontab has at most.
+pub const MAX_STAMPS: usize = 64;
+
+/// How a history starts: at this minute the daemon is up or down, nothing runs, and the anacron jobs have these stamps.
+#[derive(Debug, Drop)]
+pub struct Start {
+    minute: Minute,
+    up: bool,
+    stamps: ArrayVec<Option<Day>, 64>,
+}
+
+impl Model for Start {
+    ghost use Rattle.cs_history.specs.History.{Start as Opening};
+
+    ghost Value = { Opening };
+
+    ghost view = { λ s. record { now = s.minute; up = s.up; stamps = s.stamps.items } };
+}
+
+impl Start {
+    /// The start at this minute. `stamps` are by anacron job, in order of line, `None` for a job without a stamp; jobs that
+    /// the list doesn't reach have none, and what stands past the last job counts for nothing.
+    pub fn new(now: Minute, up: bool, stamps: ArrayVec<Option<Day>, 64>) -> Start
+        ensures { result ≡ record { now = now; up = up; stamps = stamps.items } }
+    {
+        Start {
+            minute: now,
+            up,
+            stamps,
+        }
+    }
+
+    /// The civil minute at which the history starts.
+    pub fn now(&self) -> Minute
+        ensures { result ≡ self.now.now }
+    {
+        self.minute
+    }
+
+    /// Whether the daemon is up.
+    pub fn is_up(&self) -> bool
+        ensures { result ≡ self.now.up }
+    {
+        self.up
+    }
+
+    /// The stamps, at most 64.
+    pub fn stamps(&self) -> &[Option<Day>]
+        ensures value { result.now ≡ self.now.stamps }
+        ensures few { length result.now ≤ MAX_STAMPS }
+    {
+        self.stamps.as_slice()
+    }
+}

@@ -1,0 +1,7 @@
+pub mod Firsts
+pub mod KeptWindows
+pub mod PlanRoles
+pub mod QuietLemmas
+pub mod RoleLemmas
+pub mod RolesSay
+pub mod Weights

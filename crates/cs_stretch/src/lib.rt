@@ -1,0 +1,13 @@
+//! What is wrong with the windows of one stretch of days: a quick test, and finders of the first fault.
+#![tactic(auto)]
+
+mod found;
+mod laws;
+mod load;
+mod quiet;
+mod role;
+mod roles;
+
+pub use found::missing;
+pub use laws::quiet_windows_are_calm;
+pub use roles::Roles;

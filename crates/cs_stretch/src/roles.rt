@@ -1,0 +1,151 @@
+ghost use Rattle.std.specs.Prelude.{◌≡◌, ◌≤◌, ℕ, IfOk, IsTrue, Some, slice_get};
+ghost use Rattle.cs_accepted.specs.Accepted.{AreApart, AreFree, AreWithin};
+ghost use Rattle.cs_accepted.specs.Faults.{blocked_in, collision_in, overload_in};
+ghost use Rattle.cs_decl.specs.Plan.{as_plan};
+ghost use Rattle.cs_history.specs.Plan.{Plan as TheoryPlan, exclusive_group};
+ghost use Rattle.cs_stretch.specs.Roles.{AreRoles, IsOf, role_of};
+ghost use Rattle.cs_windows.specs.Window.{IsRising};
+
+use crate::role::Role;
+use crate::{found, quiet};
+use cs_decl::{Job, Plan};
+use cs_windows::Window;
+use std::alloc::{AllocError, Global};
+use std::marker::Model;
+
+/// What the jobs of a plan are to the rules about windows: read off the plan once, for all stretches.
+#[derive(Debug, Drop)]
+pub struct Roles {
+    jobs: Vec<Role>,
+    groups: usize,
+    capacity: u8,
+}
+
+impl Model for Roles {
+    ghost use Rattle.std.specs.Prelude.{◌≤◌};
+    ghost use Rattle.cs_stretch.specs.Roles.{PlanRoles};
+
+    ghost Value = { PlanRoles };
+
+    ghost view = { λ a. record { jobs = a.jobs.items; groups = a.groups; capacity = a.capacity } };
+
+    ghost invariant = { λ a. a.groups ≤ 64 };
+}
+
+/// Whether this group of the plan is exclusive.
+#[tactic(auto, using(crate::proofs::PlanRoles::exclusive_some, crate::proofs::PlanRoles::exclusive_none))]
+fn is_exclusive(plan: &Plan, group: Option<u8>) -> bool
+    ensures { result ≡ exclusive_group (as_plan plan.now) group }
+{
+    match group {
+        Some(number) => match plan.groups().get(usize::from(number)) {
+            Some(group) => group.is_exclusive(),
+            None => false,
+        },
+        None => false,
+    }
+}
+
+/// The role of the job with this number.
+fn role_of(plan: &Plan, number: usize, job: Job) -> Role
+    requires { slice_get plan.now.jobs number ≡ Some job }
+    ensures { result ≡ role_of (as_plan plan.now) number }
+{
+    Role {
+        is_cron: number < plan.crons(),
+        mode: job.mode(),
+        weight: job.weight(),
+        group: job.group(),
+        is_exclusive: is_exclusive(plan, job.group()),
+    }
+}
+
+/// The roles of all jobs, by number.
+fn jobs_of(alloc: Global, plan: &Plan) -> Result<Vec<Role>, AllocError>
+    ensures { IfOk result (λ jobs. AreRoles (as_plan plan.now) jobs.items) }
+{
+    let mut jobs = Vec::new(alloc);
+    for (number, job) in plan.jobs().iter().enumerate() {
+        jobs.push(role_of(plan, number, *job))?;
+    }
+    Ok(jobs)
+}
+
+impl Roles {
+    /// The roles of the jobs of this plan. The only error is want of memory.
+    pub fn of(alloc: Global, plan: &Plan) -> Result<Roles, AllocError>
+        ensures { IfOk result (λ roles. IsOf (as_plan plan.now) roles) }
+    {
+        Ok(Roles {
+            jobs: jobs_of(alloc, plan)?,
+            groups: plan.groups().len(),
+            capacity: plan.capacity(),
+        })
+    }
+
+    fn jobs(&self) -> &[Role]
+        ensures { result.now ≡ self.now.jobs }
+    {
+        self.jobs.as_slice()
+    }
+
+    fn groups(&self) -> usize
+        ensures value { result ≡ self.now.groups }
+        ensures few { self.now.groups ≤ 64 }
+    {
+        self.groups
+    }
+
+    fn capacity(&self) -> u8
+        ensures { result ≡ self.now.capacity }
+    {
+        self.capacity
+    }
+
+    /// A quick test of the windows of a stretch, in order of start. Where it answers true, no minute of the last day has a
+    /// collision, too great a load, or a due skip job that is barred from its lock. Where it answers false, the finders
+    /// tell whether something is wrong. The only error is want of memory.
+    pub fn is_quiet(&self, alloc: Global, windows: &[Window]) -> Result<bool, AllocError>
+        requires rising { IsRising windows.now }
+        ensures { IfOk result (λ quiet. IsTrue quiet → (p : TheoryPlan) (n : ℕ) → IsOf p self.now → AreApart p windows.now × AreWithin p n windows.now × AreFree p windows.now) }
+    {
+        quiet::is_quiet(alloc, self.jobs(), self.groups(), self.capacity(), windows)
+    }
+
+    /// The first minute of the last day of a stretch, and the first two windows of one exclusive group there that may not
+    /// hold it together: one of them is of the crontab, and not both take the group's lock. By minute, then group, then
+    /// the order of the windows. The only error is want of memory.
+    pub fn collision(
+        &self,
+        alloc: Global,
+        windows: &[Window],
+    ) -> Result<Option<(u16, Window, Window)>, AllocError>
+        ensures { IfOk result (λ found. (p : TheoryPlan) → IsOf p self.now → found ≡ collision_in p windows.now) }
+    {
+        found::collision(alloc, self.jobs(), self.groups(), windows)
+    }
+
+    /// The first minute of the last day of a stretch at which its windows weigh more than the capacity, and what they
+    /// weigh. The only error is want of memory.
+    pub fn overload(
+        &self,
+        alloc: Global,
+        windows: &[Window],
+    ) -> Result<Option<(u16, u128)>, AllocError>
+        ensures { IfOk result (λ found. (p : TheoryPlan) (n : ℕ) → IsOf p self.now → found ≡ overload_in p n windows.now) }
+    {
+        found::overload(alloc, self.jobs(), self.groups(), self.capacity(), windows)
+    }
+
+    /// The first due minute of a skip job on the last day of a stretch at which another window holds the lock of its group,
+    /// with the skip job's window and that one. The only error is want of memory.
+    pub fn blocked(
+        &self,
+        alloc: Global,
+        windows: &[Window],
+    ) -> Result<Option<(u16, Window, Window)>, AllocError>
+        ensures { IfOk result (λ found. (p : TheoryPlan) → IsOf p self.now → found ≡ blocked_in p windows.now) }
+    {
+        found::blocked(alloc, self.jobs(), windows)
+    }
+}

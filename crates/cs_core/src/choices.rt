@@ -5,7 +5,7 @@ ghost use Rattle.cs_decl.specs.Plan.{as_plan};
 ghost use Rattle.cs_history.specs.Lists.{placed};
 ghost use Rattle.cs_history.specs.declared.event.Event.TheVariants as event;
 
-use crate::core::Core;
+use crate::event_core::Core;
 use cs_civil::Sequence;
 use cs_history::{Event, Going, Run};
 use std::alloc::{AllocError, Global};

@@ -8,7 +8,7 @@ ghost use Rattle.cs_history.specs.declared.event.Event.TheVariants as event;
 ghost use Rattle.cs_history.specs.declared.reply.Reply.TheVariants.{Started, Waiting};
 ghost use Rattle.cs_history.specs.declared.refusal.Refusal.TheVariants.{OutOfMemory};
 
-use crate::core::Core;
+use crate::event_core::Core;
 use crate::lists::{is_same_run, take_job, take_running, take_waiting};
 use cs_civil::{Day, Minute};
 use cs_history::{Event, Going, Mode, Refusal, Reply, Run};

@@ -2,12 +2,12 @@
 #![tactic(auto)]
 
 mod choices;
-mod core;
+mod event_core;
 mod events;
 mod laws;
 mod lists;
 mod refusals;
 mod rules;
 
-pub use core::Core;
+pub use event_core::Core;
 pub use laws::choices_are_legal_events;

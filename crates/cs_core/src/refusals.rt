@@ -6,7 +6,7 @@ ghost use Rattle.cs_history.specs.Plan.{is_cron};
 ghost use Rattle.cs_history.specs.Step.{is_catchable, is_turn, is_settled, refusal};
 ghost use Rattle.cs_history.specs.declared.event.Event.TheVariants as event;
 
-use crate::core::Core;
+use crate::event_core::Core;
 use crate::lists::{has_job, is_running, is_waiting};
 use cs_civil::Minute;
 use cs_history::{Event, Refusal, Run};

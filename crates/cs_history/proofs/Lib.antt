@@ -1,4 +1,5 @@
 pub mod Lists
 pub mod Steps
 pub mod Names
+pub mod Started
 pub mod Journals

@@ -24,7 +24,7 @@ pub run_is : (r q : Run) → same_run r q ≡ true → r ≡ q
 run_is r q e = let h = same_parts r q e in λ i. record { job = h.0 i; at = h.1 i }
 
 -- of one name, so of one kind
-not_same : (p : Plan) (n r : Run) (s : Bool) → is_cron p n.job ≡ s → is_cron p r.job ≡ not s → same_run n r ≡ false
+pub not_same : (p : Plan) (n r : Run) (s : Bool) → is_cron p n.job ≡ s → is_cron p r.job ≡ not s → same_run n r ≡ false
 not_same p n r true a c = false_from_ne_true (same_run n r) (λ e. both_ways (is_cron p r.job) c (ap (is_cron p) (sym (same_parts n r e).0) ∙ a))
 not_same p n r false a c = false_from_ne_true (same_run n r) (λ e. both_ways (is_cron p n.job) a (ap (is_cron p) (same_parts n r e).0 ∙ c))
 
@@ -32,25 +32,25 @@ at_most_one : (s : Bool) → one s ≤ 1
 at_most_one true = omega arith
 at_most_one false = omega arith
 
-one_no : (b : Bool) → b ≡ false → one b ≡ 0
+pub one_no : (b : Bool) → b ≡ false → one b ≡ 0
 one_no b e = ap one e
 
 -- how often a name stands among what is pending at minute t
-abbrev due_of : Run → ℕ → ℕ → ℕ
+abbrev pub due_of : Run → ℕ → ℕ → ℕ
 due_of n t j = one (same_run n (run_of j t))
 
-eq_term : (f : ℕ → ℕ) (j i : ℕ) → (j == i) ≡ true → f j ≤ f i
+pub eq_term : (f : ℕ → ℕ) (j i : ℕ) → (j == i) ≡ true → f j ≤ f i
 eq_term f j i e = let h : f j ≡ f i = ap f (eqb-true j i e) in omega (arith, h)
 
-run_term : (f : Run → ℕ) (r q : Run) → same_run r q ≡ true → f r ≤ f q
+pub run_term : (f : Run → ℕ) (r q : Run) → same_run r q ≡ true → f r ≤ f q
 run_term f r q e = let h : f r ≡ f q = ap f (run_is r q e) in omega (arith, h)
 
 -- a pass lists anacron jobs
 
-abbrev IsAnacron : Plan → ℕ → Type 0
+abbrev pub IsAnacron : Plan → ℕ → Type 0
 IsAnacron p j = (is_cron p j ≡ false) × (j < p.jobs)
 
-abbrev AreAnacron : Plan → List ℕ → Type 0
+abbrev pub AreAnacron : Plan → List ℕ → Type 0
 AreAnacron p js = AllByRecursion (IsAnacron p) js
 
 of_list : (p : Plan) (t : ℕ) (js : List ℕ) → AreAnacron p js → AreAnacron p (jobs_left (pass_of t js))
@@ -82,11 +82,11 @@ listed_step : (p : Plan) (n : ℕ) → n < p.jobs → AreAnacron p (placed_below
 listed_step p n l a true e = tt
 listed_step p n l a false e = all_placed (IsAnacron p) (is_sooner p) n (e, l) (placed_below p n) a
 
-listed : (p : Plan) (n : ℕ) → n ≤ p.jobs → AreAnacron p (placed_below p n)
+pub listed : (p : Plan) (n : ℕ) → n ≤ p.jobs → AreAnacron p (placed_below p n)
 listed p zero l = tt
 listed p (suc n) l = listed_step p n (omega (arith, l)) (listed p n (omega (arith, l))) (nat_lt n p.crons) refl
 
-of_owed : (p : Plan) (ss : List (Option ℕ)) (rs : List Going) (t : ℕ) → AreAnacron p (jobs_left (pass_of t (owed_at p ss rs t)))
+pub of_owed : (p : Plan) (ss : List (Option ℕ)) (rs : List Going) (t : ℕ) → AreAnacron p (jobs_left (pass_of t (owed_at p ss rs t)))
 of_owed p ss rs t = of_list p t (owed_at p ss rs t) (all-filter (IsAnacron p) _ (by_delay p) (listed p p.jobs (omega arith)))
 
 -- what is due is of cron
@@ -235,12 +235,12 @@ module _ (p : Plan) (s : State) (k : AreNamed p s) where
     not_yet_waiting n e = total_zero (λ (w : Run). one (same_run n w)) s.waiting (all_map (λ w. w.at ≤ s.now) (λ w. one (same_run n w) ≡ 0) s.waiting
         (λ w q. one_no (same_run n w) (false_from_ne_true (same_run n w) (λ h. let x = (same_parts n w h).1 in absurd (omega (arith, x, e, q, next))))) k.waits_past)
 
-    due_once : (n : Run) → total (due_of n t) (due_at p t) ≤ 1
+    pub due_once : (n : Run) → total (due_of n t) (due_at p t) ≤ 1
     due_once n =
         let h = (once_below (due_of n t) n.job (λ j other. one_no (same_run n (run_of j t)) (false_from_ne_true (same_run n (run_of j t)) (λ q. other (sym (same_parts n (run_of j t) q).0)))) (at_most_one _) p.crons).0 in
         omega (arith, h, total-filter (λ j. p.due j t) (due_of n t) (below p.crons))
 
-    not_due : (n : Run) → (n.at ≡ t → ⊥) → total (due_of n t) (due_at p t) ≡ 0
+    pub not_due : (n : Run) → (n.at ≡ t → ⊥) → total (due_of n t) (due_at p t) ≡ 0
     not_due n e = total_zero (due_of n t) (due_at p t) (all_any (λ j. due_of n t j ≡ 0) (due_at p t) (λ j. one_no (same_run n (run_of j t)) (false_from_ne_true (same_run n (run_of j t)) (λ q. e (same_parts n (run_of j t) q).1))))
 
     minute_once : (n : Run) (c : Bool) → (n.at == t) ≡ c → number_of (λ r. same_run n r.run) s.running + number_of (λ w. same_run n w) s.waiting + number_of (λ j. same_run n (run_of j t)) (due_at p t) ≤ 1
@@ -293,14 +293,14 @@ named p (h ▸ e) legal = subst (AreNamed p) (sym (stands p h e)) (named_step p 
 
 -- counted once, so different
 
-none_same : {X : Type 0} (f : X → Run) (n : Run) (xs : List X) → total (λ x. one (same_run n (f x))) xs ≤ 0 → AllByRecursion (λ x. same_run n (f x) ≡ false) xs
+pub none_same : {X : Type 0} (f : X → Run) (n : Run) (xs : List X) → total (λ x. one (same_run n (f x))) xs ≤ 0 → AllByRecursion (λ x. same_run n (f x) ≡ false) xs
 none_same f n [] e = tt
 none_same f n (x ∷ xs) e = (false_from_ne_true (same_run n (f x)) (λ s. let h : one (same_run n (f x)) ≡ 1 = ap one s in absurd (omega (arith, h, e))), none_same f n xs (omega (arith, e)))
 
-one_same : (n : Run) → one (same_run n n) ≡ 1
+pub one_same : (n : Run) → one (same_run n n) ≡ 1
 one_same n = ap one (same_from n n refl refl)
 
-pairs_differ : {X : Type 0} (f : X → Run) (xs : List X) → ((n : Run) → total (λ x. one (same_run n (f x))) xs ≤ 1) → EachPair (λ x y. same_run (f x) (f y) ≡ false) xs
+pub pairs_differ : {X : Type 0} (f : X → Run) (xs : List X) → ((n : Run) → total (λ x. one (same_run n (f x))) xs ≤ 1) → EachPair (λ x y. same_run (f x) (f y) ≡ false) xs
 pairs_differ f [] once = tt
 pairs_differ f (x ∷ xs) once = (none_same f (f x) xs (omega (arith, once (f x), one_same (f x))), pairs_differ f xs (λ n. omega (arith, once n)))
 

@@ -1,11 +1,13 @@
 -- Names of runs: a job and the minute in which it was due, of an anacron job the minute in which its run started.
-use Rattle.std.specs.Prelude.{◌≡◌, ℕ, ◌+◌, ◌<◌, ◌≤◌, ◌&&◌, true, false, not, List, [], Option, Some, None}
+use Rattle.std.specs.Prelude.{◌≡◌, ℕ, ◌+◌, ◌<◌, ◌≤◌, ◌&&◌, true, false, not, List, [], ◌∷◌, ◌++◌, Option, Some, None}
 use Rattle.std.specs.List.{AllByRecursion}
 use Rattle.cs_history.specs.Lists.{EachPair, number_of}
 use Rattle.cs_history.specs.Plan.{Plan, is_cron}
-use Rattle.cs_history.specs.History.{Pass, run_of, same_run}
+use Rattle.cs_history.specs.History.{History, From, ◌▸◌, Pass, run_of, same_run, going, now, running, answer, with_started}
 use Rattle.cs_history.specs.Step.{State}
 use Rattle.cs_history.specs.declared.run.Run.{Run}
+use Rattle.cs_history.specs.declared.run.Going.{Going}
+use Rattle.cs_history.specs.declared.event.Event.TheVariants.{Begin, Got, Catch}
 
 -- the jobs that a pass has still to start
 abbrev pub jobs_left : Option Pass → List ℕ
@@ -32,3 +34,11 @@ pub record AreApart (p : Plan) (s : State) : Type 0 where
   pub waiting : EachPair (λ v w. same_run v w ≡ false) s.waiting
   pub both : AllByRecursion (λ w. AllByRecursion (λ r. same_run w r.run ≡ false) s.running) s.waiting
   pub fresh : AllByRecursion (λ j. AllByRecursion (λ r. same_run (run_of j s.now) r.run ≡ false) s.running) s.pending
+
+-- the runs that have started, ended or not, in order of start
+abbrev pub started : Plan → History → List Going
+started p (From s) = []
+started p (h ▸ Begin j) = with_started (answer p (running p h) j) (started p h) (going j (now h) (now h))
+started p (h ▸ Got j d) = started p h ++ going j d (now h) ∷ []
+started p (h ▸ Catch j) = started p h ++ going j (now h) (now h) ∷ []
+started p (h ▸ e) = started p h

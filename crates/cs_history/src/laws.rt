@@ -1,7 +1,8 @@
-ghost use Rattle.std.specs.Prelude.{◌≡◌, ◌↔◌, ◌++◌, ◌∷◌, [], List, None, Ok};
-ghost use Rattle.cs_history.specs.History.{From, History, IsLegal, May, Start, ◌▸◌};
+ghost use Rattle.std.specs.Prelude.{◌≡◌, ◌↔◌, ◌++◌, ◌∷◌, [], ℕ, List, None, Some, Ok, false};
+ghost use Rattle.cs_history.specs.History.{From, History, IsLegal, May, Start, same_run, ◌▸◌};
+ghost use Rattle.cs_history.specs.Lists.{EachPair};
 ghost use Rattle.cs_history.specs.Journal.{IsJournal};
-ghost use Rattle.cs_history.specs.Names.{AreApart, AreNamed};
+ghost use Rattle.cs_history.specs.Names.{AreApart, AreNamed, started};
 ghost use Rattle.cs_history.specs.Plan.{Plan};
 ghost use Rattle.cs_history.specs.Step.{State, Steps, after, refusal, state_of};
 ghost use Rattle.cs_history.specs.declared.event.Event.{Event};
@@ -35,4 +36,7 @@ pub fn names_differ()
 
     // so no two of its runs have one name
     ensures apart { (p : Plan) (s : State) → AreNamed p s → AreApart p s }
+
+    // where no anacron job is due on the day of its stamp, no two that it has started have one, ended or not
+    ensures started { (p : Plan) (h : History) → ((j day : ℕ) → p.owed j (Some day) day ≡ false) → IsLegal p h → EachPair (λ r q. same_run r.run q.run ≡ false) (started p h) }
 {}

@@ -1,4 +1,5 @@
 use Rattle.cs_history.proofs.Names.{named_start, named_step, named, apart}
+use Rattle.cs_history.proofs.Started.{never_twice}
 use Rattle.cs_history.proofs.laws.names_differ.Goals as goal
 
 pub returns-clause-start : goal.returns-clause-start
@@ -12,3 +13,6 @@ returns-clause-history c p h legal = named p h legal
 
 pub returns-clause-apart : goal.returns-clause-apart
 returns-clause-apart c p s k = apart p s k
+
+pub returns-clause-started : goal.returns-clause-started
+returns-clause-started c p h unowed legal = never_twice p unowed h legal

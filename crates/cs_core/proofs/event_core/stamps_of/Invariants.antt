@@ -1,6 +1,6 @@
 use Rattle.std.proofs.Common.{◌≡◌, ◌++◌, ◌-◌, None, length, take, replicate}
 use Rattle.cs_decl.specs.Plan.{crons}
-use Rattle.cs_core.proofs.core.stamps_of.Given as goal
+use Rattle.cs_core.proofs.event_core.stamps_of.Given as goal
 
 abbrev pub invariant-loop-place : goal.invariant-loop-place
 invariant-loop-place l = record {

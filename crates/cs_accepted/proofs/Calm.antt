@@ -10,7 +10,7 @@ use Rattle.cs_history.specs.Plan.{Plan, is_cron, takes_lock, shares, locks, is_g
 use Rattle.cs_history.specs.History.{same_run}
 use Rattle.cs_history.specs.Calm.{reach, Holds, load, plain_load, lock_load, catch_load, IsCalm}
 use Rattle.cs_history.proofs.Lists.{all_map, all_any, total_le, total-map, greatest-map}
-use Rattle.cs_safety.proofs.Locks.{same_parts, same_from}
+use Rattle.cs_history.proofs.Names.{same_parts, same_from}
 use Rattle.cs_safety.proofs.Listed.{load_within}
 use Rattle.cs_windows.specs.declared.window.Window.{Window}
 use Rattle.cs_accepted.specs.Windows.{same_window, holders}

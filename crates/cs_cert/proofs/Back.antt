@@ -12,7 +12,7 @@ use Rattle.cs_windows.specs.declared.tree.Entry.{Entry}
 use Rattle.cs_cert.specs.declared.class.Class.{Class}
 use Rattle.cs_cert.specs.declared.class.DueList.{DueList}
 use Rattle.cs_cert.specs.declared.class.GroupBacklog.{GroupBacklog}
-use Rattle.cs_cert.specs.declared.reach.JobReach.{JobReach}
+use Rattle.cs_windows.specs.declared.reach.JobReach.{JobReach}
 use Rattle.cs_cert.specs.Rules.{backlog_fits, class_fits, due_fits, due_list_fits, entry_fits, group_backlog_fits, is_backlog_from}
 use Rattle.cs_cert.specs.Said.{class_said, due_list_said, entry_said, group_backlog_said, held, piece_said, reach_said}
 use Rattle.cs_cert.specs.Written.{class_data, due_list_data, entry_data, group_backlog_data, list_data, number_data, piece_data, reach_data}

@@ -12,7 +12,7 @@ use Rattle.cs_json.proofs.Items.{json_back}
 use Rattle.cs_daytree.specs.Tree as day
 use Rattle.cs_daytree.specs.Possible.{all_numbers, splits_fit}
 use Rattle.cs_cert.specs.declared.class.Class.{Class}
-use Rattle.cs_cert.specs.declared.reach.JobReach.{JobReach}
+use Rattle.cs_windows.specs.declared.reach.JobReach.{JobReach}
 use Rattle.cs_cert.specs.declared.fault.CertFault.{CertFault}
 use Rattle.cs_cert.specs.Content.{Content, StretchTree}
 use Rattle.cs_cert.specs.Denoted.{certificate_by, content_in, content_said, stretch_said}

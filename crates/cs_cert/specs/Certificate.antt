@@ -10,7 +10,7 @@ use Rattle.cs_wait.specs.declared.backlog.Piece.{Piece}
 use Rattle.cs_cert.specs.declared.certificate.Certificate.{Certificate}
 use Rattle.cs_cert.specs.declared.class.Class.{Class}
 use Rattle.cs_cert.specs.declared.class.GroupBacklog.{GroupBacklog}
-use Rattle.cs_cert.specs.declared.reach.JobReach.{JobReach}
+use Rattle.cs_windows.specs.declared.reach.JobReach.{JobReach}
 use Rattle.cs_cert.specs.Content.{Content, StretchTree, content_of}
 
 -- what a certificate says

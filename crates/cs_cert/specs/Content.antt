@@ -4,7 +4,7 @@ use Rattle.cs_daytree.specs.Tree as day
 use Rattle.cs_windows.specs.Tree as minute
 use Rattle.cs_cert.specs.declared.class.Class.{Class}
 use Rattle.cs_cert.specs.declared.stretch.Stretch.{Stretch}
-use Rattle.cs_cert.specs.declared.reach.JobReach.{JobReach}
+use Rattle.cs_windows.specs.declared.reach.JobReach.{JobReach}
 use Rattle.cs_cert.specs.declared.parts.Parts.{Parts}
 
 -- the classes of successive days, eldest first, and the minute tree of the last of them

@@ -12,7 +12,7 @@ use Rattle.cs_wait.specs.declared.backlog.Piece.{Piece}
 use Rattle.cs_cert.specs.declared.class.Class.{Class}
 use Rattle.cs_cert.specs.declared.class.DueList.{DueList}
 use Rattle.cs_cert.specs.declared.class.GroupBacklog.{GroupBacklog}
-use Rattle.cs_cert.specs.declared.reach.JobReach.{JobReach}
+use Rattle.cs_windows.specs.declared.reach.JobReach.{JobReach}
 use Rattle.cs_cert.specs.declared.fault.CertFault.{CertFault}
 use Rattle.cs_cert.specs.declared.fault.CertFault.TheVariants.{BadVersion, BadShape, TooDeep, BadSplit, BadClass, BadEntry, TooManyClasses, LeafTooLong}
 use Rattle.cs_cert.specs.Content.{Content, StretchTree}

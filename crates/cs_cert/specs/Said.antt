@@ -9,7 +9,7 @@ use Rattle.cs_windows.specs.declared.tree.Entry.{Entry}
 use Rattle.cs_cert.specs.declared.class.Class.{Class}
 use Rattle.cs_cert.specs.declared.class.DueList.{DueList}
 use Rattle.cs_cert.specs.declared.class.GroupBacklog.{GroupBacklog}
-use Rattle.cs_cert.specs.declared.reach.JobReach.{JobReach}
+use Rattle.cs_windows.specs.declared.reach.JobReach.{JobReach}
 use Rattle.cs_cert.specs.Rules.{is_backlog_from}
 
 -- a number from 0 to top as it is, any other as top

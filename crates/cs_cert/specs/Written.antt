@@ -11,7 +11,7 @@ use Rattle.cs_daytree.specs.declared.tree.KindPart.TheVariants.{Month, Day, Week
 use Rattle.cs_cert.specs.declared.class.Class.{Class}
 use Rattle.cs_cert.specs.declared.class.DueList.{DueList}
 use Rattle.cs_cert.specs.declared.class.GroupBacklog.{GroupBacklog}
-use Rattle.cs_cert.specs.declared.reach.JobReach.{JobReach}
+use Rattle.cs_windows.specs.declared.reach.JobReach.{JobReach}
 use Rattle.cs_cert.specs.Content.{Content, StretchTree}
 
 abbrev pub number_data : ℕ → Data

@@ -7,17 +7,16 @@ ghost use Rattle.cs_windows.specs.declared.tree.Entry.{Entry};
 ghost use Rattle.cs_cert.specs.declared.class.Class.{Class};
 ghost use Rattle.cs_cert.specs.declared.class.DueList.{DueList};
 ghost use Rattle.cs_cert.specs.declared.class.GroupBacklog.{GroupBacklog};
-ghost use Rattle.cs_cert.specs.declared.reach.JobReach.{JobReach};
+ghost use Rattle.cs_windows.specs.declared.reach.JobReach.{JobReach};
 ghost use Rattle.cs_cert.specs.Said.{class_said, due_list_said, entry_said, group_backlog_said, held_backlog, piece_said, reach_said};
 ghost use Rattle.cs_cert.specs.Written.{class_data, due_list_data, entry_data, group_backlog_data, list_data, piece_data, reach_data};
 
 use crate::class::{Class, DueList, GroupBacklog};
 use crate::form::{Form, member, pair, read_pair, read_triple, triple, write_each};
-use crate::reach::JobReach;
 use cs_civil::Sequence;
 use cs_json::{Misread, only_members};
 use cs_wait::{Backlog, BadPiece, Piece};
-use cs_windows::Entry;
+use cs_windows::{Entry, JobReach};
 use serde_json::{Value, json};
 use std::alloc::{AllocError, Global};
 

@@ -12,10 +12,10 @@ use crate::certificate::Certificate;
 use crate::class::Class;
 use crate::fault::CertFault;
 use crate::parts::Parts;
-use crate::reach::JobReach;
 use crate::stretch::Stretch;
 use cs_civil::{DayKind, Sequence};
 use cs_daytree::DayTree;
+use cs_windows::JobReach;
 
 impl Certificate {
     /// The certificate of these parts. It takes no memory.

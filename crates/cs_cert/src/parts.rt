@@ -6,13 +6,14 @@ ghost use Rattle.cs_cert.specs.Rules.{class_fits, classes_there, fault_of, is_ve
 use crate::class::Class;
 use crate::fault::CertFault;
 use crate::limits::{MAX_CLASSES, MAX_DEPTH};
-use crate::reach::{JobReach, reach_fits};
+use crate::reach::reach_fits;
 use crate::stretch::{
     Stretch, are_of_classes, are_shallow, are_split_well, have_days, have_entries,
     have_short_leaves, rise,
 };
 use cs_civil::Sequence;
 use cs_daytree::DayTree;
+use cs_windows::JobReach;
 
 /// The parts of a certificate, whether they keep its rules or not.
 #[derive(Debug, Drop)]

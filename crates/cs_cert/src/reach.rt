@@ -5,13 +5,7 @@ ghost use Rattle.cs_cert.specs.Certificate.{reach_of};
 ghost use Rattle.cs_cert.specs.Rules.{reach_fits};
 
 use crate::limits::MAX_JOBS;
-
-/// The reach of a job that waits for a lock: a run due in minute d holds no minute from d + reach on.
-#[derive(Clone, Copy, Debug, PartialEq, Eq)]
-pub struct JobReach {
-    pub job: u16,
-    pub reach: u16,
-}
+use cs_windows::JobReach;
 
 fn jobs_rise(reach: &[JobReach]) -> bool
     ensures { result ≡ each_next (λ a b. nat_lt a.job b.job) reach.now }

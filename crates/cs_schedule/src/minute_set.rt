@@ -107,6 +107,21 @@ impl MinuteSet {
         self.len() == 0
     }
 
+    /// Whether both have the same minutes of a day.
+    pub fn is_same(&self, other: &MinuteSet) -> bool
+        ensures { IsTrue result ↔ ((m : ℕ) → m < 1440 → has self.now m ≡ has other.now m) }
+    {
+        if self.words == other.words {
+            return true;
+        }
+        for minute in 0..1_440 {
+            if self.has(minute) != other.has(minute) {
+                return false;
+            }
+        }
+        true
+    }
+
     /// The minutes, rising.
     pub fn iter(&self) -> Minutes
         ensures { result ≡ self.now }

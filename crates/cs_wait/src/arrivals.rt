@@ -1,4 +1,4 @@
-ghost use Rattle.std.specs.Prelude.{◌≡◌, ◌^◌, ◌+◌, ◌<◌, ◌≤◌, ◌↔◌, [], ◌∷◌, ℕ, List, IsTrue, slice_index, slice_set};
+ghost use Rattle.std.specs.Prelude.{◌≡◌, ◌^◌, ◌+◌, ◌-◌, ◌<◌, ◌≤◌, ◌↔◌, [], ◌∷◌, ℕ, List, IsTrue, slice_index, slice_set};
 ghost use Rattle.cs_wait.specs.Bounds.{StepsHold, at, at_days, none};
 
 use crate::backlog::{Backlog, MINUTES_OF_DAY};
@@ -35,8 +35,8 @@ impl Arrivals {
         self.sums[usize::from(minute)] += u32::from(max);
     }
 
-    /// What arrives at a minute of the day.
-    fn at(&self, minute: u16) -> u32
+    /// What arrives at a minute of the day, in minutes of runs.
+    pub fn at(&self, minute: u16) -> u32
         requires { minute < 1440 }
         ensures { result ≡ slice_index self.now minute }
     {
@@ -51,12 +51,20 @@ pub fn steps_ok(before: &Backlog, arrivals: &Arrivals, day: &Backlog) -> bool
     ensures { IsTrue result ↔ StepsHold (at before.now) (slice_index arrivals.now) (at day.now) }
 {
     for minute in 0..MINUTES_OF_DAY {
-        let next = bound_over(before, day, minute + 1);
-        if u64::from(before.at(minute)) + u64::from(arrivals.at(minute)) > u64::from(next) + 1 {
+        if !step_ok(before, arrivals, day, minute) {
             return false;
         }
     }
     true
+}
+
+/// Whether the bound follows what arrives at the one step from a minute of the first day to the next minute.
+pub fn step_ok(before: &Backlog, arrivals: &Arrivals, day: &Backlog, minute: u16) -> bool
+    requires { minute < MINUTES_OF_DAY }
+    ensures { IsTrue result ↔ (at before.now minute + slice_index arrivals.now minute - 1 ≤ at_days (at before.now ∷ at day.now ∷ []) (minute + 1)) }
+{
+    let next = bound_over(before, day, minute + 1);
+    u64::from(before.at(minute)) + u64::from(arrivals.at(minute)) <= u64::from(next) + 1
 }
 
 /// The bound at a minute counted from the start of the first of two successive days.

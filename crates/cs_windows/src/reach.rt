@@ -1,11 +1,13 @@
 ghost use Rattle.std.specs.Prelude.{◌≡◌};
 ghost use Rattle.cs_windows.specs.Planned.{listed_reach};
 
-/// How long a run of a job may go on after it was due, in minutes: a run due in minute d holds no minute from d + reach on.
+/// How long a run of a job that waits for a lock may go on after it was due: one due in minute d holds no minute from
+/// d + reach on. A certificate lists one for each of its jobs that take a lock and may have to wait.
 #[derive(Clone, Copy, Debug, PartialEq, Eq)]
 pub struct JobReach {
-    /// The job's number in its plan.
+    /// The job's number in its plan, below 320.
     pub job: u16,
+    /// In minutes, from 1 on.
     pub reach: u16,
 }
 

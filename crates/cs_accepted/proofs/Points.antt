@@ -41,21 +41,21 @@ tells_le x y = (leb-true x y, le-leb x y)
 
 module _ (p : Plan) (plan : IsPlan p) (on : ℕ → Kind → ℕ → Bool) (a : Certificate) (n : ℕ) (some : 1 ≤ n) where
   -- in each stretch that is used
-  says_each : (f : Stretch → Option Fault) (P : Stretch → Type 0) → ((s : Stretch) → Says (f s) (P s)) → Says (first_of f (used_stretches a n)) (InEach a n P)
+  pub says_each : (f : Stretch → Option Fault) (P : Stretch → Type 0) → ((s : Stretch) → Says (f s) (P s)) → Says (first_of f (used_stretches a n)) (InEach a n P)
   says_each f P s = says_to (first_of f (used_stretches a n)) (AllByRecursion (λ s. is_used a n s.of ≡ true → P s) a.stretches) (InEach a n P) (says_passing f (λ s. is_used a n s.of) P s a.stretches)
       (all_map (λ s. is_used a n s.of ≡ true → P s) (λ s. IsUsed a n s.of → P s) a.stretches (λ s h u. h ((tells_used a n s.of some).1 u)))
       (all_map (λ s. IsUsed a n s.of → P s) (λ s. is_used a n s.of ≡ true → P s) a.stretches (λ s h e. h ((tells_used a n s.of some).0 e)))
 
-  tells_each : (t : Stretch → Bool) (P : Stretch → Type 0) → ((s : Stretch) → Tells (t s) (P s)) → Tells (list_all t (used_stretches a n)) (InEach a n P)
+  pub tells_each : (t : Stretch → Bool) (P : Stretch → Type 0) → ((s : Stretch) → Tells (t s) (P s)) → Tells (list_all t (used_stretches a n)) (InEach a n P)
   tells_each t P s = tells_to (list_all t (used_stretches a n)) (AllByRecursion (λ s. is_used a n s.of ≡ true → P s) a.stretches) (InEach a n P) (tells_passing (λ s. is_used a n s.of) t P s a.stretches)
       (all_map (λ s. is_used a n s.of ≡ true → P s) (λ s. IsUsed a n s.of → P s) a.stretches (λ s h u. h ((tells_used a n s.of some).1 u)))
       (all_map (λ s. IsUsed a n s.of → P s) (λ s. is_used a n s.of ≡ true → P s) a.stretches (λ s h e. h ((tells_used a n s.of some).0 e)))
 
   -- point 1
-  abbrev Due : Type 0
+  abbrev pub Due : Type 0
   Due = (k : Kind) → IsKind k → (j m : ℕ) → is_cron p j ≡ true → m < 1440 → a.due (a.class_of k) j m ≡ on j k m
 
-  says_one : Says (due_fault p on a) Due
+  pub says_one : Says (due_fault p on a) Due
   says_one = says_to (due_fault p on a) (AllByRecursion (λ k. (j : ℕ) → j < p.crons → (m : ℕ) → m < 1440 → a.due (a.class_of k) j m ≡ on j k m) all_kinds) Due
       (says_first (λ k. unless (is_due_alike p on a k) (ClassNotDue k)) (λ k. (j : ℕ) → j < p.crons → (m : ℕ) → m < 1440 → a.due (a.class_of k) j m ≡ on j k m)
       (λ k. says_unless (is_due_alike p on a k) (ClassNotDue k) ((j : ℕ) → j < p.crons → (m : ℕ) → m < 1440 → a.due (a.class_of k) j m ≡ on j k m)
@@ -65,7 +65,7 @@ module _ (p : Plan) (plan : IsPlan p) (on : ℕ → Kind → ℕ → Bool) (a : 
       (λ h. all_from_has (λ k. (j : ℕ) → j < p.crons → (m : ℕ) → m < 1440 → a.due (a.class_of k) j m ≡ on j k m) all_kinds (λ k has j l m lt. h k (listed_kind k has) j m (lt-ltb j p.crons l) lt))
 
   -- point 2
-  abbrev Listed : Type 0
+  abbrev pub Listed : Type 0
   Listed = (ks : List Kind) → IsChain ks → length ks ≡ n → Contains (map (λ s. s.of) a.stretches) (map a.class_of ks)
 
   tells_listed : (ks : List Kind) → Tells (list_any (λ (s : Stretch). same_list s.of (map a.class_of ks)) a.stretches) (Contains (map (λ (s : Stretch). s.of) a.stretches) (map a.class_of ks))
@@ -76,7 +76,7 @@ module _ (p : Plan) (plan : IsPlan p) (on : ℕ → Kind → ℕ → Bool) (a : 
         any_has (λ (s : Stretch). same_list s.of (map a.class_of ks)) a.stretches h.0 h.1 (is_same_list h.0.of (map a.class_of ks) h.2),
   )
 
-  says_two : Says (stretch_fault a n) Listed
+  pub says_two : Says (stretch_fault a n) Listed
   says_two = says_to (stretch_fault a n) (AllByRecursion (λ ks. Contains (map (λ (s : Stretch). s.of) a.stretches) (map a.class_of ks)) (chains n)) Listed
       (says_first (λ ks. unless (list_any (λ (s : Stretch). same_list s.of (map a.class_of ks)) a.stretches) (Missing ks)) (λ ks. Contains (map (λ (s : Stretch). s.of) a.stretches) (map a.class_of ks))
       (λ ks. says_unless (list_any (λ (s : Stretch). same_list s.of (map a.class_of ks)) a.stretches) (Missing ks) (Contains (map (λ (s : Stretch). s.of) a.stretches) (map a.class_of ks)) (tells_listed ks)) (chains n))
@@ -84,20 +84,20 @@ module _ (p : Plan) (plan : IsPlan p) (on : ℕ → Kind → ℕ → Bool) (a : 
       (λ h. all_from_has (λ ks. Contains (map (λ (s : Stretch). s.of) a.stretches) (map a.class_of ks)) (chains n) (λ ks has. let c = listed_chain n ks some has in h ks c.0 c.1))
 
   -- point 3
-  waiter_to : (g : ℕ) → HasWaiter p g → (has_waiter p g ≡ true) × (g < p.groups)
+  pub waiter_to : (g : ℕ) → HasWaiter p g → (has_waiter p g ≡ true) × (g < p.groups)
   waiter_to g w =
       let l : w.job < p.crons = ltb-true w.job p.crons w.cron in (
         any_has (λ j. waits p j && locks p g j) (below p.crons) w.job (below_has p.crons w.job l) (and_from (waits p w.job) (locks p g w.job) w.waits w.locks),
         plan.groups w.job g (group_of p g w.job w.locks),
       )
 
-  waiter_from : (g : ℕ) → has_waiter p g ≡ true → HasWaiter p g
+  pub waiter_from : (g : ℕ) → has_waiter p g ≡ true → HasWaiter p g
   waiter_from g e =
       let h = has_any (λ j. waits p j && locks p g j) (below p.crons) e in
       let k = and_parts (waits p h.0) (locks p g h.0) h.2 in
       record { job = h.0; cron = lt-ltb h.0 p.crons (has_below_lt p.crons h.0 h.1); waits = k.0; locks = k.1 }
 
-  abbrev Steps : ℕ → Stretch → Type 0
+  abbrev pub Steps : ℕ → Stretch → Type 0
   Steps g s = StepsHold (a.bound (nth s.of (n - 2)) g) (arrivals p a g (nth s.of (n - 2))) (a.bound (nth s.of (n - 1)) g)
 
   abbrev pub Rising : Stretch → Type 0
@@ -110,7 +110,7 @@ module _ (p : Plan) (plan : IsPlan p) (on : ℕ → Kind → ℕ → Bool) (a : 
       (tells_if (has_waiter p g) (steps_at p a n s m g) ((a.bound (nth s.of (n - 2)) g m + arrivals p a g (nth s.of (n - 2)) m) - 1 ≤ at_days (a.bound (nth s.of (n - 2)) g ∷ a.bound (nth s.of (n - 1)) g ∷ []) (m + 1))
       (tells_le ((a.bound (nth s.of (n - 2)) g m + arrivals p a g (nth s.of (n - 2)) m) - 1) (at_days (a.bound (nth s.of (n - 2)) g ∷ a.bound (nth s.of (n - 1)) g ∷ []) (m + 1))))))
 
-  says_three : Says (step_fault p a n) ((g : ℕ) → HasWaiter p g → InEach a n (Steps g))
+  pub says_three : Says (step_fault p a n) ((g : ℕ) → HasWaiter p g → InEach a n (Steps g))
   says_three = says_to (step_fault p a n) (InEach a n Rising) ((g : ℕ) → HasWaiter p g → InEach a n (Steps g))
       (says_each (λ s. option_map (λ (f : ℕ × ℕ). BacklogRises f.1 (minute_of a n s f.0 - 1440)) (rise_in p a n s)) Rising
       (λ s. says_map (λ (f : ℕ × ℕ). BacklogRises f.1 (minute_of a n s f.0 - 1440)) (rise_in p a n s) (Rising s) (says_rise s)))
@@ -122,7 +122,7 @@ module _ (p : Plan) (plan : IsPlan p) (on : ℕ → Kind → ℕ → Bool) (a : 
       all_swap_in g h = all_swap (λ (w : HasWaiter p g) s. IsUsed a n s.of → Steps g s) a.stretches h
 
   -- point 4
-  tells_clears : (bs : List (ℕ → ℕ)) (due r : ℕ) → Tells (clears_by bs due r) (ClearsBy bs due r)
+  pub tells_clears : (bs : List (ℕ → ℕ)) (due r : ℕ) → Tells (clears_by bs due r) (ClearsBy bs due r)
   tells_clears bs due r = (
     λ e. let h = has_any (λ m. (nat_lt due m && nat_le m (due + r)) && (at_days bs m == 0)) (range_with_len 0 (1440 * length bs)) e in
         let x = and_parts (nat_lt due h.0 && nat_le h.0 (due + r)) (at_days bs h.0 == 0) h.2 in
@@ -133,13 +133,13 @@ module _ (p : Plan) (plan : IsPlan p) (on : ℕ → Kind → ℕ → Bool) (a : 
   )
 
   -- each due minute of the first day of a stretch has a zero within the reach
-  abbrev Zeros : ℕ → ℕ → ℕ → Stretch → Type 0
+  abbrev pub Zeros : ℕ → ℕ → ℕ → Stretch → Type 0
   Zeros j g r s = (m : ℕ) → m < 1440 → a.due (nth s.of 0) j m ≡ true → ClearsBy (map (λ class. a.bound class g) s.of) m r
 
-  abbrev Far : ℕ → ℕ → Option ℕ → Type 0
+  abbrev pub Far : ℕ → ℕ → Option ℕ → Type 0
   Far j g o = (r : ℕ) × (o ≡ Some r) × InEach a n (Zeros j g r)
 
-  tells_far : (j : ℕ) (o : Option ℕ) → Tells (reaches_far p a n j o) (Far j (unwrap_or (p.group j) 0) o)
+  pub tells_far : (j : ℕ) (o : Option ℕ) → Tells (reaches_far p a n j o) (Far j (unwrap_or (p.group j) 0) o)
   tells_far j None = (λ e. absurd (cc), λ f. absurd (let e = f.1 in cc))
   tells_far j (Some r) =
       let t = tells_each (λ s. list_all (λ m. not (a.due (nth s.of 0) j m) || clears_by (map (λ class. a.bound class (unwrap_or (p.group j) 0)) s.of) m r) day_minutes) (Zeros j (unwrap_or (p.group j) 0) r)
@@ -150,10 +150,10 @@ module _ (p : Plan) (plan : IsPlan p) (on : ℕ → Kind → ℕ → Bool) (a : 
       some_is : (x y : ℕ) → Some x ≡ Some y → x ≡ y
       some_is x y e = cc
 
-  abbrev Clearing : Type 0
+  abbrev pub Clearing : Type 0
   Clearing = (j g : ℕ) → is_cron p j ≡ true → waits p j ≡ true → locks p g j ≡ true → (r : ℕ) × (a.reach j ≡ Some r) × InEach a n (λ s. (m : ℕ) → m < 1440 → a.due (nth s.of 0) j m ≡ true → ClearsBy (map (λ class. a.bound class g) s.of) m r)
 
-  says_four : Says (reach_fault p a n) Clearing
+  pub says_four : Says (reach_fault p a n) Clearing
   says_four = says_to (reach_fault p a n) ((j : ℕ) → j < p.crons → waits p j ≡ true → Far j (unwrap_or (p.group j) 0) (a.reach j)) Clearing
       (says_below (λ j. unless (not (waits p j) || reaches_far p a n j (a.reach j)) (ReachTooShort j)) (λ j. waits p j ≡ true → Far j (unwrap_or (p.group j) 0) (a.reach j)) p.crons
       (λ j. says_unless (not (waits p j) || reaches_far p a n j (a.reach j)) (ReachTooShort j) (waits p j ≡ true → Far j (unwrap_or (p.group j) 0) (a.reach j))
@@ -173,7 +173,7 @@ module _ (p : Plan) (plan : IsPlan p) (on : ℕ → Kind → ℕ → Bool) (a : 
       (all_map (λ w. not (lists (entries_at tree m) w) ≡ false) (λ w. lists (entries_at tree m) w ≡ true) (holders m ws) (λ w e. not-false (lists (entries_at tree m) w) e))
       (all_map (λ w. lists (entries_at tree m) w ≡ true) (λ w. not (lists (entries_at tree m) w) ≡ false) (holders m ws) (λ w e. not_from_true (lists (entries_at tree m) w) e))))
 
-  says_five : Says (leaf_fault p a n) (InEach a n (IsCovered p a))
+  pub says_five : Says (leaf_fault p a n) (InEach a n (IsCovered p a))
   says_five = says_each (λ s. option_map (λ (f : ℕ × Window). WindowMissing f.1 (minute_of a n s f.0)) (missing_in s.tree (windows_of p a s.of))) (IsCovered p a)
       (λ s. says_map (λ (f : ℕ × Window). WindowMissing f.1 (minute_of a n s f.0)) (missing_in s.tree (windows_of p a s.of)) (IsCovered p a s) (says_missing s.tree (windows_of p a s.of)))
 
@@ -205,7 +205,7 @@ module _ (p : Plan) (plan : IsPlan p) (on : ℕ → Kind → ℕ → Bool) (a : 
       (says_pair (λ v w. belongs p g v.job && clash p v.job w.job) (holders m ws))))
       (apart_to (holders m ws)) (apart_from (holders m ws)))
 
-  says_six : Says (collision_fault p a n) (InEach a n (λ s. AreApart p (windows_of p a s.of)))
+  pub says_six : Says (collision_fault p a n) (InEach a n (λ s. AreApart p (windows_of p a s.of)))
   says_six = says_each (λ s. option_map (λ (f : ℕ × Window × Window). Collision (minute_of a n s f.0) f.1 f.2) (collision_in p (windows_of p a s.of))) (λ s. AreApart p (windows_of p a s.of))
       (λ s. says_map (λ (f : ℕ × Window × Window). Collision (minute_of a n s f.0) f.1 f.2) (collision_in p (windows_of p a s.of)) (AreApart p (windows_of p a s.of)) (says_collision (windows_of p a s.of)))
 
@@ -215,7 +215,7 @@ module _ (p : Plan) (plan : IsPlan p) (on : ℕ → Kind → ℕ → Bool) (a : 
       (λ m. says_unless (nat_le (load p (map (run_in n) (holders m ws))) p.capacity) (m, load p (map (run_in n) (holders m ws))) (load p (map (run_in n) (holders m ws)) ≤ p.capacity)
       (tells_le (load p (map (run_in n) (holders m ws))) p.capacity))
 
-  says_seven : Says (capacity_fault p a n) (InEach a n (λ s. AreWithin p n (windows_of p a s.of)))
+  pub says_seven : Says (capacity_fault p a n) (InEach a n (λ s. AreWithin p n (windows_of p a s.of)))
   says_seven = says_each (λ s. option_map (λ (f : ℕ × ℕ). OverCapacity (minute_of a n s f.0) f.1) (overload_in p n (windows_of p a s.of))) (λ s. AreWithin p n (windows_of p a s.of))
       (λ s. says_map (λ (f : ℕ × ℕ). OverCapacity (minute_of a n s f.0) f.1) (overload_in p n (windows_of p a s.of)) (AreWithin p n (windows_of p a s.of)) (says_overload (windows_of p a s.of)))
 
@@ -225,7 +225,7 @@ module _ (p : Plan) (plan : IsPlan p) (on : ℕ → Kind → ℕ → Bool) (a : 
       (λ m. says_first (λ v. option_map (λ (w : Window). (m, v, w)) (find (blocks p m v) (holders m ws))) (λ v. AllByRecursion (λ w. blocks p m v w ≡ false) (holders m ws))
       (λ v. says_map (λ (w : Window). (m, v, w)) (find (blocks p m v) (holders m ws)) (AllByRecursion (λ w. blocks p m v w ≡ false) (holders m ws)) (says_find (blocks p m v) (holders m ws))) (holders m ws))
 
-  says_eight : Says (skip_fault p a n) (InEach a n (λ s. AreFree p (windows_of p a s.of)))
+  pub says_eight : Says (skip_fault p a n) (InEach a n (λ s. AreFree p (windows_of p a s.of)))
   says_eight = says_each (λ s. option_map (λ (f : ℕ × Window × Window). SkipBlocked (minute_of a n s f.0) f.1 f.2) (blocked_in p (windows_of p a s.of))) (λ s. AreFree p (windows_of p a s.of))
       (λ s. says_map (λ (f : ℕ × Window × Window). SkipBlocked (minute_of a n s f.0) f.1 f.2) (blocked_in p (windows_of p a s.of)) (AreFree p (windows_of p a s.of)) (says_blocked (windows_of p a s.of)))
 

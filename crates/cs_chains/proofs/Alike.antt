@@ -1,0 +1,101 @@
+-- Tests of all minutes of a day, of all cron jobs and of all kinds.
+use Rattle.std.proofs.Common.{ℕ, ◌<◌, ◌≤◌, ◌≡◌, ◌&&◌, Bool, true, false, List, [], ◌∷◌, Option, Some, length, get_or, refl, sym, ap, ◌∙◌, subst, arith, inl, inr}
+use Rattle.std.proofs.lemmas.Bool.{and_parts}
+use Rattle.std.specs.List.{list_all, range_with_len}
+use Rattle.cs_civil.specs.Calendar.{Kind}
+use Rattle.cs_history.specs.Lists.{below}
+use Rattle.cs_windows.specs.Planned.{due_on, is_due_on}
+use Rattle.cs_windows.specs.Windows.{day_minutes}
+use Rattle.cs_windows.proofs.Members.{Has, has_range, range_has}
+use Rattle.cs_accepted.specs.Faults.{Fault, ClassNotDue, first_of, is_due_alike, or_else, same_bool, unless}
+use Rattle.cs_accepted.proofs.Below.{below_range}
+use Rattle.cs_cert.specs.Certificate.{class_of, is_due_in}
+use Rattle.cs_cert.specs.Content.{Content}
+use Rattle.cs_cert.specs.declared.class.Class.{Class}
+use Rattle.cs_claim.specs.Claim.{as_certificate, class_at}
+use Rattle.cs_crontab.specs.Crontab.{CommandLine}
+use Rattle.std.proofs.lemmas.List.{get_or_default}
+use Rattle.cs_decl.specs.Plan.{Declared, as_plan, command_of, no_command}
+
+-- whether the class of a kind has the due minutes of a cron job
+abbrev pub job_alike : Declared → Content → Kind → ℕ → Bool
+job_alike d c k j = list_all (λ m. same_bool (is_due_in (class_at c.classes (class_of c k)) j m) (due_on d j k m)) day_minutes
+
+abbrev pub unlike : Declared → Content → Kind → Option Fault
+unlike d c k = unless (is_due_alike (as_plan d) (due_on d) (as_certificate c) k) (ClassNotDue k)
+
+pub all_true : {A : Type 0} (t : A → Bool) (xs : List A) → ((x : A) → Has xs x → t x ≡ true) → list_all t xs ≡ true
+all_true t [] h = refl
+all_true t (x ∷ xs) h = ap (λ (b : Bool). b && list_all t xs) (h x (inl refl)) ∙ all_true t xs (λ y k. h y (inr k))
+
+pub all_false : {A : Type 0} (t : A → Bool) (xs : List A) (x : A) → Has xs x → t x ≡ false → list_all t xs ≡ false
+all_false t [] x h e = absurd h
+all_false t (y ∷ ys) x (inl i) e = ap (λ (b : Bool). b && list_all t ys) (ap t i ∙ e)
+all_false t (y ∷ ys) x (inr h) e = ap (λ (b : Bool). t y && b) (all_false t ys x h e) ∙ and_false (t y)
+  where
+    and_false : (b : Bool) → (b && false) ≡ false
+    and_false true = refl
+    and_false false = refl
+
+all_alike : {A : Type 0} (t u : A → Bool) (xs : List A) → ((x : A) → Has xs x → t x ≡ u x) → list_all t xs ≡ list_all u xs
+all_alike t u [] h = refl
+all_alike t u (x ∷ xs) h = ap (λ (b : Bool). b && list_all t xs) (h x (inl refl)) ∙ ap (λ (b : Bool). u x && b) (all_alike t u xs (λ y k. h y (inr k)))
+
+pub minutes_true : (t : ℕ → Bool) (n : ℕ) → 1440 ≤ n → ((m : ℕ) → m < n → t m ≡ true) → list_all t day_minutes ≡ true
+unfolding day_minutes
+minutes_true t n l h = all_true t (range_with_len 0 1440) (λ m k. h m (let r = range_has 0 1440 m k in omega (arith, r.1, l)))
+
+each_true : {A : Type 0} (t : A → Bool) (xs : List A) (x : A) → list_all t xs ≡ true → Has xs x → t x ≡ true
+each_true t [] x e h = absurd h
+each_true t (y ∷ ys) x e (inl i) = sym (ap t i) ∙ (and_parts (t y) (list_all t ys) e).0
+each_true t (y ∷ ys) x e (inr h) = each_true t ys x (and_parts (t y) (list_all t ys) e).1 h
+
+minutes_each : (t : ℕ → Bool) → list_all t day_minutes ≡ true → (m : ℕ) → m < 1440 → t m ≡ true
+unfolding day_minutes
+minutes_each t e m lt = each_true t (range_with_len 0 1440) m e (has_range 0 1440 m (omega arith) (omega (arith, lt)))
+
+pub minutes_false : (t : ℕ → Bool) (m : ℕ) → m < 1440 → t m ≡ false → list_all t day_minutes ≡ false
+unfolding day_minutes
+minutes_false t m l e = all_false t (range_with_len 0 1440) m (has_range 0 1440 m (omega arith) (omega (arith, l))) e
+
+pub minutes_alike : (t u : ℕ → Bool) → ((m : ℕ) → m < 1440 → t m ≡ u m) → list_all t day_minutes ≡ list_all u day_minutes
+unfolding day_minutes
+minutes_alike t u h = all_alike t u (range_with_len 0 1440) (λ m k. h m (let r = range_has 0 1440 m k in omega (arith, r.1)))
+
+pub below_true : (t : ℕ → Bool) (n k : ℕ) → n ≤ k → ((j : ℕ) → j < k → t j ≡ true) → list_all t (below n) ≡ true
+below_true t n k l h = all_true t (below n) (λ j has. h j (let r = range_has 0 n j (subst (λ (xs : List ℕ). Has xs j) (below_range n) has) in omega (arith, r.1, l)))
+
+pub below_false : (t : ℕ → Bool) (n j : ℕ) → j < n → t j ≡ false → list_all t (below n) ≡ false
+below_false t n j l e = all_false t (below n) j (subst (λ (xs : List ℕ). Has xs j) (sym (below_range n)) (has_range 0 n j (omega arith) (omega (arith, l)))) e
+
+pub unlike_here : (d : Declared) (c : Content) (k : Kind) (ks : List Kind) → is_due_alike (as_plan d) (due_on d) (as_certificate c) k ≡ false → first_of (unlike d c) (k ∷ ks) ≡ Some (ClassNotDue k)
+unlike_here d c k ks e = ap (λ (b : Bool). or_else (unless b (ClassNotDue k)) (first_of (unlike d c) ks)) e
+
+pub unlike_later : (d : Declared) (c : Content) (k : Kind) (ks : List Kind) → is_due_alike (as_plan d) (due_on d) (as_certificate c) k ≡ true → first_of (unlike d c) (k ∷ ks) ≡ first_of (unlike d c) ks
+unlike_later d c k ks e = ap (λ (b : Bool). or_else (unless b (ClassNotDue k)) (first_of (unlike d c) ks)) e
+
+-- the line of a job is that at its place
+pub job_is : (d : Declared) (c : Content) (k : Kind) (j : ℕ) (class : Class) (line : CommandLine) (lines : List CommandLine) → class ≡ class_at c.classes (class_of c k) → lines ≡ d.crontab.lines → j < length lines → line ≡ get_or lines j line → list_all (λ m. same_bool (is_due_in class j m) (is_due_on line.when k m)) day_minutes ≡ job_alike d c k j
+job_is d c k j class line lines same whole lt is =
+    let e : line ≡ command_of d j = is ∙ (get_or_default lines j line no_command lt ∙ ap (λ (l : List CommandLine). get_or l j no_command) whole) in
+    ap (λ (cl : Class). list_all (λ m. same_bool (is_due_in cl j m) (is_due_on line.when k m)) day_minutes) same
+    ∙ ap (λ (l : CommandLine). list_all (λ m. same_bool (is_due_in (class_at c.classes (class_of c k)) j m) (is_due_on l.when k m)) day_minutes) e
+
+same_bool_is : (x y : Bool) → x ≡ y → same_bool x y ≡ true
+same_bool_is true y e = sym e
+same_bool_is false true e = e
+same_bool_is false false e = refl
+
+is_same_bool : (x y : Bool) → same_bool x y ≡ true → x ≡ y
+is_same_bool true y e = sym e
+is_same_bool false true e = e
+is_same_bool false false e = refl
+
+-- the answer whether two tests agree at each minute of a day
+agree_step : (f g : ℕ → Bool) (b t : Bool) → list_all (λ m. same_bool (f m) (g m)) day_minutes ≡ t → (b ≡ true → (m : ℕ) → m < 1440 → f m ≡ g m) → (((m : ℕ) → m < 1440 → f m ≡ g m) → b ≡ true) → b ≡ list_all (λ m. same_bool (f m) (g m)) day_minutes
+agree_step f g true t e to from = sym (minutes_true (λ m. same_bool (f m) (g m)) 1440 (omega arith) (λ m lt. same_bool_is (f m) (g m) (to refl m lt)))
+agree_step f g false true e to from = from (λ m lt. is_same_bool (f m) (g m) (minutes_each (λ k. same_bool (f k) (g k)) e m lt)) ∙ sym e
+agree_step f g false false e to from = sym e
+
+pub agree : (f g : ℕ → Bool) (b : Bool) → (b ≡ true → (m : ℕ) → m < 1440 → f m ≡ g m) → (((m : ℕ) → m < 1440 → f m ≡ g m) → b ≡ true) → b ≡ list_all (λ m. same_bool (f m) (g m)) day_minutes
+agree f g b to from = agree_step f g b (list_all (λ m. same_bool (f m) (g m)) day_minutes) refl to from

@@ -1,0 +1,7 @@
+pub mod Grown
+pub mod Searched
+pub mod InUse
+pub mod Missed
+pub mod Alike
+pub mod Ending
+pub mod Lasting

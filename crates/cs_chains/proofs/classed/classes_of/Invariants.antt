@@ -1,0 +1,6 @@
+use Rattle.std.proofs.Common.{◌≡◌, map, take}
+use Rattle.cs_cert.specs.Certificate.{class_of, content}
+use Rattle.cs_chains.proofs.classed.classes_of.Given as goal
+
+abbrev pub invariant-loop-kind : goal.invariant-loop-kind
+invariant-loop-kind l = l.classes.items ≡ map (class_of (content l.certificate)) (take l.kind-index l.chain.items)

@@ -1,0 +1,4 @@
+pub mod Chains
+pub mod Used
+pub mod Days
+pub mod Fitting

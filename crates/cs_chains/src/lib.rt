@@ -1,0 +1,19 @@
+//! The stretches of days that a certificate has to speak of, and the first two rules that it is accepted by.
+#![tactic(auto)]
+
+mod chain;
+mod classed;
+mod fitting;
+mod last;
+mod missing;
+#[cfg(test)]
+mod tests;
+mod unlike;
+mod used;
+
+pub use chain::{Chain, chains};
+pub use fitting::stretch_length;
+pub use last::last_day;
+pub use missing::first_missing;
+pub use unlike::first_unlike;
+pub use used::{UsedStretch, used_stretches};

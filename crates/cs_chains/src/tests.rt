@@ -1,0 +1,169 @@
+use crate::{chains, first_missing, first_unlike, last_day, stretch_length, used_stretches};
+use cs_anacrontab::read_anacrontab;
+use cs_cert::{Certificate, read_certificate};
+use cs_civil::DayKind;
+use cs_crontab::read_crontab;
+use cs_decl::{Plan, join, read_declarations};
+use cs_schedule::{Field, Numbers, Schedule};
+use cs_windows::Occupied;
+use std::alloc::{AllocError, Global};
+use std::process::Abort;
+use std::test::Fail;
+
+/// Class 1 is that of 29 February, class 0 that of all other days, and each two classes have a stretch.
+const LEAP: &str =
+    "{\"classes\":[{\"backlog\":[],\"due\":[]},{\"backlog\":[],\"due\":[]}],\"kinds\":{\"in\":[2],\"no\":{\"class\":0},\"split\":\"month\",\"yes\":{\"in\":[29],\"no\":{\"class\":0},\"split\":\"day\",\"yes\":{\"class\":1}}},\"pairs\":[{\"of\":[0,0],\"tree\":{\"list\":[]}},{\"of\":[0,1],\"tree\":{\"list\":[]}},{\"of\":[1,0],\"tree\":{\"list\":[]}},{\"of\":[1,1],\"tree\":{\"list\":[]}}],\"reach\":[],\"version\":1}";
+
+/// Class 1 is that of each 13th, on which job 0 is due at 01:00, class 0 that of all other days.
+const THIRTEENTH: &str =
+    "{\"classes\":[{\"backlog\":[],\"due\":[]},{\"backlog\":[],\"due\":[[0,[60]]]}],\"kinds\":{\"in\":[13],\"no\":{\"class\":0},\"split\":\"day\",\"yes\":{\"class\":1}},\"pairs\":[],\"reach\":[],\"version\":1}";
+
+fn certificate(rt: &impl Abort, alloc: Global, text: &str) -> Certificate {
+    read_certificate(alloc, text.as_bytes()).expect(rt, "a certificate")
+}
+
+fn kind(rt: &impl Abort, month: u8, dom: u8, dow: u8) -> DayKind {
+    DayKind::new(month, dom, dow).expect(rt, "a kind")
+}
+
+/// A plan of one cron job on these days.
+fn plan(rt: &impl Abort, alloc: Global, table: &str) -> Plan {
+    join(
+        alloc,
+        read_crontab(alloc, table.as_bytes()).expect(rt, "a crontab"),
+        read_anacrontab(alloc, b"").expect(rt, "an anacrontab"),
+        read_declarations(
+            alloc,
+            b"{\"capacity\":1,\"cron\":[{\"line\":1,\"max\":10}]}",
+        )
+        .expect(rt, "declarations"),
+    )
+    .expect(rt, "a plan")
+}
+
+/// A kind for each day of a leap year and weekday; after each of the seven 28 February a chain has two ways on.
+#[test]
+fn chains_of_each_length(rt: HostRuntime) -> Result<(), Fail> {
+    for (days, count) in [(1, 2_562), (2, 2_569), (3, 2_576), (4, 2_583)] {
+        assert_eq!(rt; chains(rt.alloc(), days)?.len(), count);
+    }
+    let threes = chains(rt.alloc(), 3)?;
+    let first = threes.first().expect(&rt, "a chain");
+    let new_year = [kind(&rt, 1, 1, 0), kind(&rt, 1, 2, 1), kind(&rt, 1, 3, 2)];
+    assert!(rt; first.as_slice() == new_year.as_slice());
+    let leap = [kind(&rt, 2, 28, 0), kind(&rt, 2, 29, 1), kind(&rt, 3, 1, 2)];
+    let common = [kind(&rt, 2, 28, 0), kind(&rt, 3, 1, 1), kind(&rt, 3, 2, 2)];
+    assert!(rt;
+        threes
+            .iter()
+            .any(|chain| chain.as_slice() == leap.as_slice())
+    );
+    assert!(rt;
+        threes
+            .iter()
+            .any(|chain| chain.as_slice() == common.as_slice())
+    );
+    Ok(())
+}
+
+/// No day after 29 February is another.
+#[test]
+fn stretches_in_use(rt: HostRuntime) -> Result<(), Fail> {
+    let alloc = rt.alloc();
+    let certificate = certificate(&rt, alloc, LEAP);
+    let used = used_stretches(alloc, &certificate, 2)?;
+    let rows: [[u32; 2]; 3] = [[0, 0], [0, 1], [1, 0]];
+    assert_eq!(rt; used.len(), rows.len());
+    for (number, classes) in rows.iter().enumerate() {
+        let stretch = used.get(number).expect(&rt, "a stretch");
+        assert_eq!(rt; stretch.number, number);
+        assert!(rt; stretch.stretch.of.as_slice() == classes.as_slice());
+    }
+    let leap = [kind(&rt, 2, 28, 0), kind(&rt, 2, 29, 1)];
+    let stretch = used.get(1).expect(&rt, "a stretch");
+    assert!(rt; stretch.kinds.as_slice() == leap.as_slice());
+    assert_eq!(rt; used_stretches(alloc, &certificate, 3)?.len(), 0);
+    Ok(())
+}
+
+#[test]
+fn missing_stretches(rt: HostRuntime) -> Result<(), Fail> {
+    let alloc = rt.alloc();
+    let whole = certificate(&rt, alloc, LEAP);
+    assert!(rt; first_missing(alloc, &whole, 2)?.is_none());
+    let cut = LEAP.replace(alloc, "{\"of\":[0,1],\"tree\":{\"list\":[]}},", "")?;
+    let cut = certificate(&rt, alloc, cut.as_str());
+    let missing = first_missing(alloc, &cut, 2)?.expect(&rt, "a missing stretch");
+    let leap = [kind(&rt, 2, 28, 0), kind(&rt, 2, 29, 1)];
+    assert!(rt; missing.as_slice() == leap.as_slice());
+    Ok(())
+}
+
+/// The first 29 February is that of 1972, day 789 from 1970-01-01 on.
+#[test]
+fn last_days(rt: HostRuntime) {
+    let certificate = certificate(&rt, rt.alloc(), LEAP);
+    let rows: [(&[u32], u8, u32); 6] = [
+        (&[0, 0], 2, 2),
+        (&[0, 1], 2, 789),
+        (&[1, 0], 2, 790),
+        (&[0, 0, 1, 0], 4, 790),
+        (&[1, 1], 2, 2),
+        (&[1, 1, 0], 3, 3),
+    ];
+    for (classes, days, want) in rows {
+        assert_eq!(rt; last_day(&certificate, classes, days), want);
+    }
+}
+
+#[test]
+fn kinds_unlike_their_classes(rt: HostRuntime) -> Result<(), Fail> {
+    let alloc = rt.alloc();
+    let claimed = certificate(&rt, alloc, THIRTEENTH);
+    assert!(rt; first_unlike(&plan(&rt, alloc, "0 1 13 * * a"), &claimed).is_none());
+    let daily = first_unlike(&plan(&rt, alloc, "0 1 * * * a"), &claimed).expect(&rt, "a kind");
+    assert!(rt; daily == kind(&rt, 1, 1, 0));
+    let later = first_unlike(&plan(&rt, alloc, "1 1 13 * * a"), &claimed).expect(&rt, "a kind");
+    assert!(rt; later == kind(&rt, 1, 13, 0));
+    let leap = first_unlike(&plan(&rt, alloc, "0 1 13,29 2 * a"), &claimed).expect(&rt, "a kind");
+    assert!(rt; leap == kind(&rt, 1, 13, 0));
+    Ok(())
+}
+
+/// `30 23 * * *`
+fn late() -> Schedule {
+    Schedule::new(
+        Field::new(false, Numbers::every(30, 30, 1)),
+        Field::new(false, Numbers::every(23, 23, 1)),
+        Field::new(true, Numbers::every(1, 31, 1)),
+        Field::new(true, Numbers::every(1, 12, 1)),
+        Field::new(true, Numbers::every(0, 6, 1)),
+    )
+}
+
+/// From 23:30 on 1,470 minutes are left to the end of the second day, and each day more has 1,440.
+#[test]
+fn lengths_of_stretches(rt: HostRuntime) -> Result<(), Fail> {
+    let late = late();
+    let rows = [
+        (30, 2),
+        (1_470, 2),
+        (1_471, 3),
+        (2_910, 3),
+        (2_911, 4),
+        (4_320, 4),
+    ];
+    for (reach, want) in rows {
+        let cron = Occupied::Cron {
+            schedule: &late,
+            reach,
+        };
+        assert_eq!(rt; stretch_length(&[cron]), want);
+    }
+    for (from, reach, want) in [(1_439, 1_441, 2), (1_439, 1_442, 3), (1_440, 4_320, 2)] {
+        let job = Occupied::CatchUp { from, reach };
+        assert_eq!(rt; stretch_length(&[job]), want);
+    }
+    assert_eq!(rt; stretch_length(&[]), 2);
+    Ok(())
+}

@@ -1,0 +1,64 @@
+//! Which of a certificate's stretches successive days have, and which one that they have is missing.
+ghost use Rattle.std.specs.Prelude.{◌≡◌, ◌≤◌, All, Contains, IfNone, IfOk, IfSome, Some, false, map, slice_get};
+ghost use Rattle.std.specs.List.{list_any};
+ghost use Rattle.cs_accepted.specs.Faults.{used_stretches};
+ghost use Rattle.cs_cert.specs.Certificate.{content};
+ghost use Rattle.cs_cert.specs.Content.{stretch_of};
+ghost use Rattle.cs_claim.specs.Claim.{as_certificate};
+ghost use Rattle.cs_chains.specs.Used.{HaveClasses, IsOneOf, has_classes, seen};
+
+use crate::chain::{Chain, copy_of};
+use crate::classed::{ClassedChain, chain_with, classed_chains};
+use cs_cert::{Certificate, Stretch};
+use std::alloc::{AllocError, Global};
+
+/// A stretch of a certificate that successive days have, its place among the stretches, and kinds of such days.
+#[derive(Debug, Drop)]
+pub struct UsedStretch<'a> {
+    pub stretch: &'a Stretch,
+
+    /// The place in [`Certificate::stretches`].
+    pub number: usize,
+
+    /// Kinds of successive days that have its classes.
+    pub kinds: Chain,
+}
+
+/// The stretch, if it has the classes of one of these chains.
+fn used_by<'a>(
+    chains: &[ClassedChain],
+    number: usize,
+    stretch: &'a Stretch,
+) -> Option<UsedStretch<'a>>
+    ensures used { IfSome result (λ u. (u.stretch.now ≡ stretch.now) × (u.number ≡ number) × IsOneOf chains.now stretch.now.of u.kinds.items) }
+    ensures unused { IfNone result (list_any (has_classes stretch.now.of) chains.now ≡ false) }
+{
+    let chain = chain_with(chains, stretch.of.as_slice())?;
+    Some(UsedStretch {
+        stretch,
+        number,
+        kinds: copy_of(&chain.kinds),
+    })
+}
+
+/// The stretches of so many days that successive days have, in the certificate's order. The only error is want of memory.
+pub fn used_stretches<'a>(
+    alloc: Global,
+    certificate: &'a Certificate,
+    days: u8,
+) -> Result<Vec<UsedStretch<'a>>, AllocError>
+    requires { (1 ≤ days) × (days ≤ 4) }
+    ensures listed { IfOk result (λ used. map seen used.items ≡ used_stretches (as_certificate (content certificate.now)) days) }
+    ensures kinds { IfOk result (λ used. All (λ u. HaveClasses (content certificate.now) days u.stretch.now.of u.kinds.items) used.items) }
+    ensures numbers { IfOk result (λ used. All (λ u. slice_get (content certificate.now).stretches u.number ≡ Some (stretch_of u.stretch.now)) used.items) }
+{
+    let chains = classed_chains(alloc, certificate, days)?;
+    let stretches = certificate.stretches();
+    let mut used = Vec::new(alloc);
+    for (number, stretch) in stretches.iter().enumerate() {
+        if let Some(found) = used_by(chains.as_slice(), number, stretch) {
+            used.push(found)?;
+        }
+    }
+    Ok(used)
+}

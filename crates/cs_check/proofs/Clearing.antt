@@ -1,0 +1,54 @@
+-- The test whether a reach is far enough, by the classes of a stretch.
+use Rattle.std.proofs.Common.{◌≡◌, ℕ, ◌<◌, ◌≤◌, Bool, true, false, not, ◌||◌, List, [], ◌∷◌, map, length, refl, ap, sym, ◌∙◌, subst, arith, ◌↔◌}
+use Rattle.std.specs.Prelude.{unwrap_or, IsTrue}
+use Rattle.std.specs.List.{list_all}
+use Rattle.std.proofs.lemmas.Bool.{both_ways}
+use Rattle.cs_history.specs.Plan.{Plan, IsPlan}
+use Rattle.cs_cert.specs.declared.class.Class.{Class}
+use Rattle.cs_cert.specs.Certificate.{bound_in, is_due_in}
+use Rattle.cs_cert.specs.Content.{Content}
+use Rattle.cs_claim.specs.Claim.{as_certificate, class_at, no_class}
+use Rattle.cs_claim.specs.Reaches.{Clears, bounds_of}
+use Rattle.cs_wait.specs.Bounds.{ClearsBy}
+use Rattle.cs_windows.specs.Windows.{day_minutes}
+use Rattle.cs_accepted.specs.Accepted.{nth}
+use Rattle.cs_accepted.specs.Certificate.{Stretch}
+use Rattle.cs_accepted.specs.Faults.{clears_by}
+use Rattle.cs_accepted.proofs.Says.{Tells, tells_minutes, tells_if}
+use Rattle.cs_accepted.proofs.Stretches.{map_twice}
+use Rattle.cs_accepted.proofs.Points.{tells_clears}
+use Rattle.cs_check.specs.Stretches.{ClearsOn, clears_on}
+
+-- a test is what tells the same
+pub tells_is : (x y : Bool) (P : Type 0) → (x ≡ true → P) × (P → x ≡ true) → Tells y P → x ≡ y
+tells_is true true P s t = refl
+tells_is true false P s t = absurd (let e = t.1 (s.0 refl) in cc)
+tells_is false true P s t = absurd (let e = s.1 (t.0 refl) in cc)
+tells_is false false P s t = refl
+
+first_is : (classes : List Class) (of : List ℕ) → 0 < length of → class_at (map (class_at classes) of) 0 ≡ class_at classes (nth of 0)
+first_is classes [] lt = absurd (omega (arith, lt))
+first_is classes (x ∷ of) lt = refl
+
+module _ (p : Plan) (plan : IsPlan p) (c : Content) (s : Stretch) (j r : ℕ) (some : 0 < length s.of) where
+  bounds_are : bounds_of p j (map (class_at c.classes) s.of) ≡ map (λ class. (as_certificate c).bound class (unwrap_or (p.group j) 0)) s.of
+  bounds_are = map_twice (λ (class : Class). bound_in class (unwrap_or (p.group j) 0)) (class_at c.classes) s.of
+
+  to_on : Clears p (map (class_at c.classes) s.of) j r → ClearsOn p (as_certificate c) s j r
+  to_on h m lt due = subst (λ (bs : List (ℕ → ℕ)). ClearsBy bs m r) bounds_are (h m lt (ap (λ (class : Class). is_due_in class j m) (first_is c.classes s.of some) ∙ due))
+
+  from_on : ClearsOn p (as_certificate c) s j r → Clears p (map (class_at c.classes) s.of) j r
+  from_on h m lt due = subst (λ (bs : List (ℕ → ℕ)). ClearsBy bs m r) (sym bounds_are) (h m lt (sym (ap (λ (class : Class). is_due_in class j m) (first_is c.classes s.of some)) ∙ due))
+
+  pub tells_on : Tells (clears_on p (as_certificate c) j r s) (ClearsOn p (as_certificate c) s j r)
+  tells_on =
+      tells_minutes (λ m. not ((as_certificate c).due (nth s.of 0) j m) || clears_by (map (λ class. (as_certificate c).bound class (unwrap_or (p.group j) 0)) s.of) m r)
+      (λ m. (as_certificate c).due (nth s.of 0) j m ≡ true → ClearsBy (map (λ class. (as_certificate c).bound class (unwrap_or (p.group j) 0)) s.of) m r)
+      (λ m. tells_if ((as_certificate c).due (nth s.of 0) j m) (clears_by (map (λ class. (as_certificate c).bound class (unwrap_or (p.group j) 0)) s.of) m r) (ClearsBy (map (λ class. (as_certificate c).bound class (unwrap_or (p.group j) 0)) s.of) m r)
+      (tells_clears p plan (λ _ _ _. false) (as_certificate c) 1 (omega arith) (map (λ class. (as_certificate c).bound class (unwrap_or (p.group j) 0)) s.of) m r))
+
+  -- what the classes of the stretch tell is the test
+  pub clears_is : (x : Bool) (classes : List Class) → classes ≡ map (class_at c.classes) s.of → (IsTrue x ↔ Clears p classes j r) → x ≡ clears_on p (as_certificate c) j r s
+  clears_is x classes e is =
+      tells_is x (clears_on p (as_certificate c) j r s) (ClearsOn p (as_certificate c) s j r)
+      (λ h. to_on (subst (λ (ks : List Class). Clears p ks j r) e (is.0 h)), λ h. is.1 (subst (λ (ks : List Class). Clears p ks j r) (sym e) (from_on h))) tells_on

@@ -1,0 +1,56 @@
+-- The first fault of all, by where it is found.
+use Rattle.std.proofs.Common.{◌≡◌, ℕ, ◌<◌, ◌≤◌, Bool, not, ◌||◌, Option, None, Some, refl, ap, sym, ◌∙◌, subst}
+use Rattle.cs_decl.specs.Plan.{Declared, as_plan}
+use Rattle.cs_cert.specs.Content.{Content}
+use Rattle.cs_claim.specs.Claim.{as_certificate}
+use Rattle.cs_civil.specs.Calendar.{Kind}
+use Rattle.cs_history.specs.Lists.{below}
+use Rattle.cs_history.specs.Plan.{Plan, waits}
+use Rattle.cs_windows.specs.Planned.{due_on}
+use Rattle.cs_accepted.specs.Certificate.{Certificate}
+use Rattle.cs_accepted.specs.Faults.{Fault, ReachTooShort, due_fault, first_fault, first_of, leaf_fault, or_else, reach_fault, reaches_far, step_fault, stretch_fault, unless, used_stretches, collision_fault, capacity_fault, skip_fault}
+use Rattle.cs_check.specs.Case.{fault_of, length_for}
+use Rattle.cs_check.specs.Stretches.{is_far_by, fault_by_windows, later_fault}
+
+module _ (p : Plan) (on : ℕ → Kind → ℕ → Bool) (a : Certificate) (n : ℕ) where
+  rest : Option Fault
+  rest = or_else (step_fault p a n) (or_else (reach_fault p a n) (or_else (leaf_fault p a n) (or_else (collision_fault p a n) (or_else (capacity_fault p a n) (skip_fault p a n)))))
+
+  first_is : first_fault p on a n ≡ or_else (due_fault p on a) (or_else (stretch_fault a n) rest)
+  unfolding first_fault rest
+  first_is = refl
+
+  far_same : (j : ℕ) (o : Option ℕ) → reaches_far p a n j o ≡ is_far_by p a (used_stretches a n) j o
+  far_same j None = refl
+  far_same j (Some r) = refl
+
+  reach_same : reach_fault p a n ≡ first_of (λ j. unless (not (waits p j) || is_far_by p a (used_stretches a n) j (a.reach j)) (ReachTooShort j)) (below p.crons)
+  reach_same = ap (λ (f : ℕ → Option Fault). first_of f (below p.crons)) (λ i j. unless (not (waits p j) || far_same j (a.reach j) i) (ReachTooShort j))
+
+  rest_is : rest ≡ later_fault p a n (used_stretches a n)
+  unfolding later_fault fault_by_windows rest
+  rest_is = ap (λ (o : Option Fault). or_else (step_fault p a n) (or_else o (or_else (leaf_fault p a n) (or_else (collision_fault p a n) (or_else (capacity_fault p a n) (skip_fault p a n)))))) reach_same
+
+  pub one_first : (f : Fault) → due_fault p on a ≡ Some f → first_fault p on a n ≡ Some f
+  one_first f e = first_is ∙ ap (λ (o : Option Fault). or_else o (or_else (stretch_fault a n) rest)) e
+
+  pub two_next : (f : Fault) → due_fault p on a ≡ None → stretch_fault a n ≡ Some f → first_fault p on a n ≡ Some f
+  two_next f none e = first_is ∙ (ap (λ (o : Option Fault). or_else o (or_else (stretch_fault a n) rest)) none ∙ ap (λ (o : Option Fault). or_else o rest) e)
+
+  pub later_last : due_fault p on a ≡ None → stretch_fault a n ≡ None → first_fault p on a n ≡ later_fault p a n (used_stretches a n)
+  later_last none complete = first_is ∙ (ap (λ (o : Option Fault). or_else o (or_else (stretch_fault a n) rest)) none ∙ (ap (λ (o : Option Fault). or_else o rest) complete ∙ rest_is))
+
+-- the same of a plan and a certificate
+pub unlike_first : (d : Declared) (c : Content) (f : Fault) → due_fault (as_plan d) (due_on d) (as_certificate c) ≡ Some f → fault_of d c ≡ Some f
+unfolding fault_of
+unlike_first d c f e = one_first (as_plan d) (due_on d) (as_certificate c) (length_for d c) f e
+
+pub missing_next : (d : Declared) (c : Content) (n : ℕ) (f : Fault) → n ≡ length_for d c → due_fault (as_plan d) (due_on d) (as_certificate c) ≡ None → stretch_fault (as_certificate c) n ≡ Some f → fault_of d c ≡ Some f
+unfolding fault_of
+missing_next d c n f long none e = two_next (as_plan d) (due_on d) (as_certificate c) (length_for d c) f none (ap (stretch_fault (as_certificate c)) (sym long) ∙ e)
+
+pub others_last : (d : Declared) (c : Content) (n : ℕ) → n ≡ length_for d c → due_fault (as_plan d) (due_on d) (as_certificate c) ≡ None → stretch_fault (as_certificate c) n ≡ None → fault_of d c ≡ later_fault (as_plan d) (as_certificate c) n (used_stretches (as_certificate c) n)
+unfolding fault_of
+others_last d c n long none complete =
+    later_last (as_plan d) (due_on d) (as_certificate c) (length_for d c) none (ap (stretch_fault (as_certificate c)) (sym long) ∙ complete)
+    ∙ ap (λ (k : ℕ). later_fault (as_plan d) (as_certificate c) k (used_stretches (as_certificate c) k)) (sym long)

@@ -1,0 +1,67 @@
+-- Where no fault is found, every legal history in time is safe.
+use Rattle.std.proofs.Common.{◌≡◌, ℕ, ◌+◌, ◌*◌, ◌/◌, ◌%◌, ◌<◌, ◌≤◌, Bool, true, false, List, [], ◌∷◌, length, Option, None, Some, refl, ap, sym, ◌∙◌, subst, arith}
+use Rattle.cs_civil.specs.Calendar.{Kind, kind}
+use Rattle.cs_history.specs.History.{History, From, ◌▸◌, IsSafe, IsSafeNow, running}
+use Rattle.cs_history.specs.Lists.{total}
+use Rattle.cs_history.specs.Plan.{Plan, IsPlan}
+use Rattle.cs_history.specs.declared.run.Going.{Going}
+use Rattle.cs_crontab.specs.declared.table.When.{When}
+use Rattle.cs_crontab.specs.declared.table.When.TheVariants.{At, Reboot}
+use Rattle.cs_schedule.specs.Times.{is_due as is_time_due}
+use Rattle.cs_decl.specs.Plan.{Declared, as_plan, command_of, is_due}
+use Rattle.cs_windows.specs.Planned.{due_on, is_due_on}
+use Rattle.cs_cert.specs.Content.{Content}
+use Rattle.cs_claim.specs.Claim.{as_certificate}
+use Rattle.cs_safety.proofs.Safety.{safe}
+use Rattle.cs_safety.proofs.Runs.{runs_in_windows}
+use Rattle.cs_accepted.specs.Accepted.{reach_in, bound_on, IsAccepted, IsByKind, IsLength}
+use Rattle.cs_accepted.specs.Faults.{first_fault}
+use Rattle.cs_accepted.proofs.Calm.{calm}
+use Rattle.cs_accepted.proofs.Bounded.{bounded}
+use Rattle.cs_accepted.proofs.Points.{says_all}
+use Rattle.cs_accepted.proofs.Lengths.{length_is}
+use Rattle.cs_check.specs.Case.{reach_for, length_for, fault_of, IsAcceptedWith, IsFit}
+use Rattle.cs_check.specs.Checked.{AreFew, IsHeadline, IsCalmThroughout, StayInWindows}
+
+due_step : (w : When) (d m : ℕ) → m < 1440 → is_due w (1440 * d + m) ≡ is_due_on w (kind d) m
+due_step (At schedule) d m lt =
+    let x : (1440 * d + m) / 1440 ≡ d = omega (arith, lt) in
+    let y : (1440 * d + m) % 1440 ≡ m = omega (arith, lt) in
+    ap (λ (k : ℕ). is_time_due schedule (kind k) ((1440 * d + m) % 1440)) x ∙ ap (λ (k : ℕ). is_time_due schedule (kind d) k) y
+due_step Reboot d m lt = refl
+
+pub by_kind : (d : Declared) → IsByKind (as_plan d) (due_on d)
+by_kind d j e m cron lt = due_step (command_of d j).when e m lt
+
+pub length_of : (d : Declared) (c : Content) → IsFit d c → IsLength (as_plan d) (due_on d) (reach_for d c) (length_for d c)
+length_of d c fit = length_is (as_plan d) fit.plan (due_on d) (reach_for d c) fit.modest
+
+pub accepted : (d : Declared) (c : Content) → IsFit d c → fault_of d c ≡ None → IsAcceptedWith d c
+unfolding fault_of
+accepted d c fit e = let l = length_of d c fit in (says_all (as_plan d) fit.plan (due_on d) (as_certificate c) (length_for d c) (omega (arith, l.range.0))).0 e
+
+pub headline : (d : Declared) (c : Content) → IsFit d c → fault_of d c ≡ None → IsHeadline (as_plan d)
+headline d c fit e =
+    let l = length_of d c fit in
+    let ok = accepted d c fit e in
+    safe (as_plan d) (reach_for d c) (bound_on (as_certificate c)) fit.plan
+    (bounded (as_plan d) (due_on d) (by_kind d) (as_certificate c) (length_for d c) l ok)
+    (calm (as_plan d) fit.plan (due_on d) (by_kind d) (as_certificate c) (length_for d c) l ok)
+
+pub calm_throughout : (d : Declared) (c : Content) → IsFit d c → fault_of d c ≡ None → IsCalmThroughout (as_plan d) (reach_for d c)
+calm_throughout d c fit e = calm (as_plan d) fit.plan (due_on d) (by_kind d) (as_certificate c) (length_for d c) (length_of d c fit) (accepted d c fit e)
+
+pub stays : (d : Declared) (c : Content) → IsFit d c → fault_of d c ≡ None → StayInWindows (as_plan d) (reach_for d c)
+stays d c fit e h legal time =
+    runs_in_windows (as_plan d) (reach_for d c) (bound_on (as_certificate c)) fit.plan (bounded (as_plan d) (due_on d) (by_kind d) (as_certificate c) (length_for d c) (length_of d c fit) (accepted d c fit e)) h legal time
+
+safe_here : (p : Plan) (h : History) → IsSafe p h → IsSafeNow p h
+safe_here p (From s) is = is
+safe_here p (h ▸ e) is = is.1
+
+length_total : (p : Plan) → IsPlan p → (rs : List Going) → length rs ≤ total (λ r. p.weight r.run.job) rs
+length_total p plan [] = omega arith
+length_total p plan (r ∷ rs) = omega (arith, plan.weights r.run.job, length_total p plan rs)
+
+pub few : (d : Declared) (c : Content) → IsFit d c → fault_of d c ≡ None → AreFew (as_plan d)
+few d c fit e h legal time = omega (arith, length_total (as_plan d) fit.plan (running (as_plan d) h), (safe_here (as_plan d) h (headline d c fit e h legal time)).load)

@@ -1,0 +1,7 @@
+pub mod Headline
+pub mod Using
+pub mod Acceptance
+pub mod Clearing
+pub mod Covering
+pub mod Firsts
+pub mod Fitting

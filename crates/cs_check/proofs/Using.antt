@@ -1,0 +1,89 @@
+-- What follows for a stretch in use.
+use Rattle.std.proofs.Common.{◌≡◌, ℕ, ◌<◌, ◌≤◌, Bool, true, false, List, [], ◌∷◌, ◌++◌, ◌+◌, zero, suc, map, take, length, slice_set, Bor, All, None, Some, Option, refl, ap, sym, ◌∙◌, subst, arith, if◌then◌else◌, nat_eq, get_or}
+use Rattle.std.specs.Prelude.{unwrap_or, slice_get, ◌==◌}
+use Rattle.std.proofs.lemmas.List.{length-map, map-append, take_more_set}
+use Rattle.std.proofs.Math.Seq.{take-suc}
+use Rattle.std.proofs.lemmas.List.Elements.{All-map, All-head, All-tail}
+use Rattle.cs_civil.specs.Calendar.{Kind}
+use Rattle.cs_decl.specs.Plan.{Declared, as_plan}
+use Rattle.cs_cert.specs.Content.{Content, stretch_of}
+use Rattle.cs_chains.specs.declared.used.UsedStretch.{UsedStretch}
+use Rattle.cs_cert.specs.Certificate.{class_of, reach_of}
+use Rattle.cs_cert.specs.Kept.{IsSound, Keeps}
+use Rattle.cs_history.specs.Plan.{Plan, IsPlan}
+use Rattle.cs_windows.specs.Planned.{due_on, listed_reach, planned, reach_by}
+use Rattle.cs_windows.specs.Windows.{windows_on}
+use Rattle.cs_windows.specs.declared.reach.JobReach.{JobReach}
+use Rattle.cs_windows.specs.declared.window.Window.{Window}
+use Rattle.cs_claim.specs.Claim.{as_certificate}
+use Rattle.cs_accepted.specs.Accepted.{occupied, windows_of}
+use Rattle.cs_accepted.specs.Faults.{due_fault}
+use Rattle.cs_accepted.proofs.ByKind.{by_kinds}
+use Rattle.cs_accepted.proofs.Points.{says_one}
+use Rattle.cs_chains.specs.Used.{HaveClasses}
+use Rattle.cs_check.specs.Case.{IsFit, length_for, reach_for}
+use Rattle.cs_cert.specs.Certificate.{content}
+use Rattle.cs_cert.specs.declared.class.Class.{Class}
+use Rattle.cs_claim.specs.Claim.{class_at}
+use Rattle.cs_accepted.specs.Accepted.{nth}
+use Rattle.cs_check.specs.declared.case.Case.{Case}
+use Rattle.cs_check.specs.Stretches.{IsCase, IsInUse}
+use Rattle.cs_check.proofs.Headline.{length_of}
+
+same_reach : (rs : List JobReach) (j : ℕ) → listed_reach rs j ≡ reach_of rs j
+same_reach [] j = refl
+same_reach (r ∷ rs) j = ap (λ (o : Option ℕ). if nat_eq r.job j then Some r.reach else o) (same_reach rs j)
+
+reach_step : (d : Declared) (c : Content) (j : ℕ) → reach_by d c.reach j ≡ reach_for d c j
+reach_step d c j = ap (λ (o : Option ℕ). unwrap_or o ((as_plan d).limit j)) (same_reach c.reach j)
+
+pub same_reaches : (d : Declared) (c : Content) → reach_by d c.reach ≡ reach_for d c
+same_reaches d c = λ i j. reach_step d c j i
+
+-- the windows of the kinds are those that the rules speak of
+pub windows_are : (d : Declared) (c : Content) (n : ℕ) (kinds : List Kind) (of : List ℕ) → IsFit d c → due_fault (as_plan d) (due_on d) (as_certificate c) ≡ None → HaveClasses c n of kinds → windows_on (planned d c.reach) kinds ≡ windows_of (as_plan d) (as_certificate c) of
+windows_are d c n kinds of fit due have =
+    ap (λ (reach : ℕ → ℕ). windows_on (occupied (as_plan d) (due_on d) reach) kinds) (same_reaches d c)
+    ∙ by_kinds (as_plan d) (due_on d) (as_certificate c) ((says_one (as_plan d) fit.plan (due_on d) (as_certificate c) (length_for d c) (omega (arith, (length_of d c fit).range.0))).0 due) kinds have.chain
+    ∙ ap (windows_of (as_plan d) (as_certificate c)) have.classes
+
+classes_below : (c : Content) (kinds : List Kind) → Keeps c → All (λ class. class < length c.classes) (map (class_of c) kinds)
+classes_below c kinds keeps = All-map (λ (class : ℕ). class < length c.classes) (class_of c) kinds (λ i d lt. keeps.class_of_kind (get_or kinds i d))
+
+pub classes_there : (c : Content) (n : ℕ) (kinds : List Kind) (of : List ℕ) → Keeps c → HaveClasses c n of kinds → All (λ class. class < length c.classes) of
+classes_there c n kinds of keeps have = subst (All (λ (class : ℕ). class < length c.classes)) have.classes (classes_below c kinds keeps)
+
+pub long_as_kinds : (c : Content) (n : ℕ) (kinds : List Kind) (of : List ℕ) → HaveClasses c n of kinds → length of ≡ n
+long_as_kinds c n kinds of have = sym (ap length have.classes) ∙ (length-map kinds (class_of c) ∙ have.long)
+
+pub number_there : (c : Content) (n : ℕ) (kinds : List Kind) (of : List ℕ) → Keeps c → HaveClasses c n of kinds → (place : ℕ) → place < n → get_or of place 0 < length c.classes
+number_there c n kinds of keeps have place lt = let long = long_as_kinds c n kinds of have in classes_there c n kinds of keeps have place 0 (omega (arith, long, lt))
+
+pub days_range : (k : Case) → IsCase k → (2 ≤ k.days) × (k.days ≤ 4)
+days_range k is = let r = (length_of k.plan.now (content k.certificate.now) is.fit).range in (omega (arith, is.long, r.0), omega (arith, is.long, r.1))
+
+-- one more of the classes
+pub one_more : (classes : List Class) (of : List ℕ) (so_far : List (Bor Class)) (place : ℕ) (class : Bor Class) → place < length so_far → place < length of → class.now ≡ class_at classes (nth of place)
+    → map (λ (x : Bor Class). x.now) (take place so_far) ≡ map (class_at classes) (take place of)
+    → map (λ (x : Bor Class). x.now) (take (place + 1) (slice_set so_far place class)) ≡ map (class_at classes) (take (place + 1) of)
+one_more classes of so_far place class lt in_of is so =
+    ap (map (λ (x : Bor Class). x.now)) (take_more_set so_far place class lt)
+    ∙ map-append (λ (x : Bor Class). x.now) (take place so_far) (class ∷ [])
+    ∙ ap (λ (xs : List Class). xs ++ class.now ∷ []) so
+    ∙ ap (λ (x : Class). map (class_at classes) (take place of) ++ x ∷ []) is
+    ∙ sym (map-append (class_at classes) (take place of) (nth of place ∷ []))
+    ∙ ap (map (class_at classes)) (sym (let e : place + 1 ≡ suc place = omega arith in ap (λ (k : ℕ). take k of) e ∙ take-suc of place 0 in_of))
+
+-- the classes of a stretch in use are as many as its days
+pub long_as_classes : (c : Content) (n : ℕ) (kinds : List Kind) (of : List ℕ) (classes : List (Bor Class)) → HaveClasses c n of kinds → map (λ (x : Bor Class). x.now) classes ≡ map (class_at c.classes) of → length classes ≡ n
+long_as_classes c n kinds of classes have e =
+    sym (length-map classes (λ (x : Bor Class). x.now)) ∙ (ap length e ∙ (length-map of (class_at c.classes) ∙ long_as_kinds c n kinds of have))
+
+at_place : {X : Type 0} (P : X → Type 0) (xs : List X) (i : ℕ) (x : X) → All P xs → slice_get xs i ≡ Some x → P x
+at_place P [] i x h e = absurd (cc)
+at_place P (y ∷ ys) zero x h e = subst P (cc) (All-head P y ys h)
+at_place P (y ∷ ys) (suc i) x h e = at_place P ys i x (All-tail P y ys h) e
+
+-- the stretches that are found are in use
+pub found_in_use : (c : Content) (n : ℕ) (us : List UsedStretch) → Keeps c → All (λ u. HaveClasses c n u.stretch.now.of u.kinds.items) us → All (λ u. slice_get c.stretches u.number ≡ Some (stretch_of u.stretch.now)) us → All (IsInUse c n) us
+found_in_use c n us keeps kinds numbers = λ k d lt. record { kinds = kinds k d lt; splits = (at_place (IsSound c.version (length c.classes)) c.stretches (get_or us k d).number (stretch_of (get_or us k d).stretch.now) keeps.stretches (numbers k d lt)).splits }

@@ -1,0 +1,9 @@
+use Rattle.cs_cert.specs.Certificate.{content}
+use Rattle.cs_check.proofs.Headline.{accepted, calm_throughout}
+use Rattle.cs_check.proofs.checking.check.Goals as goal
+
+pub returns-clause-rules : goal.returns-clause-rules
+returns-clause-rules c = accepted c.args.plan.now (content c.args.certificate) c.in_ok-judge.ensures.fit c.in_ok-judge.ensures.ok
+
+pub returns-clause-calm : goal.returns-clause-calm
+returns-clause-calm c = calm_throughout c.args.plan.now (content c.args.certificate) c.in_ok-judge.ensures.fit c.in_ok-judge.ensures.ok

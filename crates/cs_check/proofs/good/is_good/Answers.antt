@@ -1,0 +1,46 @@
+use Rattle.std.proofs.Common.{rules, ◌≡◌, ℕ, ◌<◌, true, List, length, map, subst, sym, ap, ◌∙◌, arith}
+use Rattle.std.specs.Prelude.{IsTrue}
+use Rattle.std.proofs.lemmas.Result.{IfOk-weaker}
+use Rattle.cs_accepted.specs.Accepted.{AreApart, AreFree, AreWithin, windows_of}
+use Rattle.cs_cert.specs.Certificate.{content}
+use Rattle.cs_chains.specs.Used.{seen}
+use Rattle.cs_claim.specs.Claim.{as_certificate}
+use Rattle.cs_decl.specs.Plan.{as_plan}
+use Rattle.cs_history.specs.Plan.{Plan}
+use Rattle.cs_stretch.specs.Roles.{IsOf}
+use Rattle.cs_windows.specs.Tree.{IsComplete, tree_of}
+use Rattle.cs_windows.specs.declared.window.Window.{Window}
+use Rattle.cs_check.specs.Stretches.{IsGood}
+use Rattle.cs_check.proofs.Clearing.{tells_on}
+use Rattle.cs_check.proofs.Covering.{covered_from}
+use Rattle.cs_check.proofs.Using.{days_range, long_as_kinds}
+use Rattle.cs_check.proofs.good.is_good.Goals as goal
+
+pub returns : goal.returns
+returns c =
+    let p = as_plan c.args.case.now.plan.now in
+    let k = content c.args.case.now.certificate.now in
+    let s = seen c.args.used.now in
+    let n = c.args.case.now.days in
+    let ws = windows_of p (as_certificate k) s.of in
+    let long = long_as_kinds k n c.args.used.now.kinds.items s.of c.requires.in_use.kinds in
+    let some : 0 < length s.of = omega (arith, long, (days_range c.args.case.now c.requires.case).0) in
+    let one : c.as_slice.result.now ≡ ws = c.as_slice.ensures.value ∙ c.in_ok-windows.ensures.value in
+    let two : c.as_slice-2.result.now ≡ ws = c.as_slice-2.ensures.value ∙ c.in_ok-windows.ensures.value in
+    let steps : c.steps_hold.result ≡ true = search rules in
+    let reaches : c.reaches_hold.result ≡ true = search rules in
+    let covers : c.covers.result ≡ true = search rules in
+    let complete = subst (IsComplete s.tree) one ((c.covers.ensures.complete c.requires.in_use.splits).0 covers) in
+    IfOk-weaker c.is_quiet.result
+    (λ quiet. IsTrue quiet → (q : Plan) (m : ℕ) → IsOf q c.args.case.now.roles → AreApart q c.as_slice-2.result.now × AreWithin q m c.as_slice-2.result.now × AreFree q c.as_slice-2.result.now)
+    (λ quiet. IsTrue quiet → IsGood p (as_certificate k) n s)
+    (λ quiet h is.
+    let quiet = subst (λ (w : List Window). AreApart p w × AreWithin p n w × AreFree p w) two (h is p n c.requires.case.roles) in
+    record {
+      steps = c.steps_hold.ensures steps;
+      clears = λ j r lt waits e. (tells_on p c.requires.case.fit.plan k s j r some).0 (c.reaches_hold.ensures reaches j r lt waits e);
+      covered = covered_from s.tree ws complete;
+      apart = quiet.0;
+      within = quiet.1;
+      free = quiet.2;
+    }) c.is_quiet.ensures

@@ -1,0 +1,30 @@
+-- A plan and a certificate, as the rules of acceptance see them.
+use Rattle.std.specs.Prelude.{◌≡◌, ℕ, Option}
+use Rattle.cs_decl.specs.Plan.{Declared, as_plan}
+use Rattle.cs_windows.specs.Planned.{due_on}
+use Rattle.cs_cert.specs.Content.{Content}
+use Rattle.cs_claim.specs.Claim.{as_certificate}
+use Rattle.cs_history.specs.Plan.{IsPlan}
+use Rattle.cs_accepted.specs.Accepted.{IsAccepted, IsModest, reach_in}
+use Rattle.cs_accepted.specs.Faults.{Fault, first_fault, stretch_length}
+
+-- the reach of a job
+abbrev pub reach_for : Declared → Content → ℕ → ℕ
+reach_for d c = reach_in (as_plan d) (as_certificate c)
+
+-- how many days a stretch has
+abbrev pub length_for : Declared → Content → ℕ
+length_for d c = stretch_length (as_plan d) (due_on d) (reach_for d c)
+
+-- the first fault, if there is one
+unfoldable pub fault_of : Declared → Content → Option Fault
+fault_of d c = first_fault (as_plan d) (due_on d) (as_certificate c) (length_for d c)
+
+-- the eight rules hold
+abbrev pub IsAcceptedWith : Declared → Content → Type 0
+IsAcceptedWith d c = IsAccepted (as_plan d) (due_on d) (as_certificate c) (length_for d c)
+
+-- numbers in range and names resolved
+pub record IsFit (d : Declared) (c : Content) : Type 0 where
+  pub plan : IsPlan (as_plan d)
+  pub modest : IsModest (as_plan d) (reach_for d c)

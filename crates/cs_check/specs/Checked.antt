@@ -1,0 +1,56 @@
+-- What is known of a plan that was checked.
+use Rattle.std.specs.Prelude.{◌≡◌, ℕ, ◌≤◌, Option, Some, ⊤, length}
+use Rattle.std.specs.List.{AllByRecursion}
+use Rattle.cs_civil.specs.Calendar.{Kind}
+use Rattle.cs_decl.specs.Plan.{Declared}
+use Rattle.cs_cert.specs.Content.{Content}
+use Rattle.cs_cert.specs.Certificate.{content}
+use Rattle.cs_check.specs.declared.checked.Checked.{Checked}
+use Rattle.cs_history.specs.Plan.{Plan, IsReached}
+use Rattle.cs_history.specs.Calm.{Holds, IsCalm, window_of}
+use Rattle.cs_history.specs.History.{History, now, running, IsLegal, IsInTime, IsSafe}
+use Rattle.cs_accepted.specs.Faults.{Fault, ClassNotDue, Missing, BacklogRises, ReachTooShort, WindowMissing, Collision, OverCapacity, SkipBlocked}
+use Rattle.cs_check.specs.declared.fault.CheckFault.{CheckFault}
+use Rattle.cs_check.specs.declared.fault.CheckFault.TheVariants as faults
+use Rattle.cs_check.specs.declared.fault.CheckError.{CheckError}
+use Rattle.cs_check.specs.declared.fault.CheckError.TheVariants as errors
+
+-- the plan that was checked, and the certificate that it was checked with
+abbrev pub plan_in : Checked → Declared
+plan_in c = c.plan
+
+abbrev pub certificate_in : Checked → Content
+certificate_in c = content c.certificate
+
+-- every legal history in which each run ends within its declared time is safe: no two runs of an exclusive group run at once, two
+-- that both hold its lock shared excepted, the capacity is never exceeded, and no due minute of a skip job is skipped
+abbrev pub IsHeadline : Plan → Type 0
+IsHeadline p = (h : History) → IsLegal p h → IsInTime p h → IsSafe p h
+
+-- in every such history each running run is in its window
+abbrev pub StayInWindows : Plan → (ℕ → ℕ) → Type 0
+StayInWindows p c = (h : History) → IsLegal p h → IsInTime p h → AllByRecursion (λ r. Holds p c (now h) (window_of p r)) (running p h)
+
+-- each minute that a history may reach is calm
+abbrev pub IsCalmThroughout : Plan → (ℕ → ℕ) → Type 0
+IsCalmThroughout p c = (t : ℕ) → IsReached t → IsCalm p c t
+
+-- what a fault says
+abbrev pub told : CheckFault → Fault
+told (faults.ClassNotDue kind) = ClassNotDue kind
+told (faults.MissingPair kinds) = Missing kinds.items
+told (faults.BacklogRises group at) = BacklogRises group at
+told (faults.ReachTooShort job) = ReachTooShort job
+told (faults.WindowMissing window at) = WindowMissing window at
+told (faults.Collision at one other) = Collision at one other
+told (faults.OverCapacity at load) = OverCapacity at load
+told (faults.SkipBlocked at skip other) = SkipBlocked at skip other
+
+-- want of memory, or the fault
+abbrev pub Tells : Option Fault → CheckError → Type 0
+Tells o (errors.Fault f) = o ≡ Some (told f)
+Tells o errors.OutOfMemory = ⊤
+
+-- in every such history at most as many runs run at once as the capacity
+abbrev pub AreFew : Plan → Type 0
+AreFew p = (h : History) → IsLegal p h → IsInTime p h → length (running p h) ≤ p.capacity

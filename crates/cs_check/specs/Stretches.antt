@@ -1,0 +1,108 @@
+-- What is asked of one stretch.
+use Rattle.std.specs.Prelude.{◌≡◌, ℕ, ◌-◌, ◌<◌, true, false, Bool, not, ◌||◌, List, [], map, Option, None, Some, option_map, unwrap_or, All}
+use Rattle.std.specs.List.{list_all}
+use Rattle.cs_windows.specs.Windows.{day_minutes}
+use Rattle.cs_history.specs.Lists.{below}
+use Rattle.cs_history.specs.Plan.{Plan, waits}
+use Rattle.cs_accepted.specs.Certificate.{Certificate, Stretch}
+use Rattle.cs_accepted.specs.Accepted.{AreApart, AreFree, AreWithin, IsCovered, arrivals, nth, windows_of}
+use Rattle.cs_accepted.specs.Faults.{Fault, BacklogRises, ReachTooShort, WindowMissing, Collision, OverCapacity, SkipBlocked, blocked_in, clears_by, collision_in, due_fault, first_of, has_waiter, or_else, stretch_fault, unless, used_stretches, minute_of, missing_in, overload_in, rise_in}
+use Rattle.cs_wait.specs.Bounds.{ClearsBy, StepsHold}
+use Rattle.cs_cert.specs.Content.{Content}
+use Rattle.cs_cert.specs.Certificate.{content}
+use Rattle.cs_cert.specs.Kept.{Keeps}
+use Rattle.cs_claim.specs.Claim.{as_certificate}
+use Rattle.cs_decl.specs.Plan.{Declared, as_plan}
+use Rattle.cs_stretch.specs.Roles.{IsOf}
+use Rattle.cs_windows.specs.Occupied.{job_of}
+use Rattle.cs_windows.specs.Planned.{due_on, planned}
+use Rattle.cs_check.specs.Case.{IsFit, length_for}
+use Rattle.cs_check.specs.declared.case.Case.{Case}
+use Rattle.cs_windows.specs.Tree.{SplitsInside, tree_of}
+use Rattle.cs_chains.specs.Used.{HaveClasses, seen}
+use Rattle.cs_chains.specs.declared.used.UsedStretch.{UsedStretch}
+use Rattle.cs_check.specs.declared.rule.Rule.{Rule}
+use Rattle.cs_check.specs.declared.rule.Rule.TheVariants as rules
+
+-- the fault of a stretch by one of the rules that are looked at stretch by stretch
+abbrev pub fault_by : Rule → Plan → Certificate → ℕ → Stretch → Option Fault
+fault_by rules.Steps p a n s = option_map (λ f. BacklogRises f.1 (minute_of a n s f.0 - 1440)) (rise_in p a n s)
+fault_by rules.Leaves p a n s = option_map (λ f. WindowMissing f.1 (minute_of a n s f.0)) (missing_in s.tree (windows_of p a s.of))
+fault_by rules.Collisions p a n s = option_map (λ f. Collision (minute_of a n s f.0) f.1 f.2) (collision_in p (windows_of p a s.of))
+fault_by rules.Capacity p a n s = option_map (λ f. OverCapacity (minute_of a n s f.0) f.1) (overload_in p n (windows_of p a s.of))
+fault_by rules.SkipJobs p a n s = option_map (λ f. SkipBlocked (minute_of a n s f.0) f.1 f.2) (blocked_in p (windows_of p a s.of))
+
+-- after each due minute of the job on the first day of the stretch the bound of its group is zero within the reach
+abbrev pub ClearsOn : Plan → Certificate → Stretch → ℕ → ℕ → Type 0
+ClearsOn p a s j reach = (m : ℕ) → m < 1440 → a.due (nth s.of 0) j m ≡ true → ClearsBy (map (λ class. a.bound class (unwrap_or (p.group j) 0)) s.of) m reach
+
+-- the rules that are looked at stretch by stretch hold of it
+pub record IsGood (p : Plan) (a : Certificate) (n : ℕ) (s : Stretch) : Type 0 where
+  pub steps : (g : ℕ) → g < p.groups → has_waiter p g ≡ true → StepsHold (a.bound (nth s.of (n - 2)) g) (arrivals p a g (nth s.of (n - 2))) (a.bound (nth s.of (n - 1)) g)
+  pub clears : (j r : ℕ) → j < p.crons → waits p j ≡ true → a.reach j ≡ Some r → ClearsOn p a s j r
+  pub covered : IsCovered p a s
+  pub apart : AreApart p (windows_of p a s.of)
+  pub within : AreWithin p n (windows_of p a s.of)
+  pub free : AreFree p (windows_of p a s.of)
+
+-- the kinds are those of days that have the classes of the stretch, and its tree's splits lie inside their ranges
+pub record IsInUse (c : Content) (n : ℕ) (u : UsedStretch) : Type 0 where
+  pub kinds : HaveClasses c n u.stretch.now.of u.kinds.items
+  pub splits : SplitsInside (tree_of u.stretch.now.tree) 0 1440
+
+-- the classes have the due minutes of their kinds, and the rest is the plan's and the certificate's
+pub record IsCase (k : Case) : Type 0 where
+  pub fit : IsFit k.plan.now (content k.certificate.now)
+  pub keeps : Keeps (content k.certificate.now)
+  pub due : due_fault (as_plan k.plan.now) (due_on k.plan.now) (as_certificate (content k.certificate.now)) ≡ None
+  pub long : k.days ≡ length_for k.plan.now (content k.certificate.now)
+  pub roles : IsOf (as_plan k.plan.now) k.roles
+  pub jobs : map job_of k.occupied.items ≡ planned k.plan.now (content k.certificate.now).reach
+  pub nothing : k.none.now ≡ []
+
+-- the same as a test
+abbrev pub clears_on : Plan → Certificate → ℕ → ℕ → Stretch → Bool
+clears_on p a j reach s = list_all (λ m. not (a.due (nth s.of 0) j m) || clears_by (map (λ class. a.bound class (unwrap_or (p.group j) 0)) s.of) m reach) day_minutes
+
+-- whether the job, if it waits, has a reach that is far enough on each of the stretches
+abbrev pub is_far_by : Plan → Certificate → List Stretch → ℕ → Option ℕ → Bool
+is_far_by p a stretches j None = false
+is_far_by p a stretches j (Some reach) = list_all (clears_on p a j reach) stretches
+
+abbrev pub is_far : Plan → Certificate → List Stretch → ℕ → Bool
+is_far p a stretches j = not (waits p j) || is_far_by p a stretches j (a.reach j)
+
+-- the first fault by the rules on windows, on these stretches
+unfoldable pub fault_by_windows : Plan → Certificate → ℕ → List Stretch → Option Fault
+fault_by_windows p a n stretches =
+    or_else (first_of (fault_by rules.Leaves p a n) stretches)
+    (or_else (first_of (fault_by rules.Collisions p a n) stretches)
+    (or_else (first_of (fault_by rules.Capacity p a n) stretches)
+    (first_of (fault_by rules.SkipJobs p a n) stretches)))
+
+-- the first fault by the rules that come after the first two
+unfoldable pub later_fault : Plan → Certificate → ℕ → List Stretch → Option Fault
+later_fault p a n stretches =
+    or_else (first_of (fault_by rules.Steps p a n) stretches)
+    (or_else (first_of (λ j. unless (is_far p a stretches j) (ReachTooShort j)) (below p.crons))
+    (fault_by_windows p a n stretches))
+
+-- each stretch is good
+abbrev pub AreGood : Case → List UsedStretch → Type 0
+AreGood k stretches = All (λ u. IsGood (as_plan k.plan.now) (as_certificate (content k.certificate.now)) k.days (seen u)) stretches
+
+-- these are the stretches in use, and none is missing
+pub record AreStretches (k : Case) (stretches : List UsedStretch) : Type 0 where
+  pub listed : map seen stretches ≡ used_stretches (as_certificate (content k.certificate.now)) k.days
+  pub in_use : All (IsInUse (content k.certificate.now) k.days) stretches
+  pub complete : stretch_fault (as_certificate (content k.certificate.now)) k.days ≡ None
+
+-- each job that waits has a reach
+abbrev pub HaveReaches : Plan → Certificate → Type 0
+HaveReaches p a = (j : ℕ) → j < p.crons → waits p j ≡ true → (r : ℕ) × (a.reach j ≡ Some r)
+
+-- a case is of this plan and this certificate
+pub record IsCaseOf (d : Declared) (c : Content) (k : Case) : Type 0 where
+  pub case : IsCase k
+  pub plan : k.plan.now ≡ d
+  pub certificate : content k.certificate.now ≡ c

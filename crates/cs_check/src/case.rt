@@ -1,0 +1,93 @@
+//! What is known of a plan and a certificate before the stretches are looked at.
+ghost use Rattle.std.specs.Prelude.{◌≡◌, ◌<◌, ◌≤◌, IfOk, length, map, take};
+ghost use Rattle.cs_accepted.specs.Accepted.{nth, windows_of};
+ghost use Rattle.cs_cert.specs.Certificate.{content};
+ghost use Rattle.cs_check.specs.Stretches.{IsCase, IsInUse};
+ghost use Rattle.cs_claim.specs.Claim.{as_certificate, class_at};
+ghost use Rattle.cs_decl.specs.Plan.{as_plan, crons};
+ghost use Rattle.cs_windows.specs.Window.{IsRising};
+
+use cs_cert::{Certificate, Class, reach_of};
+use cs_chains::UsedStretch;
+use cs_decl::Plan;
+use cs_stretch::Roles;
+use cs_wait::Backlog;
+use cs_windows::{Occupied, Window, windows_on};
+use std::alloc::{AllocError, Global};
+
+/// A plan and a certificate whose classes have the due minutes of their kinds, with what each stretch needs of them.
+#[derive(Drop)]
+pub(crate) struct Case<'a> {
+    pub(crate) plan: &'a Plan,
+    pub(crate) certificate: &'a Certificate,
+    /// How many days a stretch has.
+    pub(crate) days: u8,
+    pub(crate) roles: Roles,
+    pub(crate) occupied: Vec<Occupied<'a>>,
+    /// The bound of groups that have none.
+    pub(crate) none: &'a Backlog,
+}
+
+impl<'a> Case<'a> {
+    /// How many days a stretch has: 2 to 4.
+    #[tactic(auto, using(crate::proofs::Using::days_range))]
+    pub(crate) fn days(&self) -> usize
+        requires { IsCase self.now }
+        ensures value { result ≡ self.now.days }
+        ensures range { (2 ≤ result) × (result ≤ 4) }
+    {
+        usize::from(self.days)
+    }
+
+    /// The reach of a cron job, if it has one.
+    pub(crate) fn reach_of(&self, number: usize) -> Option<u16>
+        requires { number < crons self.now.plan.now }
+        ensures { result ≡ (as_certificate (content self.now.certificate.now)).reach number }
+    {
+        if number < self.plan.jobs().len() {
+            return reach_of(self.certificate.reach(), number as u16);
+        }
+        None
+    }
+
+    /// The class of the day at this place of a stretch in use.
+    #[tactic(auto, using(crate::proofs::Using::classes_there, crate::proofs::Using::long_as_kinds))]
+    pub(crate) fn class_on(&self, used: &UsedStretch<'_>, place: usize) -> &'a Class
+        requires case { IsCase self.now }
+        requires in_use { IsInUse (content self.now.certificate.now) self.now.days used.now }
+        requires within { place < self.now.days }
+        ensures { result.now ≡ class_at (content self.now.certificate.now).classes (nth used.now.stretch.now.of place) }
+    {
+        let number = used.stretch.of.as_slice()[place];
+        &self.certificate.classes()[number as usize]
+    }
+
+    /// The classes of the days of a stretch in use, and the first of them after those.
+    pub(crate) fn classes_of(&self, used: &UsedStretch<'_>) -> [&'a Class; 4]
+        requires case { IsCase self.now }
+        requires in_use { IsInUse (content self.now.certificate.now) self.now.days used.now }
+        ensures long { length result ≡ 4 }
+        ensures value { map (λ class. class.now) (take self.now.days result) ≡ map (class_at (content self.now.certificate.now).classes) used.now.stretch.now.of }
+    {
+        let days = self.days();
+        let mut classes = [self.class_on(used, 0); 4];
+        for place in 0..days {
+            classes[place] = self.class_on(used, place);
+        }
+        classes
+    }
+
+    /// The windows of a stretch in use, in order of start. The only error is want of memory.
+    pub(crate) fn windows(
+        &self,
+        alloc: Global,
+        used: &UsedStretch<'_>,
+    ) -> Result<Vec<Window>, AllocError>
+        requires case { IsCase self.now }
+        requires in_use { IsInUse (content self.now.certificate.now) self.now.days used.now }
+        ensures value { IfOk result (λ windows. windows.items ≡ windows_of (as_plan self.now.plan.now) (as_certificate (content self.now.certificate.now)) used.now.stretch.now.of) }
+        ensures rising { IfOk result (λ windows. IsRising windows.items) }
+    {
+        windows_on(alloc, self.occupied.as_slice(), used.kinds.as_slice())
+    }
+}

@@ -1,0 +1,15 @@
+ghost use Rattle.std.specs.Prelude.{◌≡◌, None};
+ghost use Rattle.cs_cert.specs.Certificate.{content};
+ghost use Rattle.cs_check.specs.Case.{fault_of};
+
+use cs_cert::Certificate;
+use cs_decl::Plan;
+
+/// A plan with a certificate that the checker has accepted. Only [`check`](crate::check) and
+/// [`check_parallel`](crate::check_parallel) make one.
+#[derive(Debug, Drop)]
+pub struct Checked {
+    pub(crate) plan: Plan,
+    pub(crate) certificate: Certificate,
+    ghost kept: { fault_of plan (content certificate) ≡ None },
+}

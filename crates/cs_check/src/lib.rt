@@ -1,0 +1,21 @@
+//! The checker: whether a certificate shows that a plan is safe, whatever happens.
+#![tactic(auto)]
+
+mod case;
+mod checked;
+mod checking;
+mod fault;
+mod found;
+mod good;
+mod late;
+mod order;
+mod prepare;
+mod promise;
+mod quiet;
+mod rule;
+#[cfg(test)]
+mod tests;
+
+pub use checked::Checked;
+pub use checking::{check, check_parallel};
+pub use fault::{CheckError, CheckFault};

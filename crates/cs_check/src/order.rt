@@ -1,0 +1,59 @@
+//! The first fault of the stretches in use, in the order of the rules.
+ghost use Rattle.std.specs.Prelude.{◌≡◌, All, IfOk, map, option_map};
+ghost use Rattle.cs_cert.specs.Certificate.{content};
+ghost use Rattle.cs_chains.specs.Used.{seen};
+ghost use Rattle.cs_check.specs.Checked.{told};
+ghost use Rattle.cs_check.specs.Stretches.{IsCase, IsInUse, fault_by_windows, later_fault};
+ghost use Rattle.cs_claim.specs.Claim.{as_certificate};
+ghost use Rattle.cs_decl.specs.Plan.{as_plan};
+
+use crate::case::Case;
+use crate::fault::CheckFault;
+use crate::found::first_by;
+use crate::late::first_late;
+use crate::rule::Rule;
+use cs_chains::UsedStretch;
+use std::alloc::{AllocError, Global};
+
+/// The first fault by the rules on windows and locks: leaves, collisions, capacity, skip jobs.
+#[tactic(auto, unfolding(crate::specs::Stretches::fault_by_windows))]
+fn first_by_windows(
+    alloc: Global,
+    case: &Case<'_>,
+    stretches: &[UsedStretch<'_>],
+) -> Result<Option<CheckFault>, AllocError>
+    requires case { IsCase case.now }
+    requires in_use { All (IsInUse (content case.now.certificate.now) case.now.days) stretches.now }
+    ensures { IfOk result (λ found. option_map told found ≡ fault_by_windows (as_plan case.now.plan.now) (as_certificate (content case.now.certificate.now)) case.now.days (map seen stretches.now)) }
+{
+    if let Some(fault) = first_by(alloc, case, Rule::Leaves, stretches)? {
+        return Ok(Some(fault));
+    }
+    if let Some(fault) = first_by(alloc, case, Rule::Collisions, stretches)? {
+        return Ok(Some(fault));
+    }
+    if let Some(fault) = first_by(alloc, case, Rule::Capacity, stretches)? {
+        return Ok(Some(fault));
+    }
+    first_by(alloc, case, Rule::SkipJobs, stretches)
+}
+
+/// The first fault by the rules that come after the first two, in their order.
+#[tactic(auto, unfolding(crate::specs::Stretches::later_fault))]
+pub(crate) fn later_fault(
+    alloc: Global,
+    case: &Case<'_>,
+    stretches: &[UsedStretch<'_>],
+) -> Result<Option<CheckFault>, AllocError>
+    requires case { IsCase case.now }
+    requires in_use { All (IsInUse (content case.now.certificate.now) case.now.days) stretches.now }
+    ensures { IfOk result (λ found. option_map told found ≡ later_fault (as_plan case.now.plan.now) (as_certificate (content case.now.certificate.now)) case.now.days (map seen stretches.now)) }
+{
+    if let Some(fault) = first_by(alloc, case, Rule::Steps, stretches)? {
+        return Ok(Some(fault));
+    }
+    if let Some(fault) = first_late(case, stretches) {
+        return Ok(Some(fault));
+    }
+    first_by_windows(alloc, case, stretches)
+}

@@ -1,0 +1,39 @@
+//! What is known of a checked plan.
+ghost use Rattle.std.specs.Prelude.{◌≡◌};
+ghost use Rattle.cs_cert.specs.Certificate.{content};
+ghost use Rattle.cs_check.specs.Case.{IsAcceptedWith, reach_for};
+ghost use Rattle.cs_check.specs.Checked.{AreFew, IsCalmThroughout, IsHeadline, StayInWindows, certificate_in, plan_in};
+ghost use Rattle.cs_decl.specs.Plan.{as_plan};
+
+use crate::checked::Checked;
+use cs_cert::Certificate;
+use cs_decl::Plan;
+
+impl Checked {
+    /// The plan.
+    pub fn plan(&self) -> &Plan
+        ensures { result.now ≡ plan_in self.now }
+    {
+        &self.plan
+    }
+
+    /// The certificate.
+    pub fn certificate(&self) -> &Certificate
+        ensures { content result.now ≡ certificate_in self.now }
+    {
+        &self.certificate
+    }
+
+    /// What was accepted is safe, whatever happens. The call does nothing; who holds a checked plan may cite what it ensures.
+    pub fn is_safe(&self)
+        ensures rules { IsAcceptedWith (plan_in self.now) (certificate_in self.now) }
+        ensures calm { IsCalmThroughout (as_plan (plan_in self.now)) (reach_for (plan_in self.now) (certificate_in self.now)) }
+        ensures windows { StayInWindows (as_plan (plan_in self.now)) (reach_for (plan_in self.now) (certificate_in self.now)) }
+        ensures headline { IsHeadline (as_plan (plan_in self.now)) }
+        // No more runs run at once than the capacity, since each weighs something.
+        ensures few { AreFew (as_plan (plan_in self.now)) }
+    {
+        let _jobs = self.plan.jobs();
+        let _reach = self.certificate.reach();
+    }
+}

@@ -1,0 +1,11 @@
+/// The rules that are looked at stretch by stretch.
+#[derive(Clone, Copy, Debug)]
+pub(crate) enum Rule {
+    /// Backlog steps.
+    Steps,
+    /// Leaves.
+    Leaves,
+    Collisions,
+    Capacity,
+    SkipJobs,
+}

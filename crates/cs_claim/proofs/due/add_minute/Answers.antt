@@ -1,0 +1,11 @@
+use Rattle.std.proofs.Common.{◌≡◌, ℕ, List, Bool, ◌||◌, nat_eq, ◌∙◌, ap}
+use Rattle.cs_claim.proofs.Lists.{eqb-sym}
+use Rattle.cs_schedule.specs.Numbers.{has}
+use Rattle.cs_windows.proofs.Starts.{has-minutes_where}
+use Rattle.cs_claim.proofs.due.add_minute.Goals as goal
+
+pub returns-then-minute-lt1440 : goal.returns-then-minute-lt1440
+returns-then-minute-lt1440 c m lt =
+    ap (λ (minutes : List ℕ). has minutes m) c.insert.ensures
+    ∙ has-minutes_where (λ k. nat_eq k c.args.minute || has c.args.minutes.now k) m lt
+    ∙ ap (λ (b : Bool). b || has c.args.minutes.now m) (eqb-sym m c.args.minute)

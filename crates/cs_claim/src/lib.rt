@@ -1,0 +1,11 @@
+//! What a certificate claims of a plan's cron jobs: when they are due, and how long those wait that wait for a lock.
+#![tactic(auto)]
+
+mod due;
+mod locks;
+mod reach;
+mod steps;
+
+pub use due::due_minutes;
+pub use reach::{clears, waits};
+pub use steps::{first_rise, is_steady};

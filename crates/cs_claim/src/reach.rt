@@ -1,0 +1,93 @@
+//! Whether the claimed bounds are zero within a job's reach.
+ghost use Rattle.std.specs.Prelude.{◌≡◌, ◌≤◌, ◌<◌, ◌↔◌, ℕ, [], true, IsTrue, length, map, take, unwrap_or};
+ghost use Rattle.cs_cert.specs.Certificate.{bound_in};
+ghost use Rattle.cs_decl.specs.Plan.{as_plan, crons};
+ghost use Rattle.cs_history.specs.Plan.{waits};
+ghost use Rattle.cs_wait.specs.Bounds.{ClearsBy, at};
+ghost use Rattle.cs_schedule.specs.Numbers.{has};
+ghost use Rattle.cs_claim.specs.Reaches.{Clears};
+
+use crate::due::due_minutes;
+use crate::locks::{self, cron_job};
+use crate::steps::backlog_of;
+use cs_cert::Class;
+use cs_decl::Plan;
+use cs_schedule::MinuteSet;
+use cs_wait::{Backlog, MINUTES_OF_DAY, clears_by};
+
+/// Whether a cron job waits for the lock of its group.
+pub fn waits(plan: &Plan, number: usize) -> bool
+    requires { number < crons plan.now }
+    ensures { result ≡ waits (as_plan plan.now) number }
+{
+    locks::waits(cron_job(plan, number).mode())
+}
+
+/// The group of a cron job, the first where it has none.
+fn group_of(plan: &Plan, number: usize) -> usize
+    requires { number < crons plan.now }
+    ensures value { result ≡ unwrap_or ((as_plan plan.now).group number) 0 }
+    ensures few { number < 320 }
+{
+    match cron_job(plan, number).group() {
+        Some(group) => usize::from(group),
+        None => 0,
+    }
+}
+
+/// The bounds of a group on successive days, and none after them.
+fn bounds_of<'a>(days: &[&'a Class], group: usize, none: &'a Backlog) -> [&'a Backlog; 4]
+    requires few { length days.now ≤ 4 }
+    requires none { none.now ≡ [] }
+    ensures long { length result ≡ 4 }
+    ensures value { map (λ b. at b.now) (take (length days.now) result) ≡ map (λ class. bound_in class.now group) days.now }
+{
+    let mut bounds = [none; 4];
+    for (place, day) in days.iter().enumerate() {
+        bounds[place] = backlog_of(day, group, none);
+    }
+    bounds
+}
+
+/// Whether the bound is zero within the reach of the minute, if it is one of these.
+fn clears_at(bounds: &[&Backlog], minutes: &MinuteSet, minute: u16, reach: u16) -> bool
+    ensures { IsTrue result ↔ (has minutes.now minute ≡ true → ClearsBy (map (λ b. at b.now) bounds.now) minute reach) }
+{
+    if !minutes.has(minute) {
+        return true;
+    }
+    clears_by(bounds, minute, reach)
+}
+
+/// The same of each minute of the day.
+fn clears_each(bounds: &[&Backlog], minutes: &MinuteSet, reach: u16) -> bool
+    ensures { IsTrue result ↔ ((m : ℕ) → m < 1440 → has minutes.now m ≡ true → ClearsBy (map (λ b. at b.now) bounds.now) m reach) }
+{
+    for minute in 0..MINUTES_OF_DAY {
+        if !clears_at(bounds, minutes, minute, reach) {
+            return false;
+        }
+    }
+    true
+}
+
+/// Whether after each due minute of a cron job on the first of successive days the bound of its group is zero at some minute
+/// within the reach, so that all that waited has had the lock by then. No minute past the last day is looked at. `none` is
+/// the bound of groups that aren't listed, [`Backlog::none`].
+pub fn clears<'a>(
+    plan: &Plan,
+    number: usize,
+    reach: u16,
+    days: &[&'a Class],
+    none: &'a Backlog,
+) -> bool
+    requires none { none.now ≡ [] }
+    requires cron { number < crons plan.now }
+    requires some { 1 ≤ length days.now }
+    requires few { length days.now ≤ 4 }
+    ensures { IsTrue result ↔ Clears (as_plan plan.now) (map (λ class. class.now) days.now) number reach }
+{
+    let bounds = bounds_of(days, group_of(plan, number), none);
+    let minutes = due_minutes(days[0], number as u16);
+    clears_each(&bounds[..days.len()], &minutes, reach)
+}

@@ -7,13 +7,18 @@ use Rattle.std.specs.Str.Parse.{ParsesUnsigned, digits_value}
 use Rattle.std.proofs.lemmas.Str.Parse.{parse_digits, numerals_by_value, tells_all_ascii_digits}
 use Rattle.std.proofs.lemmas.Bool.{lt-ltb, ltb-true}
 use Rattle.std.specs.Result.{OkIff}
-use Rattle.clap.specs.Words.{HasKind, IsAmong, Row, Text, fault_of, first_of, first_value, kind_of, rows_of, subcommand_of}
+use Rattle.std.specs.Prelude.{Box}
+use Rattle.std.specs.Box.{box_value}
+use Rattle.clap.specs.Simple.{subcommand_rows}
+use Rattle.clap.specs.declared.parser.matches.ArgMatches.TheViews.{out-SubCommand}
+use Rattle.clap.specs.declared.parser.matches.SubCommand.{SubCommand}
+use Rattle.clap.specs.Words.{HasKind, IsAmong, Row, Text, fault_of, first_of, first_value, kind_of, rows_of}
 use Rattle.clap.specs.declared.error.Error.{Error}
 use Rattle.clap.specs.declared.parser.matches.Found.{Found}
 use Rattle.clap.proofs.WalkLemmas.{first_value-rows}
-use Rattle.cs_cli.specs.CommandLine.{asked_in, asked_of, cronsafe_app, number_of}
-use Rattle.cs_cli.specs.Asked.{DayAsked, FaultOf, Parses}
-use Rattle.cs_cli.specs.declared.command_line.DayWords.{DayWords}
+use Rattle.cs_cli.specs.CommandLine.{asked_by, asked_of, cronsafe_app, number_of}
+use Rattle.cs_cli.specs.Asked.{FaultOf, Parses, RequestAsked}
+use Rattle.cs_cli.specs.declared.command_line.Request.{Request}
 use Rattle.cs_cli.specs.declared.command_line.UsageFault.{UsageFault}
 use Rattle.cs_cli.specs.declared.command_line.UsageFault.TheVariants.{Help, NoCall, OutOfMemory}
 
@@ -51,24 +56,29 @@ pub first_value_rows : (f : Found) (id : Text) (o : Option Text) → o ≡ first
 first_value_rows f id o e = sym (e ∙ first_value-rows f id)
 
 -- what words ask is what the entries of their subcommand ask
-pub asked_rows : (o : Option (Text × List Row)) (rows : List Row) → option_map (λ p. p.1) o ≡ Some rows → option_and_then (λ p. asked_in p.1) o ≡ asked_in rows
-asked_rows None rows e = ap (λ q. option_and_then asked_in q) e
-asked_rows (Some p) rows e = ap (λ q. option_and_then asked_in q) e
+pub asked_named : (o : Option (Text × List Row)) (name : Text) (rows : List Row) → option_map (λ p. p.0) o ≡ Some name → option_map (λ p. p.1) o ≡ Some rows
+    → option_and_then (λ p. asked_by p.0 p.1) o ≡ asked_by name rows
+asked_named None name rows n e = absurd (cc)
+asked_named (Some p) name rows n e =
+    let name_is : p.0 ≡ name = cc in
+    let rows_are : p.1 ≡ rows = cc in
+    rw (name_is, rows_are) refl
 
-pub asked_none : (o : Option (Text × List Row)) → option_map (λ p. p.1) o ≡ None → option_and_then (λ p. asked_in p.1) o ≡ None
+pub asked_none : (o : Option (Text × List Row)) → option_map (λ p. p.1) o ≡ None → option_and_then (λ p. asked_by p.0 p.1) o ≡ None
 asked_none None e = refl
-asked_none (Some p) e = ap (λ q. option_and_then asked_in q) e
+asked_none (Some p) e = absurd (cc)
 
--- the entries of the subcommand that was met, where the parse succeeded
-pub rows_met : (words : List Text) (o : Option (Text × List Row)) (rows : List Row) → option_map (λ p. p.1) o ≡ Some rows → o ≡ subcommand_of cronsafe_app words → asked_of words ≡ asked_in rows
-rows_met words o rows e w = asked_rows (subcommand_of cronsafe_app words) rows (ap (option_map (λ p. p.1)) (sym w) ∙ e)
+-- the name that was met is that of the rows
+pub name_met : {Z : Type 0} (o : Option (Box SubCommand Z)) → option_map (λ b. (out-SubCommand (box_value b)).name.now) o ≡ option_map (λ p. p.0) (subcommand_rows o)
+name_met None = refl
+name_met (Some b) = refl
 
--- what `day` asks is what the words ask
-pub day_parses : (words : List Text) (rows : List Row) → fault_of cronsafe_app words ≡ [] → asked_of words ≡ asked_in rows → (r : Result DayWords UsageFault) → DayAsked rows r → Parses words r
-day_parses words rows none same (Ok d) h = (none, same ∙ h)
-day_parses words rows none same (Err (Help text)) h = absurd h
-day_parses words rows none same (Err (NoCall text)) h = inr (none, same ∙ h)
-day_parses words rows none same (Err OutOfMemory) h = h
+-- what the entries ask is what the words ask
+pub request_parses : (words : List Text) (name : Text) (rows : List Row) → fault_of cronsafe_app words ≡ [] → asked_of words ≡ asked_by name rows → (r : Result Request UsageFault) → RequestAsked name rows r → Parses words r
+request_parses words name rows none same (Ok d) h = (none, same ∙ h)
+request_parses words name rows none same (Err (Help text)) h = absurd h
+request_parses words name rows none same (Err (NoCall text)) h = inr (none, same ∙ h)
+request_parses words name rows none same (Err OutOfMemory) h = h
 
 -- a fault of `clap` is one of its kinds
 pub fault_parses : (words : List Text) (e : Error) (u : UsageFault) → HasKind (fault_of cronsafe_app words) e → FaultOf e u → Parses words (Err u)

@@ -4,18 +4,39 @@ use Rattle.clap.specs.Words.{Row, Text, kind_of}
 use Rattle.clap.specs.declared.error.Error.{Error}
 use Rattle.clap.specs.declared.error.kind.ErrorKind.TheVariants.{DisplayHelp}
 use Rattle.clap.specs.declared.error.kind.ErrorKind.TheVariants as kind
-use Rattle.cs_cli.specs.CommandLine.{Asked, Asks, AsksHelp, IsNoCall, asked_in}
+use Rattle.cs_cli.specs.CommandLine.{Asked, AskedCheck, AskedReplay, Asking, Asks, AsksHelp, Check, Day, IsNoCall, Replay, asked_by, asked_in, check_in, replay_in}
+use Rattle.cs_cli.specs.declared.command_line.CheckWords.{CheckWords}
 use Rattle.cs_cli.specs.declared.command_line.DayWords.{DayWords}
+use Rattle.cs_cli.specs.declared.command_line.ReplayWords.{ReplayWords}
+use Rattle.cs_cli.specs.declared.command_line.Request.{Request}
+use Rattle.cs_cli.specs.declared.command_line.Request.TheVariants as request
 use Rattle.cs_cli.specs.declared.command_line.UsageFault.{UsageFault}
 use Rattle.cs_cli.specs.declared.command_line.UsageFault.TheVariants.{Help, NoCall, OutOfMemory}
 
 abbrev pub asked : DayWords → Asked
 asked d = record { table = d.table.now; date = d.date.now; max = d.max; anacrontab = option_map (λ path. path.now) d.anacrontab; from = d.from; to = d.to }
 
+abbrev pub asked_replay : ReplayWords → AskedReplay
+asked_replay r = record {
+  table = r.table.now;
+  script = r.script.now;
+  max = r.max;
+  anacrontab = option_map (λ path. path.now) r.anacrontab;
+  declarations = option_map (λ path. path.now) r.declarations;
+}
+
+abbrev pub asked_check : CheckWords → AskedCheck
+asked_check c = record { table = c.table.now; declarations = c.declarations.now; certificate = c.certificate.now; anacrontab = option_map (λ path. path.now) c.anacrontab }
+
+abbrev pub asking : Request → Asking
+asking (request.Day d) = Day (asked d)
+asking (request.Replay r) = Replay (asked_replay r)
+asking (request.Check c) = Check (asked_check c)
+
 -- the words ask what is answered; help is answered where it is asked for, and a fault of the words
 -- where there is one
-abbrev pub Parses : List Text → Result DayWords UsageFault → Type 0
-Parses words (Ok d) = Asks words (asked d)
+abbrev pub Parses : List Text → Result Request UsageFault → Type 0
+Parses words (Ok r) = Asks words (asking r)
 Parses words (Err (Help text)) = AsksHelp words
 Parses words (Err (NoCall text)) = IsNoCall words
 Parses words (Err OutOfMemory) = ⊤
@@ -33,6 +54,27 @@ DayAsked rows (Ok d) = asked_in rows ≡ Some (asked d)
 DayAsked rows (Err (Help text)) = ⊥
 DayAsked rows (Err (NoCall text)) = asked_in rows ≡ None
 DayAsked rows (Err OutOfMemory) = ⊤
+
+-- and of those that follow `replay`
+abbrev pub ReplayAsked : List Row → Result ReplayWords UsageFault → Type 0
+ReplayAsked rows (Ok r) = replay_in rows ≡ Some (asked_replay r)
+ReplayAsked rows (Err (Help text)) = ⊥
+ReplayAsked rows (Err (NoCall text)) = replay_in rows ≡ None
+ReplayAsked rows (Err OutOfMemory) = ⊤
+
+-- and of those that follow `check`
+abbrev pub CheckAsked : List Row → Result CheckWords UsageFault → Type 0
+CheckAsked rows (Ok c) = check_in rows ≡ Some (asked_check c)
+CheckAsked rows (Err (Help text)) = ⊥
+CheckAsked rows (Err (NoCall text)) = check_in rows ≡ None
+CheckAsked rows (Err OutOfMemory) = ⊤
+
+-- and of a subcommand's, by its name
+abbrev pub RequestAsked : Text → List Row → Result Request UsageFault → Type 0
+RequestAsked name rows (Ok r) = asked_by name rows ≡ Some (asking r)
+RequestAsked name rows (Err (Help text)) = ⊥
+RequestAsked name rows (Err (NoCall text)) = asked_by name rows ≡ None
+RequestAsked name rows (Err OutOfMemory) = ⊤
 
 -- what a fault of `clap` is here
 abbrev pub FaultOf : Error → UsageFault → Type 0

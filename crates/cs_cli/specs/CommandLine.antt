@@ -1,5 +1,5 @@
 -- The command line, as `clap` reads it, and what its words ask.
-use Rattle.std.specs.Prelude.{◌≡◌, ◌≢◌, ◌⊎◌, ◌^◌, ℕ, Bool, false, List, [], ◌∷◌, Option, Some, None, true, codes, option_and_then, unwrap_or, length, if◌then◌else◌, nat_lt, ◌&&◌}
+use Rattle.std.specs.Prelude.{◌≡◌, ◌≢◌, ◌⊎◌, ◌^◌, ℕ, Bool, false, List, [], ◌∷◌, Option, Some, None, true, codes, option_and_then, option_map, unwrap_or, length, if◌then◌else◌, nat_lt, ◌&&◌, ◌||◌}
 use Rattle.std.specs.Str.Parse.{digits_value}
 use Rattle.std.specs.Char.{is_ascii_digit}
 use Rattle.std.specs.List.{list_all}
@@ -30,9 +30,25 @@ with_hours app = with_rule (with_rule (with_rule app (option_rule (codes "anacro
 abbrev pub day_app : App
 day_app = with_hours (with_words (new_app (codes "day")))
 
--- `cronsafe`, which wants a subcommand
+-- `[--max N] [--anacrontab FILE] [--declarations FILE]`
+abbrev pub with_terms : App → App
+with_terms app = with_rule (with_rule (with_rule app (option_rule (codes "max"))) (option_rule (codes "anacrontab"))) (option_rule (codes "declarations"))
+
+-- `replay TABLE SCRIPT [--max N] [--anacrontab FILE] [--declarations FILE]`
+abbrev pub replay_app : App
+replay_app = with_terms (with_rule (with_rule (new_app (codes "replay")) (required_rule (codes "TABLE"))) (required_rule (codes "SCRIPT")))
+
+-- `check TABLE DECLS CERT [--anacrontab FILE]`
+abbrev pub check_app : App
+check_app = with_rule (with_rule (with_rule (with_rule (new_app (codes "check")) (required_rule (codes "TABLE"))) (required_rule (codes "DECLS"))) (required_rule (codes "CERT"))) (option_rule (codes "anacrontab"))
+
+-- `cronsafe` with the subcommands `day` and `replay`, of which it wants one
+abbrev pub day_and_replay_app : App
+day_and_replay_app = with_subcommand (with_subcommand (on_top (λ s. record s { disable_help_subcommand = true; subcommand_required = true }) (new_app (codes "cronsafe"))) day_app.top) replay_app.top
+
+-- and with `check`
 abbrev pub cronsafe_app : App
-cronsafe_app = with_subcommand (on_top (λ s. record s { disable_help_subcommand = true; subcommand_required = true }) (new_app (codes "cronsafe"))) day_app.top
+cronsafe_app = with_subcommand day_and_replay_app check_app.top
 
 -- the number that digits write, where it is below 2 ^ 64
 abbrev pub number_of : Text → Option ℕ
@@ -50,6 +66,28 @@ pub record Asked : Type 0 where
   pub anacrontab : Option Text
   pub from : ℕ
   pub to : ℕ
+
+-- what `replay` is asked: the paths of a table and a script, a longest time in minutes, and the paths of
+-- an anacrontab and of declarations
+pub record AskedReplay : Type 0 where
+  pub table : Text
+  pub script : Text
+  pub max : ℕ
+  pub anacrontab : Option Text
+  pub declarations : Option Text
+
+-- what `check` is asked: the paths of a table, of declarations, of a certificate and of an anacrontab
+pub record AskedCheck : Type 0 where
+  pub table : Text
+  pub declarations : Text
+  pub certificate : Text
+  pub anacrontab : Option Text
+
+-- what words may ask
+pub data Asking : Type 0 where
+  Day : Asked → Asking
+  Replay : AskedReplay → Asking
+  Check : AskedCheck → Asking
 
 -- the first value of an argument, and this text where it has none
 abbrev pub value_or : Text → Text → List Row → Text
@@ -77,12 +115,55 @@ asked_in rows =
     option_and_then (λ max. option_and_then (λ from. option_and_then (λ to. asked_with rows max from to)
     (number_of (value_or (codes "1440") (codes "to") rows))) (number_of (value_or (codes "0") (codes "from") rows))) (number_of (value_or [] (codes "MAX") rows))
 
+-- whether an option names standard input
+abbrev pub is_dash_in : Option Text → Bool
+is_dash_in path = option_map_or is_dash path false
+
+-- two of the four paths name standard input
+abbrev pub are_dashes : Text → Text → Option Text → Option Text → Bool
+are_dashes table script anacrontab declarations =
+    (is_dash table && is_dash script)
+    || (((is_dash table || is_dash script) && (is_dash_in anacrontab || is_dash_in declarations))
+    || (is_dash_in anacrontab && is_dash_in declarations))
+
+-- what the entries of `replay` ask, where `--max` has this number
+abbrev pub replay_with : List Row → ℕ → Option AskedReplay
+replay_with rows max =
+    let table = value_or [] (codes "TABLE") rows in
+    let script = value_or [] (codes "SCRIPT") rows in
+    let anacrontab = first_of (codes "anacrontab") rows in
+    let declarations = first_of (codes "declarations") rows in
+    if are_dashes table script anacrontab declarations then None
+    else Some (record { table = table; script = script; max = max; anacrontab = anacrontab; declarations = declarations })
+
+-- what the entries of `replay` ask: `--max` has to be a number, by default a day's minutes, and standard
+-- input is named once at most
+abbrev pub replay_in : List Row → Option AskedReplay
+replay_in rows = option_and_then (λ max. replay_with rows max) (number_of (value_or (codes "1440") (codes "max") rows))
+
+-- what the entries of `check` ask: standard input is named once at most
+abbrev pub check_in : List Row → Option AskedCheck
+check_in rows =
+    let table = value_or [] (codes "TABLE") rows in
+    let declarations = value_or [] (codes "DECLS") rows in
+    let certificate = value_or [] (codes "CERT") rows in
+    let anacrontab = first_of (codes "anacrontab") rows in
+    if are_dashes table declarations anacrontab (Some certificate) then None
+    else Some (record { table = table; declarations = declarations; certificate = certificate; anacrontab = anacrontab })
+
+-- what the entries of a subcommand ask, by its name
+abbrev pub asked_by : Text → List Row → Option Asking
+asked_by name rows =
+    if bytes_eq name (codes "replay") then option_map Replay (replay_in rows)
+    else if bytes_eq name (codes "check") then option_map Check (check_in rows)
+    else option_map Day (asked_in rows)
+
 -- what words ask, the first of which is the program's name
-abbrev pub asked_of : List Text → Option Asked
-asked_of words = option_and_then (λ p. asked_in p.1) (subcommand_of cronsafe_app words)
+abbrev pub asked_of : List Text → Option Asking
+asked_of words = option_and_then (λ p. asked_by p.0 p.1) (subcommand_of cronsafe_app words)
 
 -- the words are those of a call, which asks this
-abbrev pub Asks : List Text → Asked → Type 0
+abbrev pub Asks : List Text → Asking → Type 0
 Asks words a = (fault_of cronsafe_app words ≡ []) × (asked_of words ≡ Some a)
 
 -- the words are a call for help

@@ -3,6 +3,10 @@ pub mod CommandLine
 pub mod Asked
 pub mod DayText
 pub mod Response
+pub mod Replay
+pub mod Stages
+pub mod Check
+pub mod Call
 pub mod Run
 pub mod Hours
 pub mod Question

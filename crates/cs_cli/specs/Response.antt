@@ -17,8 +17,8 @@ use Rattle.cs_anacrontab.specs.Faults.{Meaning as JobMeaning, Means as MeansJobs
 use Rattle.cs_report.specs.Warning.{warnings as warnings_text}
 use Rattle.clap.specs.Words.{Text}
 use Rattle.cs_cli.specs.declared.response.Status.{Status}
-use Rattle.cs_cli.specs.declared.response.Status.TheVariants.{Done, BadInput, NoCall, NoMemory, DeviceFailed}
-use Rattle.cs_cli.specs.CommandLine.{Asked, Asks, AsksHelp, IsNoCall}
+use Rattle.cs_cli.specs.declared.response.Status.TheVariants.{Done, Refused, BadInput, NoCall, NoMemory, DeviceFailed}
+use Rattle.cs_cli.specs.CommandLine.{Asked}
 use Rattle.cs_cli.specs.DayText.{catch_up_text, date_line, job_text}
 use Rattle.cs_cli.specs.Question.{IsBadWord, IsQuestion, Question}
 
@@ -31,6 +31,7 @@ pub record Ending : Type 0 where
 -- the statuses
 abbrev pub status_of : Status → ℕ
 status_of Done = 0
+status_of Refused = 1
 status_of BadInput = 3
 status_of NoCall = 4
 status_of NoMemory = 5
@@ -51,6 +52,13 @@ bad_input fault = record { status = 3; out = []; err = complaint fault }
 -- a file could not be read
 abbrev pub cannot_read : List ℕ → Ending
 cannot_read path = record { status = 6; out = []; err = complaint (codes "can't read " ++ path) }
+
+-- the same behind what is to be warned of
+abbrev pub bad_input_behind : List ℕ → List ℕ → Ending
+bad_input_behind warnings fault = record { status = 3; out = []; err = warnings ++ complaint fault }
+
+abbrev pub cannot_read_behind : List ℕ → List ℕ → Ending
+cannot_read_behind warnings path = record { status = 6; out = []; err = warnings ++ complaint (codes "can't read " ++ path) }
 
 -- the line of a crontab that has a fault, or 0 for all of it, and the fault
 abbrev pub crontab_fault : ℕ × LineFault → List ℕ
@@ -111,14 +119,6 @@ abbrev pub AnswersDay : Asked → (List ℕ → Option (List ℕ)) → Bool → 
 AnswersDay a files before failed ending =
     ((fault : List ℕ) × IsBadWord a fault × (ending ≡ bad_input fault) × (failed ≡ before))
     ⊎ ((q : Question) × IsQuestion a q × Reading files a.table Means (AfterCrontab q files a.anacrontab before) failed ending)
-
--- what is answered to words: what they ask, help, or that they are no call
-abbrev pub Answers : List Text → (List ℕ → Option (List ℕ)) → Bool → Bool → Ending → Type 0
-Answers words files before failed ending =
-    ((a : Asked) × Asks words a × AnswersDay a files before failed ending)
-    ⊎ ((failed ≡ before)
-    × ((AsksHelp words × (ending.status ≡ 0) × (ending.err ≡ []))
-    ⊎ (IsNoCall words × (ending.status ≡ 4) × (ending.out ≡ []))))
 
 -- what is answered where a crontab could not be read, for a fault of its own
 abbrev pub TellsFault : TableFault → Ending → Type 0

@@ -2,7 +2,8 @@
 use Rattle.std.specs.Prelude.{◌≡◌, ◌⊎◌, ℕ, Bool, true, List, Option, codes}
 use Rattle.std.specs.Io.KnownBytes.{Appends}
 use Rattle.clap.specs.Words.{Text}
-use Rattle.cs_cli.specs.Response.{Answers, Ending}
+use Rattle.cs_cli.specs.Call.{Answers}
+use Rattle.cs_cli.specs.Response.{Ending}
 
 -- an output: the bytes that it holds, where they are known, and whether a write has failed
 pub record Sink : Type 0 where

@@ -141,7 +141,7 @@ fn answer_word(alloc: Global, fault: WordFault) -> Result<Response, AllocError>
 }
 
 /// What is answered where the crontab could not be read, for a fault of its own.
-fn answer_fault(alloc: Global, fault: TableFault) -> Result<Response, AllocError>
+pub(crate) fn answer_fault(alloc: Global, fault: TableFault) -> Result<Response, AllocError>
     ensures { IfOk result (TellsFault fault) }
 {
     match fault {
@@ -155,7 +155,7 @@ fn answer_fault(alloc: Global, fault: TableFault) -> Result<Response, AllocError
 }
 
 /// What is answered where the anacrontab could not be read, for a fault of its own.
-fn answer_job_fault(alloc: Global, fault: AnacronFault) -> Result<Response, AllocError>
+pub(crate) fn answer_job_fault(alloc: Global, fault: AnacronFault) -> Result<Response, AllocError>
     ensures { IfOk result (TellsJobFault fault) }
 {
     match fault {

@@ -8,6 +8,7 @@ use crate::run::run_words;
 use std::io::{ErrorKind, Read, Write};
 use std::process::ExitCode;
 use std::rt::{Env, Files};
+use std::thread::Threads;
 use std::{env, fs, io};
 
 /// The machine's files and its standard input. A path is read to its end before another is.
@@ -82,7 +83,7 @@ fn without_words<E: Output>(error: &io::Error, err: &mut E) -> Status {
 }
 
 /// Runs the program on the machine's words, files and streams.
-pub fn run_program<R: Files + Input + Env + AllocGlobal, W: Write, E: Write>(
+pub fn run_program<R: Files + Input + Env + AllocGlobal + Threads + Sync, W: Write, E: Write>(
     rt: &R,
     out: W,
     err: E,
@@ -103,5 +104,5 @@ where
         return ExitCode::from(Status::NoMemory.code());
     };
     let mut inputs = Machine::new(rt);
-    ExitCode::from(run_words(alloc, words.as_slice(), &mut inputs, &mut out, &mut err))
+    ExitCode::from(run_words(rt, alloc, words.as_slice(), &mut inputs, &mut out, &mut err))
 }

@@ -1,6 +1,6 @@
 //! What a call of the program writes, and the status that it ends with.
-ghost use Rattle.std.specs.Prelude.{◌≡◌, [], IfOk, string_bytes};
-ghost use Rattle.cs_cli.specs.Response.{bad_input, cannot_read, complaint, done, status_of};
+ghost use Rattle.std.specs.Prelude.{◌≡◌, ◌++◌, [], IfOk, if◌then◌else◌, string_bytes};
+ghost use Rattle.cs_cli.specs.Response.{bad_input, bad_input_behind, cannot_read, cannot_read_behind, complaint, done, status_of};
 
 use cs_civil::Bytes;
 use std::alloc::{AllocError, Global};
@@ -11,6 +11,8 @@ use std::marker::Model;
 pub enum Status {
     /// What is asked was done, or help was shown.
     Done,
+    /// An event of a script, or a certificate, was refused.
+    Refused,
     /// The words or a file hold a fault.
     BadInput,
     /// The words are no call.
@@ -28,6 +30,7 @@ impl Status {
     {
         match self {
             Status::Done => 0,
+            Status::Refused => 1,
             Status::BadInput => 3,
             Status::NoCall => 4,
             Status::NoMemory => 5,
@@ -107,6 +110,64 @@ impl Response {
         })
     }
 
+    /// The same, behind what is to be warned of.
+    pub(crate) fn bad_input_behind(
+        alloc: Global,
+        warnings: &[u8],
+        fault: &[u8],
+    ) -> Result<Response, AllocError>
+        ensures { IfOk result (λ r. r ≡ bad_input_behind warnings.now fault.now) }
+    {
+        Ok(Response {
+            ends: Status::BadInput,
+            shown: Bytes::new(alloc),
+            told: complaint_behind(alloc, warnings, fault)?,
+        })
+    }
+
+    /// A file could not be read, and this is to be warned of.
+    pub(crate) fn cannot_read_behind(
+        alloc: Global,
+        warnings: &[u8],
+        path: &str,
+    ) -> Result<Response, AllocError>
+        ensures { IfOk result (λ r. r ≡ cannot_read_behind warnings.now path.now) }
+    {
+        let fault = format!(in alloc; "can't read {path}")?;
+        Ok(Response {
+            ends: Status::DeviceFailed,
+            shown: Bytes::new(alloc),
+            told: complaint_behind(alloc, warnings, fault.as_bytes())?,
+        })
+    }
+
+    /// A script was replayed: what is told of it, whether an event was refused, and what is to be warned of.
+    pub(crate) fn replayed(text: Vec<u8>, refused: bool, warnings: Bytes) -> Response
+        ensures { result ≡ record { status = if refused then 1 else 0; out = text.items; err = warnings } }
+    {
+        let ends = if refused {
+            Status::Refused
+        } else {
+            Status::Done
+        };
+        Response {
+            ends,
+            shown: Bytes::from_vec(text),
+            told: warnings,
+        }
+    }
+
+    /// A certificate was refused: why, and what is to be warned of.
+    pub(crate) fn refused(text: Vec<u8>, warnings: Bytes) -> Response
+        ensures { result ≡ record { status = 1; out = text.items; err = warnings } }
+    {
+        Response {
+            ends: Status::Refused,
+            shown: Bytes::from_vec(text),
+            told: warnings,
+        }
+    }
+
     /// A file could not be read.
     pub(crate) fn cannot_read(alloc: Global, path: &str) -> Result<Response, AllocError>
         ensures { IfOk result (λ r. r ≡ cannot_read path.now) }
@@ -118,6 +179,18 @@ impl Response {
             told: complaint(alloc, fault.as_str())?,
         })
     }
+}
+
+/// The line of a fault behind what is to be warned of.
+#[tactic(auto, unfolding(crate::specs::Response::complaint))]
+fn complaint_behind(alloc: Global, warnings: &[u8], fault: &[u8]) -> Result<Bytes, AllocError>
+    ensures { IfOk result (λ text. text ≡ warnings.now ++ complaint fault.now) }
+{
+    let mut text = Vec::from_slice(alloc, warnings)?;
+    text.extend_from_slice(b"cronsafe: ")?;
+    text.extend_from_slice(fault)?;
+    text.extend_from_slice(b"\n")?;
+    Ok(Bytes::from_vec(text))
 }
 
 /// The line of a fault.

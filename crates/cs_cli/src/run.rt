@@ -1,22 +1,26 @@
 //! The program, as a function of its words, its inputs and two outputs.
 ghost use Rattle.std.specs.Prelude.{◌≡◌, ◌⊎◌, true, IfOk, map};
 ghost use Rattle.cs_cli.specs.Files.{IsFresh};
-ghost use Rattle.cs_cli.specs.Response.{Answers};
+ghost use Rattle.cs_cli.specs.Call.{Answers};
 ghost use Rattle.cs_cli.specs.Run.{Ends, Runs, Writes};
 ghost use Rattle.cs_cli.specs.Response.{status_of};
 
-use crate::command_line::{UsageFault, parse_words};
+use crate::check::check_certificate;
+use crate::command_line::{Request, UsageFault, parse_words};
 use crate::day::day;
 use crate::inputs::Inputs;
 use crate::outputs::{CannotWrite, Output};
+use crate::replay::replay;
 use crate::response::{Response, Status};
 use cs_civil::Bytes;
 use std::alloc::{AllocError, Global};
 use std::convert::AsStr;
+use std::thread::Threads;
 
-/// The answer to the words of a call, of which the first is the program's name. The only error is
-/// want of memory.
-pub fn respond<S: AsStr, I: Inputs>(
+/// The answer to the words of a call, of which the first is the program's name. A certificate is checked by the threads of `rt`.
+/// The only error is want of memory.
+pub fn respond<R: Threads + Sync, S: AsStr, I: Inputs>(
+    rt: &R,
     alloc: Global,
     words: &[S],
     inputs: &mut I,
@@ -27,7 +31,9 @@ pub fn respond<S: AsStr, I: Inputs>(
     ensures status { IfOk result (λ r. r.status ≡ 6 → I.failed inputs.new ≡ true) }
 {
     match parse_words(alloc, words) {
-        Ok(request) => day(alloc, &request, inputs),
+        Ok(Request::Day(request)) => day(alloc, &request, inputs),
+        Ok(Request::Replay(request)) => replay(alloc, &request, inputs),
+        Ok(Request::Check(request)) => check_certificate(rt, alloc, &request, inputs),
         Err(UsageFault::Help(text)) => Ok(Response::done(text.into_bytes(), Bytes::new(alloc))),
         Err(UsageFault::NoCall(text)) => Ok(Response::no_call(alloc, text.into_bytes())),
         Err(UsageFault::OutOfMemory) => Err(AllocError),
@@ -58,9 +64,10 @@ fn finish<O: Output, E: Output>(response: &Response, out: &mut O, err: &mut E) -
 }
 
 /// Runs the program on its words, of which the first is its name, and gives the status that the
-/// process ends with: 0 done or help, 3 a fault in the words or in a file, 4 no call, 5 want of
+/// process ends with: 0 done, safe or help, 1 an event or a certificate was refused, 3 a fault in the words or in a file, 4 no call, 5 want of
 /// memory, 6 a file that can't be read or standard output that can't be written.
-pub fn run_words<S: AsStr, I: Inputs, O: Output, E: Output>(
+pub fn run_words<R: Threads + Sync, S: AsStr, I: Inputs, O: Output, E: Output>(
+    rt: &R,
     alloc: Global,
     words: &[S],
     inputs: &mut I,
@@ -72,7 +79,7 @@ pub fn run_words<S: AsStr, I: Inputs, O: Output, E: Output>(
         (record { contents = O.contents out.old; failed = O.failed out.old }) (record { contents = O.contents out.new; failed = O.failed out.new })
         (record { contents = E.contents err.old; failed = E.failed err.old }) (record { contents = E.contents err.new; failed = E.failed err.new }) result }
 {
-    match respond(alloc, words, inputs) {
+    match respond(rt, alloc, words, inputs) {
         Ok(response) => finish(&response, out, err).code(),
         Err(AllocError) => {
             tell(err, b"cronsafe: out of memory\n".as_slice());

@@ -25,7 +25,7 @@ fn anacrontab_faults(rt: HostRuntime) -> Result<(), Fail> {
     ];
     for (jobs, fault) in rows {
         let want = format!(in rt.alloc(); "cronsafe: anacrontab line {fault}\n")?;
-        let ran = run_both(rt.alloc(), LINE, b"0 0 * * * a\n", jobs)?;
+        let ran = run_both(&rt, LINE, b"0 0 * * * a\n", jobs)?;
         assert!(rt; ran.is(3, b"".as_slice(), want.as_bytes()), "at {jobs:?}");
     }
     Ok(())
@@ -37,11 +37,11 @@ fn longest_texts(rt: HostRuntime) -> Result<(), Fail> {
     let shown = b"2024-09-13 Fri\n".as_slice();
     for (byte, most, place) in [(b'#', 4_096, 1), (b'\n', 1_048_576, 0)] {
         let mut jobs = vec![in rt.alloc(); byte; most]?;
-        let ran = run_both(rt.alloc(), LINE, b"", jobs.as_slice())?;
+        let ran = run_both(&rt, LINE, b"", jobs.as_slice())?;
         assert!(rt; ran.is(0, shown, b"".as_slice()), "at {most}");
         jobs.push(byte)?;
         let want = format!(in rt.alloc(); "cronsafe: anacrontab line {place}: 1 TooLong\n")?;
-        let ran = run_both(rt.alloc(), LINE, b"", jobs.as_slice())?;
+        let ran = run_both(&rt, LINE, b"", jobs.as_slice())?;
         assert!(rt; ran.is(3, b"".as_slice(), want.as_bytes()), "at {most}");
     }
     Ok(())
@@ -60,11 +60,11 @@ fn most_jobs(rt: HostRuntime) -> Result<(), Fail> {
         let shown = format!(in rt.alloc(); "job {job}: catch-up\n  00:00 to 00:01\n")?;
         want.extend_from_slice(shown.as_bytes())?;
     }
-    let ran = run_both(rt.alloc(), line, b"", jobs.as_slice())?;
+    let ran = run_both(&rt, line, b"", jobs.as_slice())?;
     assert!(rt; ran.is(0, want.as_slice(), b"".as_slice()));
     jobs.extend_from_slice(b"\n1 0 65 a")?;
     let fault = b"cronsafe: anacrontab line 67: 11 TooManyJobs\n".as_slice();
-    let ran = run_both(rt.alloc(), line, b"", jobs.as_slice())?;
+    let ran = run_both(&rt, line, b"", jobs.as_slice())?;
     assert!(rt; ran.is(3, b"".as_slice(), fault));
     Ok(())
 }
@@ -94,7 +94,7 @@ fn crontab_first(rt: HostRuntime) -> Result<(), Fail> {
             "cronsafe day {table} 2024-09-13 60 --anacrontab {jobs}"
         )?;
         let want = format!(in rt.alloc(); "cronsafe: {fault}\n")?;
-        let ran = run(rt.alloc(), line.as_str(), files.as_slice())?;
+        let ran = run(&rt, line.as_str(), files.as_slice())?;
         assert!(rt;
             ran.is(status, b"".as_slice(), want.as_bytes()),
             "at {table} {jobs}"

@@ -41,7 +41,7 @@ fn catch_up_windows(rt: HostRuntime) -> Result<(), Fail> {
     for (words, windows) in rows {
         let line = format!(in rt.alloc(); "cronsafe day - 2024-09-13 {words} --anacrontab jobs")?;
         let want = format!(in rt.alloc(); "2024-09-13 Fri\njob a: catch-up\n{windows}")?;
-        let ran = run_both(rt.alloc(), line.as_str(), b"", b"1 5 a b")?;
+        let ran = run_both(&rt, line.as_str(), b"", b"1 5 a b")?;
         assert!(rt; ran.is(0, want.as_bytes(), b"".as_slice()), "at {words}");
     }
     Ok(())
@@ -68,7 +68,7 @@ fn both_tables(rt: HostRuntime) -> Result<(), Fail> {
     ];
     for (words, want) in rows {
         let line = format!(in rt.alloc(); "cronsafe day {words} --from 180 --to 300")?;
-        let ran = run(rt.alloc(), line.as_str(), files.as_slice())?;
+        let ran = run(&rt, line.as_str(), files.as_slice())?;
         assert!(rt; ran.is(0, want, b"".as_slice()), "at {words}");
     }
     let files = [
@@ -78,7 +78,7 @@ fn both_tables(rt: HostRuntime) -> Result<(), Fail> {
     let line = "cronsafe day tab 2024-09-13 60 --anacrontab - --from 180 --to 300";
     let want =
         b"2024-09-13 Fri\nline 1: due 1\n  04:00 to 05:00\njob \xC3\xA9: catch-up\n  03:00 to 05:59\n";
-    let ran = run(rt.alloc(), line, files.as_slice())?;
+    let ran = run(&rt, line, files.as_slice())?;
     assert!(rt; ran.is(0, want.as_slice(), b"".as_slice()));
     Ok(())
 }
@@ -114,7 +114,7 @@ fn hours_that_are_none(rt: HostRuntime) -> Result<(), Fail> {
     for (words, fault) in rows {
         let line = format!(in rt.alloc(); "cronsafe day {words}")?;
         let want = format!(in rt.alloc(); "cronsafe: {fault}\n")?;
-        let ran = run_both(rt.alloc(), line.as_str(), b"60 * * * * a", b"0 0 a b")?;
+        let ran = run_both(&rt, line.as_str(), b"60 * * * * a", b"0 0 a b")?;
         assert!(rt; ran.is(3, b"".as_slice(), want.as_bytes()), "at {words}");
     }
     Ok(())

@@ -94,7 +94,7 @@ const TABLES: [Row; 8] = [
 #[test]
 fn settings_names_lists_and_words(rt: HostRuntime) {
     for (table, date, max, want) in TABLES {
-        let ran = run_day(rt.alloc(), table, date, max);
+        let ran = run_day(&rt, table, date, max);
         assert!(rt; ran.is(0, want, b"".as_slice()), "at {date} {max}");
     }
 }

@@ -183,7 +183,7 @@ const TABLES: [Row; 4] = [
 #[test]
 fn days_that_match(rt: HostRuntime) {
     for (table, date, max, want) in DAYS {
-        let ran = run_day(rt.alloc(), table, date, max);
+        let ran = run_day(&rt, table, date, max);
         assert!(rt; ran.is(0, want, b"".as_slice()), "at {date} {max}");
     }
 }
@@ -194,7 +194,7 @@ fn days_that_match(rt: HostRuntime) {
 #[test]
 fn windows_across_midnight(rt: HostRuntime) {
     for (table, date, max, want) in WINDOWS {
-        let ran = run_day(rt.alloc(), table, date, max);
+        let ran = run_day(&rt, table, date, max);
         assert!(rt; ran.is(0, want, b"".as_slice()), "at {date} {max}");
     }
 }
@@ -203,7 +203,7 @@ fn windows_across_midnight(rt: HostRuntime) {
 #[test]
 fn whole_tables(rt: HostRuntime) {
     for (table, date, max, want) in TABLES {
-        let ran = run_day(rt.alloc(), table, date, max);
+        let ran = run_day(&rt, table, date, max);
         assert!(rt; ran.is(0, want, b"".as_slice()), "at {date} {max}");
     }
 }
@@ -216,15 +216,11 @@ fn the_named_file(rt: HostRuntime) -> Result<(), Fail> {
         readable("jobs.old", b"0 7 * * * a\n"),
     ];
     let want = b"2024-09-13 Fri\nline 1: due 1\n  06:00 to 07:00\n";
-    let ran = run(
-        rt.alloc(),
-        "cronsafe day jobs 2024-09-13 60",
-        files.as_slice(),
-    )?;
+    let ran = run(&rt, "cronsafe day jobs 2024-09-13 60", files.as_slice())?;
     assert!(rt; ran.is(0, want.as_slice(), b"".as_slice()));
     let mut one_byte_at_a_time = Files::new(files.as_slice(), 1);
     let words = ["cronsafe", "day", "jobs", "2024-09-13", "60"];
-    let ran = run_on(rt.alloc(), words.as_slice(), &mut one_byte_at_a_time);
+    let ran = run_on(&rt, words.as_slice(), &mut one_byte_at_a_time);
     assert!(rt; ran.is(0, want.as_slice(), b"".as_slice()));
     Ok(())
 }
@@ -242,10 +238,10 @@ fn most_commands(rt: HostRuntime) -> Result<(), Fail> {
         let shown = format!(in rt.alloc(); "line {line}: due 1\n  00:00 to 00:01\n")?;
         want.extend_from_slice(shown.as_bytes())?;
     }
-    let ran = run_day(rt.alloc(), table.as_slice(), "2024-09-13", "1");
+    let ran = run_day(&rt, table.as_slice(), "2024-09-13", "1");
     assert!(rt; ran.is(0, want.as_slice(), b"".as_slice()));
     table.extend_from_slice(b"\n@reboot a")?;
-    let ran = run_day(rt.alloc(), table.as_slice(), "2024-09-13", "1");
+    let ran = run_day(&rt, table.as_slice(), "2024-09-13", "1");
     let fault = b"cronsafe: crontab line 259: 12 TooManyJobs\n";
     assert!(rt; ran.is(3, b"".as_slice(), fault.as_slice()));
     Ok(())

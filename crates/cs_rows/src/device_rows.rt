@@ -2,9 +2,9 @@
 use crate::files::{File, Files, readable};
 use crate::runs::run;
 use cs_cli::{Printer, run_words};
-use std::alloc::Global;
 use std::io::Cursor;
 use std::test::Fail;
+use std::thread::Threads;
 
 const CALL: [&str; 5] = ["cronsafe", "day", "jobs", "2024-09-13", "60"];
 
@@ -25,9 +25,9 @@ fn unreadable_files(rt: HostRuntime) -> Result<(), Fail> {
         behind_a_line.as_slice(),
         behind_a_fault.as_slice(),
     ] {
-        let ran = run(rt.alloc(), "cronsafe day jobs 2024-09-13 60", files)?;
+        let ran = run(&rt, "cronsafe day jobs 2024-09-13 60", files)?;
         assert!(rt; ran.is(6, b"".as_slice(), b"cronsafe: can't read jobs\n".as_slice()));
-        let ran = run(rt.alloc(), "cronsafe day jobs 2024-02-30 60", files)?;
+        let ran = run(&rt, "cronsafe day jobs 2024-02-30 60", files)?;
         assert!(rt;
             ran.is(
                 3,
@@ -41,14 +41,26 @@ fn unreadable_files(rt: HostRuntime) -> Result<(), Fail> {
 
 /// Runs `cronsafe day jobs 2024-09-13 60` with room for so many bytes on the two outputs, and
 /// gives the status, and how much each took.
-fn run_with_room(alloc: Global, table: &[u8], out_room: usize, err_room: usize) -> (u8, u64, u64) {
+fn run_with_room<R: Threads + Sync + AllocGlobal>(
+    rt: &R,
+    table: &[u8],
+    out_room: usize,
+    err_room: usize,
+) -> (u8, u64, u64) {
     let mut out_space = [0u8; 100];
     let mut err_space = [0u8; 100];
     let mut out = Printer::new(Cursor::new(&mut out_space[..out_room.min(100)]));
     let mut err = Printer::new(Cursor::new(&mut err_space[..err_room.min(100)]));
     let files = [readable("jobs", table)];
     let mut inputs = Files::new(files.as_slice(), 4_096);
-    let status = run_words(alloc, CALL.as_slice(), &mut inputs, &mut out, &mut err);
+    let status = run_words(
+        rt,
+        rt.alloc(),
+        CALL.as_slice(),
+        &mut inputs,
+        &mut out,
+        &mut err,
+    );
     (
         status,
         out.into_writer().position(),
@@ -62,24 +74,12 @@ fn run_with_room(alloc: Global, table: &[u8], out_room: usize, err_room: usize) 
 fn full_outputs(rt: HostRuntime) {
     let good = b"0 12 13 * 5 /bin/report\n";
     let bad = b"60 * * * * a\n";
-    assert_eq!(rt;
-        run_with_room(rt.alloc(), good.as_slice(), 46, 0),
-        (0, 46, 0)
-    );
-    let (status, _, told) = run_with_room(rt.alloc(), good.as_slice(), 45, 100);
+    assert_eq!(rt; run_with_room(&rt, good.as_slice(), 46, 0), (0, 46, 0));
+    let (status, _, told) = run_with_room(&rt, good.as_slice(), 45, 100);
     assert_eq!(rt; (status, told), (6, 0));
-    assert_eq!(rt;
-        run_with_room(rt.alloc(), good.as_slice(), 0, 100),
-        (6, 0, 0)
-    );
-    assert_eq!(rt;
-        run_with_room(rt.alloc(), bad.as_slice(), 0, 39),
-        (3, 0, 39)
-    );
-    let (status, shown, _) = run_with_room(rt.alloc(), bad.as_slice(), 100, 38);
+    assert_eq!(rt; run_with_room(&rt, good.as_slice(), 0, 100), (6, 0, 0));
+    assert_eq!(rt; run_with_room(&rt, bad.as_slice(), 0, 39), (3, 0, 39));
+    let (status, shown, _) = run_with_room(&rt, bad.as_slice(), 100, 38);
     assert_eq!(rt; (status, shown), (3, 0));
-    assert_eq!(rt;
-        run_with_room(rt.alloc(), bad.as_slice(), 100, 0),
-        (3, 0, 0)
-    );
+    assert_eq!(rt; run_with_room(&rt, bad.as_slice(), 100, 0), (3, 0, 0));
 }

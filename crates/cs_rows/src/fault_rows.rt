@@ -25,7 +25,7 @@ fn first_faults(rt: HostRuntime) -> Result<(), Fail> {
     ];
     for (date, max, fault) in rows {
         let want = format!(in rt.alloc(); "cronsafe: {fault}\n")?;
-        let ran = run_day(rt.alloc(), b"60 * * * * a", date, max);
+        let ran = run_day(&rt, b"60 * * * * a", date, max);
         assert!(rt;
             ran.is(3, b"".as_slice(), want.as_bytes()),
             "at {date} {max}"
@@ -66,7 +66,7 @@ fn table_faults(rt: HostRuntime) -> Result<(), Fail> {
     ];
     for (table, fault) in rows {
         let want = format!(in rt.alloc(); "cronsafe: crontab line {fault}\n")?;
-        let ran = run_day(rt.alloc(), table, "2024-09-13", "60");
+        let ran = run_day(&rt, table, "2024-09-13", "60");
         assert!(rt; ran.is(3, b"".as_slice(), want.as_bytes()), "at {table:?}");
     }
     Ok(())
@@ -77,22 +77,14 @@ fn table_faults(rt: HostRuntime) -> Result<(), Fail> {
 fn longest_texts(rt: HostRuntime) -> Result<(), Fail> {
     let shown = b"2024-09-13 Fri\n".as_slice();
     let mut line = vec![in rt.alloc(); b'#'; 4_096]?;
-    assert!(rt;
-        run_day(rt.alloc(), line.as_slice(), "2024-09-13", "60").is(0, shown, b"".as_slice())
-    );
+    assert!(rt; run_day(&rt, line.as_slice(), "2024-09-13", "60").is(0, shown, b"".as_slice()));
     line.push(b'#')?;
     let fault = b"cronsafe: crontab line 1: 1 TooLong\n".as_slice();
-    assert!(rt;
-        run_day(rt.alloc(), line.as_slice(), "2024-09-13", "60").is(3, b"".as_slice(), fault)
-    );
+    assert!(rt; run_day(&rt, line.as_slice(), "2024-09-13", "60").is(3, b"".as_slice(), fault));
     let mut table = vec![in rt.alloc(); b'\n'; 1_048_576]?;
-    assert!(rt;
-        run_day(rt.alloc(), table.as_slice(), "2024-09-13", "60").is(0, shown, b"".as_slice())
-    );
+    assert!(rt; run_day(&rt, table.as_slice(), "2024-09-13", "60").is(0, shown, b"".as_slice()));
     table.push(b'\n')?;
     let fault = b"cronsafe: crontab line 0: 1 TooLong\n".as_slice();
-    assert!(rt;
-        run_day(rt.alloc(), table.as_slice(), "2024-09-13", "60").is(3, b"".as_slice(), fault)
-    );
+    assert!(rt; run_day(&rt, table.as_slice(), "2024-09-13", "60").is(3, b"".as_slice(), fault));
     Ok(())
 }

@@ -6,6 +6,12 @@ mod anacron_fault_rows;
 #[cfg(test)]
 mod anacron_rows;
 #[cfg(test)]
+mod certificates;
+#[cfg(test)]
+mod check_fault_rows;
+#[cfg(test)]
+mod check_rows;
+#[cfg(test)]
 mod crontab_rows;
 #[cfg(test)]
 mod day_rows;
@@ -18,8 +24,14 @@ mod files;
 #[cfg(test)]
 mod memory_rows;
 #[cfg(test)]
+mod replay_fault_rows;
+#[cfg(test)]
+mod replay_rows;
+#[cfg(test)]
 mod runs;
 #[cfg(test)]
 mod usage_rows;
 #[cfg(test)]
 mod warning_rows;
+#[cfg(test)]
+mod week_rows;

@@ -2,13 +2,18 @@
 use crate::files::{Files, readable};
 use cs_cli::{Printer, run_words};
 use short_memory::Hoard;
-use std::alloc::Global;
 use std::io::Cursor;
 use std::process::Abort;
 use std::test::Fail;
+use std::thread::Threads;
 
 /// The status of a call, and how much it wrote to the two outputs.
-fn run_in(alloc: Global, words: &[&str], out: &mut [u8], err: &mut [u8]) -> (u8, u64, u64) {
+fn run_in<R: Threads + Sync + AllocGlobal>(
+    rt: &R,
+    words: &[&str],
+    out: &mut [u8],
+    err: &mut [u8],
+) -> (u8, u64, u64) {
     let files = [
         readable("jobs", b"0 12 13 * 5 /bin/report\n"),
         readable("bad", b"60 * * * * a"),
@@ -18,7 +23,7 @@ fn run_in(alloc: Global, words: &[&str], out: &mut [u8], err: &mut [u8]) -> (u8,
     let mut inputs = Files::new(files.as_slice(), 4_096);
     let mut out = Printer::new(Cursor::new(out));
     let mut err = Printer::new(Cursor::new(err));
-    let status = run_words(alloc, words, &mut inputs, &mut out, &mut err);
+    let status = run_words(rt, rt.alloc(), words, &mut inputs, &mut out, &mut err);
     (
         status,
         out.into_writer().position(),
@@ -29,7 +34,7 @@ fn run_in(alloc: Global, words: &[&str], out: &mut [u8], err: &mut [u8]) -> (u8,
 /// Runs a call again and again, with hardly any memory at first and 16 bytes more each time. Each
 /// run has to say that memory ran out and nothing else, until one has another answer: this one,
 /// and how often memory ran out before.
-fn run_starved<R: Abort + AllocGlobal>(
+fn run_starved<R: Abort + AllocGlobal + Threads + Sync>(
     rt: &R,
     words: &[&str],
     out: &mut [u8],
@@ -38,7 +43,7 @@ fn run_starved<R: Abort + AllocGlobal>(
     let mut hoard = Hoard::new(rt.alloc(), 16)?;
     hoard.take_rest();
     for refusals in 0..60_000 {
-        let (status, shown, told) = run_in(rt.alloc(), words, out, err);
+        let (status, shown, told) = run_in(rt, words, out, err);
         if status != 5 {
             hoard.free_all();
             return Ok(((status, shown, told), refusals));

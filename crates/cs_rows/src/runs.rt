@@ -1,8 +1,8 @@
 //! A call of the program, and what it gave.
 use crate::files::{File, Files, readable};
 use cs_cli::{Inputs, Printer, run_words};
-use std::alloc::Global;
 use std::test::Fail;
+use std::thread::Threads;
 
 /// The status that a call ended with, and what it wrote.
 #[derive(Drop)]
@@ -20,10 +20,15 @@ impl Ran {
 }
 
 /// Runs the program on words.
-pub(crate) fn run_on<I: Inputs>(alloc: Global, words: &[&str], inputs: &mut I) -> Ran {
+pub(crate) fn run_on<R: Threads + Sync + AllocGlobal, I: Inputs>(
+    rt: &R,
+    words: &[&str],
+    inputs: &mut I,
+) -> Ran {
+    let alloc = rt.alloc();
     let mut out = Printer::new(Vec::new(alloc));
     let mut err = Printer::new(Vec::new(alloc));
-    let status = run_words(alloc, words, inputs, &mut out, &mut err);
+    let status = run_words(rt, alloc, words, inputs, &mut out, &mut err);
     Ran {
         status,
         out: out.into_writer(),
@@ -32,28 +37,37 @@ pub(crate) fn run_on<I: Inputs>(alloc: Global, words: &[&str], inputs: &mut I) -
 }
 
 /// Runs the program on the words of a command line, parted by single blanks, over files.
-pub(crate) fn run(alloc: Global, line: &str, files: &[File]) -> Result<Ran, Fail> {
-    let words = line.split(' ').collect::<Vec<&str>>(alloc)?;
+pub(crate) fn run<R: Threads + Sync + AllocGlobal>(
+    rt: &R,
+    line: &str,
+    files: &[File],
+) -> Result<Ran, Fail> {
+    let words = line.split(' ').collect::<Vec<&str>>(rt.alloc())?;
     let mut inputs = Files::new(files, 4_096);
-    Ok(run_on(alloc, words.as_slice(), &mut inputs))
+    Ok(run_on(rt, words.as_slice(), &mut inputs))
 }
 
 /// Runs `cronsafe day - DATE MAX` on the text of a crontab.
-pub(crate) fn run_day(alloc: Global, table: &[u8], date: &str, max: &str) -> Ran {
+pub(crate) fn run_day<R: Threads + Sync + AllocGlobal>(
+    rt: &R,
+    table: &[u8],
+    date: &str,
+    max: &str,
+) -> Ran {
     let words = ["cronsafe", "day", "-", date, max];
     let files = [readable("-", table)];
     let mut inputs = Files::new(files.as_slice(), 4_096);
-    run_on(alloc, words.as_slice(), &mut inputs)
+    run_on(rt, words.as_slice(), &mut inputs)
 }
 
 /// Runs the program on the words of a command line, over a crontab on standard input and an
 /// anacrontab `jobs`.
-pub(crate) fn run_both(
-    alloc: Global,
+pub(crate) fn run_both<R: Threads + Sync + AllocGlobal>(
+    rt: &R,
     line: &str,
     crontab: &[u8],
     anacrontab: &[u8],
 ) -> Result<Ran, Fail> {
     let files = [readable("-", crontab), readable("jobs", anacrontab)];
-    run(alloc, line, files.as_slice())
+    run(rt, line, files.as_slice())
 }

@@ -40,7 +40,7 @@ fn no_calls(rt: HostRuntime) -> Result<(), Fail> {
         readable("jobs", b"1 5 a b\n"),
     ];
     for line in rows {
-        let ran = run(rt.alloc(), line, files.as_slice())?;
+        let ran = run(&rt, line, files.as_slice())?;
         assert!(rt;
             ran.status == 4 && ran.out.is_empty() && !ran.err.is_empty(),
             "at {line}"
@@ -48,7 +48,7 @@ fn no_calls(rt: HostRuntime) -> Result<(), Fail> {
     }
     let no_words: [&str; 0] = [];
     let ran = run_on(
-        rt.alloc(),
+        &rt,
         no_words.as_slice(),
         &mut Files::new(files.as_slice(), 4_096),
     );
@@ -80,7 +80,7 @@ fn help(rt: HostRuntime) -> Result<(), Fail> {
         ),
     ];
     for (line, parts) in rows {
-        let ran = run(rt.alloc(), line, [].as_slice())?;
+        let ran = run(&rt, line, [].as_slice())?;
         assert!(rt; ran.status == 0 && ran.err.is_empty(), "at {line}");
         let text = String::from_utf8(ran.out).expect(&rt, "help is UTF-8");
         for part in parts {

@@ -31,7 +31,7 @@ fn settings_without_effect(rt: HostRuntime) -> Result<(), Fail> {
         (b"# CRON_TZ=UTC", b" # RANDOM_DELAY=45", b""),
     ];
     for (table, jobs, warnings) in rows {
-        let ran = run_both(rt.alloc(), line, table, jobs)?;
+        let ran = run_both(&rt, line, table, jobs)?;
         assert!(rt; ran.is(0, NOTHING, warnings), "at {table:?} {jobs:?}");
     }
     Ok(())
@@ -42,7 +42,7 @@ fn warnings_of_a_crontab_alone(rt: HostRuntime) {
     let warning = b"warning: CRON_TZ on line 2 of the crontab has no effect\n".as_slice();
     let table = b"0 12 * * * a\nCRON_TZ=UTC\n".as_slice();
     let shown = b"2024-09-13 Fri\nline 1: due 1\n  12:00 to 13:00\n".as_slice();
-    let ran = run_day(rt.alloc(), table, "2024-09-13", "60");
+    let ran = run_day(&rt, table, "2024-09-13", "60");
     assert!(rt; ran.is(0, shown, warning));
 }
 
@@ -68,7 +68,7 @@ fn no_warnings_beside_a_fault(rt: HostRuntime) -> Result<(), Fail> {
     ];
     for (words, table, fault) in rows {
         let line = format!(in rt.alloc(); "cronsafe day - 2024-09-13 {words} --anacrontab jobs")?;
-        let ran = run_both(rt.alloc(), line.as_str(), table, b"CRON_TZ=UTC\n0 0 a b\n")?;
+        let ran = run_both(&rt, line.as_str(), table, b"CRON_TZ=UTC\n0 0 a b\n")?;
         assert!(rt; ran.is(3, b"".as_slice(), fault), "at {words}");
     }
     Ok(())

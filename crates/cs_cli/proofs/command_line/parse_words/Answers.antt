@@ -1,7 +1,8 @@
 use Rattle.std.proofs.Common.{◌≡◌, [], inr, map, option_map, sym, subst, ap, ◌∙◌}
 use Rattle.clap.specs.Words.{HasKind, fault_of, found_of, is_simple, is_simple_and_free, rows_of, subcommand_of, subcommand_rows_of}
+use Rattle.clap.specs.declared.parser.matches.ArgMatches.TheViews.{out-ArgMatches}
 use Rattle.cs_cli.specs.CommandLine.{cronsafe_app}
-use Rattle.cs_cli.proofs.CommandLineLemmas.{asked_none, day_parses, fault_parses, rows_met}
+use Rattle.cs_cli.proofs.CommandLineLemmas.{asked_named, asked_none, fault_parses, name_met, request_parses}
 use Rattle.cs_cli.proofs.command_line.parse_words.Goals as goal
 
 pub returns-in-Err : goal.returns-in-Err
@@ -17,7 +18,11 @@ returns-in-Some g c =
     let app = c.in_ok-command.ensures in
     let none : fault_of cronsafe_app words ≡ [] = subst (λ a. fault_of a words ≡ []) app (c.in-Ok.ensures.kinds (ap is_simple_and_free app)) in
     let walk : subcommand_rows_of c.in-Ok.matches ≡ subcommand_of cronsafe_app words = (c.in-Ok.ensures.matches (ap is_simple app)).1 ∙ ap (λ a. subcommand_of a words) app in
-    day_parses words (rows_of (found_of c.in-Some.given.now)) none (rows_met words (subcommand_rows_of c.in-Ok.matches) (rows_of (found_of c.in-Some.given.now)) (sym c.in-Some.ensures.rows) walk) c.day_words.result c.day_words.ensures
+    let subcommand = subcommand_of cronsafe_app words in
+    let named = ap (option_map (λ p. p.0)) (sym walk) ∙ sym (name_met (out-ArgMatches c.in-Ok.matches).subcommand) ∙ sym c.in-Some.ensures.name in
+    let listed = ap (option_map (λ p. p.1)) (sym walk) ∙ sym c.in-Some.ensures.rows in
+    let asks = asked_named subcommand c.in-Some.name.now (rows_of (found_of c.in-Some.given.now)) named listed in
+    request_parses words c.in-Some.name.now (rows_of (found_of c.in-Some.given.now)) none asks c.asked_by.result c.asked_by.ensures
 
 pub returns : goal.returns
 returns g c =

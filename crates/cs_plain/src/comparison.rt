@@ -1,0 +1,264 @@
+//! Random events go to a core and to a history that is kept as a list; both have to answer alike after each.
+ghost use Rattle.std.specs.Prelude.{◌≤◌, IfSome};
+ghost use Rattle.cs_history.specs.Plan.{first_start};
+
+use crate::chance::Chance;
+use crate::story::{Entry, Story};
+use crate::table::Table;
+use crate::tally::{Tally, outcome};
+use arrayvec::ArrayVec;
+use cs_civil::{Day, Minute};
+use cs_core::Core;
+use cs_history::{Event, Refusal, Reply, Run, Start};
+use std::alloc::{AllocError, Global};
+use std::test::Fail;
+
+/// How many plans there are, and how many events go to the core of each.
+const PLANS: u64 = 400;
+
+const EVENTS: u64 = 150;
+
+/// 2024-09-13 00:00, in minutes since 1970-01-01 00:00.
+const MIDNIGHT: u64 = 28_769_760;
+
+/// What a history starts with.
+#[derive(Debug, Drop)]
+struct Opening {
+    minute: u64,
+    is_up: bool,
+    stamps: Vec<Option<u64>>,
+}
+
+impl Opening {
+    /// A start soon before or after midnight, with stamps of the days around it; a list of stamps may be too short or too long.
+    fn any(alloc: Global, chance: &mut Chance) -> Result<Opening, AllocError> {
+        let minute = MIDNIGHT - 3 + chance.below(5);
+        let mut stamps = Vec::new(alloc);
+        for _ in 0..chance.below(5) {
+            let day = MIDNIGHT / 1_440 - 3 + chance.below(6);
+            stamps.push(if chance.once_in(4) { None } else { Some(day) })?;
+        }
+        Ok(Opening {
+            minute,
+            is_up: !chance.once_in(3),
+            stamps,
+        })
+    }
+
+    /// The history of these events since this start.
+    fn story<'a>(&'a self, table: &'a Table, entries: &'a [Entry]) -> Story<'a> {
+        Story {
+            table,
+            start: self.minute,
+            starts_up: self.is_up,
+            stamps: self.stamps.as_slice(),
+            entries,
+        }
+    }
+
+    /// The start of a core, from the first minute on at which a history may start.
+    fn start(&self) -> Option<Start>
+        ensures { IfSome result (λ start. first_start ≤ start.now) }
+    {
+        if self.minute < 4_320 {
+            return None;
+        }
+        let mut stamps = ArrayVec::new();
+        for stamp in self.stamps.as_slice() {
+            if stamps.len() < 64 {
+                stamps.push((*stamp).and_then(Day::new));
+            }
+        }
+        Some(Start::new(Minute::new(self.minute)?, self.is_up, stamps))
+    }
+}
+
+/// A job of the plan, or the number after the last.
+fn any_job(table: &Table, chance: &mut Chance) -> u16 {
+    u16::try_from(chance.below(u64::from(table.jobs()) + 1)).unwrap_or(0)
+}
+
+/// One of a list, if there is one.
+fn any_of<T: Copy>(items: &[T], chance: &mut Chance) -> Option<T> {
+    items
+        .get(chance.below(items.len() as u64) as usize)
+        .copied()
+}
+
+/// A name for a run, mostly of no run.
+fn any_run(story: &Story, chance: &mut Chance) -> Run {
+    Run {
+        job: any_job(story.table, chance),
+        at: story.now().saturating_sub(chance.below(4)),
+    }
+}
+
+/// A minute for the clock: mostly the next one.
+fn any_minute(story: &Story, chance: &mut Chance) -> u64 {
+    match chance.below(20) {
+        0 => chance.below(3_000),
+        1 => 4_223_371_679 + chance.below(3),
+        2 => story.now(),
+        3 => story.now().saturating_add(2),
+        _ => story.now().saturating_add(1),
+    }
+}
+
+/// A minute to come up in: mostly a later one, sometimes of another day.
+fn any_return(story: &Story, chance: &mut Chance) -> u64 {
+    match chance.below(10) {
+        0 => chance.below(3_000),
+        1 => story.now().saturating_sub(1),
+        2 => story.now(),
+        3 => story.now().saturating_add(1_440 * chance.below(4)),
+        4 => 4_223_371_679 + chance.below(3),
+        _ => story.now().saturating_add(chance.below(4)),
+    }
+}
+
+/// The run of one of these, mostly; sometimes a name of no run.
+fn any_listed(story: &Story, runs: &[Run], chance: &mut Chance) -> Run {
+    let listed = any_of(runs, chance);
+    match listed {
+        Some(run) if !chance.once_in(8) => run,
+        _ => any_run(story, chance),
+    }
+}
+
+/// A job of these, mostly; sometimes another.
+fn any_among(story: &Story, jobs: &[u16], chance: &mut Chance) -> u16 {
+    let listed = any_of(jobs, chance);
+    match listed {
+        Some(job) if !chance.once_in(8) => job,
+        _ => any_job(story.table, chance),
+    }
+}
+
+/// An event to try, of any kind and whether it may come or not; those that get on with the history are likelier.
+fn any_event(alloc: Global, story: &Story, chance: &mut Chance) -> Result<Event, AllocError> {
+    if !story.is_up() && chance.once_in(2) {
+        return Ok(Event::Up(any_return(story, chance)));
+    }
+    let pending = story.pending(alloc)?;
+    Ok(match chance.below(60) {
+        0 => Event::Down,
+        1 => Event::Up(any_return(story, chance)),
+        2..=23 if !pending.is_empty() => {
+            Event::Begin(any_among(story, pending.as_slice(), chance))
+        }
+        2..=35 => Event::Minute(any_minute(story, chance)),
+        36 => Event::Begin(any_job(story.table, chance)),
+        37..=42 => {
+            let run = any_listed(story, story.waiting(alloc)?.as_slice(), chance);
+            Event::Got(run.job, run.at)
+        }
+        43..=45 => Event::Catch(any_among(story, story.pass(alloc)?.left.as_slice(), chance)),
+        _ => Event::End(any_listed(story, names(alloc, story)?.as_slice(), chance)),
+    })
+}
+
+/// The names of the runs that are running.
+fn names(alloc: Global, story: &Story) -> Result<Vec<Run>, AllocError> {
+    let mut names = Vec::new(alloc);
+    for going in story.running(alloc)?.as_slice() {
+        names.push(going.run)?;
+    }
+    Ok(names)
+}
+
+/// What the definitions answer to an event.
+fn answer(
+    alloc: Global,
+    story: &Story,
+    event: Event,
+) -> Result<Result<Reply, Refusal>, AllocError> {
+    match story.refusal(alloc, event)? {
+        Some(refusal) => Ok(Err(refusal)),
+        None => Ok(Ok(story.reply(alloc, event)?)),
+    }
+}
+
+/// Whether the core's stamps are those of the history.
+fn has_stamps(core: &Core, story: &Story) -> bool {
+    let crons = story.table.crons.len().min(100) as u16;
+    let mut is_same = core.stamps().len() == story.table.anacrons.len();
+    for (job, stamp) in (crons..story.table.jobs()).zip(core.stamps()) {
+        is_same = is_same && (*stamp).map(Day::number) == story.stamp(job);
+    }
+    is_same
+}
+
+/// Whether the core's open pass is that of the history.
+fn has_pass(alloc: Global, core: &Core, story: &Story) -> Result<bool, AllocError> {
+    let pass = story.pass(alloc)?;
+    let begun = if pass.left.is_empty() {
+        None
+    } else {
+        Some(pass.begun)
+    };
+    Ok(core.pass().map(Minute::number) == begun && core.left() == pass.left.as_slice())
+}
+
+/// Whether each reader of the core answers what the history says.
+fn is_in_state(alloc: Global, core: &Core, story: &Story) -> Result<bool, AllocError> {
+    Ok(
+        core.now().number() == story.now()
+            && core.is_up() == story.is_up()
+            && core.pending() == story.pending(alloc)?.as_slice()
+            && core.waiting() == story.waiting(alloc)?.as_slice()
+            && core.running() == story.running(alloc)?.as_slice()
+            && has_stamps(core, story)
+            && has_pass(alloc, core, story)?,
+    )
+}
+
+/// Sends random events to a core and to a list. Says at which event they first differ, None where they don't.
+fn first_difference(alloc: Global, seed: u64, tally: &mut Tally) -> Result<Option<u64>, Fail> {
+    let mut chance = Chance::new(seed);
+    let table = Table::any(alloc, &mut chance)?;
+    let opening = Opening::any(alloc, &mut chance)?;
+    let Some(start) = opening.start() else {
+        return Ok(Some(0));
+    };
+    let mut core = Core::open(alloc, &table.plan(alloc)?, start)?;
+    let mut entries = Vec::new(alloc);
+    for number in 0..EVENTS {
+        let story = opening.story(&table, entries.as_slice());
+        let event = any_event(alloc, &story, &mut chance)?;
+        let wanted = answer(alloc, &story, event)?;
+        let is_tested = core.test(&event) == wanted.map(|_| ());
+        let is_answered = core.step(event) == wanted;
+        tally.add(outcome(&table, event, wanted));
+        let had_pass = !story.pass(alloc)?.left.is_empty();
+        if let Ok(reply) = wanted {
+            entries.push(Entry { event, reply })?;
+        }
+        let story = opening.story(&table, entries.as_slice());
+        if !had_pass && !story.pass(alloc)?.left.is_empty() {
+            tally.add(pass_at(event));
+        }
+        if !is_tested || !is_answered || !is_in_state(alloc, &core, &story)? {
+            return Ok(Some(number));
+        }
+    }
+    Ok(None)
+}
+
+/// What began a pass.
+fn pass_at(event: Event) -> &'static str {
+    match event {
+        Event::Up(_) => "pass at coming up",
+        _ => "pass at its minute",
+    }
+}
+
+#[test]
+fn core_meets_plain_reading(rt: HostRuntime) -> Result<(), Fail> {
+    let mut tally = Tally::new(rt.alloc())?;
+    for seed in 0..PLANS {
+        let difference = first_difference(rt.alloc(), seed, &mut tally)?;
+        assert_eq!(rt; difference, None, "in the history of seed {seed}");
+    }
+    assert_eq!(rt; tally.rarer_than(50), None);
+    Ok(())
+}

@@ -5,3 +5,4 @@ pub mod Missed
 pub mod Alike
 pub mod Ending
 pub mod Lasting
+pub mod KindOf

@@ -2,3 +2,5 @@ pub mod Chains
 pub mod Used
 pub mod Days
 pub mod Fitting
+pub mod Likeness
+pub mod KindOf

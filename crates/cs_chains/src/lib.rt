@@ -2,9 +2,11 @@
 #![tactic(auto)]
 
 mod chain;
+mod class_kinds;
 mod classed;
 mod fitting;
 mod last;
+mod likeness;
 mod missing;
 #[cfg(test)]
 mod tests;
@@ -12,6 +14,7 @@ mod unlike;
 mod used;
 
 pub use chain::{Chain, chains};
+pub use class_kinds::kinds_of_classes;
 pub use fitting::stretch_length;
 pub use last::last_day;
 pub use missing::first_missing;

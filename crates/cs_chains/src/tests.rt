@@ -120,12 +120,19 @@ fn last_days(rt: HostRuntime) {
 fn kinds_unlike_their_classes(rt: HostRuntime) -> Result<(), Fail> {
     let alloc = rt.alloc();
     let claimed = certificate(&rt, alloc, THIRTEENTH);
-    assert!(rt; first_unlike(&plan(&rt, alloc, "0 1 13 * * a"), &claimed).is_none());
-    let daily = first_unlike(&plan(&rt, alloc, "0 1 * * * a"), &claimed).expect(&rt, "a kind");
+    let same = plan(&rt, alloc, "0 1 13 * * a");
+    assert!(rt; first_unlike(alloc, &same, &claimed)?.is_none());
+    let daily = plan(&rt, alloc, "0 1 * * * a");
+    let daily = first_unlike(alloc, &daily, &claimed)?.expect(&rt, "a kind");
     assert!(rt; daily == kind(&rt, 1, 1, 0));
-    let later = first_unlike(&plan(&rt, alloc, "1 1 13 * * a"), &claimed).expect(&rt, "a kind");
+    let later = plan(&rt, alloc, "1 1 13 * * a");
+    let later = first_unlike(alloc, &later, &claimed)?.expect(&rt, "a kind");
     assert!(rt; later == kind(&rt, 1, 13, 0));
-    let leap = first_unlike(&plan(&rt, alloc, "0 1 13,29 2 * a"), &claimed).expect(&rt, "a kind");
+    let next = plan(&rt, alloc, "0 1 14 * * a");
+    let next = first_unlike(alloc, &next, &claimed)?.expect(&rt, "a kind");
+    assert!(rt; next == kind(&rt, 1, 13, 0));
+    let leap = plan(&rt, alloc, "0 1 13,29 2 * a");
+    let leap = first_unlike(alloc, &leap, &claimed)?.expect(&rt, "a kind");
     assert!(rt; leap == kind(&rt, 1, 13, 0));
     Ok(())
 }

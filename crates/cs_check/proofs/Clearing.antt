@@ -1,15 +1,15 @@
 -- The test whether a reach is far enough, by the classes of a stretch.
-use Rattle.std.proofs.Common.{◌≡◌, ℕ, ◌<◌, ◌≤◌, Bool, true, false, not, ◌||◌, List, [], ◌∷◌, map, length, refl, ap, sym, ◌∙◌, subst, arith, ◌↔◌}
+use Rattle.std.proofs.Common.{◌≡◌, ℕ, ◌<◌, ◌≤◌, ◌-◌, ◌*◌, Bool, if◌then◌else◌, true, false, not, ◌||◌, List, [], ◌∷◌, map, length, refl, ap, sym, ◌∙◌, subst, arith, ◌↔◌}
 use Rattle.std.specs.Prelude.{unwrap_or, IsTrue}
 use Rattle.std.specs.List.{list_all}
-use Rattle.std.proofs.lemmas.Bool.{both_ways}
+use Rattle.std.proofs.lemmas.Bool.{both_ways, lt-ltb}
 use Rattle.cs_history.specs.Plan.{Plan, IsPlan}
 use Rattle.cs_cert.specs.declared.class.Class.{Class}
 use Rattle.cs_cert.specs.Certificate.{bound_in, is_due_in}
 use Rattle.cs_cert.specs.Content.{Content}
 use Rattle.cs_claim.specs.Claim.{as_certificate, class_at, no_class}
 use Rattle.cs_claim.specs.Reaches.{Clears, bounds_of}
-use Rattle.cs_wait.specs.Bounds.{ClearsBy}
+use Rattle.cs_wait.specs.Bounds.{ClearsBy, at_days}
 use Rattle.cs_windows.specs.Windows.{day_minutes}
 use Rattle.cs_accepted.specs.Accepted.{nth}
 use Rattle.cs_accepted.specs.Certificate.{Stretch}
@@ -52,3 +52,20 @@ module _ (p : Plan) (plan : IsPlan p) (c : Content) (s : Stretch) (j r : ℕ) (s
   clears_is x classes e is =
       tells_is x (clears_on p (as_certificate c) j r s) (ClearsOn p (as_certificate c) s j r)
       (λ h. to_on (subst (λ (ks : List Class). Clears p ks j r) e (is.0 h)), λ h. is.1 (subst (λ (ks : List Class). Clears p ks j r) (sym e) (from_on h))) tells_on
+
+-- what is clear on the first day is clear on it and those after it
+more_days : (b : ℕ → ℕ) (bs : List (ℕ → ℕ)) (m r : ℕ) → ClearsBy (b ∷ []) m r → ClearsBy (b ∷ bs) m r
+more_days b bs m r h =
+    let lt : h.0 < 1440 = omega (arith, h.3.0) in
+    (h.0, h.1, h.2, (omega (arith, lt), first_day b [] bs h.0 lt h.3.1))
+  where
+    first_day : (b : ℕ → ℕ) (xs ys : List (ℕ → ℕ)) (m : ℕ) → m < 1440 → at_days (b ∷ xs) m ≡ 0 → at_days (b ∷ ys) m ≡ 0
+    first_day b xs ys m lt e = let is = lt-ltb m 1440 lt in ap (λ (t : Bool). if t then b m else at_days ys (m - 1440)) is ∙ sym (ap (λ (t : Bool). if t then b m else at_days xs (m - 1440)) is) ∙ e
+
+-- so a job that has had its lock on the first day itself has had it
+pub clears_alone : (p : Plan) → IsPlan p → (c : Content) (s : Stretch) (j r : ℕ) → 0 < length s.of → Clears p (class_at c.classes (nth s.of 0) ∷ []) j r → clears_on p (as_certificate c) j r s ≡ true
+clears_alone p plan c s j r some h = (tells_on p plan c s j r some).1 (on s.of some h)
+  where
+    on : (of : List ℕ) → 0 < length of → Clears p (class_at c.classes (nth of 0) ∷ []) j r → (m : ℕ) → m < 1440 → (as_certificate c).due (nth of 0) j m ≡ true → ClearsBy (map (λ class. (as_certificate c).bound class (unwrap_or (p.group j) 0)) of) m r
+    on [] lt h m in_day due = absurd (omega (arith, lt))
+    on (x ∷ of) lt h m in_day due = more_days (bound_in (class_at c.classes x) (unwrap_or (p.group j) 0)) (map (λ class. (as_certificate c).bound class (unwrap_or (p.group j) 0)) of) m r (h m in_day due)

@@ -4,7 +4,7 @@ use Rattle.std.specs.Prelude.{unwrap_or, slice_get, ◌==◌}
 use Rattle.std.proofs.lemmas.List.{length-map, map-append, take_more_set}
 use Rattle.std.proofs.Math.Seq.{take-suc}
 use Rattle.std.proofs.lemmas.List.Elements.{All-map, All-head, All-tail}
-use Rattle.cs_civil.specs.Calendar.{Kind}
+use Rattle.cs_civil.specs.Calendar.{Kind, IsKind}
 use Rattle.cs_decl.specs.Plan.{Declared, as_plan}
 use Rattle.cs_cert.specs.Content.{Content, stretch_of}
 use Rattle.cs_chains.specs.declared.used.UsedStretch.{UsedStretch}
@@ -16,7 +16,8 @@ use Rattle.cs_windows.specs.Windows.{windows_on}
 use Rattle.cs_windows.specs.declared.reach.JobReach.{JobReach}
 use Rattle.cs_windows.specs.declared.window.Window.{Window}
 use Rattle.cs_claim.specs.Claim.{as_certificate}
-use Rattle.cs_accepted.specs.Accepted.{occupied, windows_of}
+use Rattle.cs_accepted.specs.Accepted.{IsChain, occupied, windows_of}
+use Rattle.cs_accepted.specs.Certificate.{Certificate}
 use Rattle.cs_accepted.specs.Faults.{due_fault}
 use Rattle.cs_accepted.proofs.ByKind.{by_kinds}
 use Rattle.cs_accepted.proofs.Points.{says_one}
@@ -62,17 +63,29 @@ number_there c n kinds of keeps have place lt = let long = long_as_kinds c n kin
 pub days_range : (k : Case) → IsCase k → (2 ≤ k.days) × (k.days ≤ 4)
 days_range k is = let r = (length_of k.plan.now (content k.certificate.now) is.fit).range in (omega (arith, is.long, r.0), omega (arith, is.long, r.1))
 
+-- one more of what the classes have
+one_more_of : {A B : Type 0} (now : A → B) (value : ℕ → B) (of : List ℕ) (so_far : List A) (place : ℕ) (x : A) → place < length so_far → place < length of → now x ≡ value (nth of place)
+    → map now (take place so_far) ≡ map value (take place of)
+    → map now (take (place + 1) (slice_set so_far place x)) ≡ map value (take (place + 1) of)
+one_more_of {A} {B} now value of so_far place x lt in_of is so =
+    ap (map now) (take_more_set so_far place x lt)
+    ∙ map-append now (take place so_far) (x ∷ [])
+    ∙ ap (λ (xs : List B). xs ++ now x ∷ []) so
+    ∙ ap (λ (y : B). map value (take place of) ++ y ∷ []) is
+    ∙ sym (map-append value (take place of) (nth of place ∷ []))
+    ∙ ap (map value) (sym (let e : place + 1 ≡ suc place = omega arith in ap (λ (k : ℕ). take k of) e ∙ take-suc of place 0 in_of))
+
 -- one more of the classes
 pub one_more : (classes : List Class) (of : List ℕ) (so_far : List (Bor Class)) (place : ℕ) (class : Bor Class) → place < length so_far → place < length of → class.now ≡ class_at classes (nth of place)
     → map (λ (x : Bor Class). x.now) (take place so_far) ≡ map (class_at classes) (take place of)
     → map (λ (x : Bor Class). x.now) (take (place + 1) (slice_set so_far place class)) ≡ map (class_at classes) (take (place + 1) of)
-one_more classes of so_far place class lt in_of is so =
-    ap (map (λ (x : Bor Class). x.now)) (take_more_set so_far place class lt)
-    ∙ map-append (λ (x : Bor Class). x.now) (take place so_far) (class ∷ [])
-    ∙ ap (λ (xs : List Class). xs ++ class.now ∷ []) so
-    ∙ ap (λ (x : Class). map (class_at classes) (take place of) ++ x ∷ []) is
-    ∙ sym (map-append (class_at classes) (take place of) (nth of place ∷ []))
-    ∙ ap (map (class_at classes)) (sym (let e : place + 1 ≡ suc place = omega arith in ap (λ (k : ℕ). take k of) e ∙ take-suc of place 0 in_of))
+one_more classes of so_far place class lt in_of is so = one_more_of (λ (x : Bor Class). x.now) (class_at classes) of so_far place class lt in_of is so
+
+-- one more of the lists of windows that begin on the days
+pub one_more_day : (p : Plan) (a : Certificate) (of : List ℕ) (so_far : List (Bor (List Window))) (place : ℕ) (day : Bor (List Window)) → place < length so_far → place < length of → day.now ≡ windows_of p a (nth of place ∷ [])
+    → map (λ (x : Bor (List Window)). x.now) (take place so_far) ≡ map (λ (class : ℕ). windows_of p a (class ∷ [])) (take place of)
+    → map (λ (x : Bor (List Window)). x.now) (take (place + 1) (slice_set so_far place day)) ≡ map (λ (class : ℕ). windows_of p a (class ∷ [])) (take (place + 1) of)
+one_more_day p a of so_far place day lt in_of is so = one_more_of (λ (x : Bor (List Window)). x.now) (λ (class : ℕ). windows_of p a (class ∷ [])) of so_far place day lt in_of is so
 
 -- the classes of a stretch in use are as many as its days
 pub long_as_classes : (c : Content) (n : ℕ) (kinds : List Kind) (of : List ℕ) (classes : List (Bor Class)) → HaveClasses c n of kinds → map (λ (x : Bor Class). x.now) classes ≡ map (class_at c.classes) of → length classes ≡ n
@@ -87,3 +100,17 @@ at_place P (y ∷ ys) (suc i) x h e = at_place P ys i x (All-tail P y ys h) e
 -- the stretches that are found are in use
 pub found_in_use : (c : Content) (n : ℕ) (us : List UsedStretch) → Keeps c → All (λ u. HaveClasses c n u.stretch.now.of u.kinds.items) us → All (λ u. slice_get c.stretches u.number ≡ Some (stretch_of u.stretch.now)) us → All (IsInUse c n) us
 found_in_use c n us keeps kinds numbers = λ k d lt. record { kinds = kinds k d lt; splits = (at_place (IsSound c.version (length c.classes)) c.stretches (get_or us k d).number (stretch_of (get_or us k d).stretch.now) keeps.stretches (numbers k d lt)).splits }
+
+-- a kind of a class is a chain of one day
+pub one_kind : (c : Content) (class : ℕ) (kind : Kind) → IsKind kind → class_of c kind ≡ class → HaveClasses c 1 (class ∷ []) (kind ∷ [])
+one_kind c class kind is e = record { chain = (is, tt, tt); long = refl; classes = ap (λ (n : ℕ). n ∷ []) e }
+
+-- the kind at a place of a chain, which has the class there
+pub kind_there : (c : Content) (n : ℕ) (of : List ℕ) (kinds : List Kind) → HaveClasses c n of kinds → (place : ℕ) → place < n → (kind : Kind) × IsKind kind × (class_of c kind ≡ nth of place)
+kind_there c n of kinds have place lt = there kinds of have.chain have.classes place (omega (arith, lt, have.long))
+  where
+    there : (kinds : List Kind) (of : List ℕ) → IsChain kinds → map (class_of c) kinds ≡ of → (place : ℕ) → place < length kinds → (kind : Kind) × IsKind kind × (class_of c kind ≡ nth of place)
+    there [] of chain e place lt = absurd (omega (arith, lt))
+    there (k ∷ ks) of chain e zero lt = (k, chain.0, ap (λ (xs : List ℕ). nth xs 0) e)
+    there (k ∷ ks) [] chain e (suc place) lt = absurd (cc)
+    there (k ∷ ks) (x ∷ xs) chain e (suc place) lt = there ks xs chain.2 (cc) place (omega (arith, lt))

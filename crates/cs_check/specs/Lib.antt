@@ -1,3 +1,4 @@
 pub mod Case
 pub mod Checked
+pub mod ClassDays
 pub mod Stretches

@@ -14,9 +14,9 @@ use Rattle.cs_cert.specs.Kept.{Keeps}
 use Rattle.cs_claim.specs.Claim.{as_certificate}
 use Rattle.cs_decl.specs.Plan.{Declared, as_plan}
 use Rattle.cs_stretch.specs.Roles.{IsOf}
-use Rattle.cs_windows.specs.Occupied.{job_of}
-use Rattle.cs_windows.specs.Planned.{due_on, planned}
+use Rattle.cs_windows.specs.Planned.{due_on}
 use Rattle.cs_check.specs.Case.{IsFit, length_for}
+use Rattle.cs_check.specs.ClassDays.{AreClassDays}
 use Rattle.cs_check.specs.declared.case.Case.{Case}
 use Rattle.cs_windows.specs.Tree.{SplitsInside, tree_of}
 use Rattle.cs_chains.specs.Used.{HaveClasses, seen}
@@ -57,7 +57,7 @@ pub record IsCase (k : Case) : Type 0 where
   pub due : due_fault (as_plan k.plan.now) (due_on k.plan.now) (as_certificate (content k.certificate.now)) ≡ None
   pub long : k.days ≡ length_for k.plan.now (content k.certificate.now)
   pub roles : IsOf (as_plan k.plan.now) k.roles
-  pub jobs : map job_of k.occupied.items ≡ planned k.plan.now (content k.certificate.now).reach
+  pub class_days : AreClassDays k.plan.now (content k.certificate.now) k.class_days.items
   pub nothing : k.none.now ≡ []
 
 -- the same as a test

@@ -1,18 +1,21 @@
 //! What is known of a plan and a certificate before the stretches are looked at.
-ghost use Rattle.std.specs.Prelude.{◌≡◌, ◌<◌, ◌≤◌, IfOk, length, map, take};
+ghost use Rattle.std.specs.Prelude.{◌≡◌, ◌<◌, ◌≤◌, ◌∷◌, [], IfOk, length, map, take};
 ghost use Rattle.cs_accepted.specs.Accepted.{nth, windows_of};
 ghost use Rattle.cs_cert.specs.Certificate.{content};
+ghost use Rattle.cs_check.specs.ClassDays.{IsClassDay};
 ghost use Rattle.cs_check.specs.Stretches.{IsCase, IsInUse};
 ghost use Rattle.cs_claim.specs.Claim.{as_certificate, class_at};
 ghost use Rattle.cs_decl.specs.Plan.{as_plan, crons};
 ghost use Rattle.cs_windows.specs.Window.{IsRising};
 
-use cs_cert::{Certificate, Class, reach_of};
+use crate::basis::reach_of_job;
+use crate::class_day::ClassDay;
+use cs_cert::{Certificate, Class};
 use cs_chains::UsedStretch;
 use cs_decl::Plan;
 use cs_stretch::Roles;
 use cs_wait::Backlog;
-use cs_windows::{Occupied, Window, windows_on};
+use cs_windows::{Window, windows_over};
 use std::alloc::{AllocError, Global};
 
 /// A plan and a certificate whose classes have the due minutes of their kinds, with what each stretch needs of them.
@@ -23,7 +26,8 @@ pub(crate) struct Case<'a> {
     /// How many days a stretch has.
     pub(crate) days: u8,
     pub(crate) roles: Roles,
-    pub(crate) occupied: Vec<Occupied<'a>>,
+    /// What each day of each class has, by the number of the class.
+    pub(crate) class_days: Vec<ClassDay>,
     /// The bound of groups that have none.
     pub(crate) none: &'a Backlog,
 }
@@ -44,10 +48,7 @@ impl<'a> Case<'a> {
         requires { number < crons self.now.plan.now }
         ensures { result ≡ (as_certificate (content self.now.certificate.now)).reach number }
     {
-        if number < self.plan.jobs().len() {
-            return reach_of(self.certificate.reach(), number as u16);
-        }
-        None
+        reach_of_job(self.plan, self.certificate, number)
     }
 
     /// The class of the day at this place of a stretch in use.
@@ -77,6 +78,32 @@ impl<'a> Case<'a> {
         classes
     }
 
+    /// What is known of the day at this place of a stretch in use.
+    pub(crate) fn day_on(&self, used: &UsedStretch<'_>, place: usize) -> &ClassDay
+        requires case { IsCase self.now }
+        requires in_use { IsInUse (content self.now.certificate.now) self.now.days used.now }
+        requires within { place < self.now.days }
+        ensures { IsClassDay self.now.plan.now (content self.now.certificate.now) (nth used.now.stretch.now.of place) result.now }
+    {
+        let number = used.stretch.of.as_slice()[place];
+        &self.class_days.as_slice()[number as usize]
+    }
+
+    /// The windows that begin on each day of a stretch in use, and those of the first day again after them.
+    fn begun_on(&self, used: &UsedStretch<'_>) -> [&[Window]; 4]
+        requires case { IsCase self.now }
+        requires in_use { IsInUse (content self.now.certificate.now) self.now.days used.now }
+        ensures long { length result ≡ 4 }
+        ensures value { map (λ day. day.now) (take self.now.days result) ≡ map (λ class. windows_of (as_plan self.now.plan.now) (as_certificate (content self.now.certificate.now)) (class ∷ [])) used.now.stretch.now.of }
+    {
+        let days = self.days();
+        let mut begun = [self.day_on(used, 0).windows.as_slice(); 4];
+        for place in 0..days {
+            begun[place] = self.day_on(used, place).windows.as_slice();
+        }
+        begun
+    }
+
     /// The windows of a stretch in use, in order of start. The only error is want of memory.
     pub(crate) fn windows(
         &self,
@@ -88,6 +115,7 @@ impl<'a> Case<'a> {
         ensures value { IfOk result (λ windows. windows.items ≡ windows_of (as_plan self.now.plan.now) (as_certificate (content self.now.certificate.now)) used.now.stretch.now.of) }
         ensures rising { IfOk result (λ windows. IsRising windows.items) }
     {
-        windows_on(alloc, self.occupied.as_slice(), used.kinds.as_slice())
+        let begun = self.begun_on(used);
+        windows_over(alloc, &begun[..self.days()])
     }
 }

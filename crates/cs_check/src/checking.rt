@@ -8,9 +8,10 @@ ghost use Rattle.cs_decl.specs.Plan.{as_plan};
 
 use crate::case::Case;
 use crate::checked::Checked;
+use crate::class_day::class_days;
 use crate::fault::CheckError;
 use crate::order::later_fault;
-use crate::prepare::{case_of, stretches_of};
+use crate::prepare::{basis_of, case_of, stretches_of};
 use crate::quiet::{are_good, are_good_parallel, have_reaches};
 use cs_cert::Certificate;
 use cs_chains::UsedStretch;
@@ -55,7 +56,9 @@ fn judge(
     ensures ok { OnOk result (fault_of plan.now (content certificate.now) ≡ None) }
     ensures fault { IfErr result (Tells (fault_of plan.now (content certificate.now))) }
 {
-    let case = case_of(alloc, plan, certificate, none)?;
+    let basis = basis_of(alloc, plan, certificate, none)?;
+    let class_days = class_days(alloc, &basis)?;
+    let case = case_of(alloc, &basis, class_days)?;
     let stretches = stretches_of(alloc, &case)?;
     let good = are_good(alloc, &case, stretches.as_slice())?;
     answer(alloc, &case, stretches.as_slice(), good)
@@ -74,7 +77,9 @@ fn judge_parallel<R: Threads + Sync>(
     ensures ok { OnOk result (fault_of plan.now (content certificate.now) ≡ None) }
     ensures fault { IfErr result (Tells (fault_of plan.now (content certificate.now))) }
 {
-    let case = case_of(alloc, plan, certificate, none)?;
+    let basis = basis_of(alloc, plan, certificate, none)?;
+    let class_days = class_days(alloc, &basis)?;
+    let case = case_of(alloc, &basis, class_days)?;
     let stretches = stretches_of(alloc, &case)?;
     let good = are_good_parallel(rt, alloc, &case, stretches.as_slice());
     answer(alloc, &case, stretches.as_slice(), good)

@@ -13,19 +13,19 @@ ghost use Rattle.cs_wait.specs.Bounds.{StepsHold};
 use crate::case::Case;
 use cs_cert::{Class, reach_of};
 use cs_chains::UsedStretch;
-use cs_claim::{clears, is_steady, waits};
+use cs_claim::{clears, is_steady_over, waits};
 use std::alloc::{AllocError, Global};
 
 /// Whether the bounds of the groups follow what arrives, from the last day but one to the last.
-fn steps_hold(alloc: Global, case: &Case<'_>, used: &UsedStretch<'_>) -> bool
+fn steps_hold(case: &Case<'_>, used: &UsedStretch<'_>) -> bool
     requires case { IsCase case.now }
     requires in_use { IsInUse (content case.now.certificate.now) case.now.days used.now }
     ensures { IsTrue result → (g : ℕ) → g < (as_plan case.now.plan.now).groups → has_waiter (as_plan case.now.plan.now) g ≡ true → StepsHold ((as_certificate (content case.now.certificate.now)).bound (nth used.now.stretch.now.of (case.now.days - 2)) g) (arrivals (as_plan case.now.plan.now) (as_certificate (content case.now.certificate.now)) g (nth used.now.stretch.now.of (case.now.days - 2))) ((as_certificate (content case.now.certificate.now)).bound (nth used.now.stretch.now.of (case.now.days - 1)) g) }
 {
     let days = case.days();
-    let eve = case.class_on(used, days - 2);
-    let last = case.class_on(used, days - 1);
-    is_steady(alloc, case.plan, eve, last)
+    let eve = case.day_on(used, days - 2);
+    let last = case.day_on(used, days - 1);
+    is_steady_over(eve.groups.as_slice(), last.groups.as_slice())
 }
 
 /// Whether the bound of the job's group is zero within this reach after each of its due minutes on the first day.
@@ -68,8 +68,8 @@ fn reach_holds<'a>(
     }
 }
 
-/// Whether each reach of a job that waits is far enough.
-fn reaches_hold(case: &Case<'_>, used: &UsedStretch<'_>) -> bool
+/// Whether each reach of a job that waits is far enough, job by job.
+fn all_reaches_hold(case: &Case<'_>, used: &UsedStretch<'_>) -> bool
     requires case { IsCase case.now }
     requires in_use { IsInUse (content case.now.certificate.now) case.now.days used.now }
     ensures { IsTrue result → (j r : ℕ) → j < crons case.now.plan.now → waits (as_plan case.now.plan.now) j ≡ true → (as_certificate (content case.now.certificate.now)).reach j ≡ Some r → clears_on (as_plan case.now.plan.now) (as_certificate (content case.now.certificate.now)) j r (seen used.now) ≡ true }
@@ -83,6 +83,19 @@ fn reaches_hold(case: &Case<'_>, used: &UsedStretch<'_>) -> bool
     true
 }
 
+/// The same. No job is looked at where all have had their locks on the first day itself.
+fn reaches_hold(case: &Case<'_>, used: &UsedStretch<'_>) -> bool
+    requires case { IsCase case.now }
+    requires in_use { IsInUse (content case.now.certificate.now) case.now.days used.now }
+    ensures { IsTrue result → (j r : ℕ) → j < crons case.now.plan.now → waits (as_plan case.now.plan.now) j ≡ true → (as_certificate (content case.now.certificate.now)).reach j ≡ Some r → clears_on (as_plan case.now.plan.now) (as_certificate (content case.now.certificate.now)) j r (seen used.now) ≡ true }
+{
+    let _days = case.days();
+    if case.day_on(used, 0).settles {
+        return true;
+    }
+    all_reaches_hold(case, used)
+}
+
 /// Whether a stretch in use is good by all the rules that are looked at stretch by stretch. Where it answers false, the finders
 /// tell whether something is wrong. The only error is want of memory.
 pub(crate) fn is_good(
@@ -94,7 +107,7 @@ pub(crate) fn is_good(
     requires in_use { IsInUse (content case.now.certificate.now) case.now.days used.now }
     ensures { IfOk result (λ good. IsTrue good → IsGood (as_plan case.now.plan.now) (as_certificate (content case.now.certificate.now)) case.now.days (seen used.now)) }
 {
-    if !steps_hold(alloc, case, used) {
+    if !steps_hold(case, used) {
         return Ok(false);
     }
     if !reaches_hold(case, used) {

@@ -1,9 +1,11 @@
 //! The checker: whether a certificate shows that a plan is safe, whatever happens.
 #![tactic(auto)]
 
+mod basis;
 mod case;
 mod checked;
 mod checking;
+mod class_day;
 mod fault;
 mod found;
 mod good;

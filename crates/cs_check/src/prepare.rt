@@ -3,9 +3,12 @@ ghost use Rattle.std.specs.Prelude.{◌≡◌, [], IfErr, IfOk};
 ghost use Rattle.cs_cert.specs.Certificate.{content};
 ghost use Rattle.cs_check.specs.Case.{fault_of};
 ghost use Rattle.cs_check.specs.Checked.{Tells};
+ghost use Rattle.cs_check.specs.ClassDays.{AreClassDays, IsBasis, IsBasisOf};
 ghost use Rattle.cs_check.specs.Stretches.{AreStretches, IsCase, IsCaseOf};
 
+use crate::basis::Basis;
 use crate::case::Case;
+use crate::class_day::ClassDay;
 use crate::fault::{CheckError, CheckFault};
 use cs_cert::Certificate;
 use cs_chains::{UsedStretch, first_missing, first_unlike, stretch_length, used_stretches};
@@ -13,31 +16,49 @@ use cs_decl::Plan;
 use cs_stretch::Roles;
 use cs_wait::Backlog;
 use cs_windows::occupied;
-use std::alloc::Global;
+use std::alloc::{AllocError, Global};
 
-/// The case of a plan and a certificate, or the fault of the first kind of day whose class has other due minutes.
-pub(crate) fn case_of<'a>(
+/// The basis of a plan and a certificate, or the fault of the first kind of day whose class has other due minutes.
+pub(crate) fn basis_of<'a>(
     alloc: Global,
     plan: &'a Plan,
     certificate: &'a Certificate,
     none: &'a Backlog,
-) -> Result<Case<'a>, CheckError>
+) -> Result<Basis<'a>, CheckError>
     requires { none.now ≡ [] }
-    ensures ok { IfOk result (IsCaseOf plan.now (content certificate.now)) }
+    ensures ok { IfOk result (IsBasisOf plan.now (content certificate.now)) }
     ensures fault { IfErr result (Tells (fault_of plan.now (content certificate.now))) }
 {
     let _jobs = plan.jobs();
     let occupied = occupied(alloc, plan, certificate.reach())?;
-    if let Some(kind) = first_unlike(plan, certificate) {
+    if let Some(kind) = first_unlike(alloc, plan, certificate)? {
         return Err(CheckError::Fault(CheckFault::ClassNotDue(kind)));
     }
-    Ok(Case {
+    Ok(Basis {
         plan,
         certificate,
-        days: stretch_length(occupied.as_slice()),
-        roles: Roles::of(alloc, plan)?,
         occupied,
         none,
+    })
+}
+
+/// The case that has this basis, with what each day of each class has. The only error is want of memory.
+pub(crate) fn case_of<'a>(
+    alloc: Global,
+    basis: &Basis<'a>,
+    class_days: Vec<ClassDay>,
+) -> Result<Case<'a>, AllocError>
+    requires basis { IsBasis basis.now }
+    requires days { AreClassDays basis.now.plan.now (content basis.now.certificate.now) class_days.items }
+    ensures { IfOk result (IsCaseOf basis.now.plan.now (content basis.now.certificate.now)) }
+{
+    Ok(Case {
+        plan: basis.plan,
+        certificate: basis.certificate,
+        days: stretch_length(basis.occupied.as_slice()),
+        roles: Roles::of(alloc, basis.plan)?,
+        class_days,
+        none: basis.none,
     })
 }
 

@@ -1,1 +1,4 @@
+pub mod DayMinutes
+pub mod GroupDays
 pub mod Lists
+pub mod Midnight

@@ -1,5 +1,5 @@
 -- What a certificate claims, as the rules of acceptance see it.
-use Rattle.std.specs.Prelude.{ℕ, ◌∷◌, [], List, map, slice_index_or}
+use Rattle.std.specs.Prelude.{ℕ, [], List, map, slice_index_or}
 use Rattle.cs_cert.specs.declared.class.Class.{Class}
 use Rattle.cs_cert.specs.Content.{Content, StretchTree}
 use Rattle.cs_cert.specs.Certificate as cert

@@ -1,3 +1,5 @@
 pub mod Claim
+pub mod DayMinutes
+pub mod GroupDays
 pub mod Reaches
 pub mod Work

@@ -2,10 +2,12 @@
 #![tactic(auto)]
 
 mod due;
+mod group_day;
 mod locks;
 mod reach;
 mod steps;
 
 pub use due::due_minutes;
+pub use group_day::{GroupDay, group_days, is_steady_over};
 pub use reach::{clears, waits};
-pub use steps::{first_rise, is_steady};
+pub use steps::first_rise;

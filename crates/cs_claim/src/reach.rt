@@ -1,19 +1,18 @@
 //! Whether the claimed bounds are zero within a job's reach.
-ghost use Rattle.std.specs.Prelude.{◌≡◌, ◌≤◌, ◌<◌, ◌↔◌, ℕ, [], true, IsTrue, length, map, take, unwrap_or};
+ghost use Rattle.std.specs.Prelude.{◌≡◌, ◌≤◌, ◌<◌, ◌↔◌, ℕ, All, [], IsTrue, length, map, take, unwrap_or};
 ghost use Rattle.cs_cert.specs.Certificate.{bound_in};
 ghost use Rattle.cs_decl.specs.Plan.{as_plan, crons};
 ghost use Rattle.cs_history.specs.Plan.{waits};
 ghost use Rattle.cs_wait.specs.Bounds.{ClearsBy, at};
-ghost use Rattle.cs_schedule.specs.Numbers.{has};
 ghost use Rattle.cs_claim.specs.Reaches.{Clears};
 
-use crate::due::due_minutes;
+use crate::due::due_in_order;
 use crate::locks::{self, cron_job};
 use crate::steps::backlog_of;
 use cs_cert::Class;
 use cs_decl::Plan;
 use cs_schedule::MinuteSet;
-use cs_wait::{Backlog, MINUTES_OF_DAY, clears_by};
+use cs_wait::{Backlog, clears_by};
 
 /// Whether a cron job waits for the lock of its group.
 pub fn waits(plan: &Plan, number: usize) -> bool
@@ -49,22 +48,12 @@ fn bounds_of<'a>(days: &[&'a Class], group: usize, none: &'a Backlog) -> [&'a Ba
     bounds
 }
 
-/// Whether the bound is zero within the reach of the minute, if it is one of these.
-fn clears_at(bounds: &[&Backlog], minutes: &MinuteSet, minute: u16, reach: u16) -> bool
-    ensures { IsTrue result ↔ (has minutes.now minute ≡ true → ClearsBy (map (λ b. at b.now) bounds.now) minute reach) }
-{
-    if !minutes.has(minute) {
-        return true;
-    }
-    clears_by(bounds, minute, reach)
-}
-
-/// The same of each minute of the day.
+/// Whether the bound is zero within the reach of each of the minutes.
 fn clears_each(bounds: &[&Backlog], minutes: &MinuteSet, reach: u16) -> bool
-    ensures { IsTrue result ↔ ((m : ℕ) → m < 1440 → has minutes.now m ≡ true → ClearsBy (map (λ b. at b.now) bounds.now) m reach) }
+    ensures { IsTrue result ↔ All (λ m. ClearsBy (map (λ b. at b.now) bounds.now) m reach) minutes.now }
 {
-    for minute in 0..MINUTES_OF_DAY {
-        if !clears_at(bounds, minutes, minute, reach) {
+    for minute in minutes.iter() {
+        if !clears_by(bounds, minute, reach) {
             return false;
         }
     }
@@ -88,6 +77,6 @@ pub fn clears<'a>(
     ensures { IsTrue result ↔ Clears (as_plan plan.now) (map (λ class. class.now) days.now) number reach }
 {
     let bounds = bounds_of(days, group_of(plan, number), none);
-    let minutes = due_minutes(days[0], number as u16);
+    let minutes = due_in_order(days[0], number as u16);
     clears_each(&bounds[..days.len()], &minutes, reach)
 }

@@ -1,34 +1,31 @@
-//! Whether the bounds of the groups follow what arrives, from one day to the next.
-ghost use Rattle.std.specs.Prelude.{◌≡◌, ◌≤◌, ◌<◌, ◌+◌, ◌*◌, ◌^◌, ℕ, [], true, None, IfOk, IsTrue, if◌then◌else◌, length, slice_index, slice_index_or};
-ghost use Rattle.cs_cert.specs.Certificate.{bound_in, is_due_in, pieces_of};
+//! What arrives for the locks of the groups, and the first step from one day to the next at which a bound doesn't follow it.
+ghost use Rattle.std.specs.Prelude.{◌≡◌, ◌≤◌, ◌<◌, ◌+◌, ◌*◌, ◌^◌, ℕ, [], IfOk, if◌then◌else◌, length, slice_index};
+ghost use Rattle.cs_cert.specs.Certificate.{is_due_in, pieces_of};
 ghost use Rattle.cs_cert.specs.declared.class.Class.{Class};
-ghost use Rattle.cs_wait.specs.Bounds.{StepsHold};
-ghost use Rattle.cs_history.specs.Plan.{Plan as TheoryPlan};
-ghost use Rattle.cs_accepted.specs.Faults.{has_waiter};
-ghost use Rattle.cs_claim.specs.Work.{AreWorks, IsSteady, IsWork, arrivals_in, rise_at, rise_between, rise_of};
+ghost use Rattle.cs_history.specs.Plan.{Plan as TheoryPlan, locks};
+ghost use Rattle.cs_claim.specs.DayMinutes.{AreRising};
+ghost use Rattle.cs_claim.specs.Work.{AreWorks, IsWork, arrivals_in, rise_at, rise_between, rise_of};
 ghost use Rattle.cs_decl.specs.Plan.{as_plan, crons};
-ghost use Rattle.cs_history.specs.Plan.{locks};
 ghost use Rattle.cs_schedule.specs.Numbers.{has};
 
-use crate::due::due_minutes;
+use crate::due::due_in_order;
 use crate::locks::{cron_job, has_waiter, locks};
 use cs_cert::{Class, GroupBacklog};
 use cs_decl::Plan;
 use cs_schedule::MinuteSet;
-use cs_wait::{Arrivals, Backlog, MINUTES_OF_DAY, step_ok, steps_ok};
+use cs_wait::{Arrivals, Backlog, MINUTES_OF_DAY, step_ok};
 use std::alloc::{AllocError, Global};
 
 /// A job arrives at each of these minutes.
 fn add_job(arrivals: &mut Arrivals, minutes: &MinuteSet, max: u16)
+    requires rising { AreRising minutes.now }
     requires long { length arrivals.old ≡ 1440 }
     requires fits { (m : ℕ) → m < 1440 → slice_index arrivals.old m + max < 2 ^ 32 }
     ensures long { length arrivals.new ≡ 1440 }
     ensures each { (m : ℕ) → m < 1440 → slice_index arrivals.new m ≡ slice_index arrivals.old m + (if has minutes.now m then max else 0) }
 {
-    for minute in 0..MINUTES_OF_DAY {
-        if minutes.has(minute) {
-            arrivals.add(minute, max);
-        }
+    for minute in minutes.iter() {
+        arrivals.add(minute, max);
     }
 }
 
@@ -43,12 +40,12 @@ fn add_locker(arrivals: &mut Arrivals, plan: &Plan, class: &Class, group: usize,
 {
     let job = cron_job(plan, number);
     if locks(job, group) {
-        add_job(arrivals, &due_minutes(class, number as u16), job.max());
+        add_job(arrivals, &due_in_order(class, number as u16), job.max());
     }
 }
 
 /// What the lock takers of a group that are due on a day of a class bring.
-fn arrivals_in(plan: &Plan, class: &Class, group: usize) -> Arrivals
+pub(crate) fn arrivals_in(plan: &Plan, class: &Class, group: usize) -> Arrivals
     ensures { (m : ℕ) → m < 1440 → slice_index result m ≡ arrivals_in (as_plan plan.now) class.now group m }
 {
     let mut arrivals = Arrivals::none();
@@ -106,30 +103,6 @@ fn work_of<'a>(
         eve: backlog_of(eve, group, none),
         day: backlog_of(day, group, none),
     })
-}
-
-/// Whether the bound of a group follows what arrives on the eve, at each step to the next minute.
-fn follows(work: Option<Work<'_>>) -> bool
-    ensures { (p : TheoryPlan) (eve day : Class) (g : ℕ) → IsTrue result → IsWork p eve day g work.entry → has_waiter p g ≡ true → StepsHold (bound_in eve g) (arrivals_in p eve g) (bound_in day g) }
-{
-    match work {
-        Some(work) => steps_ok(work.eve, &work.arrivals, work.day),
-        None => true,
-    }
-}
-
-/// Whether the bounds of each group with a job that waits follow what arrives, at each step from a minute of a day of the
-/// first class to the next minute, the last being the step over midnight to a day of the second class.
-pub fn is_steady(alloc: Global, plan: &Plan, eve: &Class, day: &Class) -> bool
-    ensures { IsTrue result → IsSteady (as_plan plan.now) eve.now day.now }
-{
-    let none = Backlog::none(alloc);
-    for group in 0..plan.groups().len() {
-        if !follows(work_of(plan, eve, day, group, &none)) {
-            return false;
-        }
-    }
-    true
 }
 
 /// What is known of each group.

@@ -1,3 +1,4 @@
+pub mod NearMinutes
 pub mod Ranges
 pub mod Words
 pub mod Within

@@ -10,7 +10,7 @@ mod schedule;
 mod tests;
 
 pub use field::Field;
-pub use minute_set::{MinuteSet, Minutes};
+pub use minute_set::{MINUTES_OF_BLOCK, MinuteSet, Minutes};
 pub use numbers::Numbers;
 pub use part::Part;
 pub use schedule::Schedule;

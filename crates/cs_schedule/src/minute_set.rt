@@ -1,11 +1,15 @@
-ghost use Rattle.std.specs.Prelude.{◌≡◌, ◌<◌, ◌≤◌, ◌+◌, ◌/◌, ◌%◌, [], ℕ, length, nat_eq, ◌||◌, ◌&&◌, ◌↔◌, IsTrue};
+ghost use Rattle.std.specs.Prelude.{◌≡◌, ◌<◌, ◌≤◌, ◌+◌, ◌*◌, ◌/◌, ◌%◌, [], ℕ, length, nat_eq, true, false, ◌||◌, ◌&&◌, ◌↔◌, IsTrue};
 ghost use Rattle.std.specs.Iterator.{YieldsFirst, item_count};
+ghost use Rattle.std.specs.Int.{bit_at};
 ghost use Rattle.cs_schedule.specs.Numbers.{has};
 ghost use Rattle.cs_schedule.specs.Minutes.{is_in, minutes_in, minutes_where};
 
 use crate::numbers::Numbers;
 use std::iter::FusedIterator;
 use std::marker::Model;
+
+/// How many minutes a block has. A day has 45 blocks, from 0 for the one that begins at 00:00.
+pub const MINUTES_OF_BLOCK: u16 = 32;
 
 /// Minutes of a day, from 0 for 00:00 to 1,439 for 23:59, as one bit each.
 #[derive(Debug, Drop)]
@@ -50,6 +54,29 @@ fn is_set(words: &[u64; 23], minute: u16) -> bool
     (words[(minute / 64) as usize] >> (minute % 64)) & 1 == 1
 }
 
+/// The place of the lowest bit that is set, or 64 where none is.
+fn lowest_bit(word: u64) -> u16
+    ensures within { result ≤ 64 }
+    ensures out { (i : ℕ) → i < result → bit_at word i ≡ 0 }
+    ensures set { result < 64 → bit_at word result ≡ 1 }
+{
+    word.trailing_zeros() as u16
+}
+
+/// The first minute from this one on that is set, where one is in the same word, and else the last minute of the day in that word.
+fn near(words: &[u64; 23], minute: u16) -> u16
+    requires { minute < 1440 }
+    ensures from { minute ≤ result }
+    ensures word { result / 64 ≡ minute / 64 }
+    ensures day { result < 1440 }
+    ensures out { (k : ℕ) → minute ≤ k → k < result → is_in words.now k ≡ false }
+    ensures set { (k : ℕ) → minute ≤ k → k < 1440 → k / 64 ≡ minute / 64 → is_in words.now k ≡ true → is_in words.now result ≡ true }
+{
+    let last = (minute / 64 * 64 + 63).min(1439);
+    let clear = lowest_bit(words[(minute / 64) as usize] >> (minute % 64));
+    (minute + clear).min(last)
+}
+
 impl MinuteSet {
     /// No minute.
     pub fn new() -> MinuteSet
@@ -84,6 +111,19 @@ impl MinuteSet {
         ensures { result ≡ has self.now minute }
     {
         minute < 1_440 && is_set(&self.words, minute)
+    }
+
+    /// Whether some minute of this block of a day is one of the set: of those from `MINUTES_OF_BLOCK * block` on, false from block 45 on.
+    pub fn meets_block(&self, block: u16) -> bool
+        ensures { IsTrue result ↔ ((minute : ℕ) × (MINUTES_OF_BLOCK * block ≤ minute) × (minute < MINUTES_OF_BLOCK * block + MINUTES_OF_BLOCK) × IsTrue (has self.now minute)) }
+    {
+        let words = &self.words;
+        if block >= 45 {
+            return false;
+        }
+        let first = MINUTES_OF_BLOCK * block;
+        let minute = near(words, first);
+        minute < first + MINUTES_OF_BLOCK && is_set(words, minute)
     }
 
     /// How many minutes there are, at most 1,440.
@@ -160,8 +200,8 @@ impl Iterator for Minutes {
 
     fn next(&mut self) -> Option<u16> {
         while self.next < 1440 {
-            let minute = self.next;
-            self.next += 1;
+            let minute = near(&self.words, self.next);
+            self.next = minute + 1;
             if is_set(&self.words, minute) {
                 return Some(minute);
             }

@@ -2,7 +2,7 @@ ghost use Rattle.std.specs.Prelude.{◌≡◌, ◌/◌, ◌%◌, ◌<◌};
 ghost use Rattle.cs_civil.specs.Calendar.{kind};
 ghost use Rattle.cs_schedule.specs.declared.part.Part.TheVariants as part;
 ghost use Rattle.cs_schedule.specs.Minutes.{minutes_where};
-ghost use Rattle.cs_schedule.specs.Times.{IsWithin, choice_of, is_day_due, is_due};
+ghost use Rattle.cs_schedule.specs.Times.{IsWithin, choice_of, is_day_due, is_due, is_time_due};
 
 use crate::field::Field;
 use crate::minute_set::MinuteSet;
@@ -76,7 +76,8 @@ impl Schedule {
         }
     }
 
-    fn matches_day(&self, kind: DayKind) -> bool
+    /// Whether the command is due on days of this kind, at the minutes that [`times`](Schedule::times) gives.
+    pub fn is_day_due(&self, kind: DayKind) -> bool
         ensures { result ≡ is_day_due self.now kind }
     {
         let dom = self.dom.has(kind.dom());
@@ -103,16 +104,23 @@ impl Schedule {
     {
         self.minute.has((minute_of_day % 60) as u8)
             && self.hour.has((minute_of_day / 60) as u8)
-            && self.matches_day(kind)
+            && self.is_day_due(kind)
+    }
+
+    /// The minutes, from 0 to 1,439, at which the command is due on each day on which it is due at all.
+    pub fn times(&self) -> MinuteSet
+        ensures { result ≡ minutes_where (is_time_due self.now) }
+    {
+        MinuteSet::of_times(self.hour.numbers(), self.minute.numbers())
     }
 
     /// The minutes at which the command is due on a day of this kind.
     pub fn minutes_of(&self, kind: DayKind) -> MinuteSet
         ensures { result ≡ minutes_where (is_due self.now kind) }
     {
-        if !self.matches_day(kind) {
+        if !self.is_day_due(kind) {
             return MinuteSet::new();
         }
-        MinuteSet::of_times(self.hour.numbers(), self.minute.numbers())
+        self.times()
     }
 }

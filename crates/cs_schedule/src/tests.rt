@@ -37,6 +37,7 @@ fn minutes_of_a_day(rt: HostRuntime) {
     assert_eq!(rt; minutes.len(), 1);
     assert_eq!(rt; minutes.iter().next(), Some(720));
     assert!(rt; minutes.has(720));
+    assert!(rt; minutes.meets_block(22) && !minutes.meets_block(23));
     assert!(rt; !minutes.has(1_440));
     let monday = DayKind::new(10, 14, 1).expect(&rt, "a kind");
     assert!(rt; noon().minutes_of(monday).is_empty());

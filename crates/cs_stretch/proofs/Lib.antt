@@ -1,5 +1,6 @@
 pub mod Firsts
 pub mod KeptWindows
+pub mod MostWeights
 pub mod PlanRoles
 pub mod QuietLemmas
 pub mod RoleLemmas

@@ -1,7 +1,7 @@
 //! What windows weigh together.
-ghost use Rattle.std.specs.Prelude.{◌≡◌, ℕ, ◌+◌, ◌*◌, ◌^◌, ◌<◌, ◌≤◌, max, length, slice_index};
+ghost use Rattle.std.specs.Prelude.{◌≡◌, ℕ, ◌+◌, ◌*◌, ◌^◌, ◌<◌, ◌≤◌, ◌↔◌, IsTrue, max, length, slice_index};
 ghost use Rattle.cs_history.specs.Lists.{total, greatest, below};
-ghost use Rattle.cs_stretch.specs.Roles.{free_weight, alone_weight, shared_weight, catch_weight, group_weight, load_by};
+ghost use Rattle.cs_stretch.specs.Roles.{free_weight, alone_weight, shared_weight, catch_weight, most_weight, group_weight, load_by};
 
 use crate::role::{Role, role_of};
 use cs_windows::Window;
@@ -25,6 +25,20 @@ fn catch_weight(roles: &[Role], window: &Window) -> u8
 {
     let role = role_of(roles, window);
     if role.is_cron { 0 } else { role.weight }
+}
+
+/// What a window weighs at most: its weight, and as catch-up that takes a lock twice its weight.
+fn most_weight(roles: &[Role], window: &Window) -> u16
+    ensures value { result ≡ most_weight roles.now window.now }
+    ensures small { result ≤ 510 }
+{
+    let role = role_of(roles, window);
+    let weight = u16::from(role.weight);
+    if !role.is_cron && role.takes_lock() {
+        weight + weight
+    } else {
+        weight
+    }
 }
 
 /// The weights of the windows without a lock, added up.
@@ -115,4 +129,28 @@ pub(crate) fn load(roles: &[Role], groups: usize, windows: &[Window]) -> u128
     free_load(roles, windows)
         + group_load(&alone, &shared, groups)
         + u128::from(catch_load(roles, windows))
+}
+
+/// What the windows weigh at most, added up.
+fn most_load(roles: &[Role], windows: &[Window]) -> u128
+    ensures { result ≡ total (most_weight roles.now) windows.now }
+{
+    let mut sum = 0u128;
+    for window in windows {
+        sum += u128::from(most_weight(roles, window));
+    }
+    sum
+}
+
+/// Whether the windows weigh together at most the capacity. What they weigh is looked at only where it may be more.
+#[tactic(auto, using(crate::proofs::MostWeights::load_most))]
+pub(crate) fn fits(roles: &[Role], groups: usize, capacity: u8, windows: &[Window]) -> bool
+    requires few { groups ≤ 64 }
+    ensures { IsTrue result ↔ (load_by roles.now groups windows.now ≤ capacity) }
+{
+    let capacity = u128::from(capacity);
+    if most_load(roles, windows) <= capacity {
+        return true;
+    }
+    load(roles, groups, windows) <= capacity
 }

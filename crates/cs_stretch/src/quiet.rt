@@ -4,7 +4,7 @@ ghost use Rattle.std.specs.List.{AllByRecursion};
 ghost use Rattle.cs_windows.specs.Window.{IsRising};
 ghost use Rattle.cs_stretch.specs.Quietness.{ends_after, is_open_at, role_bars, roles_may_meet, met, FitByRoles};
 
-use crate::load::load;
+use crate::load::fits;
 use crate::role::{Role, clash, role_of, share_group};
 use cs_windows::{MINUTES_OF_DAY, Window};
 use std::alloc::{AllocError, Global};
@@ -98,7 +98,7 @@ pub(crate) fn is_quiet(
             return Ok(false);
         }
         active.push(*window)?;
-        if load(roles, groups, active.as_slice()) > u128::from(capacity) {
+        if !fits(roles, groups, capacity, active.as_slice()) {
             return Ok(false);
         }
     }

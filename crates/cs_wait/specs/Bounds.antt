@@ -32,6 +32,10 @@ at_days (day ∷ days) minute = if nat_lt minute MINUTES_OF_DAY then day minute 
 abbrev pub StepsHold : (ℕ → ℕ) → (ℕ → ℕ) → (ℕ → ℕ) → Type 0
 StepsHold before arrive day = (t : ℕ) → t < MINUTES_OF_DAY → before t + arrive t - 1 ≤ at_days (before ∷ day ∷ []) (t + 1)
 
+-- the same of the steps within a day: at each minute of the day but the last
+abbrev pub StepsHoldWithin : (ℕ → ℕ) → (ℕ → ℕ) → Type 0
+StepsHoldWithin bound arrive = (t : ℕ) → t + 1 < MINUTES_OF_DAY → bound t + arrive t - 1 ≤ bound (t + 1)
+
 -- the minute lies on one of the days and has the bound 0
 abbrev pub IsClearAt : List (ℕ → ℕ) → ℕ → Type 0
 IsClearAt days minute = (minute < MINUTES_OF_DAY * length days) × (at_days days minute ≡ 0)

@@ -1,5 +1,5 @@
 ghost use Rattle.std.specs.Prelude.{◌≡◌, ◌^◌, ◌+◌, ◌-◌, ◌<◌, ◌≤◌, ◌↔◌, [], ◌∷◌, ℕ, List, IsTrue, slice_index, slice_set};
-ghost use Rattle.cs_wait.specs.Bounds.{StepsHold, at, at_days, none};
+ghost use Rattle.cs_wait.specs.Bounds.{StepsHoldWithin, at, at_days, none};
 
 use crate::backlog::{Backlog, MINUTES_OF_DAY};
 use std::marker::Model;
@@ -44,27 +44,37 @@ impl Arrivals {
     }
 }
 
-/// Whether the bound follows what arrives, at each step from a minute of the first day to the next minute, the
-/// last being the step over midnight: the bound after it is at least the bound before it and what arrives, less one,
-/// not below 0. `before` and `arrivals` are of the first day, `day` is of the day after it.
-pub fn steps_ok(before: &Backlog, arrivals: &Arrivals, day: &Backlog) -> bool
-    ensures { IsTrue result ↔ StepsHold (at before.now) (slice_index arrivals.now) (at day.now) }
+/// Whether the bound follows what arrives, at each step from a minute of the day to the next minute of the same day: the
+/// bound after it is at least the bound before it and what arrives, less one, not below 0. The step over midnight is left
+/// out.
+pub fn steps_within(bounds: &Backlog, arrivals: &Arrivals) -> bool
+    ensures { IsTrue result ↔ StepsHoldWithin (at bounds.now) (slice_index arrivals.now) }
 {
-    for minute in 0..MINUTES_OF_DAY {
-        if !step_ok(before, arrivals, day, minute) {
+    let table = bounds.by_minute();
+    for minute in 0..table.len() - 1 {
+        if !follows(table[minute], arrivals.sums[minute], table[minute + 1]) {
             return false;
         }
     }
     true
 }
 
-/// Whether the bound follows what arrives at the one step from a minute of the first day to the next minute.
+/// Whether a bound follows from the bound a minute before it and what arrived then: the lock takes one minute of runs off.
+fn follows(before: u32, arrives: u32, bound: u32) -> bool
+    ensures { IsTrue result ↔ (before + arrives - 1 ≤ bound) }
+{
+    u64::from(before) + u64::from(arrives) <= u64::from(bound) + 1
+}
+
+/// Whether the bound follows what arrives at the one step from a minute of the first day to the next minute, which for the
+/// last one is the first of the day after: the bound after the step is at least the bound before it and what arrives, less
+/// one, not below 0. `before` and `arrivals` are of the first day, `day` is of the day after it.
 pub fn step_ok(before: &Backlog, arrivals: &Arrivals, day: &Backlog, minute: u16) -> bool
     requires { minute < MINUTES_OF_DAY }
     ensures { IsTrue result ↔ (at before.now minute + slice_index arrivals.now minute - 1 ≤ at_days (at before.now ∷ at day.now ∷ []) (minute + 1)) }
 {
     let next = bound_over(before, day, minute + 1);
-    u64::from(before.at(minute)) + u64::from(arrivals.at(minute)) <= u64::from(next) + 1
+    follows(before.at(minute), arrivals.at(minute), next)
 }
 
 /// The bound at a minute counted from the start of the first of two successive days.

@@ -1,5 +1,5 @@
-ghost use Rattle.std.specs.Prelude.{◌≡◌, ◌↔◌, List, [], IsTrue, IsOk, IfOk};
-ghost use Rattle.cs_wait.specs.Bounds.{IsBacklog, at};
+ghost use Rattle.std.specs.Prelude.{◌≡◌, ◌≤◌, ◌<◌, ◌+◌, ◌-◌, ◌↔◌, ℕ, All, List, [], IsTrue, IsOk, IfOk, drop, fold, length, slice_index, take};
+ghost use Rattle.cs_wait.specs.Bounds.{IsBacklog, IsBacklogFrom, at, decided};
 ghost use Rattle.cs_wait.specs.declared.backlog.Piece.{Piece};
 
 use std::alloc::Global;
@@ -79,6 +79,43 @@ impl Backlog {
     {
         at_minute(self.list.as_slice(), minute)
     }
+
+    /// The bound at each minute of the day, in one pass over the pieces.
+    pub fn by_minute(&self) -> [u32; 1_440]
+        ensures long { length result ≡ 1440 }
+        ensures each { (m : ℕ) → m < 1440 → slice_index result m ≡ at self.now m }
+    {
+        let mut bounds = [0; 1_440];
+        let mut walk = Walk { place: 0, bound: 0 };
+        for minute in 0..MINUTES_OF_DAY {
+            walk = turn(self.list.as_slice(), walk, minute);
+            bounds[usize::from(minute)] = walk.bound;
+            walk.bound = walk.bound.saturating_sub(1);
+        }
+        bounds
+    }
+}
+
+/// Where a walk over the pieces of a day stands: the place of the next piece, and the bound at the minute if none begins.
+#[derive(Clone, Copy)]
+struct Walk {
+    place: usize,
+    bound: u32,
+}
+
+/// The walk with the piece taken that begins at the minute, if one does: the bound is then that of the minute.
+fn turn(list: &[Piece], walk: Walk, minute: u16) -> Walk
+    requires { IsBacklogFrom minute (drop walk.place list.now) }
+    ensures left { IsBacklogFrom (minute + 1) (drop result.place list.now) }
+    ensures same { (t : ℕ) → minute ≤ t → fold (decided t) (result.bound - (t - minute)) (drop result.place list.now) ≡ fold (decided t) (walk.bound - (t - minute)) (drop walk.place list.now) }
+{
+    if walk.place < list.len() && list[walk.place].minute == minute {
+        return Walk {
+            place: walk.place + 1,
+            bound: list[walk.place].value,
+        };
+    }
+    walk
 }
 
 /// Whether the minutes rise strictly below 1,440 and the values are in range.
@@ -99,17 +136,23 @@ fn is_backlog(list: &[Piece]) -> bool
     true
 }
 
+/// How many of the pieces begin by a minute: they are the first ones.
+fn begun_by(list: &[Piece], minute: u16) -> usize
+    requires { IsBacklog list.now }
+    ensures begun { All (λ piece. piece.minute ≤ minute) (take result list.now) }
+    ensures within { result ≤ length list.now }
+    ensures same { at (take result list.now) minute ≡ at list.now minute }
+{
+    list.partition_point(|piece| piece.minute <= minute)
+}
+
 /// The bound that the pieces give at a minute. A piece that begins later, and all after it, decide nothing.
 fn at_minute(list: &[Piece], minute: u16) -> u32
     requires { IsBacklog list.now }
     ensures { result ≡ at list.now minute }
 {
-    let mut bound = 0;
-    for piece in list {
-        if piece.minute > minute {
-            return bound;
-        }
-        bound = piece.value.saturating_sub(u32::from(minute - piece.minute));
+    match list[..begun_by(list, minute)].last() {
+        Some(piece) => piece.value.saturating_sub(u32::from(minute - piece.minute)),
+        None => 0,
     }
-    bound
 }

@@ -7,6 +7,6 @@ mod stretch;
 #[cfg(test)]
 mod tests;
 
-pub use arrivals::{Arrivals, step_ok, steps_ok};
+pub use arrivals::{Arrivals, step_ok, steps_within};
 pub use backlog::{Backlog, BadPiece, MAX_BACKLOG, MINUTES_OF_DAY, Piece};
 pub use stretch::clears_by;

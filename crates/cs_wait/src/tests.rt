@@ -1,8 +1,13 @@
-use crate::{Arrivals, Backlog, BadPiece, Piece, clears_by, steps_ok};
+use crate::{Arrivals, Backlog, BadPiece, MINUTES_OF_DAY, Piece, clears_by, step_ok, steps_within};
 use std::test::Fail;
 
 fn piece(minute: u16, value: u32) -> Piece {
     Piece { minute, value }
+}
+
+/// Whether the bound follows what arrives at each step of a day, the one over midnight too.
+fn steps_ok(before: &Backlog, arrivals: &Arrivals, day: &Backlog) -> bool {
+    (0..MINUTES_OF_DAY).all(|minute| step_ok(before, arrivals, day, minute))
 }
 
 /// Lists of pieces, and whether they make a backlog.
@@ -50,6 +55,7 @@ fn a_bound_falls_by_one_each_minute(rt: HostRuntime) -> Result<(), Fail> {
         (1_439, 0),
     ] {
         assert_eq!(rt; backlog.at(minute), bound);
+        assert_eq!(rt; backlog.by_minute()[usize::from(minute)], bound);
     }
     Ok(())
 }
@@ -63,11 +69,15 @@ fn a_bound_goes_on_past_midnight(rt: HostRuntime) -> Result<(), Fail> {
         &rt,
         "one piece",
     );
+    let mut noon = Arrivals::none();
+    noon.add(720, 2);
     let mut arrivals = Arrivals::none();
     assert!(rt; steps_ok(&empty, &arrivals, &empty));
     arrivals.add(1_439, 10);
     assert!(rt; steps_ok(&night, &arrivals, &night));
     assert!(rt; !steps_ok(&night, &arrivals, &empty));
+    assert!(rt; steps_within(&night, &arrivals));
+    assert!(rt; !steps_within(&night, &noon));
     for (reach, clears) in [(10, true), (9, false), (0, false)] {
         assert_eq!(rt; clears_by(&[&night, &night], 1_439, reach), clears);
     }

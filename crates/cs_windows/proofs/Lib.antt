@@ -1,4 +1,5 @@
 pub mod Exact
+pub mod Joined
 pub mod Members
 pub mod Minutes
 pub mod PlannedJobs

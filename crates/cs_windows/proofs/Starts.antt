@@ -52,6 +52,30 @@ left_out_at day back minute number os o starters all lt is e h =
     let rest = filter reaches (starting day back minute (number + 1) (map job_of (drop (number + 1) os))) in
     ap (λ (ws : List Window). begun minute starters ++ ws) (sym (next day back minute number os o lt is ∙ ap (λ (ws : List Window). ws ++ rest) e)) ∙ h
 
+-- the windows of the first starter, and those of the others
+begun-cons : (minute : ℕ) (s : Starter) (starters : List Starter) → begun minute (s ∷ starters) ≡ begun minute (s ∷ []) ++ begun minute starters
+begun-cons minute s starters = filter_map-append (λ (t : Starter). window_at t minute) (s ∷ []) starters
+
+starter_at : {A : Type 0} (f : List Starter → A) (starters : List Starter) (s : Starter) (i : ℕ) → i < length starters → s ≡ get_or starters i s → f (drop i starters) ≡ f (s ∷ drop (i + 1) starters)
+starter_at f starters s i lt is = ap f (rw (add-one, drop-cons starters i s lt) (ap (λ (x : Starter). x ∷ drop (suc i) starters) (sym is)))
+
+-- the next starter, kept
+pub near_kept : (minute i : ℕ) (starters near : List Starter) (s : Starter) (all : List Window) → i < length starters → s ≡ get_or starters i s
+    → begun minute near ++ begun minute (drop i starters) ≡ all → begun minute (near ++ s ∷ []) ++ begun minute (drop (i + 1) starters) ≡ all
+near_kept minute i starters near s all lt is h =
+    let rest = drop (i + 1) starters in
+    ap (λ (ws : List Window). ws ++ begun minute rest) (filter_map-append (λ (t : Starter). window_at t minute) near (s ∷ []))
+    ∙ append_assoc (begun minute near) (begun minute (s ∷ [])) (begun minute rest)
+    ∙ ap (λ (ws : List Window). begun minute near ++ ws) (sym (starter_at (begun minute) starters s i lt is ∙ begun-cons minute s rest)) ∙ h
+
+-- the next starter, which has no start at the minute, passed over
+pub near_passed : (minute i : ℕ) (starters near : List Starter) (s : Starter) (all : List Window) → i < length starters → s ≡ get_or starters i s → has s.starts minute ≡ false
+    → begun minute near ++ begun minute (drop i starters) ≡ all → begun minute near ++ begun minute (drop (i + 1) starters) ≡ all
+near_passed minute i starters near s all lt is out h =
+    let rest = drop (i + 1) starters in
+    let none : begun minute (s ∷ rest) ≡ begun minute rest = rw out refl in
+    ap (λ (ws : List Window). begun minute near ++ ws) (sym (starter_at (begun minute) starters s i lt is ∙ none)) ∙ h
+
 -- the minutes of a day that pass a test are those that pass
 pub has-minutes_where : (p : ℕ → Bool) (minute : ℕ) → minute < 1440 → has (minutes_where p) minute ≡ p minute
 unfolding minutes_where

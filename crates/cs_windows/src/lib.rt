@@ -1,6 +1,7 @@
 //! Windows: the minutes in which a run may go on, once its job was due or caught up.
 #![tactic(auto)]
 
+mod day_lists;
 mod job_windows;
 mod list;
 mod planned;
@@ -11,6 +12,7 @@ mod tests;
 mod tree;
 mod window;
 
+pub use day_lists::windows_over;
 pub use job_windows::Occupied;
 pub use list::windows_on;
 pub use planned::occupied;

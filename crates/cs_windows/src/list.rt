@@ -1,4 +1,5 @@
-ghost use Rattle.std.specs.Prelude.{◌≡◌, ℕ, [], ◌∷◌, ◌<◌, ◌≤◌, ◌++◌, ◌↔◌, IfNone, IfOk, IfSome, OnOk, Contains, filter, length, map};
+ghost use Rattle.std.specs.Prelude.{◌≡◌, ℕ, [], ◌∷◌, ◌+◌, ◌-◌, ◌*◌, ◌<◌, ◌≤◌, ◌++◌, ◌↔◌, IfNone, IfOk, IfSome, OnOk, Contains, filter, flat_map, length, map};
+ghost use Rattle.std.specs.List.{range_with_len};
 ghost use Rattle.cs_windows.specs.Occupied.{job_of};
 ghost use Rattle.cs_windows.specs.Starter.{begun, begun_by};
 ghost use Rattle.cs_windows.specs.Window.{IsRising, reaches};
@@ -8,7 +9,11 @@ use crate::job_windows::Occupied;
 use crate::starter::Starter;
 use crate::window::{MINUTES_OF_DAY, Window, may_reach};
 use cs_civil::DayKind;
+use cs_schedule::MINUTES_OF_BLOCK;
 use std::alloc::{AllocError, Global};
+
+/// A day's minutes are gone through by blocks of `MINUTES_OF_BLOCK`.
+const BLOCKS_OF_DAY: u16 = MINUTES_OF_DAY / MINUTES_OF_BLOCK;
 
 /// The starts of a job on a day, if one of its windows may reach the day so many days after it.
 fn starter_on(job: usize, own: &Occupied<'_>, day: DayKind, day_back: u8) -> Option<Starter>
@@ -45,14 +50,47 @@ fn starters_on(
     Ok(starters)
 }
 
-/// Adds the windows that begin at one minute and reach the day looked at.
-fn add_begun(windows: &mut Vec<Window>, starters: &[Starter], minute: u16) -> Result<(), AllocError>
-    ensures { OnOk result (windows.new.items ≡ windows.old.items ++ begun minute starters.now) }
+/// Keeps, in place of what was kept before, the starters that have a start in a block of minutes.
+fn keep_near<'a>(
+    near: &mut Vec<&'a Starter>,
+    starters: &'a [Starter],
+    block: u16,
+) -> Result<(), AllocError>
+    ensures { OnOk result ((minute : ℕ) → MINUTES_OF_BLOCK * block ≤ minute → minute < MINUTES_OF_BLOCK * block + MINUTES_OF_BLOCK → begun minute (map (λ starter. starter.now) near.new.items) ≡ begun minute starters.now) }
 {
+    near.clear();
     for starter in starters {
+        if starter.starts.meets_block(block) {
+            near.push(starter)?;
+        }
+    }
+    Ok(())
+}
+
+/// Adds the windows that begin at one minute and reach the day looked at.
+fn add_begun(windows: &mut Vec<Window>, near: &[&Starter], minute: u16) -> Result<(), AllocError>
+    ensures { OnOk result (windows.new.items ≡ windows.old.items ++ begun minute (map (λ starter. starter.now) near.now)) }
+{
+    for starter in near {
         if let Some(window) = starter.window_at(minute) {
             windows.push(window)?;
         }
+    }
+    Ok(())
+}
+
+/// Adds the windows that begin at the minutes `[from, to)` and reach the day looked at.
+fn add_minutes(
+    windows: &mut Vec<Window>,
+    near: &[&Starter],
+    from: u16,
+    to: u16,
+) -> Result<(), AllocError>
+    requires { from ≤ to }
+    ensures { OnOk result (windows.new.items ≡ windows.old.items ++ flat_map (λ minute. begun minute (map (λ starter. starter.now) near.now)) (range_with_len from (to - from))) }
+{
+    for minute in from..to {
+        add_begun(windows, near, minute)?;
     }
     Ok(())
 }
@@ -68,8 +106,11 @@ fn add_day(
     ensures { OnOk result (windows.new.items ≡ windows.old.items ++ filter reaches (windows_from (map job_of occupied.now) day day_back)) }
 {
     let starters = starters_on(alloc, occupied, day, day_back)?;
-    for minute in 0..MINUTES_OF_DAY {
-        add_begun(windows, &starters, minute)?;
+    let mut near = Vec::new(alloc);
+    for block in 0..BLOCKS_OF_DAY {
+        let first = MINUTES_OF_BLOCK * block;
+        keep_near(&mut near, &starters, block)?;
+        add_minutes(windows, &near, first, first + MINUTES_OF_BLOCK)?;
     }
     Ok(())
 }

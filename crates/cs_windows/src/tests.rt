@@ -1,4 +1,4 @@
-use crate::{Entry, MinuteTree, Occupied, Window, touches, windows_on};
+use crate::{Entry, MinuteTree, Occupied, Window, touches, windows_on, windows_over};
 use cs_civil::{DayKind, Sequence};
 use cs_schedule::{Field, Numbers, Schedule};
 use std::alloc::{AllocError, Global};
@@ -80,6 +80,18 @@ fn windows_of_a_wednesday(rt: HostRuntime) -> Result<(), Fail> {
         window(7, 0, 1_410, 40),
     ];
     assert_eq!(rt; windows.as_slice(), wanted.as_slice());
+    Ok(())
+}
+
+/// The windows of four days of one kind, each listed for itself, joined.
+#[test]
+fn windows_of_four_days(rt: HostRuntime) -> Result<(), Fail> {
+    let noon = [window(0, 0, 720, 2_161), window(1, 0, 1_439, 1)];
+    let windows = windows_over(rt.alloc(), &[&noon, &noon, &noon, &[]])?;
+    let wanted = [window(0, 2, 720, 2_161), window(0, 1, 720, 2_161)];
+    assert_eq!(rt; windows.as_slice(), wanted.as_slice());
+    let alone = windows_over(rt.alloc(), &[&noon])?;
+    assert_eq!(rt; alone.as_slice(), noon.as_slice());
     Ok(())
 }
 

@@ -8,7 +8,7 @@ pub returns-then-not-is_alike : goal.returns-then-not-is_alike
 returns-then-not-is_alike c =
     let d = c.args.plan.now in
     let a = content c.args.certificate.now in
-    sym c.loop-kind.invariant ∙ ap (first_of (unlike d a)) c.in-Some.ensures.steps ∙ unlike_here d a c.in-Some.kind c.next.new.self (sym c.is_alike.ensures ∙ c.if-not-is_alike.true)
+    sym (sym c.loop-kind.invariant ∙ ap (first_of (unlike d a)) c.in-Some.ensures.steps ∙ unlike_here d a c.in-Some.kind c.next.new.self (sym c.is_alike.ensures ∙ c.if-not-is_alike.true))
 
 pub loop-kind-preserved : goal.loop-kind-preserved
 loop-kind-preserved c =

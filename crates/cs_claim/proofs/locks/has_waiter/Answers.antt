@@ -1,4 +1,4 @@
-use Rattle.std.proofs.Common.{rules, ◌≡◌, ◌&&◌, true, sym, ap, ◌∙◌, arith, ℕ}
+use Rattle.std.proofs.Common.{rules, ◌≡◌, ◌&&◌, true, sym, arith}
 use Rattle.std.proofs.lemmas.Bool.{and_from}
 use Rattle.cs_decl.specs.Plan.{as_plan, crons}
 use Rattle.cs_history.specs.Plan.{locks, waits}

@@ -1,9 +1,10 @@
-use Rattle.std.proofs.Common.{◌≡◌, ◌≤◌, ◌<◌, ◌+◌, ℕ, if◌then◌else◌, ◌&&◌, nat_lt, length, slice_index}
+use Rattle.std.proofs.Common.{◌≡◌, ◌<◌, ◌+◌, ℕ, if◌then◌else◌, length, slice_index}
+use Rattle.cs_claim.specs.DayMinutes.{AreRisingFrom}
 use Rattle.cs_schedule.specs.Numbers.{has}
 use Rattle.cs_claim.proofs.steps.add_job.Given as goal
 
+-- what is left arrives in full
 abbrev pub invariant-loop-minute : goal.invariant-loop-minute
 invariant-loop-minute l =
-    (length l.arrivals ≡ 1440) × (l.minute ≤ 1440)
-    × ((m : ℕ) → m < l.minute → slice_index l.arrivals m ≡ slice_index l.initial.arrivals m + (if has l.minutes m then l.max else 0))
-    × ((m : ℕ) → l.minute ≤ m → slice_index l.arrivals m ≡ slice_index l.initial.arrivals m)
+    (length l.arrivals ≡ 1440) × ((least : ℕ) × AreRisingFrom least l.minute-iterator)
+    × ((m : ℕ) → m < 1440 → slice_index l.arrivals m + (if has l.minute-iterator m then l.max else 0) ≡ slice_index l.initial.arrivals m + (if has l.minutes m then l.max else 0))

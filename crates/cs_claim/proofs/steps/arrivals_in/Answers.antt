@@ -1,4 +1,4 @@
-use Rattle.std.proofs.Common.{◌≡◌, ℕ, ◌+◌, ◌∙◌, ap, sym, arith, if◌then◌else◌}
+use Rattle.std.proofs.Common.{ℕ, ◌+◌, ◌∙◌, ap, sym, arith, if◌then◌else◌}
 use Rattle.cs_cert.specs.Certificate.{is_due_in}
 use Rattle.cs_decl.specs.Plan.{as_plan}
 use Rattle.cs_history.specs.Plan.{locks}

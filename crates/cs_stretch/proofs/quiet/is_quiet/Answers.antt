@@ -14,7 +14,7 @@ loop-window-preserved c =
     let meets : AllByRecursion (λ v. roles_may_meet c.args.roles.now v w ≡ true) (met w c.loop-window.active.items) =
     subst (AllByRecursion (λ v. roles_may_meet c.args.roles.now v w ≡ true)) (c.as_slice.ensures.value ∙ c.leave_met.ensures) (c.may_meet_all.ensures c.if-not-may_meet_all.false) in
     let weighs = ap (load_by c.args.roles.now c.args.groups) (c.as_slice-in-loop-window.ensures.value ∙ all) in
-    let light : load_by c.args.roles.now c.args.groups (met w c.loop-window.active.items ++ w ∷ []) ≤ c.args.capacity = omega (arith, weighs, c.if-load-from.false, c.from.ensures, c.load.ensures) in
+    let light : load_by c.args.roles.now c.args.groups (met w c.loop-window.active.items ++ w ∷ []) ≤ c.args.capacity = omega (arith, weighs, c.fits.ensures.0 c.if-not-fits.false) in
     record {
       fit = fit_on c.args.roles.now c.args.groups c.args.capacity c.args.windows.now c.loop-window.window-index d c.loop-window-test.true c.requires.rising c.loop-window.active.items c.loop-window.invariant.kept c.loop-window.invariant.fit meets light;
       kept = subst (Keeps _) (sym all) (kept_on c.args.roles.now c.args.groups c.args.capacity c.args.windows.now c.loop-window.window-index d c.loop-window-test.true c.requires.rising c.loop-window.active.items c.loop-window.invariant.kept);

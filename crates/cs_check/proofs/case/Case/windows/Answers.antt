@@ -1,25 +1,34 @@
-use Rattle.std.proofs.Common.{◌≡◌, List, map, ap, ◌∙◌}
+use Rattle.std.proofs.Common.{◌≡◌, ℕ, [], ◌∷◌, List, Bor, map, take, ap, ◌∙◌}
 use Rattle.std.proofs.lemmas.Result.{IfOk-weaker}
-use Rattle.cs_accepted.specs.Accepted.{windows_of}
+use Rattle.cs_accepted.specs.Accepted.{due_in, occupied, reach_in, windows_of}
 use Rattle.cs_cert.specs.Certificate.{content}
-use Rattle.cs_civil.specs.Calendar.{Kind}
 use Rattle.cs_claim.specs.Claim.{as_certificate}
 use Rattle.cs_decl.specs.Plan.{as_plan}
-use Rattle.cs_windows.specs.Occupied.{job_of}
-use Rattle.cs_windows.specs.Planned.{planned}
 use Rattle.cs_windows.specs.Windows.{Job, windows_on}
-use Rattle.cs_windows.specs.declared.job_windows.Occupied.{Occupied}
-use Rattle.cs_check.proofs.Using.{windows_are}
+use Rattle.cs_windows.specs.declared.window.Window.{Window}
+use Rattle.cs_windows.specs.Window.{IsRising}
 use Rattle.cs_check.proofs.case.Case.windows.Goals as goal
 
 pub returns-clause-value : goal.returns-clause-value
 returns-clause-value c =
-    let d = c.args.self.now.plan.now in
-    let k = content c.args.self.now.certificate.now in
-    let kinds = c.args.used.now.kinds.items in
+    let p = as_plan c.args.self.now.plan.now in
+    let a = as_certificate (content c.args.self.now.certificate.now) in
     let of = c.args.used.now.stretch.now.of in
-    let here = ap (λ (jobs : List Occupied). windows_on (map job_of jobs) c.as_slice-2.result.now) c.as_slice.ensures.value
-    ∙ (ap (λ (ks : List Kind). windows_on (map job_of c.args.self.now.occupied.items) ks) c.as_slice-2.ensures.value
-    ∙ (ap (λ (jobs : List (Job Kind)). windows_on jobs kinds) c.requires.case.jobs
-    ∙ windows_are d k c.args.self.now.days kinds of c.requires.case.fit c.requires.case.due c.requires.in_use.kinds)) in
-    IfOk-weaker c.windows_on.result (λ windows. windows.items ≡ windows_on (map job_of c.as_slice.result.now) c.as_slice-2.result.now) (λ windows. windows.items ≡ windows_of (as_plan d) (as_certificate k) of) (λ windows e. e ∙ here) c.windows_on.ensures.listed
+    let begun = take c.days.result c.begun_on-begun.result in
+    let begin = ap (λ (n : ℕ). map (λ (day : Bor (List Window)). day.now) (take n c.begun_on-begun.result)) c.days.ensures.value ∙ c.begun_on-begun.ensures.value in
+    IfOk-weaker c.windows_over.result
+    (λ windows. (jobs : List (Job ℕ)) (classes : List ℕ) → map (λ (day : Bor (List Window)). day.now) begun ≡ map (λ (class : ℕ). windows_on jobs (class ∷ [])) classes → windows.items ≡ windows_on jobs classes)
+    (λ windows. windows.items ≡ windows_of p a of)
+    (λ windows joined. joined (occupied p (due_in a) (reach_in p a)) of begin) c.windows_over.ensures.joined
+
+pub returns-clause-rising : goal.returns-clause-rising
+returns-clause-rising c =
+    let p = as_plan c.args.self.now.plan.now in
+    let a = as_certificate (content c.args.self.now.certificate.now) in
+    let of = c.args.used.now.stretch.now.of in
+    let begun = take c.days.result c.begun_on-begun.result in
+    let begin = ap (λ (n : ℕ). map (λ (day : Bor (List Window)). day.now) (take n c.begun_on-begun.result)) c.days.ensures.value ∙ c.begun_on-begun.ensures.value in
+    IfOk-weaker c.windows_over.result
+    (λ windows. (jobs : List (Job ℕ)) (classes : List ℕ) → map (λ (day : Bor (List Window)). day.now) begun ≡ map (λ (class : ℕ). windows_on jobs (class ∷ [])) classes → IsRising windows.items)
+    (λ windows. IsRising windows.items)
+    (λ windows rising. rising (occupied p (due_in a) (reach_in p a)) of begin) c.windows_over.ensures.rising

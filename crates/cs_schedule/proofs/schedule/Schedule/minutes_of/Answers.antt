@@ -5,8 +5,8 @@ use Rattle.cs_schedule.specs.Times.{is_time_due, is_day_due, is_due}
 use Rattle.cs_schedule.proofs.Ranges.{filter_nothing}
 use Rattle.cs_schedule.proofs.schedule.Schedule.minutes_of.Goals as goal
 
-pub returns-then-not-matches_day : goal.returns-then-not-matches_day
+pub returns-then-not-is_day_due : goal.returns-then-not-is_day_due
 unfolding minutes_where
-returns-then-not-matches_day c =
+returns-then-not-is_day_due c =
     c.new.ensures ∙ sym (filter_nothing (is_due c.args.self.now c.args.kind) 0 1440 (λ n low high.
-    and_right (is_time_due c.args.self.now n) (is_day_due c.args.self.now c.args.kind) (sym c.matches_day.ensures ∙ c.if-not-matches_day.true)))
+    and_right (is_time_due c.args.self.now n) (is_day_due c.args.self.now c.args.kind) (sym c.is_day_due.ensures ∙ c.if-not-is_day_due.true)))

@@ -1,5 +1,6 @@
 pub mod Headline
 pub mod Using
+pub mod Numbered
 pub mod Acceptance
 pub mod Clearing
 pub mod Covering

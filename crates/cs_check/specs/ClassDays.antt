@@ -1,6 +1,8 @@
 -- What is known of the days of each class.
-use Rattle.std.specs.Prelude.{◌≡◌, ℕ, ◌<◌, ◌∷◌, [], IsTrue, true, List, length, map, None, Some, slice_get}
+use Rattle.std.specs.Prelude.{◌≡◌, ℕ, ◌<◌, ◌∷◌, [], IsTrue, true, List, length, map, None, Option, Some, slice_get}
 use Rattle.cs_civil.specs.Calendar.{Kind, IsKind}
+use Rattle.cs_civil.specs.declared.kind.DayKind.{DayKind}
+use Rattle.cs_chains.specs.KindOf.{IsKindOf}
 use Rattle.cs_decl.specs.Plan.{Declared, as_plan, crons}
 use Rattle.cs_cert.specs.Content.{Content}
 use Rattle.cs_cert.specs.Certificate.{class_of, content}
@@ -54,3 +56,7 @@ pub record IsBasisOf (d : Declared) (c : Content) (b : Basis) : Type 0 where
   pub basis : IsBasis b
   pub plan : b.plan.now ≡ d
   pub certificate : content b.certificate.now ≡ c
+
+-- a kind of day of each class, by number
+abbrev pub AreKinds : Content → List (Option DayKind) → Type 0
+AreKinds c kinds = (class : ℕ) (found : Option DayKind) → slice_get kinds class ≡ Some found → IsKindOf c class found

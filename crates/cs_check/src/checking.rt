@@ -8,7 +8,7 @@ ghost use Rattle.cs_decl.specs.Plan.{as_plan};
 
 use crate::case::Case;
 use crate::checked::Checked;
-use crate::class_day::class_days;
+use crate::class_day::{class_days, class_days_parallel};
 use crate::fault::CheckError;
 use crate::order::later_fault;
 use crate::prepare::{basis_of, case_of, stretches_of};
@@ -78,7 +78,7 @@ fn judge_parallel<R: Threads + Sync>(
     ensures fault { IfErr result (Tells (fault_of plan.now (content certificate.now))) }
 {
     let basis = basis_of(alloc, plan, certificate, none)?;
-    let class_days = class_days(alloc, &basis)?;
+    let class_days = class_days_parallel(rt, alloc, &basis)?;
     let case = case_of(alloc, &basis, class_days)?;
     let stretches = stretches_of(alloc, &case)?;
     let good = are_good_parallel(rt, alloc, &case, stretches.as_slice());

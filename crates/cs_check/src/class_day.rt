@@ -2,7 +2,7 @@
 ghost use Rattle.std.specs.Prelude.{◌≡◌, ◌∷◌, ◌<◌, [], ℕ, IfOk, IsTrue, Some, length, true};
 ghost use Rattle.cs_cert.specs.Certificate.{class_of, content};
 ghost use Rattle.cs_chains.specs.KindOf.{IsKindOf};
-ghost use Rattle.cs_check.specs.ClassDays.{AreClassDays, IsBasis, IsClassDay, IsDayOf, Settle, Settles};
+ghost use Rattle.cs_check.specs.ClassDays.{AreClassDays, AreKinds, IsBasis, IsClassDay, IsDayOf, Settle, Settles};
 ghost use Rattle.cs_civil.specs.Calendar.{IsKind};
 ghost use Rattle.cs_decl.specs.Plan.{crons};
 
@@ -12,7 +12,9 @@ use cs_chains::kinds_of_classes;
 use cs_civil::DayKind;
 use cs_claim::{GroupDay, clears, group_days, waits};
 use cs_windows::{Window, windows_on};
+use rayon::prelude::*;
 use std::alloc::{AllocError, Global};
+use std::thread::Threads;
 
 /// What each day of a class has.
 #[derive(Debug, Drop)]
@@ -105,4 +107,27 @@ pub(crate) fn class_days(alloc: Global, basis: &Basis<'_>) -> Result<Vec<ClassDa
         days.push(class_day(alloc, basis, number, *kind)?)?;
     }
     Ok(days)
+}
+
+/// The same by several threads.
+pub(crate) fn class_days_parallel<R: Threads + Sync>(
+    rt: &R,
+    alloc: Global,
+    basis: &Basis<'_>,
+) -> Result<Vec<ClassDay>, AllocError>
+    requires { IsBasis basis.now }
+    ensures { IfOk result (λ days. AreClassDays basis.now.plan.now (content basis.now.certificate.now) days.items) }
+{
+    let kinds = kinds_of_classes(alloc, basis.certificate)?;
+    let kinds = kinds.as_slice();
+    (0..kinds.len())
+        .into_par_iter()
+        .with_min_len(1)
+        .map(
+            |number: usize| -> Result<ClassDay, AllocError>
+                requires { (number < length kinds.now) × IsBasis basis.now × AreKinds (content basis.now.certificate.now) kinds.now }
+                ensures { IfOk result (IsDayOf basis.entry.now.plan.now (content basis.entry.now.certificate.now) number) }
+            { class_day(alloc, basis, number, kinds[number]) },
+        )
+        .collect::<Result<Vec<ClassDay>, AllocError>>(rt, alloc)?
 }

@@ -61,6 +61,18 @@ pub fn lists(entries: &[Entry], window: &Window) -> bool
     entries.iter().any(|entry| entry.names(window))
 }
 
+/// The same. The entry at this place is looked at first.
+fn lists_at(entries: &[Entry], window: &Window, place: usize) -> bool
+    ensures { result ≡ lists entries.now window.now }
+{
+    if let Some(entry) = entries.get(place) {
+        if entry.names(window) {
+            return true;
+        }
+    }
+    lists(entries, window)
+}
+
 impl MinuteTree {
     ghost use Rattle.cs_windows.specs.Tree.{IsComplete, SplitsInside, covers, entries_at, leaf_over, leaves, keeps_to, tree_of};
 
@@ -118,8 +130,9 @@ impl MinuteTree {
     }
 
     /// Whether each leaf of a tree over `[lo, hi)` lists the window, if it touches the leaf's range. `inside`
-    /// tells that each split lies inside its range, so that no leaf is touched where the whole range is not.
-    fn keeps(&self, window: &Window, lo: u16, hi: u16, inside: bool) -> bool
+    /// tells that each split lies inside its range, so that no leaf is touched where the whole range is not. `place` is where
+    /// among its entries a leaf is looked at first.
+    fn keeps(&self, window: &Window, place: usize, lo: u16, hi: u16, inside: bool) -> bool
         requires { IsTrue inside → SplitsInside (tree_of self.now) lo hi }
         ensures { result ≡ list_all (λ leaf. keeps_to leaf window.now) (leaves (tree_of self.now) lo hi) }
     {
@@ -128,22 +141,27 @@ impl MinuteTree {
         }
         match self {
             MinuteTree::Leaf(entries) => {
-                !touches(window, lo, hi) || lists(entries.as_slice(), window)
+                !touches(window, lo, hi) || lists_at(entries.as_slice(), window, place)
             }
             MinuteTree::Split { at, before, after } => {
-                before.keeps(window, lo, *at, inside) && after.keeps(window, *at, hi, inside)
+                before.keeps(window, place, lo, *at, inside)
+                    && after.keeps(window, place, *at, hi, inside)
             }
         }
     }
 
-    /// Whether each leaf lists every given window that touches its range. `inside` is as for `keeps`.
+    /// Whether each leaf lists every given window that touches its range. `inside` is as for `keeps`. A leaf of the whole day
+    /// whose entries are in the order of the windows is gone through once.
     fn keeps_all(&self, windows: &[Window], inside: bool) -> bool
         requires { IsTrue inside → SplitsInside (tree_of self.now) 0 MINUTES_OF_DAY }
         ensures { result ≡ covers (tree_of self.now) windows.now }
     {
-        windows
-            .iter()
-            .all(|window| self.keeps(window, 0, MINUTES_OF_DAY, inside))
+        for (place, window) in windows.iter().enumerate() {
+            if !self.keeps(window, place, 0, MINUTES_OF_DAY, inside) {
+                return false;
+            }
+        }
+        true
     }
 
     /// Whether each leaf lists every given window that touches its range.

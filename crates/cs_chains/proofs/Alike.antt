@@ -1,5 +1,5 @@
 -- Tests of all minutes of a day, of all cron jobs and of all kinds.
-use Rattle.std.proofs.Common.{ℕ, ◌<◌, ◌≤◌, ◌≡◌, ◌&&◌, Bool, true, false, List, [], ◌∷◌, Option, Some, length, get_or, map, refl, sym, ap, ◌∙◌, subst, arith, inl, inr}
+use Rattle.std.proofs.Common.{ℕ, ◌<◌, ◌≤◌, ◌≡◌, ◌&&◌, Bool, true, false, List, [], ◌∷◌, Option, Some, length, get_or, slice_index_or, refl, sym, ap, ◌∙◌, subst, arith, inl, inr}
 use Rattle.std.proofs.lemmas.Bool.{and_parts}
 use Rattle.std.specs.List.{list_all, range_with_len}
 use Rattle.cs_civil.specs.Calendar.{Kind}
@@ -12,15 +12,16 @@ use Rattle.cs_accepted.proofs.Below.{below_range}
 use Rattle.cs_cert.specs.Certificate.{class_of, is_due_in}
 use Rattle.cs_cert.specs.Content.{Content}
 use Rattle.cs_cert.specs.declared.class.Class.{Class}
-use Rattle.cs_claim.specs.Claim.{as_certificate, class_at, no_class}
+use Rattle.cs_claim.specs.Claim.{as_certificate, class_at}
+use Rattle.cs_claim.specs.DayMinutes.{AreDueSets}
 use Rattle.cs_chains.specs.declared.likeness.Likeness.{Likeness}
-use Rattle.cs_chains.specs.Likeness.{AreLikenesses, has_just, is_due_day, is_due_minute, likeness_at, likeness_of, likeness_on}
+use Rattle.cs_chains.specs.Likeness.{AreLikenesses, AreTimes, IsRow, has_just, is_due_day, is_due_minute, likeness_at, likeness_by, likeness_of, likeness_on}
 use Rattle.cs_crontab.specs.declared.table.When.{When}
 use Rattle.cs_crontab.specs.declared.table.When.TheVariants.{At, Reboot}
 use Rattle.cs_schedule.specs.Times.{is_day_due, is_time_due}
 use Rattle.cs_schedule.specs.Numbers.{has as is_in}
 use Rattle.cs_crontab.specs.Crontab.{CommandLine}
-use Rattle.std.proofs.lemmas.List.{get_or_default, get_or-map}
+use Rattle.std.proofs.lemmas.List.{get_or_default}
 use Rattle.cs_decl.specs.Plan.{Declared, as_plan, command_of, no_command}
 
 -- whether the class of a kind has the due minutes of a cron job
@@ -97,23 +98,35 @@ like_on class j (At s) k = on_day (is_day_due s k)
     on_day true = minutes_alike (λ m. same_bool (is_due_in class j m) (is_time_due s m)) (λ m. same_bool (is_due_in class j m) (is_time_due s m && true)) (λ m lt. ap (same_bool (is_due_in class j m)) (with_true (is_time_due s m)))
     on_day false = minutes_alike (λ m. same_bool (is_due_in class j m) false) (λ m. same_bool (is_due_in class j m) (is_time_due s m && false)) (λ m lt. ap (same_bool (is_due_in class j m)) (with_false (is_time_due s m)))
 
--- what a class is to a job with these due minutes
-pub likeness_is : (class : Class) (j : ℕ) (w : When) (times : List ℕ) → ((m : ℕ) → m < 1440 → is_in times m ≡ is_due_minute w m) → record { when_due = has_just class j (is_in times); when_not = has_just class j (λ m. false) } ≡ likeness_of w j class
-likeness_is class j w times same =
-    ap (λ (b : Bool). record { when_due = b; when_not = has_just class j (λ m. false) })
-    (minutes_alike (λ m. same_bool (is_due_in class j m) (is_in times m)) (λ m. same_bool (is_due_in class j m) (is_due_minute w m)) (λ m lt. ap (same_bool (is_due_in class j m)) (same m lt)))
+-- tests that agree at each minute of a day make one likeness
+pub likeness_same : (f g t u : ℕ → Bool) → ((m : ℕ) → m < 1440 → f m ≡ g m) → ((m : ℕ) → m < 1440 → t m ≡ u m) → likeness_by f t ≡ likeness_by g u
+likeness_same f g t u due times =
+    ap (λ (b : Bool). record { when_due = b; when_not = has_just f (λ m. false) })
+    (minutes_alike (λ m. same_bool (f m) (t m)) (λ m. same_bool (g m) (u m)) (λ m lt. ap (λ (b : Bool). same_bool b (t m)) (due m lt) ∙ ap (same_bool (g m)) (times m lt)))
+    ∙ ap (λ (b : Bool). record { when_due = has_just g u; when_not = b })
+    (minutes_alike (λ m. same_bool (f m) false) (λ m. same_bool (g m) false) (λ m lt. ap (λ (b : Bool). same_bool b false) (due m lt)))
 
--- what a job's row says of the class of a kind: the line of the job is that at its place
-pub row_says : (d : Declared) (c : Content) (k : Kind) (j n : ℕ) (rows : List (List Likeness)) (row : List Likeness) (line : CommandLine) (lines : List CommandLine) → AreLikenesses d c rows → row ≡ get_or rows j row → n ≡ class_of c k → n < length c.classes → lines ≡ d.crontab.lines → j < length lines → line ≡ get_or lines j line → likeness_on (likeness_at row n) (is_due_day line.when k) ≡ job_alike d c k j
+-- the sets of a class, compared with the times of the jobs, make its row
+pub row_is : (d : Declared) (class : Class) (sets times : List (List ℕ)) (row : List Likeness) → AreDueSets class (length times) sets → AreTimes d times → length row ≡ length times
+    → ((j : ℕ) → j < length times → likeness_at row j ≡ likeness_by (is_in (slice_index_or sets j [])) (is_in (slice_index_or times j []))) → IsRow d class row
+row_is d class sets times row due are long each = record {
+  long = long ∙ are.long;
+  each = λ j lt. let below : j < length times = omega (arith, lt, are.long) in
+      each j below ∙ likeness_same (is_in (slice_index_or sets j [])) (is_due_in class j) (is_in (slice_index_or times j [])) (is_due_minute (command_of d j).when) (λ m k. due.each j m below k) (λ m k. are.each j m lt k);
+}
+
+-- what a class's row says of a job: the line of the job is that at its place
+pub row_says : (d : Declared) (c : Content) (k : Kind) (j n : ℕ) (rows : List (List Likeness)) (row : List Likeness) (line : CommandLine) (lines : List CommandLine) → AreLikenesses d c rows → row ≡ get_or rows n row → n ≡ class_of c k → n < length c.classes → lines ≡ d.crontab.lines → j < length lines → line ≡ get_or lines j line → likeness_on (likeness_at row j) (is_due_day line.when k) ≡ job_alike d c k j
 row_says d c k j n rows row line lines are own at there whole lt is =
+    let class = class_at c.classes n in
     let long = ap length whole in
     let e : line ≡ command_of d j = is ∙ (get_or_default lines j line no_command lt ∙ ap (λ (l : List CommandLine). get_or l j no_command) whole) in
-    let w = (command_of d j).when in
-    let r : row ≡ map (likeness_of w j) c.classes = own ∙ (get_or_default rows j row [] (omega (arith, are.long, long, lt)) ∙ are.each j (omega (arith, long, lt))) in
-    let here : likeness_at row n ≡ likeness_of w j (class_at c.classes n) = ap (λ (l : List Likeness). likeness_at l n) r ∙ get_or-map (likeness_of w j) c.classes n no_class _ there in
+    let when = (command_of d j).when in
+    let r : row ≡ get_or rows n [] = own ∙ get_or_default rows n row [] (omega (arith, are.long, there)) in
+    let here : likeness_at row j ≡ likeness_of when j class = ap (λ (l : List Likeness). likeness_at l j) r ∙ (are.each n there).each j (omega (arith, long, lt)) in
     ap (λ (l : Likeness). likeness_on l (is_due_day line.when k)) here
-    ∙ ap (λ (l : CommandLine). likeness_on (likeness_of w j (class_at c.classes n)) (is_due_day l.when k)) e
-    ∙ like_on (class_at c.classes n) j w k
+    ∙ ap (λ (l : CommandLine). likeness_on (likeness_of when j class) (is_due_day l.when k)) e
+    ∙ like_on class j when k
     ∙ ap (λ (i : ℕ). list_all (λ m. same_bool (is_due_in (class_at c.classes i) j m) (due_on d j k m)) day_minutes) at
 
 same_bool_is : (x y : Bool) → x ≡ y → same_bool x y ≡ true

@@ -1,12 +1,13 @@
 //! Whether the classes of a certificate have the due minutes of the cron jobs, whatever the day.
-ghost use Rattle.std.specs.Prelude.{◌≡◌, ◌<◌, ℕ, IfOk, false, map};
+ghost use Rattle.std.specs.Prelude.{◌≡◌, ◌<◌, ℕ, IfOk};
 ghost use Rattle.cs_cert.specs.Certificate.{content};
-ghost use Rattle.cs_chains.specs.Likeness.{AreLikenesses, has_just, is_due_day, is_due_minute, likeness_of};
+ghost use Rattle.cs_chains.specs.Likeness.{AreLikenesses, AreTimes, IsRow, is_due_day, is_due_minute, likeness_by};
+ghost use Rattle.cs_decl.specs.Plan.{Declared};
 ghost use Rattle.cs_schedule.specs.Numbers.{has};
 
 use cs_cert::{Certificate, Class};
 use cs_civil::{DayKind, Sequence};
-use cs_claim::due_minutes;
+use cs_claim::due_sets;
 use cs_crontab::{Line, When};
 use cs_decl::Plan;
 use cs_schedule::MinuteSet;
@@ -41,36 +42,44 @@ fn times_of(line: &Line) -> MinuteSet
     }
 }
 
-/// What a class is to a cron job with these due minutes.
-fn likeness_of(class: &Class, job: u16, times: &MinuteSet) -> Likeness
-    ensures { result ≡ record { when_due = has_just class.now job (has times.now); when_not = has_just class.now job (λ m. false) } }
+/// The minutes at which each cron job is due on each day on which it is due, by number. The only error is want of memory.
+fn times_of_jobs(alloc: Global, plan: &Plan) -> Result<Vec<MinuteSet>, AllocError>
+    ensures { IfOk result (λ times. AreTimes plan.now times.items) }
 {
-    let minutes = due_minutes(class, job);
+    let mut times = Vec::new(alloc);
+    for line in plan.crontab().lines() {
+        times.push(times_of(line))?;
+    }
+    Ok(times)
+}
+
+/// What a class is to a cron job, by the due minutes that it has for the job and those of the days on which the job is due.
+fn likeness_of(minutes: &MinuteSet, times: &MinuteSet) -> Likeness
+    ensures { result ≡ likeness_by (has minutes.now) (has times.now) }
+{
     Likeness {
         when_due: minutes.is_same(times),
         when_not: minutes.is_same(&MinuteSet::new()),
     }
 }
 
-/// What each of the classes is to a cron job.
-#[tactic(auto, using(crate::proofs::Alike::likeness_is))]
+/// What a class is to each of the jobs with these due minutes.
 fn row_of(
     alloc: Global,
-    classes: &[Class],
-    job: u16,
-    line: &Line,
+    class: &Class,
+    times: &[MinuteSet],
 ) -> Result<Sequence<Likeness>, AllocError>
-    ensures { IfOk result (λ row. row ≡ map (likeness_of line.now.when job) classes.now) }
+    ensures { IfOk result (λ row. (d : Declared) → AreTimes d times.now → IsRow d class.now row) }
 {
-    let times = times_of(line);
+    let minutes = due_sets(alloc, class, times.len())?;
     let mut row = Sequence::new(alloc);
-    for class in classes {
-        row.push(likeness_of(class, job, &times))?;
+    for (job, times) in times.iter().enumerate() {
+        row.push(likeness_of(&minutes[job], times))?;
     }
     Ok(row)
 }
 
-/// What each class is to each cron job: a row for each job, by number.
+/// What each class is to each cron job: a row for each class, by number. The only error is want of memory.
 pub(crate) fn likenesses(
     alloc: Global,
     plan: &Plan,
@@ -78,9 +87,10 @@ pub(crate) fn likenesses(
 ) -> Result<Vec<Sequence<Likeness>>, AllocError>
     ensures { IfOk result (λ rows. AreLikenesses plan.now (content certificate.now) rows.items) }
 {
+    let times = times_of_jobs(alloc, plan)?;
     let mut rows = Vec::new(alloc);
-    for (number, line) in plan.crontab().lines().iter().enumerate() {
-        rows.push(row_of(alloc, certificate.classes(), number as u16, line)?)?;
+    for class in certificate.classes() {
+        rows.push(row_of(alloc, class, times.as_slice())?)?;
     }
     Ok(rows)
 }

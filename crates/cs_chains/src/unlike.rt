@@ -1,8 +1,8 @@
 //! Whether each class of a certificate has the due minutes of its kinds of days.
-ghost use Rattle.std.specs.Prelude.{◌≡◌, ◌<◌, IfOk, length, option_map};
+ghost use Rattle.std.specs.Prelude.{◌≡◌, IfOk, option_map};
 ghost use Rattle.cs_accepted.specs.Faults.{ClassNotDue, due_fault, is_due_alike};
 ghost use Rattle.cs_cert.specs.Certificate.{content};
-ghost use Rattle.cs_chains.specs.Likeness.{AreLikenesses, is_due_day, likeness_at, likeness_on};
+ghost use Rattle.cs_chains.specs.Likeness.{AreLikenesses, is_due_day, likeness_on};
 ghost use Rattle.cs_claim.specs.Claim.{as_certificate};
 ghost use Rattle.cs_decl.specs.Plan.{as_plan};
 ghost use Rattle.cs_windows.specs.Planned.{due_on};
@@ -14,12 +14,10 @@ use cs_crontab::Line;
 use cs_decl::Plan;
 use std::alloc::{AllocError, Global};
 
-/// Whether the class has the due minutes of a cron job on days of this kind, by the job's row.
-fn is_job_alike(row: &[Likeness], class: usize, line: &Line, kind: DayKind) -> bool
-    requires { class < length row.now }
-    ensures { result ≡ likeness_on (likeness_at row.now class) (is_due_day line.now.when kind) }
+/// Whether a class has the due minutes of a cron job on days of this kind, by what it is to the job.
+fn is_job_alike(likeness: Likeness, line: &Line, kind: DayKind) -> bool
+    ensures { result ≡ likeness_on likeness (is_due_day line.now.when kind) }
 {
-    let likeness = row[class];
     if is_due_day(line, kind) {
         likeness.when_due
     } else {
@@ -27,7 +25,7 @@ fn is_job_alike(row: &[Likeness], class: usize, line: &Line, kind: DayKind) -> b
     }
 }
 
-/// Whether the class of this kind has the due minutes of each cron job, by the rows of the jobs.
+/// Whether the class of this kind has the due minutes of each cron job, by the rows of the classes.
 fn is_alike(
     plan: &Plan,
     certificate: &Certificate,
@@ -38,8 +36,9 @@ fn is_alike(
     ensures { result ≡ is_due_alike (as_plan plan.now) (due_on plan.now) (as_certificate (content certificate.now)) kind }
 {
     let class = certificate.class_of(kind) as usize;
+    let row = rows[class].as_slice();
     for (number, line) in plan.crontab().lines().iter().enumerate() {
-        if !is_job_alike(rows[number].as_slice(), class, line, kind) {
+        if !is_job_alike(row[number], line, kind) {
             return false;
         }
     }

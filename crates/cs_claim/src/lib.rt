@@ -7,7 +7,7 @@ mod locks;
 mod reach;
 mod steps;
 
-pub use due::due_minutes;
+pub use due::{due_minutes, due_sets};
 pub use group_day::{GroupDay, group_days, is_steady_over};
 pub use reach::{clears, waits};
 pub use steps::first_rise;

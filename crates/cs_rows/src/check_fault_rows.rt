@@ -72,8 +72,8 @@ fn length_of_certificates(rt: HostRuntime) -> Result<(), Fail> {
     Ok(())
 }
 
-/// Two commands that wait, and a third that is skipped, at each hour: without the first, a middle or the last window of one of them
-/// the certificate is refused, and without one that isn't theirs it is safe.
+/// Two commands that wait, and a third that is skipped, at each hour: without any one of the day's windows the certificate is
+/// refused, and without one of the eve, which doesn't reach the day, it is safe.
 #[test]
 fn each_window_left_out(rt: HostRuntime) -> Result<(), Fail> {
     let terms = terms(
@@ -102,7 +102,7 @@ fn each_window_left_out(rt: HostRuntime) -> Result<(), Fail> {
     );
     let whole = one_class(&rt, claim)?;
     for (line, job, later) in [(1, 0, 0u32), (2, 1, 0), (3, 2, 50)] {
-        for hour in [0u32, 11, 23] {
+        for hour in 0..24u32 {
             let minute = later.saturating_add(hour.saturating_mul(60));
             let entry = format!(in rt.alloc(); "[{job},0,{minute}],")?;
             let certificate = whole.replace(rt.alloc(), entry.as_str(), "")?;
@@ -120,6 +120,66 @@ fn each_window_left_out(rt: HostRuntime) -> Result<(), Fail> {
         assert!(rt;
             ran.is(0, b"safe\n".as_slice(), b"".as_slice()),
             "at {entry}"
+        );
+    }
+    Ok(())
+}
+
+/// The windows of a day with a command due at 11:30 and one due at 23:30, of an hour each, behind an entry that is no window of the day.
+const ENTRIES: &str = "[0,1,690],[1,1,1410],[0,0,690],[1,0,1410]";
+
+/// A tree of four leaves, which begin at 00:00, 00:15, 12:00 and 23:45.
+const LEAVES: &str =
+    "{\"classes\":[{\"backlog\":[],\"due\":[[0,[690]],[1,[1410]]]}],\"kinds\":{\"class\":0},\"pairs\":[{\"of\":[0,0],\"tree\":\
+    {\"at\":720,\"before\":{\"at\":15,\"before\":{\"list\":[A]},\"after\":{\"list\":[B]}},\
+    \"after\":{\"at\":1425,\"before\":{\"list\":[C]},\"after\":{\"list\":[D]}}}}],\"reach\":[],\"version\":1}";
+
+/// A leaf, an entry that is taken out of it alone, and where the window holds a minute of the leaf: when it is due, and the first such
+/// minute.
+const LEFT_OUT: [(&str, &str, &str, &str); 13] = [
+    ("A", "nothing", "", ""),
+    ("A", ",[1,1,1410]", "line 2 due 1970-01-02 23:30", "00:00"),
+    ("A", ",[0,0,690]", "", ""),
+    ("A", ",[1,0,1410]", "", ""),
+    ("B", ",[1,1,1410]", "line 2 due 1970-01-02 23:30", "00:15"),
+    ("B", ",[0,0,690]", "line 1 due 1970-01-03 11:30", "11:30"),
+    ("B", ",[1,0,1410]", "", ""),
+    ("C", ",[1,1,1410]", "", ""),
+    ("C", ",[0,0,690]", "line 1 due 1970-01-03 11:30", "12:00"),
+    ("C", ",[1,0,1410]", "line 2 due 1970-01-03 23:30", "23:30"),
+    ("D", ",[1,1,1410]", "", ""),
+    ("D", ",[0,0,690]", "", ""),
+    ("D", ",[1,0,1410]", "line 2 due 1970-01-03 23:30", "23:45"),
+];
+
+/// Each leaf has to list the windows that hold one of its minutes, and no others.
+#[test]
+fn each_entry_of_each_leaf_left_out(rt: HostRuntime) -> Result<(), Fail> {
+    let terms = terms(
+        &rt,
+        3,
+        "\"cron\":[{\"line\":1,\"max\":60},{\"line\":2,\"max\":60}]",
+    )?;
+    let table = b"30 11 * * * /bin/a\n30 23 * * * /bin/a\n";
+    for (leaf, entry, due, at) in LEFT_OUT {
+        let entries = ENTRIES.replace(rt.alloc(), entry, "")?;
+        let mut certificate = LEAVES.replace(rt.alloc(), leaf, entries.as_str())?;
+        for other in ["A", "B", "C", "D"] {
+            certificate = certificate.replace(rt.alloc(), other, ENTRIES)?;
+        }
+        let (status, out) = if at.is_empty() {
+            (0, String::from_str(rt.alloc(), "safe\n")?)
+        } else {
+            let refused = "refused 5 WindowMissing";
+            (
+                1,
+                format!(in rt.alloc(); "{refused}: {due} at 1970-01-03 {at}\n")?,
+            )
+        };
+        let ran = checked(&rt, (table, b""), terms.as_str(), certificate.as_str())?;
+        assert!(rt;
+            ran.is(status, out.as_bytes(), b"".as_slice()),
+            "at {leaf} {entry}"
         );
     }
     Ok(())

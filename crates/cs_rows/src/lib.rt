@@ -22,7 +22,11 @@ mod fault_rows;
 #[cfg(test)]
 mod files;
 #[cfg(test)]
+mod made;
+#[cfg(test)]
 mod memory_rows;
+#[cfg(test)]
+mod real_rows;
 #[cfg(test)]
 mod replay_fault_rows;
 #[cfg(test)]

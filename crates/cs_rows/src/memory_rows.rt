@@ -7,6 +7,14 @@ use std::process::Abort;
 use std::test::Fail;
 use std::thread::Threads;
 
+const TERMS: &str = "{\"capacity\":2,\"cron\":[{\"line\":1,\"max\":10},{\"line\":2,\"max\":10}]}";
+
+const TIGHT: &str = "{\"capacity\":1,\"cron\":[{\"line\":1,\"max\":10},{\"line\":2,\"max\":10}]}";
+
+const CERTIFICATE: &str =
+    "{\"classes\":[{\"backlog\":[],\"due\":[[0,[0]],[1,[0]]]}],\"kinds\":{\"class\":0},\
+    \"pairs\":[{\"of\":[0,0],\"tree\":{\"list\":[[0,0,0],[1,0,0]]}}],\"reach\":[],\"version\":1}";
+
 /// The status of a call, and how much it wrote to the two outputs.
 fn run_in<R: Threads + Sync + AllocGlobal>(
     rt: &R,
@@ -19,6 +27,15 @@ fn run_in<R: Threads + Sync + AllocGlobal>(
         readable("bad", b"60 * * * * a"),
         readable("anacron", b"CRON_TZ=UTC\n1 5 a b\n"),
         readable("twice", b"1 5 a b\n1 5 a b\n"),
+        readable("nightly", b"0 0 * * * a\n0 0 * * * b\n"),
+        readable("terms", TERMS.as_bytes()),
+        readable("tight", TIGHT.as_bytes()),
+        readable("cert", CERTIFICATE.as_bytes()),
+        readable("torn", b"{"),
+        readable(
+            "script",
+            b"start 2024-03-10 23:59 up\nminute 2024-03-11 00:00\nbegin line 1\n",
+        ),
     ];
     let mut inputs = Files::new(files.as_slice(), 4_096);
     let mut out = Printer::new(Cursor::new(out));
@@ -31,16 +48,17 @@ fn run_in<R: Threads + Sync + AllocGlobal>(
     )
 }
 
-/// Runs a call again and again, with hardly any memory at first and 16 bytes more each time. Each
+/// Runs a call again and again, with hardly any memory at first and `step` bytes more each time. Each
 /// run has to say that memory ran out and nothing else, until one has another answer: this one,
 /// and how often memory ran out before.
 fn run_starved<R: Abort + AllocGlobal + Threads + Sync>(
     rt: &R,
     words: &[&str],
+    step: usize,
     out: &mut [u8],
     err: &mut [u8],
 ) -> Result<((u8, u64, u64), u32), Fail> {
-    let mut hoard = Hoard::new(rt.alloc(), 16)?;
+    let mut hoard = Hoard::new(rt.alloc(), 64)?;
     hoard.take_rest();
     for refusals in 0..60_000 {
         let (status, shown, told) = run_in(rt, words, out, err);
@@ -51,7 +69,7 @@ fn run_starved<R: Abort + AllocGlobal + Threads + Sync>(
         assert!(rt;
             shown == 0 && told == 24 && err.starts_with(b"cronsafe: out of memory\n".as_slice())
         );
-        assert!(rt; hoard.give_back(16));
+        assert!(rt; hoard.give_back(step));
     }
     Ok(((5, 0, 0), 60_000))
 }
@@ -114,7 +132,13 @@ fn refused_growths(rt: HostRuntime) -> Result<(), Fail> {
     for (words, status, shown, told) in rows {
         let mut out = [0u8; 200];
         let mut err = [0u8; 200];
-        let (answer, refusals) = run_starved(&rt, words, out.as_mut_slice(), err.as_mut_slice())?;
+        let (answer, refusals) = run_starved(
+            &rt,
+            words,
+            16,
+            out.as_mut_slice(),
+            err.as_mut_slice(),
+        )?;
         assert_eq!(rt; answer, (status, shown.len() as u64, told.len() as u64));
         assert!(rt; out.starts_with(shown) && err.starts_with(told));
         assert!(rt; refusals > 100, "{refusals} refusals at {status}");
@@ -143,10 +167,69 @@ fn refused_growths_of_help(rt: HostRuntime) -> Result<(), Fail> {
     for (words, want) in rows {
         let mut out = [0u8; 4_096];
         let mut err = [0u8; 4_096];
-        let (answer, refusals) = run_starved(&rt, words, out.as_mut_slice(), err.as_mut_slice())?;
+        let (answer, refusals) = run_starved(
+            &rt,
+            words,
+            16,
+            out.as_mut_slice(),
+            err.as_mut_slice(),
+        )?;
         let (status, shown, told) = answer;
         assert!(rt; status == want && (shown == 0) == (want == 4) && (told == 0) == (want == 0));
         assert!(rt; refusals > 100, "{refusals} refusals at {want}");
+    }
+    Ok(())
+}
+
+/// A call, how many bytes more it has each time, and the answer: a safe plan, a refused one, a certificate with a fault, and a script.
+const STEPPED: [(&str, usize, u8, &[u8], &[u8]); 4] = [
+    ("cronsafe check nightly terms cert", 64, 0, b"safe\n", b""),
+    (
+        "cronsafe check nightly tight cert",
+        64,
+        1,
+        b"refused 7 OverCapacity: 2 of 1 at 1970-01-03 00:00\n",
+        b"",
+    ),
+    (
+        "cronsafe check nightly terms torn",
+        16,
+        3,
+        b"",
+        b"cronsafe: certificate: 2 NotJson\n",
+    ),
+    (
+        "cronsafe replay nightly script --declarations terms",
+        16,
+        0,
+        b"2: clock\n3: started\nup 2024-03-11 00:00, pending 1, waiting 0, running 1\n",
+        b"",
+    ),
+];
+
+#[test]
+fn refused_growths_of_check(rt: HostRuntime) -> Result<(), Fail> {
+    for (line, step, status, shown, told) in STEPPED {
+        let words = line.split(' ').collect::<Vec<&str>>(rt.alloc())?;
+        let mut out = [0u8; 200];
+        let mut err = [0u8; 200];
+        let (answer, refusals) = run_starved(
+            &rt,
+            words.as_slice(),
+            step,
+            out.as_mut_slice(),
+            err.as_mut_slice(),
+        )?;
+        assert_eq!(rt;
+            answer,
+            (status, shown.len() as u64, told.len() as u64),
+            "at {line}"
+        );
+        assert!(rt;
+            out.starts_with(shown) && err.starts_with(told),
+            "at {line}"
+        );
+        assert!(rt; refusals > 20, "{refusals} refusals at {line}");
     }
     Ok(())
 }

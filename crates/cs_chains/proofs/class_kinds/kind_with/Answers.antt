@@ -1,5 +1,4 @@
-use Rattle.std.proofs.Common.{ℕ, Option, sym, ap, subst, ◌∙◌}
-use Rattle.cs_civil.specs.Calendar.{Kind}
+use Rattle.std.proofs.Common.{sym, subst}
 use Rattle.cs_chains.specs.KindOf.{IsKindOf}
 use Rattle.cs_chains.proofs.KindOf.{kind_found, no_kind}
 use Rattle.cs_chains.proofs.class_kinds.kind_with.Goals as goal

@@ -1,9 +1,8 @@
-use Rattle.std.proofs.Common.{ℕ, ◌≡◌, ◌+◌, List, [], ◌∷◌, ◌++◌, length, Option, Some, sym, ap, subst, ◌∙◌, arith}
+use Rattle.std.proofs.Common.{ℕ, ◌≡◌, ◌+◌, List, [], ◌∷◌, length, Option, Some, sym, ap, subst, ◌∙◌}
 use Rattle.std.specs.Prelude.{slice_get}
 use Rattle.std.proofs.lemmas.List.{length-append}
 use Rattle.cs_cert.specs.Certificate.{content}
 use Rattle.cs_civil.specs.declared.kind.DayKind.{DayKind}
-use Rattle.cs_chains.specs.declared.classed.ClassedChain.{ClassedChain}
 use Rattle.cs_chains.specs.KindOf.{IsKindOf}
 use Rattle.cs_chains.specs.Used.{AreClassed}
 use Rattle.cs_chains.proofs.KindOf.{each_push}

@@ -1,6 +1,10 @@
-use Rattle.std.proofs.Common.{◌≡◌, map, take}
-use Rattle.cs_chains.specs.Likeness.{likeness_of}
+use Rattle.std.proofs.Common.{◌≡◌, ◌<◌, ℕ, [], length, slice_index_or}
+use Rattle.cs_schedule.specs.Numbers.{has}
+use Rattle.cs_chains.specs.Likeness.{likeness_at, likeness_by}
 use Rattle.cs_chains.proofs.likeness.row_of.Given as goal
 
-abbrev pub invariant-loop-class : goal.invariant-loop-class
-invariant-loop-class l = l.row ≡ map (likeness_of l.line.when l.job) (take l.class-index l.classes)
+-- a place for each job so far
+abbrev pub invariant-loop-job : goal.invariant-loop-job
+invariant-loop-job l =
+    (length l.row ≡ l.job)
+    × ((j : ℕ) → j < l.job → likeness_at l.row j ≡ likeness_by (has (slice_index_or l.minutes.items j [])) (has (slice_index_or l.times j [])))

@@ -12,8 +12,8 @@ returns-then-not-is_job_alike c =
     let a = content c.args.certificate.now in
     let lines = c.lines-line-items.ensures.value ∙ ap (λ (t : Table). t.lines) c.crontab.ensures.value in
     let long = ap length lines in
-    let row = ap (λ (r : List Likeness). get_or c.args.rows.now c.loop-number.number r) (sym c.as_slice.ensures) in
-    let one = row_says d a c.args.kind c.loop-number.number c.class_of-class.result c.args.rows.now c.as_slice.result.now c.line-item.result c.lines-line-items.result.now c.requires (c.as_slice.ensures ∙ (c.index-rows-number.is ∙ row)) c.class_of-class.ensures.value c.class_of-class.ensures.there lines c.loop-number-test.true c.line-item.is in
+    let own = c.as_slice-row.ensures ∙ (c.index-rows-class.is ∙ ap (λ (r : List Likeness). get_or c.args.rows.now c.class_of-class.result r) (sym c.as_slice-row.ensures)) in
+    let one = row_says d a c.args.kind c.loop-number.number c.class_of-class.result c.args.rows.now c.as_slice-row.result.now c.line-item.result c.lines-line-items.result.now c.requires own c.class_of-class.ensures.value c.class_of-class.ensures.there lines c.loop-number-test.true c.line-item.is in
     sym (below_false (job_alike d a c.args.kind) (crons d) c.loop-number.number (omega (arith, long, c.loop-number-test.true)) (sym one ∙ sym c.is_job_alike.ensures ∙ c.if-not-is_job_alike.true))
 
 pub loop-number-preserved : goal.loop-number-preserved
@@ -21,8 +21,8 @@ loop-number-preserved c =
     let d = c.args.plan.now in
     let a = content c.args.certificate.now in
     let lines = c.lines-line-items.ensures.value ∙ ap (λ (t : Table). t.lines) c.crontab.ensures.value in
-    let row = ap (λ (r : List Likeness). get_or c.args.rows.now c.loop-number.number r) (sym c.as_slice.ensures) in
-    let one = row_says d a c.args.kind c.loop-number.number c.class_of-class.result c.args.rows.now c.as_slice.result.now c.line-item.result c.lines-line-items.result.now c.requires (c.as_slice.ensures ∙ (c.index-rows-number.is ∙ row)) c.class_of-class.ensures.value c.class_of-class.ensures.there lines c.loop-number-test.true c.line-item.is in
+    let own = c.as_slice-row.ensures ∙ (c.index-rows-class.is ∙ ap (λ (r : List Likeness). get_or c.args.rows.now c.class_of-class.result r) (sym c.as_slice-row.ensures)) in
+    let one = row_says d a c.args.kind c.loop-number.number c.class_of-class.result c.args.rows.now c.as_slice-row.result.now c.line-item.result c.lines-line-items.result.now c.requires own c.class_of-class.ensures.value c.class_of-class.ensures.there lines c.loop-number-test.true c.line-item.is in
     below_more _ _ c.loop-number.invariant (sym one ∙ sym c.is_job_alike.ensures ∙ c.if-not-is_job_alike.false)
 
 pub returns : goal.returns

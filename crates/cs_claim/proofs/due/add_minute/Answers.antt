@@ -13,4 +13,4 @@ returns-then-minute-lt1440-clause-has c m lt =
     ∙ ap (λ (b : Bool). b || has c.args.minutes.now m) (eqb-sym m c.args.minute)
 
 pub returns-then-minute-lt1440-clause-rising : goal.returns-then-minute-lt1440-clause-rising
-returns-then-minute-lt1440-clause-rising c = subst (λ (ms : List ℕ). AreRising ms) (sym c.insert.ensures) (where_rising (λ k. nat_eq k c.args.minute || has c.args.minutes.now k))
+returns-then-minute-lt1440-clause-rising c h = subst (λ (ms : List ℕ). AreRising ms) (sym c.insert.ensures) (where_rising (λ k. nat_eq k c.args.minute || has c.args.minutes.now k))

@@ -6,5 +6,5 @@ use Rattle.cs_claim.proofs.due.add_minutes.Given as goal
 
 abbrev pub invariant-loop-minute : goal.invariant-loop-minute
 invariant-loop-minute l =
-    AreRising l.minutes
+    (AreRising l.initial.minutes → AreRising l.minutes)
     × ((m : ℕ) → m < 1440 → (has l.initial.minutes m || is_listed l.listed m) ≡ (has l.minutes m || is_listed (drop l.minute-index l.listed) m))

@@ -41,6 +41,18 @@ fn plan(rt: &impl Abort, alloc: Global, table: &str) -> Plan {
     .expect(rt, "a plan")
 }
 
+/// The month, day and weekday of the first kind that is unlike its class, for a plan of one cron job.
+fn unlike(
+    rt: &impl Abort,
+    alloc: Global,
+    table: &str,
+    claimed: &Certificate,
+) -> Option<(u8, u8, u8)> {
+    let plan = plan(rt, alloc, table);
+    let kind = first_unlike(alloc, &plan, claimed).expect(rt, "memory")?;
+    Some((kind.month(), kind.dom(), kind.dow()))
+}
+
 /// A kind for each day of a leap year and weekday; after each of the seven 28 February a chain has two ways on.
 #[test]
 fn chains_of_each_length(rt: HostRuntime) -> Result<(), Fail> {
@@ -117,24 +129,17 @@ fn last_days(rt: HostRuntime) {
 }
 
 #[test]
-fn kinds_unlike_their_classes(rt: HostRuntime) -> Result<(), Fail> {
-    let alloc = rt.alloc();
-    let claimed = certificate(&rt, alloc, THIRTEENTH);
-    let same = plan(&rt, alloc, "0 1 13 * * a");
-    assert!(rt; first_unlike(alloc, &same, &claimed)?.is_none());
-    let daily = plan(&rt, alloc, "0 1 * * * a");
-    let daily = first_unlike(alloc, &daily, &claimed)?.expect(&rt, "a kind");
-    assert!(rt; daily == kind(&rt, 1, 1, 0));
-    let later = plan(&rt, alloc, "1 1 13 * * a");
-    let later = first_unlike(alloc, &later, &claimed)?.expect(&rt, "a kind");
-    assert!(rt; later == kind(&rt, 1, 13, 0));
-    let next = plan(&rt, alloc, "0 1 14 * * a");
-    let next = first_unlike(alloc, &next, &claimed)?.expect(&rt, "a kind");
-    assert!(rt; next == kind(&rt, 1, 13, 0));
-    let leap = plan(&rt, alloc, "0 1 13,29 2 * a");
-    let leap = first_unlike(alloc, &leap, &claimed)?.expect(&rt, "a kind");
-    assert!(rt; leap == kind(&rt, 1, 13, 0));
-    Ok(())
+fn kinds_unlike_their_classes(rt: HostRuntime) {
+    let claimed = certificate(&rt, rt.alloc(), THIRTEENTH);
+    for (table, met) in [
+        ("0 1 13 * * a", None),
+        ("0 1 * * * a", Some((1, 1, 0))),
+        ("1 1 13 * * a", Some((1, 13, 0))),
+        ("0 1 14 * * a", Some((1, 13, 0))),
+        ("0 1 13,29 2 * a", Some((1, 13, 0))),
+    ] {
+        assert!(rt; unlike(&rt, rt.alloc(), table, &claimed) == met);
+    }
 }
 
 /// `30 23 * * *`

@@ -11,6 +11,8 @@ mod found;
 mod good;
 mod late;
 mod order;
+#[cfg(test)]
+mod place_tests;
 mod prepare;
 mod promise;
 mod quiet;

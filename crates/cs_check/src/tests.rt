@@ -10,15 +10,15 @@ use std::thread::Threads;
 
 /// A plan by its texts.
 #[derive(Clone, Copy)]
-struct Texts<'a> {
-    crontab: &'a str,
-    anacrontab: &'a str,
-    declarations: &'a str,
+pub(crate) struct Texts<'a> {
+    pub(crate) crontab: &'a str,
+    pub(crate) anacrontab: &'a str,
+    pub(crate) declarations: &'a str,
 }
 
 /// Where a fault is: the number of its rule, its minute counted from 1970-01-01 00:00 (0 where it has none), and then
-/// its group, job, load or two jobs.
-type Place = (u8, u64, usize, usize);
+/// its group, job, load or two jobs. A missing stretch has its length and the day of the month of its first kind.
+pub(crate) type Place = (u8, u64, usize, usize);
 
 fn plan(rt: &impl Abort, alloc: Global, texts: &Texts<'_>) -> Plan {
     join(
@@ -37,7 +37,15 @@ fn certificate(rt: &impl Abort, alloc: Global, text: &str) -> Certificate {
 fn place_of(fault: &CheckFault) -> Place {
     match fault {
         CheckFault::ClassNotDue(kind) => (1, 0, usize::from(kind.month()), usize::from(kind.dom())),
-        CheckFault::MissingPair(kinds) => (2, 0, kinds.len(), 0),
+        CheckFault::MissingPair(kinds) => (
+            2,
+            0,
+            kinds.len(),
+            kinds
+                .as_slice()
+                .first()
+                .map_or(0, |kind| usize::from(kind.dom())),
+        ),
         CheckFault::BacklogRises { group, at } => (3, at.number(), *group, 0),
         CheckFault::ReachTooShort { job } => (4, 0, *job, 0),
         CheckFault::WindowMissing { window, at } => (5, at.number(), window.job, 0),
@@ -65,7 +73,7 @@ fn told<T>(rt: &impl Abort, answer: &Result<T, CheckError>) -> Option<Place> {
 }
 
 /// Where both calls find the fault of a certificate.
-fn fault_in<R: Abort + Threads + Sync>(
+pub(crate) fn fault_in<R: Abort + Threads + Sync>(
     rt: &R,
     alloc: Global,
     texts: &Texts<'_>,
@@ -127,7 +135,7 @@ fn windows_past_midnight(rt: HostRuntime) -> Result<(), Fail> {
         (
             "{\"of\":[0,0],\"tree\":{\"list\":[[0,1,1410],[1,0,0],[0,0,1410]]}}",
             "",
-            (2, 0, 2, 0),
+            (2, 0, 2, 1),
         ),
     ];
     for (old, new, want) in rows {
@@ -278,7 +286,7 @@ fn runs_of_three_days(rt: HostRuntime) -> Result<(), Fail> {
         (
             "{\"of\":[0,0,2,0],\"tree\":{\"list\":[]}},",
             "",
-            (2, 0, 4, 0),
+            (2, 0, 4, 1),
         ),
         ("[[1,[720]]]", "[[1,[719]]]", (1, 0, 1, 1)),
     ];

@@ -1,3 +1,4 @@
+pub mod Alike
 pub mod NearMinutes
 pub mod Ranges
 pub mod Words

@@ -77,6 +77,15 @@ fn near(words: &[u64; 23], minute: u16) -> u16
     (minute + clear).min(last)
 }
 
+/// Whether the words at this place have the same minutes of a day.
+fn is_alike(words: &[u64; 23], others: &[u64; 23], place: u16) -> bool
+    requires { place < 23 }
+    ensures { IsTrue result ↔ ((m : ℕ) → m < 1440 → m / 64 ≡ place → is_in words.now m ≡ is_in others.now m) }
+{
+    let unlike = lowest_bit(words[place as usize] ^ others[place as usize]);
+    unlike == 64 || 64 * place + unlike >= 1440
+}
+
 impl MinuteSet {
     /// No minute.
     pub fn new() -> MinuteSet
@@ -151,11 +160,8 @@ impl MinuteSet {
     pub fn is_same(&self, other: &MinuteSet) -> bool
         ensures { IsTrue result ↔ ((m : ℕ) → m < 1440 → has self.now m ≡ has other.now m) }
     {
-        if self.words == other.words {
-            return true;
-        }
-        for minute in 0..1_440 {
-            if self.has(minute) != other.has(minute) {
+        for place in 0..23 {
+            if !is_alike(&self.words, &other.words, place) {
                 return false;
             }
         }

@@ -1,5 +1,5 @@
 -- A kind of day of a class.
-use Rattle.std.proofs.Common.{ℕ, zero, suc, ◌≡◌, ◌++◌, false, List, [], ◌∷◌, length, Some, None, refl, sym, ◌∙◌, subst, arith}
+use Rattle.std.proofs.Common.{ℕ, zero, suc, ◌≡◌, ◌++◌, false, List, [], ◌∷◌, length, Some, None, refl, sym, ap, ◌∙◌, subst, arith}
 use Rattle.std.specs.List.{list_any}
 use Rattle.std.specs.Prelude.{slice_get, Contains}
 use Rattle.cs_civil.specs.Calendar.{Kind, IsKind}
@@ -10,13 +10,14 @@ use Rattle.cs_chains.specs.KindOf.{IsKindOf}
 use Rattle.cs_chains.specs.Used.{AreClassed, HaveClasses, has_classes}
 use Rattle.cs_chains.proofs.InUse.{have_classes, is_in_use, used_is}
 
-one_day : (c : Content) (k : Kind) → IsKind k → HaveClasses c 1 (class_of c k ∷ []) (k ∷ [])
-one_day c k is = record { chain = (is, tt, tt); long = refl; classes = refl }
+-- a kind of a class is a chain of one day
+pub one_kind : (c : Content) (class : ℕ) (kind : Kind) → IsKind kind → class_of c kind ≡ class → HaveClasses c 1 (class ∷ []) (kind ∷ [])
+one_kind c class kind is e = record { chain = (is, tt, tt); long = refl; classes = ap (λ (n : ℕ). n ∷ []) e }
 
 -- no chain of one day has the class, so no kind has it
 pub no_kind : (c : Content) (class : ℕ) (cs : List ClassedChain) → AreClassed c 1 cs → list_any (has_classes (class ∷ [])) cs ≡ false → IsKindOf c class None
 no_kind c class cs all none k is e =
-    let there = is_in_use c 1 (class ∷ []) (k ∷ []) (omega arith) (subst (λ (n : ℕ). HaveClasses c 1 (n ∷ []) (k ∷ [])) e (one_day c k is)) in
+    let there = is_in_use c 1 (class ∷ []) (k ∷ []) (omega arith) (one_kind c class k is e) in
     absurd (let f = sym there ∙ (sym (used_is c 1 (class ∷ []) cs all) ∙ none) in cc)
 
 first_of_one : (c : Content) (class : ℕ) (kinds : List Kind) (k : Kind) → HaveClasses c 1 (class ∷ []) kinds → slice_get kinds 0 ≡ Some k → IsKindOf c class (Some k)

@@ -6,3 +6,5 @@ pub mod Alike
 pub mod Ending
 pub mod Lasting
 pub mod KindOf
+pub mod ByClasses
+pub mod Rows

@@ -4,3 +4,4 @@ pub mod Days
 pub mod Fitting
 pub mod Likeness
 pub mod KindOf
+pub mod ByClasses

@@ -1,19 +1,22 @@
 //! A kind of day of each class.
-ghost use Rattle.std.specs.Prelude.{◌≡◌, ℕ, Option, IfOk, length, slice_get, Some};
+ghost use Rattle.std.specs.Prelude.{◌≡◌, ℕ, List, Option, IfOk, length, slice_get, Some};
 ghost use Rattle.cs_cert.specs.Certificate.{content};
 ghost use Rattle.cs_cert.specs.Content.{Content};
 ghost use Rattle.cs_civil.specs.Calendar.{Kind};
+ghost use Rattle.cs_chains.specs.ByClasses.{LeadTo};
 ghost use Rattle.cs_chains.specs.KindOf.{IsKindOf};
 ghost use Rattle.cs_chains.specs.Used.{AreClassed};
+ghost use Rattle.cs_chains.specs.declared.classed.ClassedChain.{ClassedChain};
 
-use crate::classed::{ClassedChain, chain_with, classed_chains};
+use crate::by_classes::{ByClasses, by_classes, chain_with};
+use crate::classed::classed_chains;
 use cs_cert::Certificate;
 use cs_civil::DayKind;
 use std::alloc::{AllocError, Global};
 
 /// A kind of day that has the class, if one of these does.
-fn kind_with(chains: &[ClassedChain], class: u32) -> Option<DayKind>
-    ensures { (c : Content) → AreClassed c 1 chains.now → IsKindOf c class result }
+fn kind_with(chains: &ByClasses<'_>, class: u32) -> Option<DayKind>
+    ensures { (c : Content) (listed : List ClassedChain) → AreClassed c 1 listed → LeadTo listed chains.now → IsKindOf c class result }
 {
     let chain = chain_with(chains, &[class])?;
     let kind = chain.kinds.as_slice().first()?;
@@ -29,10 +32,11 @@ pub fn kinds_of_classes(
     ensures long { IfOk result (λ kinds. length kinds.items ≡ length (content certificate.now).classes) }
     ensures each { IfOk result (λ kinds. (class : ℕ) (found : Option Kind) → slice_get kinds.items class ≡ Some found → IsKindOf (content certificate.now) class found) }
 {
-    let chains = classed_chains(alloc, certificate, 1)?;
+    let listed = classed_chains(alloc, certificate, 1)?;
+    let chains = by_classes(alloc, listed.as_slice())?;
     let mut kinds = Vec::new(alloc);
     for class in 0..certificate.classes().len() {
-        kinds.push(kind_with(chains.as_slice(), class as u32))?;
+        kinds.push(kind_with(&chains, class as u32))?;
     }
     Ok(kinds)
 }

@@ -1,9 +1,7 @@
 //! The kinds of successive days with their classes.
-ghost use Rattle.std.specs.Prelude.{◌≡◌, ◌≤◌, Contains, IfNone, IfOk, IfSome, false, map};
-ghost use Rattle.std.specs.List.{list_any};
-ghost use Rattle.cs_accepted.specs.Faults.{same_list};
+ghost use Rattle.std.specs.Prelude.{◌≡◌, ◌≤◌, IfOk, map};
 ghost use Rattle.cs_cert.specs.Certificate.{class_of, content};
-ghost use Rattle.cs_chains.specs.Used.{AreClassed, has_classes};
+ghost use Rattle.cs_chains.specs.Used.{AreClassed};
 
 use crate::chain::{Chain, chains};
 use arrayvec::ArrayVec;
@@ -43,20 +41,4 @@ pub(crate) fn classed_chains(
         classed.push(ClassedChain { kinds, classes })?;
     }
     Ok(classed)
-}
-
-/// The first of these chains that has these classes.
-pub(crate) fn chain_with<'a>(
-    chains: &'a [ClassedChain],
-    classes: &[u32],
-) -> Option<&'a ClassedChain>
-    ensures found { IfSome result (λ chain. Contains chains.now chain.now × (chain.now.classes.items ≡ classes.now)) }
-    ensures none { IfNone result (list_any (has_classes classes.now) chains.now ≡ false) }
-{
-    for chain in chains {
-        if chain.classes.as_slice() == classes {
-            return Some(chain);
-        }
-    }
-    None
 }

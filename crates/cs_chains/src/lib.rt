@@ -1,6 +1,7 @@
 //! The stretches of days that a certificate has to speak of, and the first two rules that it is accepted by.
 #![tactic(auto)]
 
+mod by_classes;
 mod chain;
 mod class_kinds;
 mod classed;
@@ -18,5 +19,5 @@ pub use class_kinds::kinds_of_classes;
 pub use fitting::stretch_length;
 pub use last::last_day;
 pub use missing::first_missing;
-pub use unlike::first_unlike;
+pub use unlike::{first_unlike, first_unlike_parallel};
 pub use used::{UsedStretch, used_stretches};

@@ -1,5 +1,5 @@
 //! Whether the classes of a certificate have the due minutes of the cron jobs, whatever the day.
-ghost use Rattle.std.specs.Prelude.{◌≡◌, ◌<◌, ℕ, IfOk};
+ghost use Rattle.std.specs.Prelude.{◌≡◌, ◌<◌, [], ℕ, IfOk};
 ghost use Rattle.cs_cert.specs.Certificate.{content};
 ghost use Rattle.cs_chains.specs.Likeness.{AreLikenesses, AreTimes, IsRow, is_due_day, is_due_minute, likeness_by};
 ghost use Rattle.cs_decl.specs.Plan.{Declared};
@@ -11,7 +11,12 @@ use cs_claim::due_sets;
 use cs_crontab::{Line, When};
 use cs_decl::Plan;
 use cs_schedule::MinuteSet;
+use rayon::prelude::*;
 use std::alloc::{AllocError, Global};
+use std::thread::Threads;
+
+/// How few rows are worth a thread of their own.
+const LEAST_ROWS: usize = 8;
 
 /// What a class is to a cron job.
 #[derive(Clone, Copy, Debug)]
@@ -53,13 +58,15 @@ fn times_of_jobs(alloc: Global, plan: &Plan) -> Result<Vec<MinuteSet>, AllocErro
     Ok(times)
 }
 
-/// What a class is to a cron job, by the due minutes that it has for the job and those of the days on which the job is due.
-fn likeness_of(minutes: &MinuteSet, times: &MinuteSet) -> Likeness
+/// What a class is to a cron job, by the due minutes that it has for the job, those of the days on which the job is due, and
+/// none.
+fn likeness_of(minutes: &MinuteSet, times: &MinuteSet, none: &MinuteSet) -> Likeness
+    requires { none.now ≡ [] }
     ensures { result ≡ likeness_by (has minutes.now) (has times.now) }
 {
     Likeness {
         when_due: minutes.is_same(times),
-        when_not: minutes.is_same(&MinuteSet::new()),
+        when_not: minutes.is_same(none),
     }
 }
 
@@ -72,9 +79,10 @@ fn row_of(
     ensures { IfOk result (λ row. (d : Declared) → AreTimes d times.now → IsRow d class.now row) }
 {
     let minutes = due_sets(alloc, class, times.len())?;
+    let none = MinuteSet::new();
     let mut row = Sequence::new(alloc);
     for (job, times) in times.iter().enumerate() {
-        row.push(likeness_of(&minutes[job], times))?;
+        row.push(likeness_of(&minutes[job], times, &none))?;
     }
     Ok(row)
 }
@@ -93,4 +101,27 @@ pub(crate) fn likenesses(
         rows.push(row_of(alloc, class, times.as_slice())?)?;
     }
     Ok(rows)
+}
+
+/// The same by several threads.
+pub(crate) fn likenesses_parallel<R: Threads + Sync>(
+    rt: &R,
+    alloc: Global,
+    plan: &Plan,
+    certificate: &Certificate,
+) -> Result<Vec<Sequence<Likeness>>, AllocError>
+    ensures { IfOk result (λ rows. AreLikenesses plan.now (content certificate.now) rows.items) }
+{
+    let times = times_of_jobs(alloc, plan)?;
+    let times = times.as_slice();
+    certificate
+        .classes()
+        .par_iter()
+        .with_min_len(LEAST_ROWS)
+        .map(
+            |class: &Class| -> Result<Sequence<Likeness>, AllocError>
+                ensures { IfOk result (λ row. (d : Declared) → AreTimes d times.entry.now → IsRow d class.now row) }
+            { row_of(alloc, class, times) },
+        )
+        .collect::<Result<Vec<Sequence<Likeness>>, AllocError>>(rt, alloc)?
 }

@@ -1,29 +1,23 @@
 //! The first of the stretches that successive days have that a certificate lacks.
 ghost use Rattle.std.specs.Prelude.{◌≡◌, ◌≤◌, IfOk, option_map};
-ghost use Rattle.std.specs.List.{list_any};
-ghost use Rattle.cs_accepted.specs.Faults.{same_list, stretch_fault};
+ghost use Rattle.cs_accepted.specs.Faults.{stretch_fault};
 ghost use Rattle.cs_cert.specs.Certificate.{content};
 ghost use Rattle.cs_claim.specs.Claim.{as_certificate};
+ghost use Rattle.cs_chains.specs.ByClasses.{is_among};
 ghost use Rattle.cs_chains.specs.Chains.{missing_chain};
 
+use crate::by_classes::class_lists;
 use crate::chain::{Chain, chains};
 use crate::classed::classes_of;
-use cs_cert::{Certificate, Stretch};
+use cs_cert::Certificate;
+use indexmap::IndexSet;
 use std::alloc::{AllocError, Global};
 
-/// Whether a stretch is of these classes.
-#[tactic(auto, using(crate::proofs::Searched::slices_same))]
-fn is_of(stretch: &Stretch, classes: &[u32]) -> bool
-    ensures { result ≡ same_list stretch.now.of classes.now }
+/// Whether the classes are one of the lists.
+fn is_listed(lists: &IndexSet<&[u32]>, classes: &[u32]) -> bool
+    ensures { result ≡ is_among lists.now.keys classes.now }
 {
-    stretch.of.as_slice() == classes
-}
-
-/// Whether one of the stretches is of these classes.
-fn is_listed(stretches: &[Stretch], classes: &[u32]) -> bool
-    ensures { result ≡ list_any (λ s. same_list s.of classes.now) stretches.now }
-{
-    stretches.iter().any(|stretch| is_of(stretch, classes))
+    lists.contains(classes)
 }
 
 /// The first kinds of so many successive days, in the order of [`chains`](crate::chains), whose classes no stretch of the
@@ -36,9 +30,10 @@ pub fn first_missing(
     requires { (1 ≤ days) × (days ≤ 4) }
     ensures { IfOk result (λ found. stretch_fault (as_certificate (content certificate.now)) days ≡ option_map missing_chain found) }
 {
+    let lists = class_lists(alloc, certificate.stretches())?;
     for chain in chains(alloc, days)? {
         let classes = classes_of(certificate, &chain);
-        if !is_listed(certificate.stretches(), classes.as_slice()) {
+        if !is_listed(&lists, classes.as_slice()) {
             return Ok(Some(chain));
         }
     }

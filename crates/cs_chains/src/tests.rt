@@ -1,4 +1,7 @@
-use crate::{chains, first_missing, first_unlike, last_day, stretch_length, used_stretches};
+use crate::{
+    chains, first_missing, first_unlike, first_unlike_parallel, last_day, stretch_length,
+    used_stretches,
+};
 use cs_anacrontab::read_anacrontab;
 use cs_cert::{Certificate, read_certificate};
 use cs_civil::DayKind;
@@ -9,6 +12,7 @@ use cs_windows::Occupied;
 use std::alloc::{AllocError, Global};
 use std::process::Abort;
 use std::test::Fail;
+use std::thread::Threads;
 
 /// Class 1 is that of 29 February, class 0 that of all other days, and each two classes have a stretch.
 const LEAP: &str =
@@ -26,6 +30,18 @@ fn kind(rt: &impl Abort, month: u8, dom: u8, dow: u8) -> DayKind {
     DayKind::new(month, dom, dow).expect(rt, "a kind")
 }
 
+/// The certificate of [`THIRTEENTH`] with 16 classes that no day has between its two: enough for several threads.
+fn many_classes(rt: &impl Abort, alloc: Global) -> Certificate {
+    let class = "{\"backlog\":[],\"due\":[]},";
+    let more = class.repeat(alloc, 17).expect(rt, "memory");
+    let text = THIRTEENTH
+        .replace(alloc, class, more.as_str())
+        .expect(rt, "memory")
+        .replace(alloc, "\"class\":1", "\"class\":17")
+        .expect(rt, "memory");
+    certificate(rt, alloc, text.as_str())
+}
+
 /// A plan of one cron job on these days.
 fn plan(rt: &impl Abort, alloc: Global, table: &str) -> Plan {
     join(
@@ -41,16 +57,27 @@ fn plan(rt: &impl Abort, alloc: Global, table: &str) -> Plan {
     .expect(rt, "a plan")
 }
 
-/// The month, day and weekday of the first kind that is unlike its class, for a plan of one cron job.
-fn unlike(
-    rt: &impl Abort,
+/// The month, day and weekday of a kind.
+fn date_of(kind: DayKind) -> (u8, u8, u8) {
+    (kind.month(), kind.dom(), kind.dow())
+}
+
+/// The first kind that is unlike its class, for a plan of one cron job. Both calls find it.
+fn unlike<R: Abort + Threads + Sync>(
+    rt: &R,
     alloc: Global,
     table: &str,
     claimed: &Certificate,
 ) -> Option<(u8, u8, u8)> {
     let plan = plan(rt, alloc, table);
-    let kind = first_unlike(alloc, &plan, claimed).expect(rt, "memory")?;
-    Some((kind.month(), kind.dom(), kind.dow()))
+    let one = first_unlike(alloc, &plan, claimed)
+        .expect(rt, "memory")
+        .map(date_of);
+    let several = first_unlike_parallel(rt, alloc, &plan, claimed)
+        .expect(rt, "memory")
+        .map(date_of);
+    assert!(rt; one == several);
+    one
 }
 
 /// A kind for each day of a leap year and weekday; after each of the seven 28 February a chain has two ways on.
@@ -131,6 +158,7 @@ fn last_days(rt: HostRuntime) {
 #[test]
 fn kinds_unlike_their_classes(rt: HostRuntime) {
     let claimed = certificate(&rt, rt.alloc(), THIRTEENTH);
+    let many = many_classes(&rt, rt.alloc());
     for (table, met) in [
         ("0 1 13 * * a", None),
         ("0 1 * * * a", Some((1, 1, 0))),
@@ -139,6 +167,7 @@ fn kinds_unlike_their_classes(rt: HostRuntime) {
         ("0 1 13,29 2 * a", Some((1, 13, 0))),
     ] {
         assert!(rt; unlike(&rt, rt.alloc(), table, &claimed) == met);
+        assert!(rt; unlike(&rt, rt.alloc(), table, &many) == met);
     }
 }
 

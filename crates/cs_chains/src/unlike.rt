@@ -7,12 +7,13 @@ ghost use Rattle.cs_claim.specs.Claim.{as_certificate};
 ghost use Rattle.cs_decl.specs.Plan.{as_plan};
 ghost use Rattle.cs_windows.specs.Planned.{due_on};
 
-use crate::likeness::{Likeness, is_due_day, likenesses};
+use crate::likeness::{Likeness, is_due_day, likenesses, likenesses_parallel};
 use cs_cert::Certificate;
 use cs_civil::{DayKind, Sequence, all_kinds};
 use cs_crontab::Line;
 use cs_decl::Plan;
 use std::alloc::{AllocError, Global};
+use std::thread::Threads;
 
 /// Whether a class has the due minutes of a cron job on days of this kind, by what it is to the job.
 fn is_job_alike(likeness: Likeness, line: &Line, kind: DayKind) -> bool
@@ -45,6 +46,24 @@ fn is_alike(
     true
 }
 
+/// The first kind of day, in the order of [`all_kinds`], whose class has not the due minutes of each cron job, by the rows of
+/// the classes.
+fn first_by_rows(
+    plan: &Plan,
+    certificate: &Certificate,
+    rows: &[Sequence<Likeness>],
+) -> Option<DayKind>
+    requires { AreLikenesses plan.now (content certificate.now) rows.now }
+    ensures { option_map ClassNotDue result ≡ due_fault (as_plan plan.now) (due_on plan.now) (as_certificate (content certificate.now)) }
+{
+    for kind in all_kinds() {
+        if !is_alike(plan, certificate, rows, kind) {
+            return Some(kind);
+        }
+    }
+    None
+}
+
 /// The first kind of day, in the order of [`all_kinds`], whose class has not exactly the due minutes that the plan's cron
 /// jobs have on such days (`crontab(5)`). The only error is want of memory.
 pub fn first_unlike(
@@ -55,10 +74,18 @@ pub fn first_unlike(
     ensures { IfOk result (λ found. option_map ClassNotDue found ≡ due_fault (as_plan plan.now) (due_on plan.now) (as_certificate (content certificate.now))) }
 {
     let rows = likenesses(alloc, plan, certificate)?;
-    for kind in all_kinds() {
-        if !is_alike(plan, certificate, rows.as_slice(), kind) {
-            return Ok(Some(kind));
-        }
-    }
-    Ok(None)
+    Ok(first_by_rows(plan, certificate, rows.as_slice()))
+}
+
+/// The same, where several threads look at the classes.
+pub fn first_unlike_parallel<R: Threads + Sync>(
+    rt: &R,
+    alloc: Global,
+    plan: &Plan,
+    certificate: &Certificate,
+) -> Result<Option<DayKind>, AllocError>
+    ensures { IfOk result (λ found. option_map ClassNotDue found ≡ due_fault (as_plan plan.now) (due_on plan.now) (as_certificate (content certificate.now))) }
+{
+    let rows = likenesses_parallel(rt, alloc, plan, certificate)?;
+    Ok(first_by_rows(plan, certificate, rows.as_slice()))
 }

@@ -1,14 +1,17 @@
 //! Which of a certificate's stretches successive days have, and which one that they have is missing.
-ghost use Rattle.std.specs.Prelude.{◌≡◌, ◌≤◌, All, Contains, IfNone, IfOk, IfSome, Some, false, map, slice_get};
+ghost use Rattle.std.specs.Prelude.{◌≡◌, ◌≤◌, All, IfNone, IfOk, IfSome, List, Some, false, map, slice_get};
 ghost use Rattle.std.specs.List.{list_any};
 ghost use Rattle.cs_accepted.specs.Faults.{used_stretches};
 ghost use Rattle.cs_cert.specs.Certificate.{content};
 ghost use Rattle.cs_cert.specs.Content.{stretch_of};
 ghost use Rattle.cs_claim.specs.Claim.{as_certificate};
+ghost use Rattle.cs_chains.specs.ByClasses.{LeadTo};
 ghost use Rattle.cs_chains.specs.Used.{HaveClasses, IsOneOf, has_classes, seen};
+ghost use Rattle.cs_chains.specs.declared.classed.ClassedChain.{ClassedChain};
 
+use crate::by_classes::{ByClasses, by_classes, chain_with};
 use crate::chain::{Chain, copy_of};
-use crate::classed::{ClassedChain, chain_with, classed_chains};
+use crate::classed::classed_chains;
 use cs_cert::{Certificate, Stretch};
 use std::alloc::{AllocError, Global};
 
@@ -26,12 +29,12 @@ pub struct UsedStretch<'a> {
 
 /// The stretch, if it has the classes of one of these chains.
 fn used_by<'a>(
-    chains: &[ClassedChain],
+    chains: &ByClasses<'_>,
     number: usize,
     stretch: &'a Stretch,
 ) -> Option<UsedStretch<'a>>
-    ensures used { IfSome result (λ u. (u.stretch.now ≡ stretch.now) × (u.number ≡ number) × IsOneOf chains.now stretch.now.of u.kinds.items) }
-    ensures unused { IfNone result (list_any (has_classes stretch.now.of) chains.now ≡ false) }
+    ensures used { (listed : List ClassedChain) → LeadTo listed chains.now → IfSome result (λ u. (u.stretch.now ≡ stretch.now) × (u.number ≡ number) × IsOneOf listed stretch.now.of u.kinds.items) }
+    ensures unused { (listed : List ClassedChain) → LeadTo listed chains.now → IfNone result (list_any (has_classes stretch.now.of) listed ≡ false) }
 {
     let chain = chain_with(chains, stretch.of.as_slice())?;
     Some(UsedStretch {
@@ -52,11 +55,12 @@ pub fn used_stretches<'a>(
     ensures kinds { IfOk result (λ used. All (λ u. HaveClasses (content certificate.now) days u.stretch.now.of u.kinds.items) used.items) }
     ensures numbers { IfOk result (λ used. All (λ u. slice_get (content certificate.now).stretches u.number ≡ Some (stretch_of u.stretch.now)) used.items) }
 {
-    let chains = classed_chains(alloc, certificate, days)?;
+    let listed = classed_chains(alloc, certificate, days)?;
+    let chains = by_classes(alloc, listed.as_slice())?;
     let stretches = certificate.stretches();
     let mut used = Vec::new(alloc);
     for (number, stretch) in stretches.iter().enumerate() {
-        if let Some(found) = used_by(chains.as_slice(), number, stretch) {
+        if let Some(found) = used_by(&chains, number, stretch) {
             used.push(found)?;
         }
     }

@@ -1,15 +1,15 @@
 -- Where the first two rules hold, each stretch in use is good and each waiting job has a reach, no fault is found.
-use Rattle.std.proofs.Common.{◌≡◌, ℕ, ◌-◌, ◌<◌, ◌≤◌, Bool, true, false, cond, List, [], ◌∷◌, filter, map, Option, None, Some, All, refl, ap, subst, arith}
+use Rattle.std.proofs.Common.{◌≡◌, ℕ, ◌-◌, ◌<◌, ◌≤◌, Bool, true, false, cond, List, [], ◌∷◌, filter, map, Option, None, All, refl, ap, subst, arith}
 use Rattle.std.specs.Prelude.{unwrap_or}
 use Rattle.std.specs.List.{AllByRecursion}
 use Rattle.std.proofs.lemmas.Bool.{ltb-true}
 use Rattle.cs_civil.specs.Calendar.{Kind}
-use Rattle.cs_history.specs.Plan.{Plan, IsPlan, waits}
+use Rattle.cs_history.specs.Plan.{Plan, IsPlan}
 use Rattle.cs_history.proofs.Lists.{all_map}
 use Rattle.cs_safety.proofs.Locks.{group_of}
 use Rattle.cs_wait.specs.Bounds.{ClearsBy, StepsHold}
 use Rattle.cs_accepted.specs.Certificate.{Certificate, Stretch}
-use Rattle.cs_accepted.specs.Accepted.{AreApart, AreFree, AreWithin, InEach, IsAccepted, IsCovered, IsUsed, arrivals, nth, windows_of}
+use Rattle.cs_accepted.specs.Accepted.{AreApart, AreFree, AreWithin, InEach, IsCovered, IsUsed, arrivals, nth, windows_of}
 use Rattle.cs_accepted.specs.Faults.{due_fault, first_fault, is_used, stretch_fault, used_stretches}
 use Rattle.cs_accepted.proofs.Chains.{tells_used}
 use Rattle.cs_accepted.proofs.Points.{says_all, says_one, says_two, waiter_to}

@@ -1,16 +1,14 @@
 -- The test whether a reach is far enough, by the classes of a stretch.
-use Rattle.std.proofs.Common.{◌≡◌, ℕ, ◌<◌, ◌≤◌, ◌-◌, ◌*◌, Bool, if◌then◌else◌, true, false, not, ◌||◌, List, [], ◌∷◌, map, length, refl, ap, sym, ◌∙◌, subst, arith, ◌↔◌}
+use Rattle.std.proofs.Common.{◌≡◌, ℕ, ◌<◌, ◌-◌, Bool, if◌then◌else◌, true, false, not, ◌||◌, List, [], ◌∷◌, map, length, refl, ap, sym, ◌∙◌, subst, arith, ◌↔◌}
 use Rattle.std.specs.Prelude.{unwrap_or, IsTrue}
-use Rattle.std.specs.List.{list_all}
-use Rattle.std.proofs.lemmas.Bool.{both_ways, lt-ltb}
+use Rattle.std.proofs.lemmas.Bool.{lt-ltb}
 use Rattle.cs_history.specs.Plan.{Plan, IsPlan}
 use Rattle.cs_cert.specs.declared.class.Class.{Class}
 use Rattle.cs_cert.specs.Certificate.{bound_in, is_due_in}
 use Rattle.cs_cert.specs.Content.{Content}
-use Rattle.cs_claim.specs.Claim.{as_certificate, class_at, no_class}
+use Rattle.cs_claim.specs.Claim.{as_certificate, class_at}
 use Rattle.cs_claim.specs.Reaches.{Clears, bounds_of}
 use Rattle.cs_wait.specs.Bounds.{ClearsBy, at_days}
-use Rattle.cs_windows.specs.Windows.{day_minutes}
 use Rattle.cs_accepted.specs.Accepted.{nth}
 use Rattle.cs_accepted.specs.Certificate.{Stretch}
 use Rattle.cs_accepted.specs.Faults.{clears_by}

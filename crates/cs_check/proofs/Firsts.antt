@@ -1,5 +1,5 @@
 -- The first fault of all, by where it is found.
-use Rattle.std.proofs.Common.{◌≡◌, ℕ, ◌<◌, ◌≤◌, Bool, not, ◌||◌, Option, None, Some, refl, ap, sym, ◌∙◌, subst}
+use Rattle.std.proofs.Common.{◌≡◌, ℕ, Bool, not, ◌||◌, Option, None, Some, refl, ap, sym, ◌∙◌}
 use Rattle.cs_decl.specs.Plan.{Declared, as_plan}
 use Rattle.cs_cert.specs.Content.{Content}
 use Rattle.cs_claim.specs.Claim.{as_certificate}

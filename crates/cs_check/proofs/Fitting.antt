@@ -1,5 +1,5 @@
 -- The numbers of a plan with a certificate are in range.
-use Rattle.std.proofs.Common.{◌≡◌, ℕ, ◌<◌, ◌≤◌, ◌+◌, ◌-◌, Bool, true, false, ◌&&◌, List, [], ◌∷◌, Option, None, Some, if◌then◌else◌, cond, nat_eq, nat_lt, nat_le, refl, ap, sym, ◌∙◌, subst, arith, inl, inr, ◌⊎◌}
+use Rattle.std.proofs.Common.{◌≡◌, ℕ, ◌≤◌, ◌+◌, ◌-◌, Bool, true, false, ◌&&◌, List, [], ◌∷◌, Some, if◌then◌else◌, cond, nat_eq, nat_lt, nat_le, arith}
 use Rattle.std.specs.Prelude.{unwrap_or}
 use Rattle.std.specs.List.{list_all}
 use Rattle.std.proofs.lemmas.Bool.{and_parts, leb-true}
@@ -8,10 +8,9 @@ use Rattle.cs_decl.specs.Plan.{Declared, as_plan}
 use Rattle.cs_cert.specs.Content.{Content}
 use Rattle.cs_cert.specs.Certificate.{reach_of}
 use Rattle.cs_cert.specs.Kept.{Keeps}
-use Rattle.cs_cert.specs.Rules.{most_reach, reach_fits}
+use Rattle.cs_cert.specs.Rules.{most_reach}
 use Rattle.cs_windows.specs.declared.reach.JobReach.{JobReach}
-use Rattle.cs_history.specs.Plan.{IsPlan, Plan, is_cron, waits}
-use Rattle.cs_accepted.specs.Accepted.{IsModest}
+use Rattle.cs_history.specs.Plan.{IsPlan, is_cron, waits}
 use Rattle.cs_check.specs.Case.{IsFit, reach_for}
 
 abbrev is_reach : ℕ → JobReach → Bool

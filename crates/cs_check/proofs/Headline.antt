@@ -1,6 +1,6 @@
 -- Where no fault is found, every legal history in time is safe.
-use Rattle.std.proofs.Common.{◌≡◌, ℕ, ◌+◌, ◌*◌, ◌/◌, ◌%◌, ◌<◌, ◌≤◌, Bool, true, false, List, [], ◌∷◌, length, Option, None, Some, refl, ap, sym, ◌∙◌, subst, arith}
-use Rattle.cs_civil.specs.Calendar.{Kind, kind}
+use Rattle.std.proofs.Common.{◌≡◌, ℕ, ◌+◌, ◌*◌, ◌/◌, ◌%◌, ◌<◌, ◌≤◌, List, [], ◌∷◌, length, None, refl, ap, ◌∙◌, arith}
+use Rattle.cs_civil.specs.Calendar.{kind}
 use Rattle.cs_history.specs.History.{History, From, ◌▸◌, IsSafe, IsSafeNow, running}
 use Rattle.cs_history.specs.Lists.{total}
 use Rattle.cs_history.specs.Plan.{Plan, IsPlan}
@@ -14,8 +14,7 @@ use Rattle.cs_cert.specs.Content.{Content}
 use Rattle.cs_claim.specs.Claim.{as_certificate}
 use Rattle.cs_safety.proofs.Safety.{safe}
 use Rattle.cs_safety.proofs.Runs.{runs_in_windows}
-use Rattle.cs_accepted.specs.Accepted.{reach_in, bound_on, IsAccepted, IsByKind, IsLength}
-use Rattle.cs_accepted.specs.Faults.{first_fault}
+use Rattle.cs_accepted.specs.Accepted.{bound_on, IsByKind, IsLength}
 use Rattle.cs_accepted.proofs.Calm.{calm}
 use Rattle.cs_accepted.proofs.Bounded.{bounded}
 use Rattle.cs_accepted.proofs.Points.{says_all}

@@ -1,5 +1,5 @@
 -- A good stretch has no fault by any of the rules that are looked at stretch by stretch.
-use Rattle.std.proofs.Common.{◌≡◌, ℕ, ◌≤◌, ◌-◌, Bool, false, None, option_map, ap}
+use Rattle.std.proofs.Common.{◌≡◌, ℕ, ◌≤◌, ◌-◌, false, None, option_map, ap}
 use Rattle.cs_history.specs.Plan.{Plan, IsPlan}
 use Rattle.cs_windows.specs.declared.window.Window.{Window}
 use Rattle.cs_accepted.specs.Accepted.{windows_of}

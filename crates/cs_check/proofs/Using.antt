@@ -1,6 +1,6 @@
 -- What follows for a stretch in use.
-use Rattle.std.proofs.Common.{◌≡◌, ℕ, ◌<◌, ◌≤◌, Bool, true, false, List, [], ◌∷◌, ◌++◌, ◌+◌, zero, suc, map, take, length, slice_set, Bor, All, None, Some, Option, refl, ap, sym, ◌∙◌, subst, arith, if◌then◌else◌, nat_eq, get_or}
-use Rattle.std.specs.Prelude.{unwrap_or, slice_get, ◌==◌}
+use Rattle.std.proofs.Common.{◌≡◌, ℕ, ◌<◌, ◌≤◌, List, [], ◌∷◌, ◌++◌, ◌+◌, zero, suc, map, take, length, slice_set, Bor, All, None, Some, Option, refl, ap, sym, ◌∙◌, subst, arith, if◌then◌else◌, nat_eq, get_or}
+use Rattle.std.specs.Prelude.{unwrap_or, slice_get}
 use Rattle.std.proofs.lemmas.List.{length-map, map-append, take_more_set}
 use Rattle.std.proofs.Math.Seq.{take-suc}
 use Rattle.std.proofs.lemmas.List.Elements.{All-map, All-head, All-tail}
@@ -10,7 +10,7 @@ use Rattle.cs_cert.specs.Content.{Content, stretch_of}
 use Rattle.cs_chains.specs.declared.used.UsedStretch.{UsedStretch}
 use Rattle.cs_cert.specs.Certificate.{class_of, reach_of}
 use Rattle.cs_cert.specs.Kept.{IsSound, Keeps}
-use Rattle.cs_history.specs.Plan.{Plan, IsPlan}
+use Rattle.cs_history.specs.Plan.{Plan}
 use Rattle.cs_windows.specs.Planned.{due_on, listed_reach, planned, reach_by}
 use Rattle.cs_windows.specs.Windows.{windows_on}
 use Rattle.cs_windows.specs.declared.reach.JobReach.{JobReach}
@@ -100,10 +100,6 @@ at_place P (y ∷ ys) (suc i) x h e = at_place P ys i x (All-tail P y ys h) e
 -- the stretches that are found are in use
 pub found_in_use : (c : Content) (n : ℕ) (us : List UsedStretch) → Keeps c → All (λ u. HaveClasses c n u.stretch.now.of u.kinds.items) us → All (λ u. slice_get c.stretches u.number ≡ Some (stretch_of u.stretch.now)) us → All (IsInUse c n) us
 found_in_use c n us keeps kinds numbers = λ k d lt. record { kinds = kinds k d lt; splits = (at_place (IsSound c.version (length c.classes)) c.stretches (get_or us k d).number (stretch_of (get_or us k d).stretch.now) keeps.stretches (numbers k d lt)).splits }
-
--- a kind of a class is a chain of one day
-pub one_kind : (c : Content) (class : ℕ) (kind : Kind) → IsKind kind → class_of c kind ≡ class → HaveClasses c 1 (class ∷ []) (kind ∷ [])
-one_kind c class kind is e = record { chain = (is, tt, tt); long = refl; classes = ap (λ (n : ℕ). n ∷ []) e }
 
 -- the kind at a place of a chain, which has the class there
 pub kind_there : (c : Content) (n : ℕ) (of : List ℕ) (kinds : List Kind) → HaveClasses c n of kinds → (place : ℕ) → place < n → (kind : Kind) × IsKind kind × (class_of c kind ≡ nth of place)

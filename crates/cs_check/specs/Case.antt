@@ -1,5 +1,5 @@
 -- A plan and a certificate, as the rules of acceptance see them.
-use Rattle.std.specs.Prelude.{◌≡◌, ℕ, Option}
+use Rattle.std.specs.Prelude.{ℕ, Option}
 use Rattle.cs_decl.specs.Plan.{Declared, as_plan}
 use Rattle.cs_windows.specs.Planned.{due_on}
 use Rattle.cs_cert.specs.Content.{Content}

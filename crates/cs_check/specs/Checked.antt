@@ -1,7 +1,6 @@
 -- What is known of a plan that was checked.
 use Rattle.std.specs.Prelude.{◌≡◌, ℕ, ◌≤◌, Option, Some, ⊤, length}
 use Rattle.std.specs.List.{AllByRecursion}
-use Rattle.cs_civil.specs.Calendar.{Kind}
 use Rattle.cs_decl.specs.Plan.{Declared}
 use Rattle.cs_cert.specs.Content.{Content}
 use Rattle.cs_cert.specs.Certificate.{content}

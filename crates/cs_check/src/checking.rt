@@ -11,7 +11,7 @@ use crate::checked::Checked;
 use crate::class_day::{class_days, class_days_parallel};
 use crate::fault::CheckError;
 use crate::order::later_fault;
-use crate::prepare::{basis_of, case_of, stretches_of};
+use crate::prepare::{basis_of, basis_of_parallel, case_of, stretches_of};
 use crate::quiet::{are_good, are_good_parallel, have_reaches};
 use cs_cert::Certificate;
 use cs_chains::UsedStretch;
@@ -77,7 +77,7 @@ fn judge_parallel<R: Threads + Sync>(
     ensures ok { OnOk result (fault_of plan.now (content certificate.now) ≡ None) }
     ensures fault { IfErr result (Tells (fault_of plan.now (content certificate.now))) }
 {
-    let basis = basis_of(alloc, plan, certificate, none)?;
+    let basis = basis_of_parallel(rt, alloc, plan, certificate, none)?;
     let class_days = class_days_parallel(rt, alloc, &basis)?;
     let case = case_of(alloc, &basis, class_days)?;
     let stretches = stretches_of(alloc, &case)?;

@@ -1,24 +1,58 @@
 //! What is looked at before the stretches: due minutes, and which stretches there have to be.
-ghost use Rattle.std.specs.Prelude.{◌≡◌, [], IfErr, IfOk};
+ghost use Rattle.std.specs.Prelude.{◌≡◌, [], IfErr, IfOk, option_map};
+ghost use Rattle.cs_accepted.specs.Faults.{ClassNotDue, due_fault};
 ghost use Rattle.cs_cert.specs.Certificate.{content};
 ghost use Rattle.cs_check.specs.Case.{fault_of};
 ghost use Rattle.cs_check.specs.Checked.{Tells};
 ghost use Rattle.cs_check.specs.ClassDays.{AreClassDays, IsBasis, IsBasisOf};
 ghost use Rattle.cs_check.specs.Stretches.{AreStretches, IsCase, IsCaseOf};
+ghost use Rattle.cs_claim.specs.Claim.{as_certificate};
+ghost use Rattle.cs_decl.specs.Plan.{as_plan};
+ghost use Rattle.cs_windows.specs.Planned.{due_on};
 
 use crate::basis::Basis;
 use crate::case::Case;
 use crate::class_day::ClassDay;
 use crate::fault::{CheckError, CheckFault};
 use cs_cert::Certificate;
-use cs_chains::{UsedStretch, first_missing, first_unlike, stretch_length, used_stretches};
+use cs_chains::{
+    UsedStretch, first_missing, first_unlike, first_unlike_parallel, stretch_length, used_stretches,
+};
+use cs_civil::DayKind;
 use cs_decl::Plan;
 use cs_stretch::Roles;
 use cs_wait::Backlog;
 use cs_windows::occupied;
 use std::alloc::{AllocError, Global};
+use std::thread::Threads;
 
-/// The basis of a plan and a certificate, or the fault of the first kind of day whose class has other due minutes.
+/// The basis of a plan and a certificate, or the fault of the first kind of day whose class has other due minutes: `unlike`.
+fn basis_by<'a>(
+    alloc: Global,
+    plan: &'a Plan,
+    certificate: &'a Certificate,
+    none: &'a Backlog,
+    unlike: Option<DayKind>,
+) -> Result<Basis<'a>, CheckError>
+    requires none { none.now ≡ [] }
+    requires unlike { option_map ClassNotDue unlike ≡ due_fault (as_plan plan.now) (due_on plan.now) (as_certificate (content certificate.now)) }
+    ensures ok { IfOk result (IsBasisOf plan.now (content certificate.now)) }
+    ensures fault { IfErr result (Tells (fault_of plan.now (content certificate.now))) }
+{
+    let _jobs = plan.jobs();
+    let occupied = occupied(alloc, plan, certificate.reach())?;
+    if let Some(kind) = unlike {
+        return Err(CheckError::Fault(CheckFault::ClassNotDue(kind)));
+    }
+    Ok(Basis {
+        plan,
+        certificate,
+        occupied,
+        none,
+    })
+}
+
+/// The basis of a plan and a certificate, or the fault of the first kind of day whose class has other due minutes, by one thread.
 pub(crate) fn basis_of<'a>(
     alloc: Global,
     plan: &'a Plan,
@@ -29,17 +63,24 @@ pub(crate) fn basis_of<'a>(
     ensures ok { IfOk result (IsBasisOf plan.now (content certificate.now)) }
     ensures fault { IfErr result (Tells (fault_of plan.now (content certificate.now))) }
 {
-    let _jobs = plan.jobs();
-    let occupied = occupied(alloc, plan, certificate.reach())?;
-    if let Some(kind) = first_unlike(alloc, plan, certificate)? {
-        return Err(CheckError::Fault(CheckFault::ClassNotDue(kind)));
-    }
-    Ok(Basis {
-        plan,
-        certificate,
-        occupied,
-        none,
-    })
+    let unlike = first_unlike(alloc, plan, certificate)?;
+    basis_by(alloc, plan, certificate, none, unlike)
+}
+
+/// The same by several threads.
+pub(crate) fn basis_of_parallel<'a, R: Threads + Sync>(
+    rt: &R,
+    alloc: Global,
+    plan: &'a Plan,
+    certificate: &'a Certificate,
+    none: &'a Backlog,
+) -> Result<Basis<'a>, CheckError>
+    requires { none.now ≡ [] }
+    ensures ok { IfOk result (IsBasisOf plan.now (content certificate.now)) }
+    ensures fault { IfErr result (Tells (fault_of plan.now (content certificate.now))) }
+{
+    let unlike = first_unlike_parallel(rt, alloc, plan, certificate)?;
+    basis_by(alloc, plan, certificate, none, unlike)
 }
 
 /// The case that has this basis, with what each day of each class has. The only error is want of memory.

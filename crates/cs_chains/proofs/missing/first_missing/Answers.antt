@@ -14,7 +14,7 @@ returns-then-not-is_listed c =
     let ks = c.in-Some.chain.items in
     let rest = map kinds_of c.next.new.self.rest.items in
     let unlisted : has (as_certificate a) ks ≡ false =
-    sym (listed_is a c.stretches.result.now ks c.as_slice.result.now c.stretches.ensures.value (c.as_slice.ensures.value ∙ c.classes_of-classes.ensures)) ∙ sym c.is_listed.ensures ∙ c.if-not-is_listed.true in
+    sym (listed_is a c.stretches.result.now ks c.as_slice.result.now c.stretches.ensures.value (c.as_slice.ensures.value ∙ c.classes_of-classes.ensures)) ∙ sym (c.in_ok-lists.ensures c.as_slice.result.now) ∙ sym c.is_listed.ensures ∙ c.if-not-is_listed.true in
     sym c.loop-chain.invariant ∙ ap (λ (l : List (ArrayVec Kind)). first_of (missed (as_certificate a)) (map kinds_of l)) c.in-Some.ensures.steps.0 ∙ here (as_certificate a) ks rest unlisted
 
 pub loop-chain-preserved : goal.loop-chain-preserved
@@ -23,5 +23,5 @@ loop-chain-preserved c =
     let ks = c.in-Some.chain.items in
     let rest = map kinds_of c.next.new.self.rest.items in
     let listed : has (as_certificate a) ks ≡ true =
-    sym (listed_is a c.stretches.result.now ks c.as_slice.result.now c.stretches.ensures.value (c.as_slice.ensures.value ∙ c.classes_of-classes.ensures)) ∙ sym c.is_listed.ensures ∙ c.if-not-is_listed.false in
+    sym (listed_is a c.stretches.result.now ks c.as_slice.result.now c.stretches.ensures.value (c.as_slice.ensures.value ∙ c.classes_of-classes.ensures)) ∙ sym (c.in_ok-lists.ensures c.as_slice.result.now) ∙ sym c.is_listed.ensures ∙ c.if-not-is_listed.false in
     sym (later (as_certificate a) ks rest listed) ∙ ap (λ (l : List (ArrayVec Kind)). first_of (missed (as_certificate a)) (map kinds_of l)) (sym c.in-Some.ensures.steps.0) ∙ c.loop-chain.invariant

@@ -26,21 +26,22 @@ loop-number-preserved c =
     let us = c.loop-number.used.items in
     let f = λ (t : ListedStretch). as_stretch (stretch_of t) in
     let test = λ (t : Stretch). is_used (as_certificate a) n t.of in
-    let cs = c.in_ok-chains.chains.items in
-    let known = subst (AreClassed a n) (sym c.as_slice.ensures.value) c.in_ok-chains.ensures in
+    let known = subst (AreClassed a n) (sym c.as_slice.ensures.value) c.in_ok-listed.ensures in
+    let lead = c.in_ok-chains.ensures in
     elim c.match-used_by.branch [
       | in-Some+in_ok-push w ↦
           let u = w.in-Some.found in
+          let named = w.in-Some.ensures.used c.as_slice.result.now lead in
           let grown : c.match-used_by.used.items ≡ us ++ u ∷ [] = ap (λ (v : Vec UsedStretch Global). v.items) w.used-is ∙ w.in_ok-push.ensures.items in
-          let have : HaveClasses a n s.of u.kinds.items = have_classes a n s.of c.as_slice.result.now u.kinds.items c.requires.0 known w.in-Some.ensures.used.2 in
+          let have : HaveClasses a n s.of u.kinds.items = have_classes a n s.of c.as_slice.result.now u.kinds.items c.requires.0 known named.2 in
           record {
-            listed = kept test f ss i s (map seen us) (map seen c.match-used_by.used.items) (filter test (map f ss)) (seen u) c.loop-number-test.true c.index-stretches-number.is (is_in_use a n s.of u.kinds.items c.requires.0 have) (ap f w.in-Some.ensures.used.0) (ap (map seen) grown ∙ map-append seen us (u ∷ [])) c.loop-number.invariant.listed;
-            kinds = All-same (λ v. HaveClasses a n v.stretch.now.of v.kinds.items) c.match-used_by.used.items (us ++ u ∷ []) grown (All-push (λ v. HaveClasses a n v.stretch.now.of v.kinds.items) us u c.loop-number.invariant.kinds (subst (λ (t : ListedStretch). HaveClasses a n t.of u.kinds.items) (sym w.in-Some.ensures.used.0) have));
-            numbers = All-same (λ v. slice_get (map stretch_of ss) v.number ≡ Some (stretch_of v.stretch.now)) c.match-used_by.used.items (us ++ u ∷ []) grown (All-push (λ v. slice_get (map stretch_of ss) v.number ≡ Some (stretch_of v.stretch.now)) us u c.loop-number.invariant.numbers (placed stretch_of ss i u.number s u.stretch.now c.loop-number-test.true c.index-stretches-number.is w.in-Some.ensures.used.1 w.in-Some.ensures.used.0));
+            listed = kept test f ss i s (map seen us) (map seen c.match-used_by.used.items) (filter test (map f ss)) (seen u) c.loop-number-test.true c.index-stretches-number.is (is_in_use a n s.of u.kinds.items c.requires.0 have) (ap f named.0) (ap (map seen) grown ∙ map-append seen us (u ∷ [])) c.loop-number.invariant.listed;
+            kinds = All-same (λ v. HaveClasses a n v.stretch.now.of v.kinds.items) c.match-used_by.used.items (us ++ u ∷ []) grown (All-push (λ v. HaveClasses a n v.stretch.now.of v.kinds.items) us u c.loop-number.invariant.kinds (subst (λ (t : ListedStretch). HaveClasses a n t.of u.kinds.items) (sym named.0) have));
+            numbers = All-same (λ v. slice_get (map stretch_of ss) v.number ≡ Some (stretch_of v.stretch.now)) c.match-used_by.used.items (us ++ u ∷ []) grown (All-push (λ v. slice_get (map stretch_of ss) v.number ≡ Some (stretch_of v.stretch.now)) us u c.loop-number.invariant.numbers (placed stretch_of ss i u.number s u.stretch.now c.loop-number-test.true c.index-stretches-number.is named.1 named.0));
           }
       | in_default w ↦
           let same : c.match-used_by.used.items ≡ us = ap (λ (v : Vec UsedStretch Global). v.items) w.used-is in
-          let unused : test (f s) ≡ false = sym (used_is a n s.of c.as_slice.result.now known) ∙ w.in_default.ensures.unused in
+          let unused : test (f s) ≡ false = sym (used_is a n s.of c.as_slice.result.now known) ∙ w.in_default.ensures.unused c.as_slice.result.now lead in
           record {
             listed = ap (λ (l : List UsedStretch). map seen l ++ filter test (map f (drop (i + 1) ss))) same ∙ left_out test f ss i s (map seen us) (filter test (map f ss)) c.loop-number-test.true c.index-stretches-number.is unused c.loop-number.invariant.listed;
             kinds = All-same (λ v. HaveClasses a n v.stretch.now.of v.kinds.items) c.match-used_by.used.items us same c.loop-number.invariant.kinds;

@@ -1,4 +1,4 @@
-use Rattle.std.proofs.Common.{rules, ◌≡◌, List, true, option_map, map, sym, ap, ◌∙◌}
+use Rattle.std.proofs.Common.{rules, ◌≡◌, List, true, option_map, sym, ap, ◌∙◌}
 use Rattle.cs_accepted.specs.Certificate.{Stretch}
 use Rattle.cs_cert.specs.Certificate.{content}
 use Rattle.cs_claim.specs.Claim.{as_certificate}

@@ -1,4 +1,4 @@
-use Rattle.std.proofs.Common.{◌≡◌, [], ◌∷◌, List, sym, ap, subst, ◌∙◌}
+use Rattle.std.proofs.Common.{[], ◌∷◌, List, ap, subst, ◌∙◌}
 use Rattle.cs_cert.specs.Certificate.{content}
 use Rattle.cs_cert.specs.declared.class.Class.{Class}
 use Rattle.cs_claim.specs.GroupDays.{AreGroupDays}
@@ -9,7 +9,8 @@ use Rattle.cs_windows.specs.declared.job_windows.Occupied.{Occupied}
 use Rattle.cs_civil.specs.Calendar.{Kind}
 use Rattle.cs_check.specs.ClassDays.{Settle}
 use Rattle.std.specs.Prelude.{map}
-use Rattle.cs_check.proofs.Using.{one_kind, windows_are}
+use Rattle.cs_chains.proofs.KindOf.{one_kind}
+use Rattle.cs_check.proofs.Using.{windows_are}
 use Rattle.cs_check.proofs.class_day.class_day_by.Goals as goal
 
 pub returns : goal.returns

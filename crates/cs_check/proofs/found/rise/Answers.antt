@@ -1,6 +1,6 @@
-use Rattle.std.proofs.Common.{◌≡◌, ℕ, ◌-◌, List, Option, Some, None, option_map, sym, ap, ◌∙◌}
+use Rattle.std.proofs.Common.{ℕ, ◌-◌, Some, option_map, sym, ap, ◌∙◌}
 use Rattle.cs_accepted.specs.Accepted.{nth}
-use Rattle.cs_accepted.specs.Faults.{Fault, BacklogRises, minute_of, rise_in}
+use Rattle.cs_accepted.specs.Faults.{Fault, BacklogRises, minute_of}
 use Rattle.cs_cert.specs.Certificate.{content}
 use Rattle.cs_cert.specs.declared.class.Class.{Class}
 use Rattle.cs_chains.specs.Used.{seen}

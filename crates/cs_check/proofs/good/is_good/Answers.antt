@@ -1,4 +1,4 @@
-use Rattle.std.proofs.Common.{rules, ◌≡◌, ℕ, ◌<◌, true, List, length, map, subst, sym, ap, ◌∙◌, arith}
+use Rattle.std.proofs.Common.{rules, ◌≡◌, ℕ, ◌<◌, true, List, length, subst, ◌∙◌, arith}
 use Rattle.std.specs.Prelude.{IsTrue}
 use Rattle.std.proofs.lemmas.Result.{IfOk-weaker}
 use Rattle.cs_accepted.specs.Accepted.{AreApart, AreFree, AreWithin, windows_of}
@@ -8,7 +8,7 @@ use Rattle.cs_claim.specs.Claim.{as_certificate}
 use Rattle.cs_decl.specs.Plan.{as_plan}
 use Rattle.cs_history.specs.Plan.{Plan}
 use Rattle.cs_stretch.specs.Roles.{IsOf}
-use Rattle.cs_windows.specs.Tree.{IsComplete, tree_of}
+use Rattle.cs_windows.specs.Tree.{IsComplete}
 use Rattle.cs_windows.specs.declared.window.Window.{Window}
 use Rattle.cs_check.specs.Stretches.{IsGood}
 use Rattle.cs_check.proofs.Clearing.{tells_on}

@@ -1,4 +1,4 @@
-use Rattle.std.proofs.Common.{ℕ, ◌<◌, length, arith}
+use Rattle.std.proofs.Common.{◌<◌, length, arith}
 use Rattle.cs_cert.specs.Certificate.{content}
 use Rattle.cs_chains.specs.Used.{seen}
 use Rattle.cs_decl.specs.Plan.{as_plan}

@@ -1,4 +1,4 @@
-use Rattle.std.proofs.Common.{ℕ, ◌-◌, List, sym, ap, subst}
+use Rattle.std.proofs.Common.{ℕ, ◌-◌, List, sym, subst}
 use Rattle.cs_accepted.specs.Accepted.{nth}
 use Rattle.cs_cert.specs.Certificate.{content}
 use Rattle.cs_claim.specs.Claim.{class_at}

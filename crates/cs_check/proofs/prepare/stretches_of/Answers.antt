@@ -1,4 +1,4 @@
-use Rattle.std.proofs.Common.{◌≡◌, option_map, ap, ◌∙◌}
+use Rattle.std.proofs.Common.{option_map, ap, ◌∙◌}
 use Rattle.cs_accepted.specs.Faults.{Missing}
 use Rattle.cs_cert.specs.Certificate.{content}
 use Rattle.cs_chains.specs.Chains.{missing_chain}

@@ -1,4 +1,4 @@
-use Rattle.std.proofs.Common.{◌≡◌, ◌<◌, ℕ, List, length, slice_index_or, ap, ◌∙◌, arith}
+use Rattle.std.proofs.Common.{◌<◌, ℕ, List, length, slice_index_or, ap, ◌∙◌, arith}
 use Rattle.cs_accepted.specs.Accepted.{nth}
 use Rattle.cs_cert.specs.Certificate.{content}
 use Rattle.cs_cert.specs.declared.class.Class.{Class}

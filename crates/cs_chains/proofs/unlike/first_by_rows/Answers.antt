@@ -2,7 +2,7 @@ use Rattle.std.proofs.Common.{◌∙◌, sym, ap}
 use Rattle.cs_accepted.specs.Faults.{first_of}
 use Rattle.cs_cert.specs.Certificate.{content}
 use Rattle.cs_chains.proofs.Alike.{unlike, unlike_here, unlike_later}
-use Rattle.cs_chains.proofs.unlike.first_unlike.Goals as goal
+use Rattle.cs_chains.proofs.unlike.first_by_rows.Goals as goal
 
 pub returns-then-not-is_alike : goal.returns-then-not-is_alike
 returns-then-not-is_alike c =

@@ -3,7 +3,7 @@ use Rattle.cs_civil.specs.Order.{all_kinds}
 use Rattle.cs_accepted.specs.Faults.{first_of}
 use Rattle.cs_cert.specs.Certificate.{content}
 use Rattle.cs_chains.proofs.Alike.{unlike}
-use Rattle.cs_chains.proofs.unlike.first_unlike.Given as goal
+use Rattle.cs_chains.proofs.unlike.first_by_rows.Given as goal
 
 -- none of the kinds so far is unlike its class
 abbrev pub invariant-loop-kind : goal.invariant-loop-kind

@@ -6,6 +6,7 @@ use cs_civil::{DayKind, Sequence};
 use cs_daytree::DayTree;
 use cs_windows::{Entry, MinuteTree};
 use std::alloc::{AllocError, Global};
+use std::process::Abort;
 use std::test::Fail;
 
 /// The smallest certificate: one class, in which nothing is due.
@@ -94,123 +95,170 @@ fn prefixes_are_no_json(rt: HostRuntime) -> Result<(), Fail> {
     Ok(())
 }
 
-/// One thing is changed in the smallest certificate.
-#[test]
-fn one_broken_thing(rt: HostRuntime) -> Result<(), Fail> {
-    let alloc = rt.alloc();
-    let rows: [(&str, &str, Option<CertFault>); 30] = [
-        ("\"version\":1", "\"version\":2", Some(CertFault::BadShape)),
-        (
-            "\"version\":1",
-            "\"version\":3",
-            Some(CertFault::BadVersion),
-        ),
-        (
-            "\"version\":1",
-            "\"version\":-1",
-            Some(CertFault::BadVersion),
-        ),
-        (
-            "\"version\":1",
-            "\"version\":1.0",
-            Some(CertFault::BadShape),
-        ),
-        (
-            "\"version\":1",
-            "\"version\":null",
-            Some(CertFault::BadShape),
-        ),
-        ("\"reach\":[],", "", Some(CertFault::BadShape)),
-        ("\"pairs\"", "\"stretches\"", Some(CertFault::BadShape)),
-        ("{\"class\":0}", "[0]", Some(CertFault::BadShape)),
-        ("[0,0]", "[0,0,0]", Some(CertFault::BadShape)),
-        ("[0,0]", "[0]", Some(CertFault::BadShape)),
-        ("\"list\":[]", "\"list\":[[0,0]]", Some(CertFault::BadShape)),
-        (
-            "\"reach\":[]",
-            "\"reach\":[[0,1,1]]",
-            Some(CertFault::BadShape),
-        ),
-        (
-            "{\"class\":0}",
-            "{\"split\":\"day\",\"in\":[],\"yes\":{\"class\":0},\"no\":{\"class\":0}}",
-            Some(CertFault::BadSplit),
-        ),
-        (
-            "{\"class\":0}",
-            "{\"split\":\"day\",\"in\":[32],\"yes\":{\"class\":9},\"no\":{\"class\":0}}",
-            Some(CertFault::BadSplit),
-        ),
-        (
-            "{\"class\":0}",
-            "{\"split\":\"dom\",\"in\":[32],\"yes\":{\"class\":9},\"no\":{\"class\":0}}",
-            Some(CertFault::BadShape),
-        ),
-        (
-            "{\"list\":[]}",
-            "{\"at\":1440,\"before\":{\"list\":[]},\"after\":{\"list\":[]}}",
-            Some(CertFault::BadSplit),
-        ),
-        (
-            "{\"list\":[]}",
-            "{\"at\":1439,\"before\":{\"list\":[]},\"after\":{\"list\":[]}}",
-            None,
-        ),
-        ("{\"class\":0}", "{\"class\":1}", Some(CertFault::BadClass)),
-        (
-            "{\"class\":0}",
-            "{\"class\":70000}",
-            Some(CertFault::BadClass),
-        ),
-        ("[0,0]", "[0,1]", Some(CertFault::BadClass)),
-        (
-            "\"list\":[]",
-            "\"list\":[[0,2,0]]",
-            Some(CertFault::BadEntry),
-        ),
-        ("\"list\":[]", "\"list\":[[319,1,1439]]", None),
-        (
-            "\"list\":[]",
-            "\"list\":[[-1,0,0]]",
-            Some(CertFault::BadEntry),
-        ),
-        (
-            "\"reach\":[]",
-            "\"reach\":[[0,0]]",
-            Some(CertFault::BadEntry),
-        ),
-        ("\"reach\":[]", "\"reach\":[[0,1440]]", None),
-        (
-            "\"reach\":[]",
-            "\"reach\":[[0,1441]]",
-            Some(CertFault::BadEntry),
-        ),
-        (
-            "\"due\":[]",
-            "\"due\":[[0,[2,1]]]",
-            Some(CertFault::BadEntry),
-        ),
-        ("\"due\":[]", "\"due\":[[0,[]]]", Some(CertFault::BadEntry)),
-        (
-            "\"backlog\":[]",
-            "\"backlog\":[[0,[[0,0]]]]",
-            Some(CertFault::BadEntry),
-        ),
-        ("\"backlog\":[]", "\"backlog\":[[63,[[0,1000000]]]]", None),
-    ];
+/// A piece of a certificate, what stands in its place, and the fault that is answered.
+type Row = (&'static str, &'static str, Option<CertFault>);
+
+/// Expects the fault of each row.
+fn expect_rows(
+    rt: &impl Abort,
+    alloc: Global,
+    certificate: &str,
+    rows: &[Row],
+) -> Result<(), Fail> {
     for (old, new, fault) in rows {
-        assert_eq!(rt; fault_with(alloc, SMALLEST, old, new)?, fault);
+        assert_eq!(rt;
+            fault_with(alloc, certificate, old, new)?,
+            *fault,
+            "at {new}"
+        );
     }
-    assert_eq!(rt;
-        fault_with(alloc, LARGER, "[1,0]", "[0,0]")?,
-        Some(CertFault::BadClass)
-    );
-    assert_eq!(rt; fault_with(alloc, LARGER, "[1,50]", "[1,4320]")?, None);
-    assert_eq!(rt;
-        fault_with(alloc, LARGER, "[0,0,0,1]", "[0,0,0,0,1]")?,
-        Some(CertFault::BadShape)
-    );
     Ok(())
+}
+
+/// Another version, and members and lists of another shape.
+const SHAPES: [Row; 12] = [
+    ("\"version\":1", "\"version\":2", Some(CertFault::BadShape)),
+    (
+        "\"version\":1",
+        "\"version\":3",
+        Some(CertFault::BadVersion),
+    ),
+    (
+        "\"version\":1",
+        "\"version\":-1",
+        Some(CertFault::BadVersion),
+    ),
+    (
+        "\"version\":1",
+        "\"version\":1.0",
+        Some(CertFault::BadShape),
+    ),
+    (
+        "\"version\":1",
+        "\"version\":null",
+        Some(CertFault::BadShape),
+    ),
+    ("\"reach\":[],", "", Some(CertFault::BadShape)),
+    ("\"pairs\"", "\"stretches\"", Some(CertFault::BadShape)),
+    ("{\"class\":0}", "[0]", Some(CertFault::BadShape)),
+    ("[0,0]", "[0,0,0]", Some(CertFault::BadShape)),
+    ("[0,0]", "[0]", Some(CertFault::BadShape)),
+    ("\"list\":[]", "\"list\":[[0,0]]", Some(CertFault::BadShape)),
+    (
+        "\"reach\":[]",
+        "\"reach\":[[0,1,1]]",
+        Some(CertFault::BadShape),
+    ),
+];
+
+#[test]
+fn broken_shapes(rt: HostRuntime) -> Result<(), Fail> {
+    expect_rows(&rt, rt.alloc(), SMALLEST, SHAPES.as_slice())
+}
+
+/// Splits of days and of minutes.
+const SPLITS: [Row; 5] = [
+    (
+        "{\"class\":0}",
+        "{\"split\":\"day\",\"in\":[],\"yes\":{\"class\":0},\"no\":{\"class\":0}}",
+        Some(CertFault::BadSplit),
+    ),
+    (
+        "{\"class\":0}",
+        "{\"split\":\"day\",\"in\":[32],\"yes\":{\"class\":9},\"no\":{\"class\":0}}",
+        Some(CertFault::BadSplit),
+    ),
+    (
+        "{\"class\":0}",
+        "{\"split\":\"dom\",\"in\":[32],\"yes\":{\"class\":9},\"no\":{\"class\":0}}",
+        Some(CertFault::BadShape),
+    ),
+    (
+        "{\"list\":[]}",
+        "{\"at\":1440,\"before\":{\"list\":[]},\"after\":{\"list\":[]}}",
+        Some(CertFault::BadSplit),
+    ),
+    (
+        "{\"list\":[]}",
+        "{\"at\":1439,\"before\":{\"list\":[]},\"after\":{\"list\":[]}}",
+        None,
+    ),
+];
+
+#[test]
+fn broken_splits(rt: HostRuntime) -> Result<(), Fail> {
+    expect_rows(&rt, rt.alloc(), SMALLEST, SPLITS.as_slice())
+}
+
+/// Classes that are not there.
+const CLASSES: [Row; 3] = [
+    ("{\"class\":0}", "{\"class\":1}", Some(CertFault::BadClass)),
+    (
+        "{\"class\":0}",
+        "{\"class\":70000}",
+        Some(CertFault::BadClass),
+    ),
+    ("[0,0]", "[0,1]", Some(CertFault::BadClass)),
+];
+
+#[test]
+fn broken_classes(rt: HostRuntime) -> Result<(), Fail> {
+    expect_rows(&rt, rt.alloc(), SMALLEST, CLASSES.as_slice())
+}
+
+/// Entries of a leaf, reaches, due minutes and backlogs, in and out of their ranges.
+const ENTRIES: [Row; 10] = [
+    (
+        "\"list\":[]",
+        "\"list\":[[0,2,0]]",
+        Some(CertFault::BadEntry),
+    ),
+    ("\"list\":[]", "\"list\":[[319,1,1439]]", None),
+    (
+        "\"list\":[]",
+        "\"list\":[[-1,0,0]]",
+        Some(CertFault::BadEntry),
+    ),
+    (
+        "\"reach\":[]",
+        "\"reach\":[[0,0]]",
+        Some(CertFault::BadEntry),
+    ),
+    ("\"reach\":[]", "\"reach\":[[0,1440]]", None),
+    (
+        "\"reach\":[]",
+        "\"reach\":[[0,1441]]",
+        Some(CertFault::BadEntry),
+    ),
+    (
+        "\"due\":[]",
+        "\"due\":[[0,[2,1]]]",
+        Some(CertFault::BadEntry),
+    ),
+    ("\"due\":[]", "\"due\":[[0,[]]]", Some(CertFault::BadEntry)),
+    (
+        "\"backlog\":[]",
+        "\"backlog\":[[0,[[0,0]]]]",
+        Some(CertFault::BadEntry),
+    ),
+    ("\"backlog\":[]", "\"backlog\":[[63,[[0,1000000]]]]", None),
+];
+
+#[test]
+fn broken_entries(rt: HostRuntime) -> Result<(), Fail> {
+    expect_rows(&rt, rt.alloc(), SMALLEST, ENTRIES.as_slice())
+}
+
+/// The same of the larger certificate: a pair declared twice, a long reach, and a stretch of five days.
+const STRETCHES: [Row; 3] = [
+    ("[1,0]", "[0,0]", Some(CertFault::BadClass)),
+    ("[1,50]", "[1,4320]", None),
+    ("[0,0,0,1]", "[0,0,0,0,1]", Some(CertFault::BadShape)),
+];
+
+#[test]
+fn broken_stretches(rt: HostRuntime) -> Result<(), Fail> {
+    expect_rows(&rt, rt.alloc(), LARGER, STRETCHES.as_slice())
 }
 
 /// A text so many times, parted by commas.

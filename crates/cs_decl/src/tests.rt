@@ -46,52 +46,63 @@ fn expect(rt: &impl Abort, alloc: Global, table: &str, jobs: &str, declarations:
     assert_eq!(rt; text.as_slice(), want.as_bytes(), "at {declarations:?}");
 }
 
+/// Expects of each row what is printed of its declarations of [`TABLE`] and these jobs.
+fn expect_rows(rt: &impl Abort, alloc: Global, jobs: &str, rows: &[(&str, &str)]) {
+    for (declarations, want) in rows {
+        expect(rt, alloc, TABLE, jobs, declarations, want);
+    }
+}
+
+/// Declarations of [`TABLE`] without jobs, and what is printed of them: each fault by its number, and the bound of the longest time.
+const FAULTS: [(&str, &str); 15] = [
+    ("{", "1 NotJson"),
+    ("{}", "2 BadShape"),
+    (
+        "{\"capacity\":1,\"cron\":[{\"line\":2,\"max\":1}]}",
+        "3 NoSuchLine at cron 1",
+    ),
+    ("{\"capacity\":1}", "4 Undeclared at line 1"),
+    (
+        "{\"capacity\":1,\"cron\":[{\"line\":1,\"max\":1},{\"line\":1,\"max\":1}]}",
+        "5 TwiceDeclared at cron 2",
+    ),
+    (
+        "{\"capacity\":1,\"cron\":[{\"line\":1,\"max\":0}]}",
+        "6 BadMax at cron 1",
+    ),
+    (
+        "{\"capacity\":1,\"cron\":[{\"line\":1,\"max\":1,\"weight\":65}]}",
+        "7 BadWeight at cron 1",
+    ),
+    ("{\"capacity\":0}", "8 BadCapacity"),
+    (
+        "{\"capacity\":1,\"cron\":[{\"line\":1,\"max\":1,\"mode\":\"skip\"}]}",
+        "9 ModeNeedsGroup at cron 1",
+    ),
+    (
+        "{\"capacity\":1,\"cron\":[{\"line\":1,\"max\":1,\"group\":\"g\"}]}",
+        "10 UnknownGroup at cron 1",
+    ),
+    ("{\"capacity\":1,\"hours\":[5,5]}", "12 BadHours"),
+    (
+        "{\"capacity\":1,\"anacron\":[{\"id\":\"a\",\"max\":1,\"mode\":\"wait\"}]}",
+        "13 ModeOnAnacron at anacron 1",
+    ),
+    ("{\"capacity\":1,\"pass\":1440}", "15 BadPassMinute"),
+    (
+        "{\"capacity\":1,\"cron\":[{\"line\":1,\"max\":4321}]}",
+        "6 BadMax at cron 1",
+    ),
+    ("{\"capacity\":1,\"cron\":[{\"line\":1,\"max\":4320}]}", ""),
+];
+
 #[test]
 fn faults(rt: HostRuntime) {
-    let rows: [(&str, &str); 15] = [
-        ("{", "1 NotJson"),
-        ("{}", "2 BadShape"),
-        (
-            "{\"capacity\":1,\"cron\":[{\"line\":2,\"max\":1}]}",
-            "3 NoSuchLine at cron 1",
-        ),
-        ("{\"capacity\":1}", "4 Undeclared at line 1"),
-        (
-            "{\"capacity\":1,\"cron\":[{\"line\":1,\"max\":1},{\"line\":1,\"max\":1}]}",
-            "5 TwiceDeclared at cron 2",
-        ),
-        (
-            "{\"capacity\":1,\"cron\":[{\"line\":1,\"max\":0}]}",
-            "6 BadMax at cron 1",
-        ),
-        (
-            "{\"capacity\":1,\"cron\":[{\"line\":1,\"max\":1,\"weight\":65}]}",
-            "7 BadWeight at cron 1",
-        ),
-        ("{\"capacity\":0}", "8 BadCapacity"),
-        (
-            "{\"capacity\":1,\"cron\":[{\"line\":1,\"max\":1,\"mode\":\"skip\"}]}",
-            "9 ModeNeedsGroup at cron 1",
-        ),
-        (
-            "{\"capacity\":1,\"cron\":[{\"line\":1,\"max\":1,\"group\":\"g\"}]}",
-            "10 UnknownGroup at cron 1",
-        ),
-        ("{\"capacity\":1,\"hours\":[5,5]}", "12 BadHours"),
-        (
-            "{\"capacity\":1,\"anacron\":[{\"id\":\"a\",\"max\":1,\"mode\":\"wait\"}]}",
-            "13 ModeOnAnacron at anacron 1",
-        ),
-        ("{\"capacity\":1,\"pass\":1440}", "15 BadPassMinute"),
-        (
-            "{\"capacity\":1,\"cron\":[{\"line\":1,\"max\":4321}]}",
-            "6 BadMax at cron 1",
-        ),
-        ("{\"capacity\":1,\"cron\":[{\"line\":1,\"max\":4320}]}", ""),
-    ];
-    for (declarations, want) in rows {
-        expect(&rt, rt.alloc(), TABLE, "", declarations, want);
-    }
+    expect_rows(&rt, rt.alloc(), "", FAULTS.as_slice());
+}
+
+#[test]
+fn reboot_line(rt: HostRuntime) {
     expect(
         &rt,
         rt.alloc(),
@@ -135,72 +146,97 @@ fn many_groups(rt: HostRuntime) -> Result<(), Fail> {
     Ok(())
 }
 
-/// Which of several faults is answered, and what the members' types are.
+/// The jobs of the tables below.
+const JOBS: &str = "1 0 b c";
+
+/// Declarations with several faults: the smallest number is answered, and of it the first place.
+const ORDER: [(&str, &str); 6] = [
+    (
+        "{\"capacity\":0,\"hours\":[5,5],\"cron\":[{\"line\":1,\"max\":0}]}",
+        "6 BadMax at cron 1",
+    ),
+    (
+        "{\"capacity\":1,\"anacron\":[{\"id\":\"a\",\"max\":0}],\"cron\":[{\"line\":1,\"max\":1},{\"line\":2,\"max\":0}]}",
+        "6 BadMax at cron 2",
+    ),
+    (
+        "{\"capacity\":1,\"groups\":[{\"name\":\"g\",\"exclusive\":true},{\"name\":\"g\",\"exclusive\":false}],\"cron\":[{\"line\":1,\"max\":1},{\"line\":1,\"max\":1}]}",
+        "5 TwiceDeclared at group 2",
+    ),
+    (
+        "{\"capacity\":1,\"anacron\":[{\"id\":\"a\",\"max\":1},{\"id\":\"a\",\"max\":1}]}",
+        "5 TwiceDeclared at anacron 2",
+    ),
+    (
+        "{\"capacity\":1,\"cron\":[{\"line\":1,\"max\":1}],\"anacron\":[{\"id\":\"c\",\"max\":1}]}",
+        "3 NoSuchLine at anacron 1",
+    ),
+    (
+        "{\"capacity\":1,\"cron\":[{\"line\":1,\"max\":1}]}",
+        "4 Undeclared at job b",
+    ),
+];
+
 #[test]
-fn order_and_shape(rt: HostRuntime) {
-    let rows: [(&str, &str); 24] = [
-        // The smallest number is answered, and of it the first place.
-        (
-            "{\"capacity\":0,\"hours\":[5,5],\"cron\":[{\"line\":1,\"max\":0}]}",
-            "6 BadMax at cron 1",
-        ),
-        (
-            "{\"capacity\":1,\"anacron\":[{\"id\":\"a\",\"max\":0}],\"cron\":[{\"line\":1,\"max\":1},{\"line\":2,\"max\":0}]}",
-            "6 BadMax at cron 2",
-        ),
-        (
-            "{\"capacity\":1,\"groups\":[{\"name\":\"g\",\"exclusive\":true},{\"name\":\"g\",\"exclusive\":false}],\"cron\":[{\"line\":1,\"max\":1},{\"line\":1,\"max\":1}]}",
-            "5 TwiceDeclared at group 2",
-        ),
-        (
-            "{\"capacity\":1,\"anacron\":[{\"id\":\"a\",\"max\":1},{\"id\":\"a\",\"max\":1}]}",
-            "5 TwiceDeclared at anacron 2",
-        ),
-        (
-            "{\"capacity\":1,\"cron\":[{\"line\":1,\"max\":1}],\"anacron\":[{\"id\":\"c\",\"max\":1}]}",
-            "3 NoSuchLine at anacron 1",
-        ),
-        (
-            "{\"capacity\":1,\"cron\":[{\"line\":1,\"max\":1}]}",
-            "4 Undeclared at job b",
-        ),
-        // Another type, and null, is another shape.
-        ("[]", "2 BadShape"),
-        ("{\"capacity\":\"1\"}", "2 BadShape"),
-        ("{\"capacity\":1.0}", "2 BadShape"),
-        ("{\"capacity\":1,\"size\":1}", "2 BadShape"),
-        ("{\"capacity\":1,\"hours\":null}", "2 BadShape"),
-        ("{\"capacity\":1,\"hours\":[1,2,3]}", "2 BadShape"),
-        (
-            "{\"capacity\":1,\"groups\":[{\"name\":\"g\"}]}",
-            "2 BadShape",
-        ),
-        (
-            "{\"capacity\":1,\"cron\":[{\"line\":1,\"max\":1,\"mode\":\"Skip\"}]}",
-            "2 BadShape",
-        ),
-        (
-            "{\"capacity\":1,\"anacron\":[{\"id\":\"b\",\"max\":1,\"mode\":null}]}",
-            "13 ModeOnAnacron at anacron 1",
-        ),
-        ("{\"capacity\":1,\"offset\":1440}", "2 BadShape"),
-        ("{\"capacity\":1,\"offset\":-1440}", "2 BadShape"),
-        // A whole number below 0 has its member's own fault.
-        ("{\"capacity\":-1}", "8 BadCapacity"),
-        ("{\"capacity\":1,\"hours\":[-1,5]}", "12 BadHours"),
-        ("{\"capacity\":1,\"hours\":[0,1441]}", "12 BadHours"),
-        ("{\"capacity\":1,\"pass\":-1}", "15 BadPassMinute"),
-        (
-            "{\"capacity\":1,\"cron\":[{\"line\":-1,\"max\":1}]}",
-            "3 NoSuchLine at cron 1",
-        ),
-        // Of a member that stands twice the last counts.
-        ("{\"capacity\":1,\"capacity\":0}", "8 BadCapacity"),
-        ("{\"capacity\":1e400}", "1 NotJson"),
-    ];
-    for (declarations, want) in rows {
-        expect(&rt, rt.alloc(), TABLE, "1 0 b c", declarations, want);
-    }
+fn first_of_several(rt: HostRuntime) {
+    expect_rows(&rt, rt.alloc(), JOBS, ORDER.as_slice());
+}
+
+/// Another type, and null, is another shape, and so is an offset out of its range. A mode of an anacron entry has a fault of its own.
+const SHAPES: [(&str, &str); 11] = [
+    ("[]", "2 BadShape"),
+    ("{\"capacity\":\"1\"}", "2 BadShape"),
+    ("{\"capacity\":1.0}", "2 BadShape"),
+    ("{\"capacity\":1,\"size\":1}", "2 BadShape"),
+    ("{\"capacity\":1,\"hours\":null}", "2 BadShape"),
+    ("{\"capacity\":1,\"hours\":[1,2,3]}", "2 BadShape"),
+    (
+        "{\"capacity\":1,\"groups\":[{\"name\":\"g\"}]}",
+        "2 BadShape",
+    ),
+    (
+        "{\"capacity\":1,\"cron\":[{\"line\":1,\"max\":1,\"mode\":\"Skip\"}]}",
+        "2 BadShape",
+    ),
+    (
+        "{\"capacity\":1,\"anacron\":[{\"id\":\"b\",\"max\":1,\"mode\":null}]}",
+        "13 ModeOnAnacron at anacron 1",
+    ),
+    ("{\"capacity\":1,\"offset\":1440}", "2 BadShape"),
+    ("{\"capacity\":1,\"offset\":-1440}", "2 BadShape"),
+];
+
+#[test]
+fn shapes(rt: HostRuntime) {
+    expect_rows(&rt, rt.alloc(), JOBS, SHAPES.as_slice());
+}
+
+/// A whole number out of its range, as one below 0, has its member's own fault.
+const OUT_OF_RANGE: [(&str, &str); 5] = [
+    ("{\"capacity\":-1}", "8 BadCapacity"),
+    ("{\"capacity\":1,\"hours\":[-1,5]}", "12 BadHours"),
+    ("{\"capacity\":1,\"hours\":[0,1441]}", "12 BadHours"),
+    ("{\"capacity\":1,\"pass\":-1}", "15 BadPassMinute"),
+    (
+        "{\"capacity\":1,\"cron\":[{\"line\":-1,\"max\":1}]}",
+        "3 NoSuchLine at cron 1",
+    ),
+];
+
+#[test]
+fn numbers_out_of_range(rt: HostRuntime) {
+    expect_rows(&rt, rt.alloc(), JOBS, OUT_OF_RANGE.as_slice());
+}
+
+/// Of a member that stands twice the last counts. A number past all that are held is no JSON.
+const READ_AS: [(&str, &str); 2] = [
+    ("{\"capacity\":1,\"capacity\":0}", "8 BadCapacity"),
+    ("{\"capacity\":1e400}", "1 NotJson"),
+];
+
+#[test]
+fn what_the_reader_makes(rt: HostRuntime) {
+    expect_rows(&rt, rt.alloc(), JOBS, READ_AS.as_slice());
 }
 
 #[test]

@@ -135,44 +135,43 @@ fn script_faults(rt: HostRuntime) -> Result<(), Fail> {
     Ok(())
 }
 
-/// Lines behind `start 2024-01-01 00:00 up`, the first line of the script with a fault, and its fault.
-const LATER: [(&[u8], u32, ScriptFault); 22] = [
-    (b"start 2024-01-01 00:00 up", 2, ScriptFault::BadLine),
-    (b"start 2024-01-32 00:00 up", 2, ScriptFault::BadLine),
-    (b"stamp weekly 1970-01-01", 2, ScriptFault::BadDate),
-    (b"stamp monthly 2024-01-01", 2, ScriptFault::UnknownName),
-    (
-        b"stamp weekly 2024-01-01\nstamp weekly x",
-        3,
-        ScriptFault::BadLine,
-    ),
-    (b"down\nstamp weekly 2024-01-01", 3, ScriptFault::BadLine),
-    (b"begin line x", 2, ScriptFault::BadLine),
-    (b"begin line -1", 2, ScriptFault::BadLine),
-    (b"begin line ", 2, ScriptFault::BadLine),
-    (b"begin job weekly", 2, ScriptFault::BadLine),
-    (b"begin line 2", 2, ScriptFault::UnknownName),
-    (b"begin line 4294967297", 2, ScriptFault::UnknownName),
-    (b"got line 1 2024-01-01", 2, ScriptFault::BadLine),
-    (b"got line 2 2024-13-01 00:00", 2, ScriptFault::BadDate),
-    (b"got line 2 2024-12-01 00:00", 2, ScriptFault::UnknownName),
-    (b"got line x 2024-13-01 00:00", 2, ScriptFault::BadLine),
-    (b"end line 1 2024-01-01 00:00\r", 2, ScriptFault::BadLine),
-    (
-        b"end job monthly 2024-01-01 00:00",
-        2,
-        ScriptFault::UnknownName,
-    ),
-    (b"end weekly 2024-01-01 00:00", 2, ScriptFault::BadLine),
-    (b"catch weekly ", 2, ScriptFault::BadLine),
-    (b"catch week", 2, ScriptFault::UnknownName),
-    (b"down\nup 2024-01-01 00:00\nstop", 4, ScriptFault::BadLine),
-];
-
+/// The same of lines behind `start 2024-01-01 00:00 up`.
 #[test]
 fn later_faults(rt: HostRuntime) -> Result<(), Fail> {
     let plan = plan(&rt, rt.alloc());
-    for (lines, line, fault) in LATER {
+    let rows: [(&[u8], u32, ScriptFault); 22] = [
+        (b"start 2024-01-01 00:00 up", 2, ScriptFault::BadLine),
+        (b"start 2024-01-32 00:00 up", 2, ScriptFault::BadLine),
+        (b"stamp weekly 1970-01-01", 2, ScriptFault::BadDate),
+        (b"stamp monthly 2024-01-01", 2, ScriptFault::UnknownName),
+        (
+            b"stamp weekly 2024-01-01\nstamp weekly x",
+            3,
+            ScriptFault::BadLine,
+        ),
+        (b"down\nstamp weekly 2024-01-01", 3, ScriptFault::BadLine),
+        (b"begin line x", 2, ScriptFault::BadLine),
+        (b"begin line -1", 2, ScriptFault::BadLine),
+        (b"begin line ", 2, ScriptFault::BadLine),
+        (b"begin job weekly", 2, ScriptFault::BadLine),
+        (b"begin line 2", 2, ScriptFault::UnknownName),
+        (b"begin line 4294967297", 2, ScriptFault::UnknownName),
+        (b"got line 1 2024-01-01", 2, ScriptFault::BadLine),
+        (b"got line 2 2024-13-01 00:00", 2, ScriptFault::BadDate),
+        (b"got line 2 2024-12-01 00:00", 2, ScriptFault::UnknownName),
+        (b"got line x 2024-13-01 00:00", 2, ScriptFault::BadLine),
+        (b"end line 1 2024-01-01 00:00\r", 2, ScriptFault::BadLine),
+        (
+            b"end job monthly 2024-01-01 00:00",
+            2,
+            ScriptFault::UnknownName,
+        ),
+        (b"end weekly 2024-01-01 00:00", 2, ScriptFault::BadLine),
+        (b"catch weekly ", 2, ScriptFault::BadLine),
+        (b"catch week", 2, ScriptFault::UnknownName),
+        (b"down\nup 2024-01-01 00:00\nstop", 4, ScriptFault::BadLine),
+    ];
+    for (lines, line, fault) in rows {
         let mut text = Vec::from_slice(rt.alloc(), b"start 2024-01-01 00:00 up\n".as_slice())?;
         text.extend_from_slice(lines)?;
         assert_eq!(rt;

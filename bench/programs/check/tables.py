@@ -1,14 +1,14 @@
-"""tables.py FOLDER CLASSES JOBS STRETCHES [refused]: writes a crontab, an anacrontab, declarations and a complete certificate.
+"""tables.py FOLDER CLASSES JOBS STRETCHES [refused|over]: writes a crontab, an anacrontab, declarations and a complete certificate.
 
 A day's class is its month's part, its day's part and its weekday's, so that there are about as many classes as asked for; the order of the
 parts of days decides how many stretches of two days come. Every cron job is due once on its days; every fourth waits for the lock of its group.
-With `refused` the last stretch's leaf lacks its last window.
+With `refused` the last stretch's leaf lacks its last window; with `over` the capacity is 1, which many a day's jobs exceed.
 """
 import json
 import sys
 
 folder, wanted, jobs, stretches = sys.argv[1], int(sys.argv[2]), int(sys.argv[3]), int(sys.argv[4])
-refused = len(sys.argv) > 5
+refused, over = sys.argv[5:] == ["refused"], sys.argv[5:] == ["over"]
 LONGEST = [31, 29, 31, 30, 31, 30, 31, 31, 30, 31, 30, 31]
 
 weekdays = 7 if wanted >= 14 else 1
@@ -62,7 +62,7 @@ for number in range(len(lines)):
         waiters.setdefault(group, []).append(number)
     cron.append(entry)
 declarations = {
-    "capacity": 64, "hours": [180, 300], "pass": 180,
+    "capacity": 1 if over else 64, "hours": [180, 300], "pass": 180,
     "groups": [{"name": f"g{group}", "exclusive": True} for group in range(groups)],
     "cron": cron, "anacron": [{"id": f"job{number}", "max": 10} for number in range(anacrons)],
 }

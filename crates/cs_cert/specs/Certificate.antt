@@ -10,7 +10,6 @@ use Rattle.cs_wait.specs.declared.backlog.Piece.{Piece}
 use Rattle.cs_cert.specs.declared.certificate.Certificate.{Certificate}
 use Rattle.cs_cert.specs.declared.class.Class.{Class}
 use Rattle.cs_cert.specs.declared.class.GroupBacklog.{GroupBacklog}
-use Rattle.cs_windows.specs.declared.reach.JobReach.{JobReach}
 use Rattle.cs_cert.specs.Content.{Content, StretchTree, content_of}
 
 -- what a certificate says
@@ -33,11 +32,6 @@ pieces_of (b ∷ rest) group = if nat_eq b.group group then b.backlog else piece
 -- the backlog bound of a group at a minute of a day of the class: 0 where the group isn't listed
 abbrev pub bound_in : Class → ℕ → ℕ → ℕ
 bound_in class group minute = at (pieces_of class.backlog group) minute
-
--- the reach of a job, where it is listed
-abbrev pub reach_of : List JobReach → ℕ → Option ℕ
-reach_of [] job = None
-reach_of (r ∷ rest) job = if nat_eq r.job job then Some r.reach else reach_of rest job
 
 -- the tree of a stretch of days of these classes, where it is listed
 abbrev pub tree_for : List StretchTree → List ℕ → Option Tree

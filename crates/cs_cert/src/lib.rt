@@ -21,9 +21,8 @@ mod tests;
 
 pub use certificate::Certificate;
 pub use class::{Class, DueList, GroupBacklog};
-pub use cs_windows::JobReach;
+pub use cs_windows::{JobReach, reach_of};
 pub use fault::{CertError, CertFault};
 pub use file::{read_certificate, write_certificate};
 pub use limits::{MAX_CERTIFICATE, MAX_CLASSES, MAX_DEPTH, MAX_ENTRIES, MAX_GROUPS, MAX_JOBS};
-pub use reach::reach_of;
 pub use stretch::Stretch;

@@ -1,7 +1,6 @@
 ghost use Rattle.std.specs.Prelude.{◌≡◌, ◌&&◌, nat_lt, nat_le};
 ghost use Rattle.std.specs.List.{list_all};
 ghost use Rattle.cs_daytree.specs.Rising.{each_next};
-ghost use Rattle.cs_cert.specs.Certificate.{reach_of};
 ghost use Rattle.cs_cert.specs.Rules.{reach_fits};
 
 use crate::limits::MAX_JOBS;
@@ -24,16 +23,4 @@ pub(crate) fn reach_fits(reach: &[JobReach], most: u16) -> bool
     ensures { result ≡ reach_fits most reach.now }
 {
     jobs_rise(reach) && are_reaches(reach, most)
-}
-
-/// The reach of a job, `None` where it has none. Of several the first.
-pub fn reach_of(reach: &[JobReach], job: u16) -> Option<u16>
-    ensures { result ≡ reach_of reach.now job }
-{
-    for of_job in reach {
-        if of_job.job == job {
-            return Some(of_job.reach);
-        }
-    }
-    None
 }

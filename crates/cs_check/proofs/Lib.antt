@@ -6,4 +6,4 @@ pub mod Clearing
 pub mod Covering
 pub mod Firsts
 pub mod Fitting
-pub mod Passing
+pub mod Harmless

@@ -1,6 +1,6 @@
 -- What follows for a stretch in use.
-use Rattle.std.proofs.Common.{◌≡◌, ℕ, ◌<◌, ◌≤◌, List, [], ◌∷◌, ◌++◌, ◌+◌, zero, suc, map, take, length, slice_set, Bor, All, None, Some, Option, refl, ap, sym, ◌∙◌, subst, arith, if◌then◌else◌, nat_eq, get_or}
-use Rattle.std.specs.Prelude.{unwrap_or, slice_get}
+use Rattle.std.proofs.Common.{◌≡◌, ℕ, ◌<◌, ◌≤◌, List, [], ◌∷◌, ◌++◌, ◌+◌, zero, suc, map, take, length, slice_set, Bor, All, None, Some, ap, sym, ◌∙◌, subst, arith, get_or}
+use Rattle.std.specs.Prelude.{slice_get}
 use Rattle.std.proofs.lemmas.List.{length-map, map-append, take_more_set}
 use Rattle.std.proofs.Math.Seq.{take-suc}
 use Rattle.std.proofs.lemmas.List.Elements.{All-map, All-head, All-tail}
@@ -8,21 +8,20 @@ use Rattle.cs_civil.specs.Calendar.{Kind, IsKind}
 use Rattle.cs_decl.specs.Plan.{Declared, as_plan}
 use Rattle.cs_cert.specs.Content.{Content, stretch_of}
 use Rattle.cs_chains.specs.declared.used.UsedStretch.{UsedStretch}
-use Rattle.cs_cert.specs.Certificate.{class_of, reach_of}
+use Rattle.cs_cert.specs.Certificate.{class_of}
 use Rattle.cs_cert.specs.Kept.{IsSound, Keeps}
 use Rattle.cs_history.specs.Plan.{Plan}
-use Rattle.cs_windows.specs.Planned.{due_on, listed_reach, planned, reach_by}
+use Rattle.cs_windows.specs.Planned.{due_on, planned}
 use Rattle.cs_windows.specs.Windows.{windows_on}
-use Rattle.cs_windows.specs.declared.reach.JobReach.{JobReach}
 use Rattle.cs_windows.specs.declared.window.Window.{Window}
 use Rattle.cs_claim.specs.Claim.{as_certificate}
-use Rattle.cs_accepted.specs.Accepted.{IsChain, occupied, windows_of}
+use Rattle.cs_accepted.specs.Accepted.{IsChain, windows_of}
 use Rattle.cs_accepted.specs.Certificate.{Certificate}
 use Rattle.cs_accepted.specs.Faults.{due_fault}
 use Rattle.cs_accepted.proofs.ByKind.{by_kinds}
 use Rattle.cs_accepted.proofs.Points.{says_one}
 use Rattle.cs_chains.specs.Used.{HaveClasses}
-use Rattle.cs_check.specs.Case.{IsFit, length_for, reach_for}
+use Rattle.cs_check.specs.Case.{IsFit, length_for}
 use Rattle.cs_cert.specs.Certificate.{content}
 use Rattle.cs_cert.specs.declared.class.Class.{Class}
 use Rattle.cs_claim.specs.Claim.{class_at}
@@ -31,21 +30,10 @@ use Rattle.cs_check.specs.declared.case.Case.{Case}
 use Rattle.cs_check.specs.Stretches.{IsCase, IsInUse}
 use Rattle.cs_check.proofs.Headline.{length_of}
 
-same_reach : (rs : List JobReach) (j : ℕ) → listed_reach rs j ≡ reach_of rs j
-same_reach [] j = refl
-same_reach (r ∷ rs) j = ap (λ (o : Option ℕ). if nat_eq r.job j then Some r.reach else o) (same_reach rs j)
-
-reach_step : (d : Declared) (c : Content) (j : ℕ) → reach_by d c.reach j ≡ reach_for d c j
-reach_step d c j = ap (λ (o : Option ℕ). unwrap_or o ((as_plan d).limit j)) (same_reach c.reach j)
-
-pub same_reaches : (d : Declared) (c : Content) → reach_by d c.reach ≡ reach_for d c
-same_reaches d c = λ i j. reach_step d c j i
-
 -- the windows of the kinds are those that the rules speak of
 pub windows_are : (d : Declared) (c : Content) (n : ℕ) (kinds : List Kind) (of : List ℕ) → IsFit d c → due_fault (as_plan d) (due_on d) (as_certificate c) ≡ None → HaveClasses c n of kinds → windows_on (planned d c.reach) kinds ≡ windows_of (as_plan d) (as_certificate c) of
 windows_are d c n kinds of fit due have =
-    ap (λ (reach : ℕ → ℕ). windows_on (occupied (as_plan d) (due_on d) reach) kinds) (same_reaches d c)
-    ∙ by_kinds (as_plan d) (due_on d) (as_certificate c) ((says_one (as_plan d) fit.plan (due_on d) (as_certificate c) (length_for d c) (omega (arith, (length_of d c fit).range.0))).0 due) kinds have.chain
+    by_kinds (as_plan d) (due_on d) (as_certificate c) ((says_one (as_plan d) fit.plan (due_on d) (as_certificate c) (length_for d c) (omega (arith, (length_of d c fit).range.0))).0 due) kinds have.chain
     ∙ ap (windows_of (as_plan d) (as_certificate c)) have.classes
 
 classes_below : (c : Content) (kinds : List Kind) → Keeps c → All (λ class. class < length c.classes) (map (class_of c) kinds)

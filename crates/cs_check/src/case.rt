@@ -5,12 +5,11 @@ ghost use Rattle.cs_cert.specs.Certificate.{content};
 ghost use Rattle.cs_check.specs.ClassDays.{IsClassDay};
 ghost use Rattle.cs_check.specs.Stretches.{IsCase, IsInUse};
 ghost use Rattle.cs_claim.specs.Claim.{as_certificate, class_at};
-ghost use Rattle.cs_decl.specs.Plan.{as_plan, crons};
+ghost use Rattle.cs_decl.specs.Plan.{as_plan};
 ghost use Rattle.cs_windows.specs.Window.{IsRising};
 
-use crate::basis::reach_of_job;
 use crate::class_day::ClassDay;
-use cs_cert::{Certificate, Class};
+use cs_cert::{Certificate, Class, reach_of};
 use cs_chains::UsedStretch;
 use cs_decl::Plan;
 use cs_stretch::Roles;
@@ -45,10 +44,9 @@ impl<'a> Case<'a> {
 
     /// The reach of a cron job, if it has one.
     pub(crate) fn reach_of(&self, number: usize) -> Option<u16>
-        requires { number < crons self.now.plan.now }
         ensures { result ≡ (as_certificate (content self.now.certificate.now)).reach number }
     {
-        reach_of_job(self.plan, self.certificate, number)
+        reach_of(self.certificate.reach(), number)
     }
 
     /// The class of the day at this place of a stretch in use.

@@ -6,8 +6,8 @@ ghost use Rattle.cs_check.specs.ClassDays.{AreClassDays, AreKinds, IsBasis, IsCl
 ghost use Rattle.cs_civil.specs.Calendar.{IsKind};
 ghost use Rattle.cs_decl.specs.Plan.{crons};
 
-use crate::basis::{Basis, class_of_number, reach_of_job};
-use cs_cert::Class;
+use crate::basis::{Basis, class_of_number};
+use cs_cert::{Class, reach_of};
 use cs_chains::kinds_of_classes;
 use cs_civil::DayKind;
 use cs_claim::{GroupDay, clears, group_days, waits};
@@ -36,7 +36,7 @@ fn settles(basis: &Basis<'_>, class: &Class, number: usize) -> bool
     if !waits(basis.plan, number) {
         return true;
     }
-    match reach_of_job(basis.plan, basis.certificate, number) {
+    match reach_of(basis.certificate.reach(), number) {
         Some(reach) => clears(basis.plan, number, reach, &[class], basis.none),
         None => true,
     }

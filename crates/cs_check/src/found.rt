@@ -12,7 +12,7 @@ ghost use Rattle.cs_decl.specs.Plan.{as_plan};
 
 use crate::case::Case;
 use crate::fault::CheckFault;
-use crate::good::is_good;
+use crate::passing::passes;
 use crate::rule::Rule;
 use cs_chains::{UsedStretch, last_day};
 use cs_civil::Minute;
@@ -144,7 +144,7 @@ fn blocked(
     }
 }
 
-/// The first fault of a stretch by one rule. A good stretch has none, and no finder looks at it.
+/// The first fault of a stretch by one rule. One that passes the rule's quick test has none, and the finder doesn't look at it.
 fn fault_by(
     alloc: Global,
     case: &Case<'_>,
@@ -155,7 +155,7 @@ fn fault_by(
     requires in_use { IsInUse (content case.now.certificate.now) case.now.days used.now }
     ensures { IfOk result (λ found. option_map told found ≡ fault_by rule (as_plan case.now.plan.now) (as_certificate (content case.now.certificate.now)) case.now.days (seen used.now)) }
 {
-    if is_good(alloc, case, used)? {
+    if passes(alloc, case, rule, used)? {
         return Ok(None);
     }
     match rule {

@@ -17,7 +17,7 @@ use cs_claim::{clears, is_steady_over, waits};
 use std::alloc::{AllocError, Global};
 
 /// Whether the bounds of the groups follow what arrives, from the last day but one to the last.
-fn steps_hold(case: &Case<'_>, used: &UsedStretch<'_>) -> bool
+pub(crate) fn steps_hold(case: &Case<'_>, used: &UsedStretch<'_>) -> bool
     requires case { IsCase case.now }
     requires in_use { IsInUse (content case.now.certificate.now) case.now.days used.now }
     ensures { IsTrue result → (g : ℕ) → g < (as_plan case.now.plan.now).groups → has_waiter (as_plan case.now.plan.now) g ≡ true → StepsHold ((as_certificate (content case.now.certificate.now)).bound (nth used.now.stretch.now.of (case.now.days - 2)) g) (arrivals (as_plan case.now.plan.now) (as_certificate (content case.now.certificate.now)) g (nth used.now.stretch.now.of (case.now.days - 2))) ((as_certificate (content case.now.certificate.now)).bound (nth used.now.stretch.now.of (case.now.days - 1)) g) }
@@ -117,5 +117,6 @@ pub(crate) fn is_good(
     if !used.stretch.tree.covers(windows.as_slice()) {
         return Ok(false);
     }
-    case.roles.is_quiet(alloc, windows.as_slice())
+    let quiet = case.roles.quiet(alloc, windows.as_slice())?;
+    Ok(quiet.by_all())
 }

@@ -11,6 +11,7 @@ mod found;
 mod good;
 mod late;
 mod order;
+mod passing;
 #[cfg(test)]
 mod place_tests;
 mod prepare;

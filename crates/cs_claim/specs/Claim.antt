@@ -3,6 +3,7 @@ use Rattle.std.specs.Prelude.{ℕ, [], List, map, slice_index_or}
 use Rattle.cs_cert.specs.declared.class.Class.{Class}
 use Rattle.cs_cert.specs.Content.{Content, StretchTree}
 use Rattle.cs_cert.specs.Certificate as cert
+use Rattle.cs_windows.specs.Planned.{reach_of}
 use Rattle.cs_accepted.specs.Certificate.{Certificate, Stretch}
 
 -- what stands past the last class: nothing is due, and nothing waits
@@ -21,6 +22,6 @@ as_certificate c = record {
   class_of = cert.class_of c;
   due = λ class job minute. cert.is_due_in (class_at c.classes class) job minute;
   bound = λ class group minute. cert.bound_in (class_at c.classes class) group minute;
-  reach = cert.reach_of c.reach;
+  reach = reach_of c.reach;
   stretches = map as_stretch c.stretches;
 }

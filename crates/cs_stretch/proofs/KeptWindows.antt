@@ -1,5 +1,5 @@
 -- The windows that are still looked at are those that the next ones may meet.
-use Rattle.std.proofs.Common.{ℕ, ◌+◌, ◌*◌, ◌<◌, ◌≤◌, ◌≡◌, true, List, [], ◌∷◌, ◌++◌, filter, take, drop, length, sym, ap, ◌∙◌, subst, arith}
+use Rattle.std.proofs.Common.{ℕ, ◌+◌, ◌*◌, ◌<◌, ◌≡◌, true, List, [], ◌∷◌, ◌++◌, filter, take, drop, length, sym, ap, ◌∙◌, subst, arith}
 use Rattle.std.specs.Prelude.{get_or}
 use Rattle.std.proofs.lemmas.List.{take_more, drop_more, get_or-take, get_or_default, length-take}
 use Rattle.std.proofs.lemmas.List.Elements.{recursion_from_All}
@@ -7,9 +7,7 @@ use Rattle.std.specs.List.{AllByRecursion}
 use Rattle.std.proofs.lemmas.Bool.{ltb-true, lt-ltb}
 use Rattle.cs_windows.specs.declared.window.Window.{Window}
 use Rattle.cs_windows.specs.Window.{IsRising}
-use Rattle.cs_stretch.specs.declared.role.Role.{Role}
-use Rattle.cs_stretch.specs.Roles.{load_by}
-use Rattle.cs_stretch.specs.Quietness.{ends_after, met, StartsBy, Keeps, roles_may_meet, IsFitByRoles, FitByRoles}
+use Rattle.cs_stretch.specs.Quietness.{ends_after, met, StartsBy, Keeps, EachWithMet}
 use Rattle.cs_stretch.proofs.QuietLemmas.{filter_end, filter_within}
 
 all_before : (P : Window → Type 0) (xs : List Window) (y : Window) → AllByRecursion P (xs ++ y ∷ []) → AllByRecursion P xs × P y
@@ -35,15 +33,11 @@ starts_all ws i d lt rising = recursion_from_All (StartsBy (get_or ws i d)) (tak
     subst (λ (v : Window). StartsBy (get_or ws i d) v) (sym same) (subst (λ (w : Window). StartsBy w (get_or ws k e)) other (rising k i e k_lt lt).start))
 
 -- one turn of the loop over the windows
-module _ (roles : List Role) (groups capacity : ℕ) (ws : List Window) (i : ℕ) (d : Window) (lt : i < length ws) (rising : IsRising ws) (active : List Window) (kept : Keeps (take i ws) active) where
+module _ (ws : List Window) (i : ℕ) (d : Window) (lt : i < length ws) (rising : IsRising ws) (active : List Window) (kept : Keeps (take i ws) active) where
   pub kept_on : Keeps (take (i + 1) ws) (met (get_or ws i d) active ++ get_or ws i d ∷ [])
   kept_on = subst (λ (l : List Window). Keeps l (met (get_or ws i d) active ++ get_or ws i d ∷ [])) (sym (take_more ws i d lt)) (keeps_step (take i ws) active (get_or ws i d) kept (starts_all ws i d lt rising))
 
-  pub fit_on : (FitByRoles roles groups capacity (take i ws) (drop i ws) → FitByRoles roles groups capacity [] ws) → AllByRecursion (λ v. roles_may_meet roles v (get_or ws i d) ≡ true) (met (get_or ws i d) active) → load_by roles groups (met (get_or ws i d) active ++ get_or ws i d ∷ []) ≤ capacity → FitByRoles roles groups capacity (take (i + 1) ws) (drop (i + 1) ws) → FitByRoles roles groups capacity [] ws
-  fit_on fit meets light rest =
+  pub each_on : (P : List Window → Window → Type 0) → (EachWithMet P (take i ws) (drop i ws) → EachWithMet P [] ws) → P (met (get_or ws i d) active) (get_or ws i d) → EachWithMet P (take (i + 1) ws) (drop (i + 1) ws) → EachWithMet P [] ws
+  each_on P so_far here rest =
       let same : met (get_or ws i d) active ≡ met (get_or ws i d) (take i ws) = kept (get_or ws i d) (starts_all ws i d lt rising) in
-      let here : IsFitByRoles roles groups capacity (take i ws) (get_or ws i d) = record {
-        meets = subst (AllByRecursion (λ v. roles_may_meet roles v (get_or ws i d) ≡ true)) same meets;
-        load = subst (λ (l : List Window). load_by roles groups (l ++ get_or ws i d ∷ []) ≤ capacity) same light;
-      } in
-      fit (subst (FitByRoles roles groups capacity (take i ws)) (sym (drop_more ws i d lt)) (here, subst (λ (l : List Window). FitByRoles roles groups capacity l (drop (i + 1) ws)) (take_more ws i d lt) rest))
+      so_far (subst (EachWithMet P (take i ws)) (sym (drop_more ws i d lt)) (subst (λ (l : List Window). P l (get_or ws i d)) same here, subst (λ (l : List Window). EachWithMet P l (drop (i + 1) ws)) (take_more ws i d lt) rest))

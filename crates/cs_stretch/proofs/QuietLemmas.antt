@@ -1,4 +1,4 @@
--- Where each window fits to those before it, each minute is quiet.
+-- Where a rule holds of each window with those before it that it meets, it holds at each minute.
 use Rattle.std.proofs.Common.{ℕ, ◌+◌, ◌*◌, ◌≤◌, ◌≡◌, max, min, Bool, true, false, not, ◌&&◌, cond, List, [], ◌∷◌, ◌++◌, map, filter, refl, sym, ap, ◌∙◌, subst, arith, ◌==◌, if◌then◌else◌, ⊎_elim}
 use Rattle.std.specs.List.{AllByRecursion}
 use Rattle.std.proofs.lemmas.Bool.{and_parts, and_from, both_ways, ltb-true, lt-ltb, eqb-true, eq-eqb, false_from_ne_true}
@@ -15,7 +15,7 @@ use Rattle.cs_windows.proofs.Members.{filter_has}
 use Rattle.cs_accepted.proofs.Elements.{pair_has}
 use Rattle.cs_accepted.proofs.Says.{all_from_has}
 use Rattle.cs_accepted.proofs.Calm.{load_jobs}
-use Rattle.cs_stretch.specs.Quietness.{ends_after, bars, may_meet, weight_of, met, IsFit, Fits}
+use Rattle.cs_stretch.specs.Quietness.{ends_after, bars, are_apart, are_free, weight_of, met, EachWithMet, PassesWith, IsLightWith, MeetApart, MeetFree, MeetLight}
 
 -- ---- lists
 
@@ -90,33 +90,41 @@ meet m v w h k =
     let y = ltb-true (max (m + 1440 * w.day_back) w.from) (min ((m + 1) + 1440 * w.day_back) (w.from + w.reach)) k in
     lt-ltb (w.from + 1440 * v.day_back) ((v.from + v.reach) + 1440 * w.day_back) (omega (arith, x, y))
 
--- what is found of those that hold the minute
-record Quiet (p : Plan) (ws : List Window) : Type 0 where
-  pairs : EachPair (λ v w. may_meet p v w ≡ true) ws
-  load : weight_of p ws ≤ p.capacity
+-- what holds of windows with those before them that they meet holds of those that hold the minute, where a further one of them keeps it
+module _ (m : ℕ) (P : List Window → Window → Type 0) (Q : List Window → Type 0) where
+  abbrev Turn : Type 0
+  Turn = (before : List Window) (w : Window) → holds_at m w ≡ true → Q (filter (holds_at m) before) → P (met w before) w → Q (filter (holds_at m) before ++ w ∷ [])
 
-quiet_step : (p : Plan) (m : ℕ) (before : List Window) (w : Window) → Quiet p (filter (holds_at m) before) → IsFit p before w → (b : Bool) → holds_at m w ≡ b → Quiet p (filter (holds_at m) (before ++ w ∷ []))
-quiet_step p m before w q fit false e =
-    let is : filter (holds_at m) (before ++ w ∷ []) ≡ filter (holds_at m) before = filter_end (holds_at m) before w ∙ (ap (λ (c : Bool). filter (holds_at m) before ++ cond c (w ∷ []) []) e ∙ append_nil (filter (holds_at m) before)) in
-    subst (Quiet p) (sym is) q
-quiet_step p m before w q fit true e =
-    let same : filter (holds_at m) (met w before) ≡ filter (holds_at m) before = filter_within (holds_at m) (ends_after w) before (λ v h. meet m v w h e) in
-    let is : filter (holds_at m) (before ++ w ∷ []) ≡ filter (holds_at m) before ++ w ∷ [] = filter_end (holds_at m) before w ∙ ap (λ (c : Bool). filter (holds_at m) before ++ cond c (w ∷ []) []) e in
-    let all : filter (holds_at m) (met w before ++ w ∷ []) ≡ filter (holds_at m) before ++ w ∷ [] = filter_end (holds_at m) (met w before) w ∙ (ap (λ (c : Bool). filter (holds_at m) (met w before) ++ cond c (w ∷ []) []) e ∙ ap (λ (l : List Window). l ++ w ∷ []) same) in
+  step : Turn → (before : List Window) (w : Window) → Q (filter (holds_at m) before) → P (met w before) w → (b : Bool) → holds_at m w ≡ b → Q (filter (holds_at m) (before ++ w ∷ []))
+  step turn before w q fit false e =
+      let is : filter (holds_at m) (before ++ w ∷ []) ≡ filter (holds_at m) before = filter_end (holds_at m) before w ∙ (ap (λ (c : Bool). filter (holds_at m) before ++ cond c (w ∷ []) []) e ∙ append_nil (filter (holds_at m) before)) in
+      subst Q (sym is) q
+  step turn before w q fit true e =
+      let is : filter (holds_at m) (before ++ w ∷ []) ≡ filter (holds_at m) before ++ w ∷ [] = filter_end (holds_at m) before w ∙ ap (λ (c : Bool). filter (holds_at m) before ++ cond c (w ∷ []) []) e in
+      subst Q (sym is) (turn before w e q fit)
+
+  all_from : Turn → (before ws : List Window) → Q (filter (holds_at m) before) → EachWithMet P before ws → Q (filter (holds_at m) (before ++ ws))
+  all_from turn before [] q f = subst (λ (l : List Window). Q (filter (holds_at m) l)) (sym (append_nil before)) q
+  all_from turn before (w ∷ ws) q f = subst (λ (l : List Window). Q (filter (holds_at m) l)) (append_one before w ws) (all_from turn (before ++ w ∷ []) ws (step turn before w q f.0 (holds_at m w) refl) f.1)
+
+-- those before a window that hold a minute which it holds meet it
+same_met : (m : ℕ) (before : List Window) (w : Window) → holds_at m w ≡ true → filter (holds_at m) (met w before) ≡ filter (holds_at m) before
+same_met m before w e = filter_within (holds_at m) (ends_after w) before (λ v h. meet m v w h e)
+
+pairs_at : (test : Window → Window → Bool) (m : ℕ) (ws : List Window) → EachWithMet (PassesWith test) [] ws → EachPair (λ v w. test v w ≡ true) (holders m ws)
+pairs_at test m ws f = all_from m (PassesWith test) (EachPair (λ v w. test v w ≡ true))
+    (λ before w e q fit. pairs_push (λ v w. test v w ≡ true) (filter (holds_at m) before) w q
+    (subst (AllByRecursion (λ v. test v w ≡ true)) (same_met m before w e) (all-filter (λ v. test v w ≡ true) (holds_at m) (met w before) fit)))
+    [] ws tt f
+
+light_at : (p : Plan) (m : ℕ) (ws : List Window) → MeetLight p ws → weight_of p (holders m ws) ≤ p.capacity
+light_at p m ws f = all_from m (IsLightWith (weight_of p) p.capacity) (λ held. weight_of p held ≤ p.capacity)
+    (λ before w e q fit.
+    let all : filter (holds_at m) (met w before ++ w ∷ []) ≡ filter (holds_at m) before ++ w ∷ [] = filter_end (holds_at m) (met w before) w ∙ (ap (λ (c : Bool). filter (holds_at m) (met w before) ++ cond c (w ∷ []) []) e ∙ ap (λ (l : List Window). l ++ w ∷ []) (same_met m before w e)) in
     let less = weight-filter p (holds_at m) (met w before ++ w ∷ []) in
     let here : weight_of p (filter (holds_at m) (met w before ++ w ∷ [])) ≡ weight_of p (filter (holds_at m) before ++ w ∷ []) = ap (weight_of p) all in
-    subst (Quiet p) (sym is) (record {
-      pairs = pairs_push (λ v w. may_meet p v w ≡ true) (filter (holds_at m) before) w q.pairs
-          (subst (AllByRecursion (λ v. may_meet p v w ≡ true)) same (all-filter (λ v. may_meet p v w ≡ true) (holds_at m) (met w before) fit.meets));
-      load = omega (arith, less, here, fit.load);
-    })
-
-quiet_all : (p : Plan) (m : ℕ) (before ws : List Window) → Quiet p (filter (holds_at m) before) → Fits p before ws → Quiet p (filter (holds_at m) (before ++ ws))
-quiet_all p m before [] q f = subst (λ (l : List Window). Quiet p (filter (holds_at m) l)) (sym (append_nil before)) q
-quiet_all p m before (w ∷ ws) q f = subst (λ (l : List Window). Quiet p (filter (holds_at m) l)) (append_one before w ws) (quiet_all p m (before ++ w ∷ []) ws (quiet_step p m before w q f.0 (holds_at m w) refl) f.1)
-
-quiet_at : (p : Plan) (m : ℕ) (ws : List Window) → Fits p [] ws → Quiet p (holders m ws)
-quiet_at p m ws f = quiet_all p m [] ws (record { pairs = tt; load = weight_none p }) f
+    omega (arith, less, here, fit))
+    [] ws (weight_none p) f
 
 -- ---- the three rules
 
@@ -124,17 +132,11 @@ not_true : (b : Bool) → not b ≡ true → b ≡ false
 not_true true e = cc
 not_true false e = refl
 
-parts : (p : Plan) (v w : Window) → may_meet p v w ≡ true → (clash p v.job w.job ≡ false) × (bars p v w ≡ false) × (bars p w v ≡ false)
-parts p v w e =
-    let x = and_parts (not (clash p v.job w.job)) (not (bars p v w) && not (bars p w v)) e in
-    let y = and_parts (not (bars p v w)) (not (bars p w v)) x.1 in
-    (not_true (clash p v.job w.job) x.0, not_true (bars p v w) y.0, not_true (bars p w v) y.1)
+pub apart : (p : Plan) (ws : List Window) → MeetApart p ws → AreApart p ws
+apart p ws f m lt = pairs_map (λ w. holds_at m w ≡ holds_at m w) (λ v w. are_apart p v w ≡ true) (λ v w. clash p v.job w.job ≡ false) (holders m ws) (λ v w a b e. not_true (clash p v.job w.job) e) (all_any (λ w. holds_at m w ≡ holds_at m w) (holders m ws) (λ w. refl)) (pairs_at (are_apart p) m ws f)
 
-pub apart : (p : Plan) (ws : List Window) → Fits p [] ws → AreApart p ws
-apart p ws f m lt = pairs_map (λ w. holds_at m w ≡ holds_at m w) (λ v w. may_meet p v w ≡ true) (λ v w. clash p v.job w.job ≡ false) (holders m ws) (λ v w a b e. (parts p v w e).0) (all_any (λ w. holds_at m w ≡ holds_at m w) (holders m ws) (λ w. refl)) (quiet_at p m ws f).pairs
-
-pub within : (p : Plan) (n : ℕ) (ws : List Window) → Fits p [] ws → AreWithin p n ws
-within p n ws f m lt = omega (arith, load_jobs p (run_in n) (run_in 2) (holders m ws) (λ w. refl), (quiet_at p m ws f).load)
+pub within : (p : Plan) (n : ℕ) (ws : List Window) → MeetLight p ws → AreWithin p n ws
+within p n ws f m lt = omega (arith, load_jobs p (run_in n) (run_in 2) (holders m ws) (λ w. refl), light_at p m ws f)
 
 same_itself : (v w : Window) → v ≡ w → same_window v w ≡ true
 same_itself v w e = subst (λ (u : Window). same_window v u ≡ true) e (and_from (v.job == v.job) ((v.day_back == v.day_back) && (v.from == v.from)) (eq-eqb v.job v.job refl) (and_from (v.day_back == v.day_back) (v.from == v.from) (eq-eqb v.day_back v.day_back refl) (eq-eqb v.from v.from refl)))
@@ -153,10 +155,15 @@ bars_it p m v w h e =
       not_true (same_window v w) u.0,
     )
 
-pub free : (p : Plan) (ws : List Window) → Fits p [] ws → AreFree p ws
+parts : (p : Plan) (v w : Window) → are_free p v w ≡ true → (bars p v w ≡ false) × (bars p w v ≡ false)
+parts p v w e =
+    let x = and_parts (not (bars p v w)) (not (bars p w v)) e in
+    (not_true (bars p v w) x.0, not_true (bars p w v) x.1)
+
+pub free : (p : Plan) (ws : List Window) → MeetFree p ws → AreFree p ws
 free p ws f m lt = all_from_has (λ v. AllByRecursion (λ w. blocks p m v w ≡ false) (holders m ws)) (holders m ws) (λ v hv. all_from_has (λ w. blocks p m v w ≡ false) (holders m ws) (λ w hw.
     false_from_ne_true (blocks p m v w) (λ e.
     let b = bars_it p m v w (filter_has (holds_at m) ws w hw).1 e in
     let no : v ≡ w → ⊥ = λ s. both_ways (same_window v w) b.1 (same_itself v w s) in
-    ⊎_elim (λ (r : may_meet p v w ≡ true). both_ways (bars p v w) (parts p v w r).1 b.0) (λ (r : may_meet p w v ≡ true). both_ways (bars p v w) (parts p w v r).2 b.0)
-    (pair_has (λ v w. may_meet p v w ≡ true) (holders m ws) v w (quiet_at p m ws f).pairs hv hw no))))
+    ⊎_elim (λ (r : are_free p v w ≡ true). both_ways (bars p v w) (parts p v w r).0 b.0) (λ (r : are_free p w v ≡ true). both_ways (bars p v w) (parts p w v r).1 b.0)
+    (pair_has (λ v w. are_free p v w ≡ true) (holders m ws) v w (pairs_at (are_free p) m ws f) hv hw no))))

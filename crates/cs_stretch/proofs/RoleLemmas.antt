@@ -5,8 +5,8 @@ use Rattle.cs_history.proofs.Lists.{all_map}
 use Rattle.cs_windows.specs.declared.window.Window.{Window}
 use Rattle.cs_accepted.specs.Accepted.{clash, is_skip, blocks, run_in}
 use Rattle.cs_stretch.specs.declared.role.Role.{Role}
-use Rattle.cs_stretch.specs.Roles.{role_at, role_of, AreRoles, share_group, roles_clash}
-use Rattle.cs_stretch.specs.Quietness.{is_open_at, bars, may_meet, met, IsFit, Fits, role_bars, roles_may_meet, IsFitByRoles, FitByRoles}
+use Rattle.cs_stretch.specs.Roles.{role_at, role_of, AreRoles, share_group, roles_clash, load_by}
+use Rattle.cs_stretch.specs.Quietness.{is_open_at, bars, are_apart, are_free, weight_of, met, EachWithMet, PassesWith, IsLightWith, MeetApart, MeetFree, MeetLight, apart_by, role_bars, free_by, MeetApartBy, MeetFreeBy, MeetLightBy}
 use Rattle.cs_stretch.specs.Found.{collision_by, overload_by, role_blocks, blocked_by}
 use Rattle.cs_stretch.proofs.Weights.{load_is, load_jobs_same}
 use Rattle.cs_accepted.specs.Windows.{holders, same_window}
@@ -31,26 +31,32 @@ bars_is p roles v w e f =
     ∙ (ap (λ (r : Role). (is_skip (p.mode v.job) && is_open_at v w) && (takes r.mode && share_group (role_of p v.job) r)) f
     ∙ ap (λ (b : Bool). (is_skip (p.mode v.job) && is_open_at v w) && (takes_lock p w.job && b)) (share_is p v.job w.job))
 
-meet_is : (p : Plan) (roles : List Role) (v w : Window) → role_at roles v.job ≡ role_of p v.job → role_at roles w.job ≡ role_of p w.job → roles_may_meet roles v w ≡ may_meet p v w
-meet_is p roles v w e f =
+apart_is : (p : Plan) (roles : List Role) (v w : Window) → role_at roles v.job ≡ role_of p v.job → role_at roles w.job ≡ role_of p w.job → apart_by roles v w ≡ are_apart p v w
+apart_is p roles v w e f =
     let c : roles_clash (role_at roles v.job) (role_at roles w.job) ≡ clash p v.job w.job = ap (λ (r : Role). roles_clash r (role_at roles w.job)) e ∙ (ap (λ (r : Role). roles_clash (role_of p v.job) r) f ∙ clash_is p v.job w.job) in
-    ap (λ (b : Bool). not b && (not (role_bars roles v w) && not (role_bars roles w v))) c
-    ∙ (ap (λ (b : Bool). not (clash p v.job w.job) && (not b && not (role_bars roles w v))) (bars_is p roles v w e f)
-    ∙ ap (λ (b : Bool). not (clash p v.job w.job) && (not (bars p v w) && not b)) (bars_is p roles w v f e))
+    ap (λ (b : Bool). not b) c
+
+free_is : (p : Plan) (roles : List Role) (v w : Window) → role_at roles v.job ≡ role_of p v.job → role_at roles w.job ≡ role_of p w.job → free_by roles v w ≡ are_free p v w
+free_is p roles v w e f =
+    ap (λ (b : Bool). not b && not (role_bars roles w v)) (bars_is p roles v w e f)
+    ∙ ap (λ (b : Bool). not (bars p v w) && not b) (bars_is p roles w v f e)
+
+each_map : (P Q : List Window → Window → Type 0) → ((vs : List Window) (w : Window) → P vs w → Q vs w) → (before ws : List Window) → EachWithMet P before ws → EachWithMet Q before ws
+each_map P Q k before [] e = tt
+each_map P Q k before (w ∷ ws) e = (k (met w before) w e.0, each_map P Q k (before ++ w ∷ []) ws e.1)
+
+passes_map : (s t : Window → Window → Bool) → ((v w : Window) → s v w ≡ t v w) → (ws : List Window) → EachWithMet (PassesWith s) [] ws → EachWithMet (PassesWith t) [] ws
+passes_map s t same ws = each_map (PassesWith s) (PassesWith t) (λ vs w all. all_map (λ v. s v w ≡ true) (λ v. t v w ≡ true) vs (λ v e. sym (same v w) ∙ e) all) [] ws
 
 module _ (p : Plan) (roles : List Role) (are : AreRoles p roles) where
-  fit_is : (before : List Window) (w : Window) → IsFitByRoles roles p.groups p.capacity before w → IsFit p before w
-  fit_is before w fit = record {
-    meets = all_map (λ v. roles_may_meet roles v w ≡ true) (λ v. may_meet p v w ≡ true) (met w before) (λ v e. sym (meet_is p roles v w (are v.job) (are w.job)) ∙ e) fit.meets;
-    load = omega (arith, load_is p roles (met w before ++ w ∷ []) are, fit.load);
-  }
+  pub meet_apart : (ws : List Window) → MeetApartBy roles ws → MeetApart p ws
+  meet_apart = passes_map (apart_by roles) (are_apart p) (λ v w. apart_is p roles v w (are v.job) (are w.job))
 
-  fits_from : (before ws : List Window) → FitByRoles roles p.groups p.capacity before ws → Fits p before ws
-  fits_from before [] fit = tt
-  fits_from before (w ∷ ws) fit = (fit_is before w fit.0, fits_from (before ++ w ∷ []) ws fit.1)
+  pub meet_free : (ws : List Window) → MeetFreeBy roles ws → MeetFree p ws
+  meet_free = passes_map (free_by roles) (are_free p) (λ v w. free_is p roles v w (are v.job) (are w.job))
 
-  pub fits_is : (ws : List Window) → FitByRoles roles p.groups p.capacity [] ws → Fits p [] ws
-  fits_is ws fit = fits_from [] ws fit
+  pub meet_light : (ws : List Window) → MeetLightBy roles p.groups p.capacity ws → MeetLight p ws
+  meet_light ws = each_map (IsLightWith (load_by roles p.groups) p.capacity) (IsLightWith (weight_of p) p.capacity) (λ vs w light. omega (arith, load_is p roles (vs ++ w ∷ []) are, light)) [] ws
 
   -- ---- the finders
 

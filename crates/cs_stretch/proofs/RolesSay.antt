@@ -1,20 +1,25 @@
 -- What is found by the roles of a plan's jobs is what the plan's rules say.
-use Rattle.std.proofs.Common.{ℕ, ◌≡◌, List, [], sym, ap, ◌∙◌, subst}
+use Rattle.std.proofs.Common.{ℕ, ◌≡◌, List, sym, ap, ◌∙◌, subst}
 use Rattle.cs_history.specs.Plan.{Plan}
 use Rattle.cs_windows.specs.declared.window.Window.{Window}
 use Rattle.cs_accepted.specs.Accepted.{AreApart, AreWithin, AreFree}
 use Rattle.cs_accepted.specs.Faults.{collision_in, overload_in, blocked_in}
 use Rattle.cs_stretch.specs.Roles.{PlanRoles, IsOf}
-use Rattle.cs_stretch.specs.Quietness.{FitByRoles}
+use Rattle.cs_stretch.specs.Quietness.{MeetApartBy, MeetFreeBy, MeetLightBy}
 use Rattle.cs_stretch.specs.Found.{collision_by, overload_by, blocked_by}
-use Rattle.cs_stretch.proofs.RoleLemmas.{fits_is, collision_is, overload_is, blocked_is}
+use Rattle.cs_stretch.proofs.RoleLemmas.{meet_apart, meet_free, meet_light, collision_is, overload_is, blocked_is}
 use Rattle.cs_stretch.proofs.QuietLemmas.{apart, within, free}
 
-pub quiet_rules : (p : Plan) (n : ℕ) (r : PlanRoles) (ws : List Window) → IsOf p r → FitByRoles r.jobs r.groups r.capacity [] ws → AreApart p ws × AreWithin p n ws × AreFree p ws
-quiet_rules p n r ws is fit =
-    let own : FitByRoles r.jobs p.groups p.capacity [] ws = subst (λ (k : ℕ). FitByRoles r.jobs k p.capacity [] ws) (sym is.groups) (subst (λ (k : ℕ). FitByRoles r.jobs r.groups k [] ws) (sym is.capacity) fit) in
-    let f = fits_is p r.jobs is.jobs ws own in
-    (apart p ws f, within p n ws f, free p ws f)
+pub apart_rule : (p : Plan) (r : PlanRoles) (ws : List Window) → IsOf p r → MeetApartBy r.jobs ws → AreApart p ws
+apart_rule p r ws is meet = apart p ws (meet_apart p r.jobs is.jobs ws meet)
+
+pub free_rule : (p : Plan) (r : PlanRoles) (ws : List Window) → IsOf p r → MeetFreeBy r.jobs ws → AreFree p ws
+free_rule p r ws is meet = free p ws (meet_free p r.jobs is.jobs ws meet)
+
+pub within_rule : (p : Plan) (n : ℕ) (r : PlanRoles) (ws : List Window) → IsOf p r → MeetLightBy r.jobs r.groups r.capacity ws → AreWithin p n ws
+within_rule p n r ws is meet =
+    let own : MeetLightBy r.jobs p.groups p.capacity ws = subst (λ (k : ℕ). MeetLightBy r.jobs k p.capacity ws) (sym is.groups) (subst (λ (k : ℕ). MeetLightBy r.jobs r.groups k ws) (sym is.capacity) meet) in
+    within p n ws (meet_light p r.jobs is.jobs ws own)
 
 pub collision_rules : (p : Plan) (r : PlanRoles) (ws : List Window) → IsOf p r → collision_by r.jobs r.groups ws ≡ collision_in p ws
 collision_rules p r ws is = ap (λ (k : ℕ). collision_by r.jobs k ws) (sym is.groups) ∙ collision_is p r.jobs is.jobs ws

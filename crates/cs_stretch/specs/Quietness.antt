@@ -21,9 +21,13 @@ is_open_at v w = (v.day_back == 0) && touches w v.from (v.from + 1)
 abbrev pub bars : Plan → Window → Window → Bool
 bars p v w = (is_skip (p.mode v.job) && is_open_at v w) && (takes_lock p w.job && same_group p v.job w.job)
 
--- v and w may hold one minute
-abbrev pub may_meet : Plan → Window → Window → Bool
-may_meet p v w = not (clash p v.job w.job) && (not (bars p v w) && not (bars p w v))
+-- v and w may hold one minute by the rule on groups
+abbrev pub are_apart : Plan → Window → Window → Bool
+are_apart p v w = not (clash p v.job w.job)
+
+-- neither of them is a skip job's that the other bars
+abbrev pub are_free : Plan → Window → Window → Bool
+are_free p v w = not (bars p v w) && not (bars p w v)
 
 -- what windows weigh
 abbrev pub weight_of : Plan → List Window → ℕ
@@ -33,31 +37,48 @@ weight_of p ws = load p (map (run_in 2) ws)
 abbrev pub met : Window → List Window → List Window
 met w ws = filter (ends_after w) ws
 
--- w may meet those that it meets, and weighs with them at most the capacity
-pub record IsFit (p : Plan) (before : List Window) (w : Window) : Type 0 where
-  pub meets : AllByRecursion (λ v. may_meet p v w ≡ true) (met w before)
-  pub load : weight_of p (met w before ++ w ∷ []) ≤ p.capacity
+-- each window with those before it that it meets
+abbrev pub EachWithMet : (List Window → Window → Type 0) → List Window → List Window → Type 0
+EachWithMet P before [] = ⊤
+EachWithMet P before (w ∷ ws) = P (met w before) w × EachWithMet P (before ++ w ∷ []) ws
 
--- each window fits to those before it
-abbrev pub Fits : Plan → List Window → List Window → Type 0
-Fits p before [] = ⊤
-Fits p before (w ∷ ws) = IsFit p before w × Fits p (before ++ w ∷ []) ws
+-- w passes the test with each of these
+abbrev pub PassesWith : (Window → Window → Bool) → List Window → Window → Type 0
+PassesWith test vs w = AllByRecursion (λ v. test v w ≡ true) vs
+
+-- these and w weigh at most so much
+abbrev pub IsLightWith : (List Window → ℕ) → ℕ → List Window → Window → Type 0
+IsLightWith weigh most vs w = weigh (vs ++ w ∷ []) ≤ most
+
+-- no window meets one before it that it may not meet by the rule on groups; by the rule on skip jobs; and none weighs too much with those that it meets
+abbrev pub MeetApart : Plan → List Window → Type 0
+MeetApart p ws = EachWithMet (PassesWith (are_apart p)) [] ws
+
+abbrev pub MeetFree : Plan → List Window → Type 0
+MeetFree p ws = EachWithMet (PassesWith (are_free p)) [] ws
+
+abbrev pub MeetLight : Plan → List Window → Type 0
+MeetLight p ws = EachWithMet (IsLightWith (weight_of p) p.capacity) [] ws
 
 -- ---- the same by the roles of jobs
+
+abbrev pub apart_by : List Role → Window → Window → Bool
+apart_by roles v w = not (roles_clash (role_at roles v.job) (role_at roles w.job))
 
 abbrev pub role_bars : List Role → Window → Window → Bool
 role_bars roles v w = (is_skip (role_at roles v.job).mode && is_open_at v w) && (takes (role_at roles w.job).mode && share_group (role_at roles v.job) (role_at roles w.job))
 
-abbrev pub roles_may_meet : List Role → Window → Window → Bool
-roles_may_meet roles v w = not (roles_clash (role_at roles v.job) (role_at roles w.job)) && (not (role_bars roles v w) && not (role_bars roles w v))
+abbrev pub free_by : List Role → Window → Window → Bool
+free_by roles v w = not (role_bars roles v w) && not (role_bars roles w v)
 
-pub record IsFitByRoles (roles : List Role) (groups capacity : ℕ) (before : List Window) (w : Window) : Type 0 where
-  pub meets : AllByRecursion (λ v. roles_may_meet roles v w ≡ true) (met w before)
-  pub load : load_by roles groups (met w before ++ w ∷ []) ≤ capacity
+abbrev pub MeetApartBy : List Role → List Window → Type 0
+MeetApartBy roles ws = EachWithMet (PassesWith (apart_by roles)) [] ws
 
-abbrev pub FitByRoles : List Role → ℕ → ℕ → List Window → List Window → Type 0
-FitByRoles roles groups capacity before [] = ⊤
-FitByRoles roles groups capacity before (w ∷ ws) = IsFitByRoles roles groups capacity before w × FitByRoles roles groups capacity (before ++ w ∷ []) ws
+abbrev pub MeetFreeBy : List Role → List Window → Type 0
+MeetFreeBy roles ws = EachWithMet (PassesWith (free_by roles)) [] ws
+
+abbrev pub MeetLightBy : List Role → ℕ → ℕ → List Window → Type 0
+MeetLightBy roles groups capacity ws = EachWithMet (IsLightWith (load_by roles groups) capacity) [] ws
 
 -- ---- the windows that are still looked at
 

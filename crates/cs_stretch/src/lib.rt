@@ -10,4 +10,5 @@ mod roles;
 
 pub use found::missing;
 pub use laws::quiet_windows_are_calm;
+pub use quiet::Quiet;
 pub use roles::Roles;

@@ -1,13 +1,32 @@
-//! A quick test of the windows of one stretch, in one pass.
-ghost use Rattle.std.specs.Prelude.{◌≡◌, ◌*◌, ◌≤◌, ◌++◌, ◌∷◌, [], true, IfOk, OnOk, IsTrue};
-ghost use Rattle.std.specs.List.{AllByRecursion};
+//! A quick test of the windows of one stretch by each rule, in one pass.
+ghost use Rattle.std.specs.Prelude.{◌≡◌, ◌*◌, ◌≤◌, ◌&&◌, true, IfOk, IsTrue};
 ghost use Rattle.cs_windows.specs.Window.{IsRising};
-ghost use Rattle.cs_stretch.specs.Quietness.{ends_after, is_open_at, role_bars, roles_may_meet, met, FitByRoles};
+ghost use Rattle.cs_stretch.specs.Quietness.{MeetApartBy, MeetFreeBy, MeetLightBy, PassesWith, apart_by, ends_after, free_by, is_open_at, role_bars, met};
 
 use crate::load::fits;
 use crate::role::{Role, clash, role_of, share_group};
 use cs_windows::{MINUTES_OF_DAY, Window};
 use std::alloc::{AllocError, Global};
+
+/// By which rules a quick test finds the windows of a stretch in order. Where it doesn't, the rule's finder tells whether something is wrong.
+#[derive(Clone, Copy, Debug, PartialEq, Eq)]
+pub struct Quiet {
+    /// No two runs of an exclusive group may meet.
+    pub is_apart: bool,
+    /// No minute weighs more than the capacity.
+    pub is_within: bool,
+    /// No due skip job is barred from its lock.
+    pub is_free: bool,
+}
+
+impl Quiet {
+    /// Whether it does by all three.
+    pub fn by_all(self) -> bool
+        ensures { result ≡ (self.is_apart && (self.is_within && self.is_free)) }
+    {
+        self.is_apart && self.is_within && self.is_free
+    }
+}
 
 /// The minute at which the day looked at begins, counted from the start of the day on which the window begins.
 fn day_start(window: &Window) -> u32
@@ -45,21 +64,24 @@ fn bars(roles: &[Role], window: &Window, other: &Window) -> bool
         && (holder.takes_lock() && share_group(skip, holder))
 }
 
-/// Whether two windows may hold one minute.
-fn may_meet(roles: &[Role], one: &Window, other: &Window) -> bool
-    ensures { result ≡ roles_may_meet roles.now one.now other.now }
-{
-    !clash(role_of(roles, one), role_of(roles, other))
-        && !bars(roles, one, other)
-        && !bars(roles, other, one)
-}
-
-/// Whether a window may meet each of these.
-fn may_meet_all(roles: &[Role], active: &[Window], window: &Window) -> bool
-    ensures { IsTrue result → AllByRecursion (λ v. roles_may_meet roles.now v window.now ≡ true) active.now }
+/// Whether a window may hold one minute with each of these by the rule on groups.
+fn is_apart_from(roles: &[Role], active: &[Window], window: &Window) -> bool
+    ensures { IsTrue result → PassesWith (apart_by roles.now) active.now window.now }
 {
     for other in active {
-        if !may_meet(roles, other, window) {
+        if clash(role_of(roles, other), role_of(roles, window)) {
+            return false;
+        }
+    }
+    true
+}
+
+/// Whether none of these bars a skip job's window, and it bars none that is a skip job's.
+fn is_free_of(roles: &[Role], active: &[Window], window: &Window) -> bool
+    ensures { IsTrue result → PassesWith (free_by roles.now) active.now window.now }
+{
+    for other in active {
+        if bars(roles, other, window) || bars(roles, window, other) {
             return false;
         }
     }
@@ -77,30 +99,35 @@ fn leave_met(active: &mut Vec<Window>, window: &Window)
     );
 }
 
-/// Whether each window, looked at with those before it that it meets, may meet them and weighs with them at most the
-/// capacity. Where they are in order of start, no minute of the day then has a collision, too great a load or a skip job
-/// that is barred.
-pub(crate) fn is_quiet(
+/// By which rules each window, looked at with those before it that it meets, is harmless. Where they are in order of start, no
+/// minute of the day then has a fault by that rule.
+pub(crate) fn quiet_by_rule(
     alloc: Global,
     roles: &[Role],
     groups: usize,
     capacity: u8,
     windows: &[Window],
-) -> Result<bool, AllocError>
+) -> Result<Quiet, AllocError>
     requires few { groups ≤ 64 }
     requires rising { IsRising windows.now }
-    ensures { IfOk result (λ quiet. IsTrue quiet → FitByRoles roles.now groups capacity [] windows.now) }
+    ensures apart { IfOk result (λ quiet. IsTrue quiet.is_apart → MeetApartBy roles.now windows.now) }
+    ensures within { IfOk result (λ quiet. IsTrue quiet.is_within → MeetLightBy roles.now groups capacity windows.now) }
+    ensures free { IfOk result (λ quiet. IsTrue quiet.is_free → MeetFreeBy roles.now windows.now) }
 {
     let mut active = Vec::new(alloc);
+    let mut is_apart = true;
+    let mut is_within = true;
+    let mut is_free = true;
     for window in windows {
         leave_met(&mut active, window);
-        if !may_meet_all(roles, active.as_slice(), window) {
-            return Ok(false);
-        }
+        is_apart = is_apart && is_apart_from(roles, active.as_slice(), window);
+        is_free = is_free && is_free_of(roles, active.as_slice(), window);
         active.push(*window)?;
-        if !fits(roles, groups, capacity, active.as_slice()) {
-            return Ok(false);
-        }
+        is_within = is_within && fits(roles, groups, capacity, active.as_slice());
     }
-    Ok(true)
+    Ok(Quiet {
+        is_apart,
+        is_within,
+        is_free,
+    })
 }

@@ -6,6 +6,7 @@ ghost use Rattle.cs_history.specs.Plan.{Plan as TheoryPlan, exclusive_group};
 ghost use Rattle.cs_stretch.specs.Roles.{AreRoles, IsOf, role_of};
 ghost use Rattle.cs_windows.specs.Window.{IsRising};
 
+use crate::quiet::Quiet;
 use crate::role::Role;
 use crate::{found, quiet};
 use cs_decl::{Job, Plan};
@@ -102,14 +103,16 @@ impl Roles {
         self.capacity
     }
 
-    /// A quick test of the windows of a stretch, in order of start. Where it answers true, no minute of the last day has a
-    /// collision, too great a load, or a due skip job that is barred from its lock. Where it answers false, the finders
-    /// tell whether something is wrong. The only error is want of memory.
-    pub fn is_quiet(&self, alloc: Global, windows: &[Window]) -> Result<bool, AllocError>
+    /// A quick test of the windows of a stretch, in order of start, by each of three rules. Where it answers true for one, no
+    /// minute of the last day has a collision, too great a load, or a due skip job that is barred from its lock. Where it
+    /// answers false, the rule's finder tells whether something is wrong. The only error is want of memory.
+    pub fn quiet(&self, alloc: Global, windows: &[Window]) -> Result<Quiet, AllocError>
         requires rising { IsRising windows.now }
-        ensures { IfOk result (λ quiet. IsTrue quiet → (p : TheoryPlan) (n : ℕ) → IsOf p self.now → AreApart p windows.now × AreWithin p n windows.now × AreFree p windows.now) }
+        ensures apart { IfOk result (λ quiet. IsTrue quiet.is_apart → (p : TheoryPlan) → IsOf p self.now → AreApart p windows.now) }
+        ensures within { IfOk result (λ quiet. IsTrue quiet.is_within → (p : TheoryPlan) (n : ℕ) → IsOf p self.now → AreWithin p n windows.now) }
+        ensures free { IfOk result (λ quiet. IsTrue quiet.is_free → (p : TheoryPlan) → IsOf p self.now → AreFree p windows.now) }
     {
-        quiet::is_quiet(alloc, self.jobs(), self.groups(), self.capacity(), windows)
+        quiet::quiet_by_rule(alloc, self.jobs(), self.groups(), self.capacity(), windows)
     }
 
     /// The first minute of the last day of a stretch, and the first two windows of one exclusive group there that may not

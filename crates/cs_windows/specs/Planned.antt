@@ -21,14 +21,14 @@ is_due_on Reboot kind minute = false
 abbrev pub due_on : Declared → ℕ → Kind → ℕ → Bool
 due_on d j kind minute = is_due_on (command_of d j).when kind minute
 
--- the first reach that is listed for a job
-abbrev pub listed_reach : List JobReach → ℕ → Option ℕ
-listed_reach [] j = None
-listed_reach (r ∷ rs) j = if r.job == j then Some r.reach else listed_reach rs j
+-- the reach of a job, where it is listed
+abbrev pub reach_of : List JobReach → ℕ → Option ℕ
+reach_of [] j = None
+reach_of (r ∷ rs) j = if r.job == j then Some r.reach else reach_of rs j
 
 -- the reach of a job that waits: that which is listed, else its declared time
 abbrev pub reach_by : Declared → List JobReach → ℕ → ℕ
-reach_by d rs j = unwrap_or (listed_reach rs j) ((as_plan d).limit j)
+reach_by d rs j = unwrap_or (reach_of rs j) ((as_plan d).limit j)
 
 -- whether a window of the job begins at a minute of such a day: a cron job's where it is due, a catch-up window where the hours begin
 abbrev pub begins_on : Declared → ℕ → Kind → ℕ → Bool
@@ -49,4 +49,4 @@ pub record IsSchedule (d : Declared) (j : ℕ) (schedule : Times) : Type 0 where
 
 -- how long a window of a cron job lasts that is declared so
 abbrev pub cron_reach : List JobReach → ℕ → DeclaredJob → ℕ
-cron_reach rs j job = if waits_in job.mode then unwrap_or (listed_reach rs j) job.max else job.max
+cron_reach rs j job = if waits_in job.mode then unwrap_or (reach_of rs j) job.max else job.max

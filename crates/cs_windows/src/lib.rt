@@ -16,6 +16,6 @@ pub use day_lists::windows_over;
 pub use job_windows::Occupied;
 pub use list::windows_on;
 pub use planned::occupied;
-pub use reach::JobReach;
+pub use reach::{JobReach, reach_of};
 pub use tree::{Entry, LeafAt, MinuteTree, lists};
 pub use window::{MINUTES_OF_DAY, Window, touches};

@@ -5,7 +5,7 @@ ghost use Rattle.cs_windows.specs.Occupied.{job_of};
 ghost use Rattle.cs_windows.specs.Planned.{IsSchedule, cron_reach, planned, planned_job};
 
 use crate::job_windows::Occupied;
-use crate::reach::{JobReach, listed_reach};
+use crate::reach::{JobReach, reach_of};
 use cs_crontab::When;
 use cs_decl::{Job, Plan};
 use cs_history::Mode;
@@ -19,8 +19,8 @@ fn cron_reach(reaches: &[JobReach], number: usize, job: Job) -> u16
     match job.mode() {
         Mode::Plain => job.max(),
         Mode::Skip => job.max(),
-        Mode::Wait => listed_reach(reaches, number).unwrap_or(job.max()),
-        Mode::Shared => listed_reach(reaches, number).unwrap_or(job.max()),
+        Mode::Wait => reach_of(reaches, number).unwrap_or(job.max()),
+        Mode::Shared => reach_of(reaches, number).unwrap_or(job.max()),
     }
 }
 

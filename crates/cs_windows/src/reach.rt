@@ -1,5 +1,5 @@
 ghost use Rattle.std.specs.Prelude.{◌≡◌};
-ghost use Rattle.cs_windows.specs.Planned.{listed_reach};
+ghost use Rattle.cs_windows.specs.Planned.{reach_of};
 
 /// How long a run of a job that waits for a lock may go on after it was due: one due in minute d holds no minute from
 /// d + reach on. A certificate lists one for each of its jobs that take a lock and may have to wait.
@@ -11,9 +11,9 @@ pub struct JobReach {
     pub reach: u16,
 }
 
-/// The first reach that is listed for this job.
-pub(crate) fn listed_reach(reaches: &[JobReach], job: usize) -> Option<u16>
-    ensures { result ≡ listed_reach reaches.now job }
+/// The reach that is listed for a job, `None` where none is; of several the first.
+pub fn reach_of(reaches: &[JobReach], job: usize) -> Option<u16>
+    ensures { result ≡ reach_of reaches.now job }
 {
     for listed in reaches {
         if usize::from(listed.job) == job {

@@ -1,16 +1,11 @@
-use Rattle.std.proofs.Common.{rules, ◌≡◌, ℕ, ◌<◌, true, List, length, subst, ◌∙◌, arith}
-use Rattle.std.specs.Prelude.{IsTrue}
-use Rattle.std.proofs.lemmas.Result.{IfOk-weaker}
+use Rattle.std.proofs.Common.{rules, ◌≡◌, ◌<◌, true, length, subst, sym, ◌∙◌, ◌&&◌, arith}
+use Rattle.std.proofs.lemmas.Bool.{and_parts}
 use Rattle.cs_accepted.specs.Accepted.{AreApart, AreFree, AreWithin, windows_of}
 use Rattle.cs_cert.specs.Certificate.{content}
 use Rattle.cs_chains.specs.Used.{seen}
 use Rattle.cs_claim.specs.Claim.{as_certificate}
 use Rattle.cs_decl.specs.Plan.{as_plan}
-use Rattle.cs_history.specs.Plan.{Plan}
-use Rattle.cs_stretch.specs.Roles.{IsOf}
 use Rattle.cs_windows.specs.Tree.{IsComplete}
-use Rattle.cs_windows.specs.declared.window.Window.{Window}
-use Rattle.cs_check.specs.Stretches.{IsGood}
 use Rattle.cs_check.proofs.Clearing.{tells_on}
 use Rattle.cs_check.proofs.Covering.{covered_from}
 use Rattle.cs_check.proofs.Using.{days_range, long_as_kinds}
@@ -31,16 +26,14 @@ returns c =
     let reaches : c.reaches_hold.result ≡ true = search rules in
     let covers : c.covers.result ≡ true = search rules in
     let complete = subst (IsComplete s.tree) one ((c.covers.ensures.complete c.requires.in_use.splits).0 covers) in
-    IfOk-weaker c.is_quiet.result
-    (λ quiet. IsTrue quiet → (q : Plan) (m : ℕ) → IsOf q c.args.case.now.roles → AreApart q c.as_slice-2.result.now × AreWithin q m c.as_slice-2.result.now × AreFree q c.as_slice-2.result.now)
-    (λ quiet. IsTrue quiet → IsGood p (as_certificate k) n s)
-    (λ quiet h is.
-    let quiet = subst (λ (w : List Window). AreApart p w × AreWithin p n w × AreFree p w) two (h is p n c.requires.case.roles) in
+    (λ all.
+    let by = and_parts c.in_ok-quiet.quiet.is_apart (c.in_ok-quiet.quiet.is_within && c.in_ok-quiet.quiet.is_free) (sym c.by_all.ensures ∙ all) in
+    let rest = and_parts c.in_ok-quiet.quiet.is_within c.in_ok-quiet.quiet.is_free by.1 in
     record {
       steps = c.steps_hold.ensures steps;
       clears = λ j r lt waits e. (tells_on p c.requires.case.fit.plan k s j r some).0 (c.reaches_hold.ensures reaches j r lt waits e);
       covered = covered_from s.tree ws complete;
-      apart = quiet.0;
-      within = quiet.1;
-      free = quiet.2;
-    }) c.is_quiet.ensures
+      apart = subst (AreApart p) two (c.in_ok-quiet.ensures.apart by.0 p c.requires.case.roles);
+      within = subst (AreWithin p n) two (c.in_ok-quiet.ensures.within rest.0 p n c.requires.case.roles);
+      free = subst (AreFree p) two (c.in_ok-quiet.ensures.free rest.1 p c.requires.case.roles);
+    })

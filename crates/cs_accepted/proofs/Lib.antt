@@ -1,6 +1,7 @@
 pub mod Elements
 pub mod Exact
 pub mod Below
+pub mod Firsts
 pub mod Standing
 pub mod Stretches
 pub mod Calm

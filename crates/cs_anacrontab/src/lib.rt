@@ -8,8 +8,6 @@ mod period;
 mod reader;
 mod stamp;
 mod table;
-#[cfg(test)]
-mod tests;
 
 pub use fault::{AnacronFault, JobFault};
 pub use limits::{MAX_DELAY, MAX_IDENTIFIER, MAX_JOBS, MAX_PERIOD};

@@ -16,8 +16,6 @@ mod number_form;
 mod parts;
 mod reach;
 mod stretch;
-#[cfg(test)]
-mod tests;
 
 pub use certificate::Certificate;
 pub use class::{Class, DueList, GroupBacklog};

@@ -4,7 +4,7 @@ use Rattle.std.proofs.lemmas.Bool.{and_parts}
 use Rattle.std.specs.List.{list_all, range_with_len}
 use Rattle.cs_civil.specs.Calendar.{Kind}
 use Rattle.cs_history.specs.Lists.{below}
-use Rattle.cs_windows.specs.Planned.{due_on, is_due_on}
+use Rattle.cs_claim.specs.Planned.{due_on, is_due_on}
 use Rattle.cs_windows.specs.Windows.{day_minutes}
 use Rattle.cs_windows.proofs.Members.{Has, has_range, range_has}
 use Rattle.cs_accepted.specs.Faults.{Fault, ClassNotDue, first_of, is_due_alike, or_else, same_bool, unless}

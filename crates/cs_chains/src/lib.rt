@@ -9,8 +9,6 @@ mod fitting;
 mod last;
 mod likeness;
 mod missing;
-#[cfg(test)]
-mod tests;
 mod unlike;
 mod used;
 

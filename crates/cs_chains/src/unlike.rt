@@ -4,8 +4,8 @@ ghost use Rattle.cs_accepted.specs.Faults.{ClassNotDue, due_fault, is_due_alike}
 ghost use Rattle.cs_cert.specs.Certificate.{content};
 ghost use Rattle.cs_chains.specs.Likeness.{AreLikenesses, is_due_day, likeness_on};
 ghost use Rattle.cs_claim.specs.Claim.{as_certificate};
+ghost use Rattle.cs_claim.specs.Planned.{due_on};
 ghost use Rattle.cs_decl.specs.Plan.{as_plan};
-ghost use Rattle.cs_windows.specs.Planned.{due_on};
 
 use crate::likeness::{Likeness, is_due_day, likenesses, likenesses_parallel};
 use cs_cert::Certificate;

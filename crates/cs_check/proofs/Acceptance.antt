@@ -20,7 +20,7 @@ use Rattle.cs_chains.specs.Used.{seen}
 use Rattle.cs_chains.specs.declared.used.UsedStretch.{UsedStretch}
 use Rattle.cs_claim.specs.Claim.{as_certificate}
 use Rattle.cs_decl.specs.Plan.{as_plan}
-use Rattle.cs_windows.specs.Planned.{due_on}
+use Rattle.cs_claim.specs.Planned.{due_on}
 use Rattle.cs_check.specs.Case.{fault_of}
 use Rattle.cs_check.specs.declared.case.Case.{Case}
 use Rattle.cs_check.proofs.Using.{days_range}

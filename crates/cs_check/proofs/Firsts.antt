@@ -6,7 +6,7 @@ use Rattle.cs_claim.specs.Claim.{as_certificate}
 use Rattle.cs_civil.specs.Calendar.{Kind}
 use Rattle.cs_history.specs.Lists.{below}
 use Rattle.cs_history.specs.Plan.{Plan, waits}
-use Rattle.cs_windows.specs.Planned.{due_on}
+use Rattle.cs_claim.specs.Planned.{due_on}
 use Rattle.cs_accepted.specs.Certificate.{Certificate}
 use Rattle.cs_accepted.specs.Faults.{Fault, ReachTooShort, due_fault, first_fault, first_of, leaf_fault, or_else, reach_fault, reaches_far, step_fault, stretch_fault, unless, used_stretches, collision_fault, capacity_fault, skip_fault}
 use Rattle.cs_check.specs.Case.{fault_of, length_for}

@@ -8,7 +8,7 @@ use Rattle.cs_decl.specs.Plan.{Declared, as_plan}
 use Rattle.cs_cert.specs.Content.{Content}
 use Rattle.cs_cert.specs.Kept.{Keeps}
 use Rattle.cs_cert.specs.Rules.{most_reach}
-use Rattle.cs_windows.specs.Planned.{reach_of}
+use Rattle.cs_windows.specs.Reach.{reach_of}
 use Rattle.cs_windows.specs.declared.reach.JobReach.{JobReach}
 use Rattle.cs_history.specs.Plan.{IsPlan, is_cron, waits}
 use Rattle.cs_check.specs.Case.{IsFit, reach_for}

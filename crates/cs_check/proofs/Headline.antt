@@ -9,7 +9,7 @@ use Rattle.cs_crontab.specs.declared.table.When.{When}
 use Rattle.cs_crontab.specs.declared.table.When.TheVariants.{At, Reboot}
 use Rattle.cs_schedule.specs.Times.{is_due as is_time_due}
 use Rattle.cs_decl.specs.Plan.{Declared, as_plan, command_of, is_due}
-use Rattle.cs_windows.specs.Planned.{due_on, is_due_on}
+use Rattle.cs_claim.specs.Planned.{due_on, is_due_on}
 use Rattle.cs_cert.specs.Content.{Content}
 use Rattle.cs_claim.specs.Claim.{as_certificate}
 use Rattle.cs_safety.proofs.Safety.{safe}

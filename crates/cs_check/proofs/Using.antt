@@ -11,7 +11,7 @@ use Rattle.cs_chains.specs.declared.used.UsedStretch.{UsedStretch}
 use Rattle.cs_cert.specs.Certificate.{class_of}
 use Rattle.cs_cert.specs.Kept.{IsSound, Keeps}
 use Rattle.cs_history.specs.Plan.{Plan}
-use Rattle.cs_windows.specs.Planned.{due_on, planned}
+use Rattle.cs_claim.specs.Planned.{due_on, planned}
 use Rattle.cs_windows.specs.Windows.{windows_on}
 use Rattle.cs_windows.specs.declared.window.Window.{Window}
 use Rattle.cs_claim.specs.Claim.{as_certificate}

@@ -1,7 +1,7 @@
 -- A plan and a certificate, as the rules of acceptance see them.
 use Rattle.std.specs.Prelude.{ℕ, Option}
 use Rattle.cs_decl.specs.Plan.{Declared, as_plan}
-use Rattle.cs_windows.specs.Planned.{due_on}
+use Rattle.cs_claim.specs.Planned.{due_on}
 use Rattle.cs_cert.specs.Content.{Content}
 use Rattle.cs_claim.specs.Claim.{as_certificate}
 use Rattle.cs_history.specs.Plan.{IsPlan}

@@ -8,9 +8,8 @@ use Rattle.cs_check.specs.declared.checked.Checked.{Checked}
 use Rattle.cs_history.specs.Plan.{Plan, IsReached}
 use Rattle.cs_history.specs.Calm.{Holds, IsCalm, window_of}
 use Rattle.cs_history.specs.History.{History, now, running, IsLegal, IsInTime, IsSafe}
-use Rattle.cs_accepted.specs.Faults.{Fault, ClassNotDue, Missing, BacklogRises, ReachTooShort, WindowMissing, Collision, OverCapacity, SkipBlocked}
-use Rattle.cs_check.specs.declared.fault.CheckFault.{CheckFault}
-use Rattle.cs_check.specs.declared.fault.CheckFault.TheVariants as faults
+use Rattle.cs_accepted.specs.Faults.{Fault}
+use Rattle.cs_refused.specs.Told.{told}
 use Rattle.cs_check.specs.declared.fault.CheckError.{CheckError}
 use Rattle.cs_check.specs.declared.fault.CheckError.TheVariants as errors
 
@@ -33,17 +32,6 @@ StayInWindows p c = (h : History) → IsLegal p h → IsInTime p h → AllByRecu
 -- each minute that a history may reach is calm
 abbrev pub IsCalmThroughout : Plan → (ℕ → ℕ) → Type 0
 IsCalmThroughout p c = (t : ℕ) → IsReached t → IsCalm p c t
-
--- what a fault says
-abbrev pub told : CheckFault → Fault
-told (faults.ClassNotDue kind) = ClassNotDue kind
-told (faults.MissingPair kinds) = Missing kinds.items
-told (faults.BacklogRises group at) = BacklogRises group at
-told (faults.ReachTooShort job) = ReachTooShort job
-told (faults.WindowMissing window at) = WindowMissing window at
-told (faults.Collision at one other) = Collision at one other
-told (faults.OverCapacity at load) = OverCapacity at load
-told (faults.SkipBlocked at skip other) = SkipBlocked at skip other
 
 -- want of memory, or the fault
 abbrev pub Tells : Option Fault → CheckError → Type 0

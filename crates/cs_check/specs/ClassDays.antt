@@ -15,7 +15,7 @@ use Rattle.cs_claim.specs.GroupDays.{AreGroupDays}
 use Rattle.cs_claim.specs.Reaches.{Clears}
 use Rattle.cs_history.specs.Plan.{waits}
 use Rattle.cs_windows.specs.Occupied.{job_of}
-use Rattle.cs_windows.specs.Planned.{due_on, planned}
+use Rattle.cs_claim.specs.Planned.{due_on, planned}
 use Rattle.cs_check.specs.Case.{IsFit}
 use Rattle.cs_check.specs.declared.basis.Basis.{Basis}
 use Rattle.cs_check.specs.declared.class_day.ClassDay.{ClassDay}

@@ -14,7 +14,7 @@ use Rattle.cs_cert.specs.Kept.{Keeps}
 use Rattle.cs_claim.specs.Claim.{as_certificate}
 use Rattle.cs_decl.specs.Plan.{Declared, as_plan}
 use Rattle.cs_stretch.specs.Roles.{IsOf}
-use Rattle.cs_windows.specs.Planned.{due_on}
+use Rattle.cs_claim.specs.Planned.{due_on}
 use Rattle.cs_check.specs.Case.{IsFit, length_for}
 use Rattle.cs_check.specs.ClassDays.{AreClassDays}
 use Rattle.cs_check.specs.declared.case.Case.{Case}

@@ -1,48 +1,5 @@
-use arrayvec::ArrayVec;
-use cs_civil::{DayKind, Minute};
-use cs_windows::Window;
+use cs_refused::CheckFault;
 use std::alloc::AllocError;
-
-/// Why a certificate is refused: the first rule that isn't met, and its first place. A minute `at` is one of the first day
-/// from 1970-01-03 on that ends such a stretch of days; where the rule is one of the day before, it is a minute of that day.
-#[derive(Debug, Drop)]
-pub enum CheckFault {
-    /// The class of this kind of day hasn't the due minutes of the kind.
-    ClassNotDue(DayKind),
-    /// The certificate has no stretch for the classes of these successive kinds of days.
-    MissingPair(ArrayVec<DayKind, 4>),
-    /// The bound of a group falls faster than its lock's holder takes off, or leaves out what arrives, from this minute to the next.
-    BacklogRises {
-        group: usize,
-        at: Minute,
-    },
-    /// This job waits for a lock and has no reach, or one that ends before the bound of its group is zero.
-    ReachTooShort {
-        job: usize,
-    },
-    /// The leaf of this minute doesn't list the window.
-    WindowMissing {
-        window: Window,
-        at: Minute,
-    },
-    /// These two windows of one exclusive group hold this minute.
-    Collision {
-        at: Minute,
-        one: Window,
-        other: Window,
-    },
-    /// What is more than the capacity may run at this minute.
-    OverCapacity {
-        at: Minute,
-        load: u128,
-    },
-    /// The skip job's run that is due at this minute may find its lock held by a run of the other window.
-    SkipBlocked {
-        at: Minute,
-        skip: Window,
-        other: Window,
-    },
-}
 
 /// Why nothing was accepted.
 #[derive(Debug, Drop)]

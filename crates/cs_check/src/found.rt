@@ -3,20 +3,20 @@ ghost use Rattle.std.specs.Prelude.{◌≡◌, ◌≤◌, ◌<◌, All, IfOk, ma
 ghost use Rattle.cs_accepted.specs.Faults.{first_of, minute_of};
 ghost use Rattle.cs_cert.specs.Certificate.{content};
 ghost use Rattle.cs_chains.specs.Used.{seen};
-ghost use Rattle.cs_check.specs.Checked.{told};
 ghost use Rattle.cs_check.specs.Stretches.{IsCase, IsInUse, fault_by};
 ghost use Rattle.cs_check.specs.declared.rule.Rule.TheVariants as rules;
 ghost use Rattle.cs_civil.specs.Calendar.{first_minute, last_minute};
 ghost use Rattle.cs_claim.specs.Claim.{as_certificate};
 ghost use Rattle.cs_decl.specs.Plan.{as_plan};
+ghost use Rattle.cs_refused.specs.Told.{told};
 
 use crate::case::Case;
-use crate::fault::CheckFault;
 use crate::passing::passes;
 use crate::rule::Rule;
 use cs_chains::{UsedStretch, last_day};
 use cs_civil::Minute;
 use cs_claim::first_rise;
+use cs_refused::CheckFault;
 use cs_stretch::missing;
 use std::alloc::{AllocError, Global};
 

@@ -4,17 +4,17 @@ ghost use Rattle.std.specs.List.{list_all};
 ghost use Rattle.cs_accepted.specs.Faults.{ReachTooShort, first_of, unless};
 ghost use Rattle.cs_cert.specs.Certificate.{content};
 ghost use Rattle.cs_chains.specs.Used.{seen};
-ghost use Rattle.cs_check.specs.Checked.{told};
 ghost use Rattle.cs_check.specs.Stretches.{IsCase, IsInUse, clears_on, is_far};
 ghost use Rattle.cs_claim.specs.Claim.{as_certificate};
 ghost use Rattle.cs_decl.specs.Plan.{as_plan, crons};
 ghost use Rattle.cs_history.specs.Lists.{below};
+ghost use Rattle.cs_refused.specs.Told.{told};
 
 use crate::case::Case;
-use crate::fault::CheckFault;
 use crate::good::clears_on;
 use cs_chains::UsedStretch;
 use cs_claim::waits;
+use cs_refused::CheckFault;
 
 /// Whether this reach of a job is far enough on a stretch in use.
 fn is_far_on(case: &Case<'_>, used: &UsedStretch<'_>, number: usize, reach: u16) -> bool

@@ -12,15 +12,12 @@ mod good;
 mod late;
 mod order;
 mod passing;
-#[cfg(test)]
-mod place_tests;
 mod prepare;
 mod promise;
 mod quiet;
 mod rule;
-#[cfg(test)]
-mod tests;
 
 pub use checked::Checked;
 pub use checking::{check, check_parallel};
-pub use fault::{CheckError, CheckFault};
+pub use cs_refused::CheckFault;
+pub use fault::CheckError;

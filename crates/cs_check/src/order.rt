@@ -2,17 +2,17 @@
 ghost use Rattle.std.specs.Prelude.{◌≡◌, All, IfOk, map, option_map};
 ghost use Rattle.cs_cert.specs.Certificate.{content};
 ghost use Rattle.cs_chains.specs.Used.{seen};
-ghost use Rattle.cs_check.specs.Checked.{told};
 ghost use Rattle.cs_check.specs.Stretches.{IsCase, IsInUse, fault_by_windows, later_fault};
 ghost use Rattle.cs_claim.specs.Claim.{as_certificate};
 ghost use Rattle.cs_decl.specs.Plan.{as_plan};
+ghost use Rattle.cs_refused.specs.Told.{told};
 
 use crate::case::Case;
-use crate::fault::CheckFault;
 use crate::found::first_by;
 use crate::late::first_late;
 use crate::rule::Rule;
 use cs_chains::UsedStretch;
+use cs_refused::CheckFault;
 use std::alloc::{AllocError, Global};
 
 /// The first fault by the rules on windows and locks: leaves, collisions, capacity, skip jobs.

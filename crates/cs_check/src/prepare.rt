@@ -7,22 +7,23 @@ ghost use Rattle.cs_check.specs.Checked.{Tells};
 ghost use Rattle.cs_check.specs.ClassDays.{AreClassDays, IsBasis, IsBasisOf};
 ghost use Rattle.cs_check.specs.Stretches.{AreStretches, IsCase, IsCaseOf};
 ghost use Rattle.cs_claim.specs.Claim.{as_certificate};
+ghost use Rattle.cs_claim.specs.Planned.{due_on};
 ghost use Rattle.cs_decl.specs.Plan.{as_plan};
-ghost use Rattle.cs_windows.specs.Planned.{due_on};
 
 use crate::basis::Basis;
 use crate::case::Case;
 use crate::class_day::ClassDay;
-use crate::fault::{CheckError, CheckFault};
+use crate::fault::CheckError;
 use cs_cert::Certificate;
 use cs_chains::{
     UsedStretch, first_missing, first_unlike, first_unlike_parallel, stretch_length, used_stretches,
 };
 use cs_civil::DayKind;
+use cs_claim::occupied;
 use cs_decl::Plan;
+use cs_refused::CheckFault;
 use cs_stretch::Roles;
 use cs_wait::Backlog;
-use cs_windows::occupied;
 use std::alloc::{AllocError, Global};
 use std::thread::Threads;
 

@@ -10,8 +10,6 @@ mod laws;
 mod minute;
 mod order;
 mod sequence;
-#[cfg(test)]
-mod tests;
 mod text;
 
 pub use date::Gregorian;

@@ -2,3 +2,4 @@ pub mod DayMinutes
 pub mod GroupDays
 pub mod Lists
 pub mod Midnight
+pub mod PlannedJobs

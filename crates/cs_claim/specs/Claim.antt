@@ -3,7 +3,7 @@ use Rattle.std.specs.Prelude.{ℕ, [], List, map, slice_index_or}
 use Rattle.cs_cert.specs.declared.class.Class.{Class}
 use Rattle.cs_cert.specs.Content.{Content, StretchTree}
 use Rattle.cs_cert.specs.Certificate as cert
-use Rattle.cs_windows.specs.Planned.{reach_of}
+use Rattle.cs_windows.specs.Reach.{reach_of}
 use Rattle.cs_accepted.specs.Certificate.{Certificate, Stretch}
 
 -- what stands past the last class: nothing is due, and nothing waits

@@ -1,5 +1,6 @@
 pub mod Claim
 pub mod DayMinutes
 pub mod GroupDays
+pub mod Planned
 pub mod Reaches
 pub mod Work

@@ -1,6 +1,3 @@
-pub mod ReadLemmas
-pub mod CommandLineLemmas
 pub mod TextLemmas
-pub mod DayLemmas
 pub mod ReplayLemmas
-pub mod StageLemmas
+pub mod TroubleLemmas

@@ -1,13 +1,10 @@
-pub mod Files
-pub mod CommandLine
-pub mod Asked
 pub mod DayText
 pub mod Response
 pub mod Replay
-pub mod Stages
+pub mod Trouble
+pub mod Reads
+pub mod DayAnswer
+pub mod Replayed
 pub mod Check
 pub mod Call
 pub mod Run
-pub mod Hours
-pub mod Question
-pub mod Words

@@ -1,22 +1,20 @@
 //! The subcommand `day`.
-ghost use Rattle.std.specs.Prelude.{◌≡◌, ◌≢◌, ◌++◌, ◌≤◌, true, IfOk, OnOk, flat_map, length, option_map};
-ghost use Rattle.cs_crontab.specs.declared.limits.TheConstants.{MAX_TABLE};
-ghost use Rattle.cs_crontab.specs.Faults.{Meaning, Means};
-ghost use Rattle.cs_anacrontab.specs.Faults.{Meaning as JobMeaning, Means as MeansJobs};
-ghost use Rattle.cs_cli.specs.Asked.{asked};
-ghost use Rattle.cs_cli.specs.Files.{IsFresh};
-ghost use Rattle.cs_cli.specs.Words.{word_fault};
-ghost use Rattle.cs_cli.specs.Response.{AfterCrontab, AfterJobs, AfterTable, AnswersDay, Reading, TellsFault, TellsJobFault, anacron_text, bad_input, cannot_read, line_text, said_of_jobs, shown, tables_text};
-ghost use Rattle.cs_cli.specs.declared.inputs.ReadFault.TheVariants.{CannotRead as cannot_read_it};
+ghost use Rattle.std.specs.Prelude.{◌≡◌, ◌≢◌, ◌++◌, true, IfErr, IfOk, OnOk, flat_map};
+ghost use Rattle.cs_call.specs.Asked.{asked};
+ghost use Rattle.cs_io.specs.Files.{IsFresh};
+ghost use Rattle.cs_cli.specs.DayAnswer.{AnswersDay, ShowsDay, anacron_text, line_text, shown};
+ghost use Rattle.cs_cli.specs.DayAnswer.{tables_text};
+ghost use Rattle.cs_cli.specs.Trouble.{CameTo, IsHonestOf};
 
-use crate::command_line::DayWords;
 use crate::day_text::{add_catch_up, add_date, add_job};
-use crate::inputs::{Inputs, ReadFault, read_up_to};
-use crate::question::{Question, WordFault};
+use crate::fault::Fault;
+use crate::reads::read_tables;
 use crate::response::Response;
-use cs_anacrontab::{AnacronFault, Anacrontab, Job, read_anacrontab};
-use cs_crontab::{Crontab, Line, MAX_TABLE, TableFault, When, read_crontab};
-use cs_report::warnings;
+use cs_anacrontab::{Anacrontab, Job};
+use cs_call::{DayWords, Question};
+use cs_crontab::{Crontab, Line, When};
+use cs_io::Inputs;
+use cs_warning::warnings;
 use std::alloc::{AllocError, Global};
 
 /// Adds what is printed of a command line.
@@ -95,7 +93,7 @@ fn add_jobs(
 }
 
 /// What `day` prints of both tables.
-#[tactic(auto, unfolding(crate::specs::Response::tables_text))]
+#[tactic(auto, unfolding(crate::specs::DayAnswer::tables_text))]
 fn tables_text(
     alloc: Global,
     lines: &[Line],
@@ -125,128 +123,21 @@ fn show(
     Ok(Response::done(text, warnings))
 }
 
-/// What is answered of a fault of the words.
-fn answer_word(alloc: Global, fault: WordFault) -> Result<Response, AllocError>
-    ensures { IfOk result (λ r. r ≡ bad_input (word_fault fault)) }
-{
-    match fault {
-        WordFault::Date(fault) => {
-            let name = fault.text();
-            let fault = format!(in alloc; "date: {name}")?;
-            Response::bad_input(alloc, fault.as_str())
-        }
-        WordFault::BadMax => Response::bad_input(alloc, "declarations: 6 BadMax"),
-        WordFault::BadHours => Response::bad_input(alloc, "declarations: 12 BadHours"),
-    }
-}
-
-/// What is answered where the crontab could not be read, for a fault of its own.
-pub(crate) fn answer_fault(alloc: Global, fault: TableFault) -> Result<Response, AllocError>
-    ensures { IfOk result (TellsFault fault) }
-{
-    match fault {
-        TableFault::At { line, fault } => {
-            let name = fault.text();
-            let fault = format!(in alloc; "crontab line {line}: {name}")?;
-            Response::bad_input(alloc, fault.as_str())
-        }
-        TableFault::OutOfMemory => Err(AllocError),
-    }
-}
-
-/// What is answered where the anacrontab could not be read, for a fault of its own.
-pub(crate) fn answer_job_fault(alloc: Global, fault: AnacronFault) -> Result<Response, AllocError>
-    ensures { IfOk result (TellsJobFault fault) }
-{
-    match fault {
-        AnacronFault::At { line, fault } => {
-            let name = fault.text();
-            let fault = format!(in alloc; "anacrontab line {line}: {name}")?;
-            Response::bad_input(alloc, fault.as_str())
-        }
-        AnacronFault::OutOfMemory => Err(AllocError),
-    }
-}
-
-/// What is answered of the bytes of an anacrontab.
-fn answer_jobs(
+/// What is answered, file after file.
+fn shown_day<'a, I: Inputs>(
     alloc: Global,
-    question: Question,
-    table: &Crontab,
-    bytes: &[u8],
-) -> Result<Response, AllocError>
-    ensures value { IfOk result (λ r. (meaning : JobMeaning) → MeansJobs bytes.now meaning → r ≡ said_of_jobs question table.now meaning) }
-    ensures status { IfOk result (λ r. r.status ≢ 6) }
-{
-    match read_anacrontab(alloc, bytes) {
-        Ok(jobs) => show(alloc, question, table, &jobs),
-        Err(fault) => answer_job_fault(alloc, fault),
-    }
-}
-
-/// What is answered where a file could not be read.
-fn answer_unread(alloc: Global, path: &str, fault: ReadFault) -> Result<Response, AllocError>
-    ensures { IfOk result (λ r. (fault ≡ cannot_read_it) × (r ≡ cannot_read path.now)) }
-{
-    match fault {
-        ReadFault::CannotRead => Response::cannot_read(alloc, path),
-        ReadFault::OutOfMemory => Err(AllocError),
-    }
-}
-
-/// What is answered once the anacrontab was read, behind a crontab.
-fn answer_anacrontab<I: Inputs>(
-    alloc: Global,
-    question: Question,
-    path: &str,
+    request: &DayWords<'a>,
     inputs: &mut I,
-    table: &Crontab,
-) -> Result<Response, AllocError>
-    ensures value { IsFresh (I.whole inputs.old) (I.left inputs.old)
-        → IfOk result (Reading (I.whole inputs.old) path.now MeansJobs (AfterJobs question table.now (I.failed inputs.old)) (I.failed inputs.new)) }
-    ensures status { IfOk result (λ r. r.status ≡ 6 → I.failed inputs.new ≡ true) }
+) -> Result<Response, Fault<'a>>
+    ensures step { IsFresh (I.whole inputs.old) (I.left inputs.old)
+        → CameTo (ShowsDay (asked request.now) (I.whole inputs.old)
+        (I.failed inputs.old) (I.failed inputs.new)) result }
+    ensures status { IfErr result (IsHonestOf (I.failed inputs.new)) }
+    ensures done { IfOk result (λ r. r.status ≢ 6) }
 {
-    match read_up_to(alloc, inputs, path, MAX_TABLE as u32) {
-        Ok(bytes) => answer_jobs(alloc, question, table, bytes.as_slice()),
-        Err(fault) => answer_unread(alloc, path, fault),
-    }
-}
-
-/// What is answered once the crontab was read.
-fn answer_table<I: Inputs>(
-    alloc: Global,
-    question: Question,
-    anacrontab: Option<&str>,
-    inputs: &mut I,
-    table: &Crontab,
-) -> Result<Response, AllocError>
-    ensures value { IsFresh (I.whole inputs.old) (I.left inputs.old)
-        → IfOk result (AfterTable question (I.whole inputs.old) (option_map (λ path. path.now) anacrontab.entry) table.now (I.failed inputs.old) (I.failed inputs.new)) }
-    ensures status { IfOk result (λ r. r.status ≡ 6 → I.failed inputs.new ≡ true) }
-{
-    match anacrontab {
-        Some(path) => answer_anacrontab(alloc, question, path, inputs, table),
-        None => show(alloc, question, table, &Anacrontab::none(alloc)),
-    }
-}
-
-/// What is answered of the bytes of a crontab, behind which an anacrontab may be read.
-fn answer_crontab<I: Inputs>(
-    alloc: Global,
-    question: Question,
-    anacrontab: Option<&str>,
-    inputs: &mut I,
-    bytes: &[u8],
-) -> Result<Response, AllocError>
-    ensures value { (length bytes.now ≤ MAX_TABLE → IsFresh (I.whole inputs.old) (I.left inputs.old))
-        → IfOk result (λ r. (meaning : Meaning) → Means bytes.now meaning
-        → AfterCrontab question (I.whole inputs.old) (option_map (λ path. path.now) anacrontab.entry) (I.failed inputs.old) meaning (I.failed inputs.new) r) }
-    ensures status { IfOk result (λ r. r.status ≡ 6 → I.failed inputs.new ≡ true) }
-{
-    match read_crontab(alloc, bytes) {
-        Ok(table) => answer_table(alloc, question, anacrontab, inputs, &table),
-        Err(fault) => answer_fault(alloc, fault),
-    }
+    let question = Question::new(request)?;
+    let (table, jobs) = read_tables(alloc, inputs, request.table, request.anacrontab)?;
+    Ok(show(alloc, question, &table, &jobs)?)
 }
 
 /// The answer to `day TABLE DATE MAX [--anacrontab FILE] [--from M] [--to M]`.
@@ -256,21 +147,12 @@ pub(crate) fn day<I: Inputs>(
     inputs: &mut I,
 ) -> Result<Response, AllocError>
     ensures value { IsFresh (I.whole inputs.old) (I.left inputs.old)
-        → IfOk result (AnswersDay (asked request.now) (I.whole inputs.old) (I.failed inputs.old) (I.failed inputs.new)) }
+        → IfOk result (AnswersDay (asked request.now) (I.whole inputs.old)
+        (I.failed inputs.old) (I.failed inputs.new)) }
     ensures status { IfOk result (λ r. r.status ≡ 6 → I.failed inputs.new ≡ true) }
 {
-    let question = match Question::new(request) {
-        Ok(question) => question,
-        Err(fault) => return answer_word(alloc, fault),
-    };
-    match read_up_to(alloc, inputs, request.table, MAX_TABLE as u32) {
-        Ok(bytes) => answer_crontab(
-            alloc,
-            question,
-            request.anacrontab,
-            inputs,
-            bytes.as_slice(),
-        ),
-        Err(fault) => answer_unread(alloc, request.table, fault),
+    match shown_day(alloc, request, inputs) {
+        Ok(answer) => Ok(answer),
+        Err(fault) => fault.response(alloc, b"".as_slice()),
     }
 }

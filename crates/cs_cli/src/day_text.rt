@@ -4,7 +4,7 @@ ghost use Rattle.std.specs.List.{range_with_len};
 ghost use Rattle.cs_civil.specs.Calendar.{kind};
 ghost use Rattle.cs_cli.specs.DayText.{catch_up_text, clock, date_line, days_apart, due_text, end_text, four_days, identifier_line, job_text, start_text, weekday_part, weekday_text, window_text};
 
-use crate::hours::Hours;
+use cs_call::Hours;
 use cs_civil::{Day, DayKind, day_text, kind_of};
 use cs_schedule::Schedule;
 use cs_windows::{Occupied, Window, windows_on};

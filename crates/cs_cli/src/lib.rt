@@ -2,26 +2,16 @@
 #![tactic(auto)]
 
 mod check;
-mod command_line;
 mod day;
 mod day_text;
-mod halt;
-mod hours;
-mod inputs;
-mod machine;
-mod outputs;
-mod question;
+mod fault;
+mod program;
+mod reads;
 mod replay;
 mod replay_text;
 mod response;
 mod run;
-mod stages;
 
-pub use command_line::{CheckWords, DayWords, ReplayWords, Request, UsageFault, parse_words};
-pub use hours::Hours;
-pub use inputs::{CannotRead, Inputs, ReadFault, read_up_to};
-pub use machine::{Machine, run_program};
-pub use outputs::{CannotWrite, Output, Printer};
-pub use question::{Question, WordFault};
+pub use program::run_program;
 pub use response::{Response, Status};
 pub use run::{respond, run_words};

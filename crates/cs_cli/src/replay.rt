@@ -1,225 +1,104 @@
 //! The subcommand `replay`.
-ghost use Rattle.std.specs.Prelude.{◌≡◌, ◌≢◌, IfErr, IfOk, OnOk, Ok, option_map, true};
-ghost use Rattle.cs_decl.specs.Plain.{plain_of};
-ghost use Rattle.cs_report.specs.Script.{numbered_script_of};
-ghost use Rattle.cs_report.specs.Warning.{warnings as warnings_text};
-ghost use Rattle.cs_cli.specs.Asked.{asked_replay};
-ghost use Rattle.cs_cli.specs.Files.{IsFresh};
-ghost use Rattle.cs_cli.specs.Stages.{AfterPlan, AfterTable, AfterTables, AnswersReplay, Came, GivesPlan, GivesScript, IsHonest, IsNoDevice, Replays, Tells, TellsScript, declared_fault, replayed, script_fault, unless_fault};
+ghost use Rattle.std.specs.Prelude.{◌≡◌, ◌≢◌, IfErr, IfOk, OnOk, false, true};
+ghost use Rattle.cs_script.specs.Script.{numbered_script_of};
+ghost use Rattle.cs_call.specs.Asked.{asked_replay};
+ghost use Rattle.cs_io.specs.Files.{IsFresh};
+ghost use Rattle.cs_cli.specs.Reads.{MeansIt};
+ghost use Rattle.cs_cli.specs.Replayed.{AnswersReplay, ReadsPlan, ReadsScript, Replays, replayed};
+ghost use Rattle.cs_cli.specs.Trouble.{CameTo, InScript, IsHonestOf};
 
-use crate::command_line::ReplayWords;
-use crate::halt::Halt;
-use crate::inputs::Inputs;
+use crate::fault::Fault;
+use crate::reads::{bytes_at, declared_plan_from, read_tables};
 use crate::replay_text::replay_text;
 use crate::response::Response;
-use crate::stages::{answer_declared, declared_plan, halt, some_jobs, table_at, text_at};
 use cs_anacrontab::Anacrontab;
+use cs_call::ReplayWords;
 use cs_civil::Bytes;
 use cs_crontab::Crontab;
 use cs_decl::Plan;
-use cs_report::{
-    MAX_SCRIPT, NumberedScript, ScriptError, ScriptFault, read_numbered_script, warnings,
-};
+use cs_io::Inputs;
+use cs_script::{MAX_SCRIPT, NumberedScript, read_numbered_script};
+use cs_warning::warnings;
 use std::alloc::{AllocError, Global};
 
-/// The plan of both tables with one longest time.
-fn plain_plan(
+/// The plan of both tables: as it is declared, or with one longest time.
+fn plan_from<'a, I: Inputs>(
     alloc: Global,
-    warnings: &[u8],
+    inputs: &mut I,
+    request: &ReplayWords<'a>,
     table: Crontab,
     jobs: Anacrontab,
-    max: u64,
-) -> Result<Plan, Halt>
-    ensures value { Came (λ r. r ≡ unless_fault warnings.now declared_fault (plain_of table jobs max)) result }
-    ensures status { IfErr result IsNoDevice }
+) -> Result<Plan, Fault<'a>>
+    ensures step { IsFresh (I.whole inputs.old) (I.left inputs.old)
+        → CameTo (ReadsPlan (I.whole inputs.old) (table, jobs) request.now.max
+        (asked_replay request.now).declarations
+        (I.failed inputs.old) (I.failed inputs.new)) result }
+    ensures works { OnOk result (I.failed inputs.new ≡ I.failed inputs.old) }
+    ensures whole { I.whole inputs.new ≡ I.whole inputs.old }
+    ensures fresh { OnOk result (IsFresh (I.whole inputs.old) (I.left inputs.old)
+        → IsFresh (I.whole inputs.new) (I.left inputs.new)) }
+    ensures status { IfErr result (IsHonestOf (I.failed inputs.new)) }
 {
-    match Plan::plain(alloc, table, jobs, max) {
-        Ok(plan) => Ok(plan),
-        Err(error) => Err(halt(answer_declared(alloc, warnings, &error))),
-    }
-}
-
-/// What is told of a fault of a script.
-fn script_text(alloc: Global, line: u32, fault: ScriptFault) -> Result<Vec<u8>, AllocError>
-    ensures { IfOk result (λ text. text.items ≡ script_fault (line, fault)) }
-{
-    let mut text = Vec::from_slice(alloc, b"script line ".as_slice())?;
-    text.extend_from_slice(line.to_string(alloc)?.as_bytes())?;
-    text.extend_from_slice(b": ")?;
-    text.extend_from_slice(fault.text().as_bytes())?;
-    Ok(text)
-}
-
-/// What is answered of a fault of a script.
-fn answer_script(alloc: Global, warnings: &[u8], error: ScriptError) -> Result<Response, AllocError>
-    ensures { IfOk result (TellsScript warnings.now error) }
-{
-    match error {
-        ScriptError::At { line, fault } => Response::bad_input_behind(
-            alloc,
-            warnings,
-            script_text(alloc, line, fault)?.as_slice(),
-        ),
-        ScriptError::OutOfMemory => Err(AllocError),
+    match request.declarations {
+        Some(path) => declared_plan_from(alloc, inputs, path, table, jobs),
+        None => Ok(Plan::plain(alloc, table, jobs, request.max)?),
     }
 }
 
 /// The script that the bytes denote under the plan.
-fn script_of(
-    alloc: Global,
-    warnings: &[u8],
-    plan: &Plan,
-    bytes: &[u8],
-) -> Result<NumberedScript, Halt>
-    ensures value { Tells (λ bytes s. numbered_script_of plan.now bytes ≡ s) warnings.now script_fault bytes.now result }
-    ensures status { IfErr result IsNoDevice }
+fn script_in<'a>(alloc: Global, plan: &Plan, bytes: &[u8]) -> Result<NumberedScript, Fault<'a>>
+    ensures value { MeansIt (λ bytes s. numbered_script_of plan.now bytes ≡ s) InScript
+        bytes.now result }
+    ensures status { IfErr result (IsHonestOf false) }
 {
     match read_numbered_script(alloc, plan, bytes) {
         Ok(script) => Ok(script),
-        Err(error) => Err(halt(answer_script(alloc, warnings, error))),
+        Err(error) => Err(Fault::Script(error)),
     }
 }
 
 /// The script at a path.
-fn script_at<I: Inputs>(
+fn script_from<'a, I: Inputs>(
     alloc: Global,
     inputs: &mut I,
-    path: &str,
-    warnings: &[u8],
+    path: &'a str,
     plan: &Plan,
-) -> Result<NumberedScript, Halt>
-    ensures step { IsFresh (I.whole inputs.old) (I.left inputs.old) → Came (GivesScript (I.whole inputs.old) warnings.now plan.now path.now (I.failed inputs.old) (I.failed inputs.new)) result }
+) -> Result<NumberedScript, Fault<'a>>
+    ensures step { IsFresh (I.whole inputs.old) (I.left inputs.old)
+        → CameTo (ReadsScript (I.whole inputs.old) plan.now path.now
+        (I.failed inputs.old) (I.failed inputs.new)) result }
     ensures works { OnOk result (I.failed inputs.new ≡ I.failed inputs.old) }
-    ensures status { IfErr result (IsHonest (I.failed inputs.new)) }
+    ensures status { IfErr result (IsHonestOf (I.failed inputs.new)) }
 {
-    match text_at(alloc, inputs, path, warnings, MAX_SCRIPT as u32) {
-        Ok(bytes) => script_of(alloc, warnings, plan, bytes.as_slice()),
-        Err(halt) => Err(halt),
-    }
-}
-
-/// The plan of both tables: as it is declared, or with one longest time.
-fn some_plan<I: Inputs>(
-    alloc: Global,
-    inputs: &mut I,
-    request: &ReplayWords<'_>,
-    warnings: &[u8],
-    table: Crontab,
-    jobs: Anacrontab,
-) -> Result<Plan, Halt>
-    ensures step { IsFresh (I.whole inputs.old) (I.left inputs.old) → Came (GivesPlan (I.whole inputs.old) warnings.now table jobs request.now.max (asked_replay request.now).declarations (I.failed inputs.old) (I.failed inputs.new)) result }
-    ensures works { OnOk result (I.failed inputs.new ≡ I.failed inputs.old) }
-    ensures whole { I.whole inputs.new ≡ I.whole inputs.old }
-    ensures fresh { OnOk result (IsFresh (I.whole inputs.old) (I.left inputs.old) → IsFresh (I.whole inputs.new) (I.left inputs.new)) }
-    ensures status { IfErr result (IsHonest (I.failed inputs.new)) }
-{
-    match request.declarations {
-        Some(path) => declared_plan(alloc, inputs, path, warnings, table, jobs),
-        None => plain_plan(alloc, warnings, table, jobs, request.max),
-    }
+    let bytes = bytes_at(alloc, inputs, path, MAX_SCRIPT as u32)?;
+    script_in(alloc, plan, bytes.as_slice())
 }
 
 /// What is answered of a script that was read.
-fn show(
-    alloc: Global,
-    warnings: Bytes,
-    plan: &Plan,
-    script: NumberedScript,
-) -> Result<Response, Halt>
-    ensures value { Came (λ r. r ≡ Ok (replayed warnings plan.now script)) result }
-    ensures status { IfErr result IsNoDevice }
-    ensures done { IfOk result (λ r. r.status ≢ 6) }
+fn show(alloc: Global, plan: &Plan, script: NumberedScript) -> Result<Response, AllocError>
+    ensures { IfOk result (λ answer. answer ≡ replayed plan.now script) }
 {
     let (text, refused) = replay_text(alloc, plan, script)?;
-    Ok(Response::replayed(text, refused, warnings))
-}
-
-/// What is answered once there is a plan.
-fn with_plan<I: Inputs>(
-    alloc: Global,
-    inputs: &mut I,
-    request: &ReplayWords<'_>,
-    warnings: Bytes,
-    plan: &Plan,
-) -> Result<Response, Halt>
-    ensures step { IsFresh (I.whole inputs.old) (I.left inputs.old) → Came (AfterPlan (asked_replay request.now) (I.whole inputs.old) warnings plan.now (I.failed inputs.old) (I.failed inputs.new)) result }
-    ensures status { IfErr result (IsHonest (I.failed inputs.new)) }
-    ensures done { IfOk result (λ r. r.status ≢ 6) }
-{
-    match script_at(alloc, inputs, request.script, warnings.as_slice(), plan) {
-        Ok(script) => show(alloc, warnings, plan, script),
-        Err(halt) => Err(halt),
-    }
-}
-
-/// What is answered once both tables were read, with their warnings.
-fn with_warnings<I: Inputs>(
-    alloc: Global,
-    inputs: &mut I,
-    request: &ReplayWords<'_>,
-    warnings: Bytes,
-    table: Crontab,
-    jobs: Anacrontab,
-) -> Result<Response, Halt>
-    ensures step { IsFresh (I.whole inputs.old) (I.left inputs.old) → Came (AfterTables (asked_replay request.now) (I.whole inputs.old) warnings table jobs (I.failed inputs.old) (I.failed inputs.new)) result }
-    ensures status { IfErr result (IsHonest (I.failed inputs.new)) }
-    ensures done { IfOk result (λ r. r.status ≢ 6) }
-{
-    match some_plan(alloc, inputs, request, warnings.as_slice(), table, jobs) {
-        Ok(plan) => with_plan(alloc, inputs, request, warnings, &plan),
-        Err(halt) => Err(halt),
-    }
+    Ok(Response::replayed(text, refused, Bytes::new(alloc)))
 }
 
 /// What is answered once both tables were read.
-fn with_tables<I: Inputs>(
+fn tried<'a, I: Inputs>(
     alloc: Global,
     inputs: &mut I,
-    request: &ReplayWords<'_>,
+    request: &ReplayWords<'a>,
     table: Crontab,
     jobs: Anacrontab,
-) -> Result<Response, Halt>
-    ensures step { IsFresh (I.whole inputs.old) (I.left inputs.old) → Came (AfterTables (asked_replay request.now) (I.whole inputs.old) (warnings_text table.settings jobs.settings) table jobs (I.failed inputs.old) (I.failed inputs.new)) result }
-    ensures status { IfErr result (IsHonest (I.failed inputs.new)) }
+) -> Result<Response, Fault<'a>>
+    ensures step { IsFresh (I.whole inputs.old) (I.left inputs.old)
+        → CameTo (Replays (I.whole inputs.old) (asked_replay request.now) (table, jobs)
+        (I.failed inputs.old) (I.failed inputs.new)) result }
+    ensures status { IfErr result (IsHonestOf (I.failed inputs.new)) }
     ensures done { IfOk result (λ r. r.status ≢ 6) }
 {
-    match warnings(alloc, &table, &jobs) {
-        Ok(warnings) => with_warnings(alloc, inputs, request, warnings, table, jobs),
-        Err(_) => Err(Halt::OutOfMemory),
-    }
-}
-
-/// What is answered once the crontab was read.
-fn with_table<I: Inputs>(
-    alloc: Global,
-    inputs: &mut I,
-    request: &ReplayWords<'_>,
-    table: Crontab,
-) -> Result<Response, Halt>
-    ensures step { IsFresh (I.whole inputs.old) (I.left inputs.old) → Came (AfterTable (asked_replay request.now) (I.whole inputs.old) table (I.failed inputs.old) (I.failed inputs.new)) result }
-    ensures status { IfErr result (IsHonest (I.failed inputs.new)) }
-    ensures done { IfOk result (λ r. r.status ≢ 6) }
-{
-    match some_jobs(alloc, inputs, request.anacrontab) {
-        Ok(jobs) => with_tables(alloc, inputs, request, table, jobs),
-        Err(halt) => Err(halt),
-    }
-}
-
-/// What is answered, file after file.
-fn replay_files<I: Inputs>(
-    alloc: Global,
-    inputs: &mut I,
-    request: &ReplayWords<'_>,
-) -> Result<Response, Halt>
-    ensures step { IsFresh (I.whole inputs.old) (I.left inputs.old) → Came (Replays (asked_replay request.now) (I.whole inputs.old) (I.failed inputs.old) (I.failed inputs.new)) result }
-    ensures status { IfErr result (IsHonest (I.failed inputs.new)) }
-    ensures done { IfOk result (λ r. r.status ≢ 6) }
-{
-    match table_at(alloc, inputs, request.table) {
-        Ok(table) => with_table(alloc, inputs, request, table),
-        Err(halt) => Err(halt),
-    }
+    let plan = plan_from(alloc, inputs, request, table, jobs)?;
+    let script = script_from(alloc, inputs, request.script, &plan)?;
+    Ok(show(alloc, &plan, script)?)
 }
 
 /// The answer to `replay TABLE SCRIPT [--max N] [--anacrontab FILE] [--declarations FILE]`.
@@ -229,12 +108,17 @@ pub(crate) fn replay<I: Inputs>(
     inputs: &mut I,
 ) -> Result<Response, AllocError>
     ensures value { IsFresh (I.whole inputs.old) (I.left inputs.old)
-        → IfOk result (AnswersReplay (asked_replay request.now) (I.whole inputs.old) (I.failed inputs.old) (I.failed inputs.new)) }
+        → IfOk result (AnswersReplay (asked_replay request.now) (I.whole inputs.old)
+        (I.failed inputs.old) (I.failed inputs.new)) }
     ensures status { IfOk result (λ r. r.status ≡ 6 → I.failed inputs.new ≡ true) }
 {
-    match replay_files(alloc, inputs, request) {
-        Ok(response) => Ok(response),
-        Err(Halt::Ends(response)) => Ok(response),
-        Err(Halt::OutOfMemory) => Err(AllocError),
+    let (table, jobs) = match read_tables(alloc, inputs, request.table, request.anacrontab) {
+        Ok(tables) => tables,
+        Err(fault) => return fault.response(alloc, b"".as_slice()),
+    };
+    let warnings = warnings(alloc, &table, &jobs)?;
+    match tried(alloc, inputs, request, table, jobs) {
+        Ok(answer) => Ok(answer.behind(warnings)),
+        Err(fault) => fault.response(alloc, warnings.as_slice()),
     }
 }

@@ -8,7 +8,7 @@ use cs_civil::date_text;
 use cs_core::Core;
 use cs_decl::Plan;
 use cs_history::{Event, Refusal, Reply};
-use cs_report::{NumberedScript, push_reply};
+use cs_script::{NumberedScript, push_reply};
 use std::alloc::{AllocError, Global};
 
 /// Tries an event. The only error is want of memory.

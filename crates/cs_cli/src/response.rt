@@ -1,6 +1,6 @@
 //! What a call of the program writes, and the status that it ends with.
-ghost use Rattle.std.specs.Prelude.{◌≡◌, ◌++◌, [], IfOk, if◌then◌else◌, string_bytes};
-ghost use Rattle.cs_cli.specs.Response.{bad_input, bad_input_behind, cannot_read, cannot_read_behind, complaint, done, status_of};
+ghost use Rattle.std.specs.Prelude.{◌≡◌, ◌++◌, [], IfOk, if◌then◌else◌};
+ghost use Rattle.cs_cli.specs.Response.{complaint, done, status_of};
 
 use cs_civil::Bytes;
 use std::alloc::{AllocError, Global};
@@ -99,48 +99,6 @@ impl Response {
         }
     }
 
-    /// The words or a file hold a fault.
-    pub(crate) fn bad_input(alloc: Global, fault: &str) -> Result<Response, AllocError>
-        ensures { IfOk result (λ r. r ≡ bad_input fault.now) }
-    {
-        Ok(Response {
-            ends: Status::BadInput,
-            shown: Bytes::new(alloc),
-            told: complaint(alloc, fault)?,
-        })
-    }
-
-    /// The same, behind what is to be warned of.
-    pub(crate) fn bad_input_behind(
-        alloc: Global,
-        warnings: &[u8],
-        fault: &[u8],
-    ) -> Result<Response, AllocError>
-        ensures { IfOk result (λ r. r ≡ bad_input_behind warnings.now fault.now) }
-    {
-        Ok(Response {
-            ends: Status::BadInput,
-            shown: Bytes::new(alloc),
-            told: complaint_behind(alloc, warnings, fault)?,
-        })
-    }
-
-    /// A file could not be read, and this is to be warned of.
-    pub(crate) fn cannot_read_behind(
-        alloc: Global,
-        warnings: &[u8],
-        path: &str,
-    ) -> Result<Response, AllocError>
-        ensures { IfOk result (λ r. r ≡ cannot_read_behind warnings.now path.now) }
-    {
-        let fault = format!(in alloc; "can't read {path}")?;
-        Ok(Response {
-            ends: Status::DeviceFailed,
-            shown: Bytes::new(alloc),
-            told: complaint_behind(alloc, warnings, fault.as_bytes())?,
-        })
-    }
-
     /// A script was replayed: what is told of it, whether an event was refused, and what is to be warned of.
     pub(crate) fn replayed(text: Vec<u8>, refused: bool, warnings: Bytes) -> Response
         ensures { result ≡ record { status = if refused then 1 else 0; out = text.items; err = warnings } }
@@ -168,15 +126,30 @@ impl Response {
         }
     }
 
-    /// A file could not be read.
-    pub(crate) fn cannot_read(alloc: Global, path: &str) -> Result<Response, AllocError>
-        ensures { IfOk result (λ r. r ≡ cannot_read path.now) }
+    /// The same, behind what is to be warned of.
+    pub(crate) fn behind(self, warnings: Bytes) -> Response
+        ensures { result ≡ record self { err = warnings } }
     {
-        let fault = format!(in alloc; "can't read {path}")?;
+        Response {
+            ends: self.ends,
+            shown: self.shown,
+            told: warnings,
+        }
+    }
+
+    /// A fault ended the call with this status, behind what is to be warned of.
+    pub(crate) fn fault(
+        alloc: Global,
+        status: Status,
+        warnings: &[u8],
+        fault: &[u8],
+    ) -> Result<Response, AllocError>
+        ensures { IfOk result (λ r. r ≡ record { status = status_of status; out = []; err = warnings.now ++ complaint fault.now }) }
+    {
         Ok(Response {
-            ends: Status::DeviceFailed,
+            ends: status,
             shown: Bytes::new(alloc),
-            told: complaint(alloc, fault.as_str())?,
+            told: complaint_behind(alloc, warnings, fault)?,
         })
     }
 }
@@ -191,13 +164,4 @@ fn complaint_behind(alloc: Global, warnings: &[u8], fault: &[u8]) -> Result<Byte
     text.extend_from_slice(fault)?;
     text.extend_from_slice(b"\n")?;
     Ok(Bytes::from_vec(text))
-}
-
-/// The line of a fault.
-#[tactic(auto, unfolding(crate::specs::Response::complaint))]
-fn complaint(alloc: Global, fault: &str) -> Result<Bytes, AllocError>
-    ensures { IfOk result (λ line. line ≡ complaint fault.now) }
-{
-    let line = format!(in alloc; "cronsafe: {fault}\n")?;
-    Ok(Bytes::from_vec(line.into_bytes()))
 }

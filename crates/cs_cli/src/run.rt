@@ -1,18 +1,18 @@
 //! The program, as a function of its words, its inputs and two outputs.
-ghost use Rattle.std.specs.Prelude.{◌≡◌, ◌⊎◌, true, IfOk, map};
-ghost use Rattle.cs_cli.specs.Files.{IsFresh};
+ghost use Rattle.std.specs.Prelude.{◌≡◌, ◌⊎◌, [], true, IfOk, map};
+ghost use Rattle.cs_io.specs.Files.{IsFresh};
 ghost use Rattle.cs_cli.specs.Call.{Answers};
 ghost use Rattle.cs_cli.specs.Run.{Ends, Runs, Writes};
-ghost use Rattle.cs_cli.specs.Response.{status_of};
+ghost use Rattle.cs_call.specs.Version.{version_text};
+ghost use Rattle.cs_cli.specs.Response.{done, status_of};
 
 use crate::check::check_certificate;
-use crate::command_line::{Request, UsageFault, parse_words};
 use crate::day::day;
-use crate::inputs::Inputs;
-use crate::outputs::{CannotWrite, Output};
 use crate::replay::replay;
 use crate::response::{Response, Status};
+use cs_call::{Request, UsageFault, parse_words, version_text};
 use cs_civil::Bytes;
+use cs_io::{CannotWrite, Inputs, Output};
 use std::alloc::{AllocError, Global};
 use std::convert::AsStr;
 use std::thread::Threads;
@@ -35,9 +35,18 @@ pub fn respond<R: Threads + Sync, S: AsStr, I: Inputs>(
         Ok(Request::Replay(request)) => replay(alloc, &request, inputs),
         Ok(Request::Check(request)) => check_certificate(rt, alloc, &request, inputs),
         Err(UsageFault::Help(text)) => Ok(Response::done(text.into_bytes(), Bytes::new(alloc))),
+        Err(UsageFault::Version) => show_version(alloc),
         Err(UsageFault::NoCall(text)) => Ok(Response::no_call(alloc, text.into_bytes())),
         Err(UsageFault::OutOfMemory) => Err(AllocError),
     }
+}
+
+/// What is answered where the version is asked for.
+fn show_version(alloc: Global) -> Result<Response, AllocError>
+    ensures { IfOk result (λ r. r ≡ done version_text []) }
+{
+    let text = Vec::from_slice(alloc, version_text().as_bytes())?;
+    Ok(Response::done(text, Bytes::new(alloc)))
 }
 
 /// Writes a text to standard error. What it does not take is lost.
@@ -64,7 +73,7 @@ fn finish<O: Output, E: Output>(response: &Response, out: &mut O, err: &mut E) -
 }
 
 /// Runs the program on its words, of which the first is its name, and gives the status that the
-/// process ends with: 0 done, safe or help, 1 an event or a certificate was refused, 3 a fault in the words or in a file, 4 no call, 5 want of
+/// process ends with: 0 done, safe, help or the version, 1 an event or a certificate was refused, 3 a fault in the words or in a file, 4 no call, 5 want of
 /// memory, 6 a file that can't be read or standard output that can't be written.
 pub fn run_words<R: Threads + Sync, S: AsStr, I: Inputs, O: Output, E: Output>(
     rt: &R,

@@ -11,8 +11,6 @@ mod name;
 mod reader;
 pub mod setting;
 mod table;
-#[cfg(test)]
-mod tests;
 pub mod text;
 mod word;
 

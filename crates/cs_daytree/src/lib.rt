@@ -2,8 +2,6 @@
 #![tactic(auto)]
 
 mod possible;
-#[cfg(test)]
-mod tests;
 mod tree;
 
 pub use tree::{DayTree, KindPart};

@@ -17,8 +17,6 @@ mod plan;
 mod reading;
 mod rows;
 mod terms;
-#[cfg(test)]
-mod tests;
 mod twice;
 
 pub use declarations::{Declarations, read_declarations};

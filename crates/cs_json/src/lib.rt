@@ -5,8 +5,6 @@ mod fault;
 mod members;
 mod parsing;
 mod reading;
-#[cfg(test)]
-mod tests;
 mod tuples;
 mod writing;
 

@@ -1,7 +1,8 @@
 //! Files and outputs that fail.
 use crate::files::{File, Files, readable};
-use crate::runs::run;
-use cs_cli::{Printer, run_words};
+use crate::runs::{run, run_on};
+use cs_cli::run_words;
+use cs_io::Printer;
 use std::io::Cursor;
 use std::test::Fail;
 use std::thread::Threads;
@@ -15,12 +16,10 @@ fn unreadable_files(rt: HostRuntime) -> Result<(), Fail> {
         bytes,
         is_broken: true,
     };
-    let absent = [readable("-", b""), readable("job", b"")];
     let at_once = [broken(b"".as_slice())];
     let behind_a_line = [broken(b"0 12 * * * a\n".as_slice())];
     let behind_a_fault = [broken(b"60 * * * * a\n".as_slice())];
     for files in [
-        absent.as_slice(),
         at_once.as_slice(),
         behind_a_line.as_slice(),
         behind_a_fault.as_slice(),
@@ -37,6 +36,49 @@ fn unreadable_files(rt: HostRuntime) -> Result<(), Fail> {
         );
     }
     Ok(())
+}
+
+/// An anacrontab that can't be read to its end.
+#[test]
+fn unreadable_anacrontab(rt: HostRuntime) -> Result<(), Fail> {
+    let files = [
+        readable("table", b"CRON_TZ=UTC\n0 0 * * * a\n"),
+        File {
+            path: "jobs",
+            bytes: b"1 0 a b\n",
+            is_broken: true,
+        },
+    ];
+    let line = "cronsafe day table 2024-09-13 60 --anacrontab jobs";
+    let ran = run(&rt, line, files.as_slice())?;
+    assert!(rt; ran.is(6, b"".as_slice(), b"cronsafe: can't read jobs\n".as_slice()));
+    Ok(())
+}
+
+/// A file of which each read gives a byte.
+#[test]
+fn one_byte_at_a_time(rt: HostRuntime) {
+    let files = [
+        readable("-", b"60 * * * * a"),
+        readable("jobs", b"0 6 * * * a\n"),
+        readable("jobs.old", b"0 7 * * * a\n"),
+    ];
+    let mut inputs = Files::new(files.as_slice(), 1);
+    let ran = run_on(&rt, CALL.as_slice(), &mut inputs);
+    let shown = b"2024-09-13 Fri\nline 1: due 1\n  06:00 to 07:00\n".as_slice();
+    assert!(rt; ran.is(0, shown, b"".as_slice()));
+}
+
+/// A call without any word, not even the program's name.
+#[test]
+fn no_words(rt: HostRuntime) {
+    let no_words: [&str; 0] = [];
+    let ran = run_on(
+        &rt,
+        no_words.as_slice(),
+        &mut Files::new([].as_slice(), 4_096),
+    );
+    assert!(rt; ran.status == 4 && ran.out.is_empty() && !ran.err.is_empty());
 }
 
 /// Runs `cronsafe day jobs 2024-09-13 60` with room for so many bytes on the two outputs, and

@@ -1,7 +1,7 @@
 //! Files in memory, as the inputs of the program.
 ghost use Rattle.std.specs.Prelude.{◌≡◌, ◌≤◌, IfOk, length};
 
-use cs_cli::{CannotRead, Inputs};
+use cs_io::{CannotRead, Inputs};
 
 /// A file: its path, its bytes, and whether a read behind its last byte fails.
 #[derive(Clone, Copy)]

@@ -1,6 +1,7 @@
 //! Refused growths of memory.
 use crate::files::{Files, readable};
-use cs_cli::{Printer, run_words};
+use cs_cli::run_words;
+use cs_io::Printer;
 use short_memory::Hoard;
 use std::io::Cursor;
 use std::process::Abort;
@@ -48,9 +49,9 @@ fn run_in<R: Threads + Sync + AllocGlobal>(
     )
 }
 
-/// Runs a call again and again, with hardly any memory at first and `step` bytes more each time. Each
-/// run has to say that memory ran out and nothing else, until one has another answer: this one,
-/// and how often memory ran out before.
+/// Runs a call again and again, with hardly any memory at first and `step` bytes more each time.
+/// Each run has to say that memory ran out and nothing else, until one has another answer: this
+/// one, and how often memory ran out before.
 fn run_starved<R: Abort + AllocGlobal + Threads + Sync>(
     rt: &R,
     words: &[&str],
@@ -181,7 +182,8 @@ fn refused_growths_of_help(rt: HostRuntime) -> Result<(), Fail> {
     Ok(())
 }
 
-/// A call, how many bytes more it has each time, and the answer: a safe plan, a refused one, a certificate with a fault, and a script.
+/// A call, how many bytes more it has each time, and the answer: a safe plan, a refused one, a
+/// certificate with a fault, and a script.
 const STEPPED: [(&str, usize, u8, &[u8], &[u8]); 4] = [
     ("cronsafe check nightly terms cert", 64, 0, b"safe\n", b""),
     (

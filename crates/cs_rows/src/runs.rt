@@ -1,6 +1,7 @@
 //! A call of the program, and what it gave.
 use crate::files::{File, Files, readable};
-use cs_cli::{Inputs, Printer, run_words};
+use cs_cli::run_words;
+use cs_io::{Inputs, Printer};
 use std::test::Fail;
 use std::thread::Threads;
 
@@ -58,16 +59,4 @@ pub(crate) fn run_day<R: Threads + Sync + AllocGlobal>(
     let files = [readable("-", table)];
     let mut inputs = Files::new(files.as_slice(), 4_096);
     run_on(rt, words.as_slice(), &mut inputs)
-}
-
-/// Runs the program on the words of a command line, over a crontab on standard input and an
-/// anacrontab `jobs`.
-pub(crate) fn run_both<R: Threads + Sync + AllocGlobal>(
-    rt: &R,
-    line: &str,
-    crontab: &[u8],
-    anacrontab: &[u8],
-) -> Result<Ran, Fail> {
-    let files = [readable("-", crontab), readable("jobs", anacrontab)];
-    run(rt, line, files.as_slice())
 }

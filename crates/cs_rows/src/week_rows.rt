@@ -1,5 +1,6 @@
 //! A week of a small server, told by `replay`.
-use crate::replay_rows::replayed;
+use crate::files::readable;
+use crate::runs::run;
 use std::alloc::{AllocError, Global};
 use std::test::Fail;
 
@@ -14,11 +15,12 @@ const TABLE: &[u8] =
 
 const TERMS: &[u8] =
     b"{\"capacity\":4,\"groups\":[{\"name\":\"disk\",\"exclusive\":true}],\"cron\":[\
-    {\"line\":6,\"max\":5},{\"line\":7,\"max\":10},{\"line\":8,\"max\":60,\"group\":\"disk\",\"mode\":\"wait\"},\
+    {\"line\":6,\"max\":5},{\"line\":7,\"max\":10},\
+    {\"line\":8,\"max\":60,\"group\":\"disk\",\"mode\":\"wait\"},\
     {\"line\":9,\"max\":60,\"group\":\"disk\",\"mode\":\"wait\"}]}";
 
-/// The command's line, the minutes from when it is due until its run ends, and what its `begin` comes to: the cleaning on
-/// Sunday is due while the backup holds the lock.
+/// The command's line, the minutes from when it is due until its run ends, and what its `begin`
+/// comes to: the cleaning on Sunday is due while the backup holds the lock.
 const COMMANDS: [(u64, u64, &str); 4] = [
     (6, 1, "started"),
     (7, 2, "started"),
@@ -26,7 +28,8 @@ const COMMANDS: [(u64, u64, &str); 4] = [
     (9, 35, "waiting"),
 ];
 
-/// Whether the command of that line is due at a minute of the week, which begins on Monday at 00:00.
+/// Whether the command of that line is due at a minute of the week, which begins on Monday at
+/// 00:00.
 fn is_due(line: u64, minute: u64) -> bool {
     let clock = minute % 1_440;
     match line {
@@ -92,7 +95,8 @@ impl Story {
         Ok(())
     }
 
-    /// The minute, and what ends and begins at it. The cleaning gets its lock at 03:10, when the backup has ended.
+    /// The minute, and what ends and begins at it. The cleaning gets its lock at 03:10, when the
+    /// backup has ended.
     fn add_minute(&mut self, alloc: Global, minute: u64) -> Result<(), AllocError> {
         self.add_at(alloc, "minute", minute, "clock")?;
         self.add_ends(alloc, minute)?;
@@ -131,9 +135,10 @@ fn week(alloc: Global) -> Result<Story, AllocError> {
     Ok(story)
 }
 
-/// No event of the week is refused. By the table 672 checks are due, 168 rotations, 7 backups and 1 cleaning, of which 11 checks
-/// and 3 rotations fall into the outage: that is 834 runs, with a begin and an end each. Of the 10,080 minutes 160 fall
-/// into the outage. With the start, the outage, the return and the lock that is got, the script has 11,592 lines.
+/// No event of the week is refused. By the table 672 checks are due, 168 rotations, 7 backups and
+/// 1 cleaning, of which 11 checks and 3 rotations fall into the outage: that is 834 runs, with a
+/// begin and an end each. Of the 10,080 minutes 160 fall into the outage. With the start, the
+/// outage, the return and the lock that is got, the script has 11,592 lines.
 #[test]
 fn week_of_a_server(rt: HostRuntime) -> Result<(), Fail> {
     let mut week = week(rt.alloc())?;
@@ -143,13 +148,13 @@ fn week_of_a_server(rt: HostRuntime) -> Result<(), Fail> {
     );
     week.told
         .push_str("up 2024-03-17 23:59, pending 0, waiting 0, running 0\n")?;
-    let ran = replayed(
-        &rt,
-        " --declarations terms",
-        TABLE,
-        (b"", TERMS),
-        week.script.as_bytes(),
-    )?;
+    let files = [
+        readable("table", TABLE),
+        readable("terms", TERMS),
+        readable("script", week.script.as_bytes()),
+    ];
+    let line = "cronsafe replay table script --declarations terms";
+    let ran = run(&rt, line, files.as_slice())?;
     assert!(rt; ran.is(0, week.told.as_bytes(), b"".as_slice()));
     assert_eq!(rt;
         ran.out.iter().filter(|byte| **byte == b'\n').count(),

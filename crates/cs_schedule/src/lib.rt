@@ -6,8 +6,6 @@ mod minute_set;
 mod numbers;
 mod part;
 mod schedule;
-#[cfg(test)]
-mod tests;
 
 pub use field::Field;
 pub use minute_set::{MINUTES_OF_BLOCK, MinuteSet, Minutes};

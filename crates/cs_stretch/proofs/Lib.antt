@@ -1,4 +1,3 @@
-pub mod Firsts
 pub mod KeptWindows
 pub mod MostWeights
 pub mod PlanRoles

@@ -4,8 +4,6 @@
 mod arrivals;
 mod backlog;
 mod stretch;
-#[cfg(test)]
-mod tests;
 
 pub use arrivals::{Arrivals, step_ok, steps_within};
 pub use backlog::{Backlog, BadPiece, MAX_BACKLOG, MINUTES_OF_DAY, Piece};

@@ -2,7 +2,6 @@ pub mod Exact
 pub mod Joined
 pub mod Members
 pub mod Minutes
-pub mod PlannedJobs
 pub mod Rising
 pub mod Starts
 pub mod Touching

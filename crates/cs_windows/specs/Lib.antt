@@ -1,6 +1,6 @@
 pub mod Entries
 pub mod Occupied
-pub mod Planned
+pub mod Reach
 pub mod Starter
 pub mod Tree
 pub mod Window

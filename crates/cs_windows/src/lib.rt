@@ -4,18 +4,14 @@
 mod day_lists;
 mod job_windows;
 mod list;
-mod planned;
 mod reach;
 mod starter;
-#[cfg(test)]
-mod tests;
 mod tree;
 mod window;
 
 pub use day_lists::windows_over;
 pub use job_windows::Occupied;
 pub use list::windows_on;
-pub use planned::occupied;
 pub use reach::{JobReach, reach_of};
 pub use tree::{Entry, LeafAt, MinuteTree, lists};
 pub use window::{MINUTES_OF_DAY, Window, touches};

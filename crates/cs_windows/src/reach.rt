@@ -1,5 +1,5 @@
 ghost use Rattle.std.specs.Prelude.{◌≡◌};
-ghost use Rattle.cs_windows.specs.Planned.{reach_of};
+ghost use Rattle.cs_windows.specs.Reach.{reach_of};
 
 /// How long a run of a job that waits for a lock may go on after it was due: one due in minute d holds no minute from
 /// d + reach on. A certificate lists one for each of its jobs that take a lock and may have to wait.

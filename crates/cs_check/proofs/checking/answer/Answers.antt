@@ -3,7 +3,7 @@ use Rattle.cs_accepted.specs.Certificate.{Stretch}
 use Rattle.cs_cert.specs.Certificate.{content}
 use Rattle.cs_claim.specs.Claim.{as_certificate}
 use Rattle.cs_decl.specs.Plan.{as_plan}
-use Rattle.cs_check.specs.Checked.{told}
+use Rattle.cs_refused.specs.Told.{told}
 use Rattle.cs_check.specs.Stretches.{later_fault}
 use Rattle.cs_check.proofs.Acceptance.{quiet_is_none}
 use Rattle.cs_check.proofs.Firsts.{others_last}

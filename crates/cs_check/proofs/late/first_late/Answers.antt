@@ -5,7 +5,7 @@ use Rattle.cs_chains.specs.Used.{seen}
 use Rattle.cs_claim.specs.Claim.{as_certificate}
 use Rattle.cs_decl.specs.Plan.{as_plan, crons}
 use Rattle.cs_history.specs.Lists.{below}
-use Rattle.cs_stretch.proofs.Firsts.{below-found, below-none, first_of-more}
+use Rattle.cs_accepted.proofs.Firsts.{below-found, below-none, first_of-more}
 use Rattle.cs_check.specs.Stretches.{is_far}
 use Rattle.cs_check.proofs.late.first_late.Goals as goal
 

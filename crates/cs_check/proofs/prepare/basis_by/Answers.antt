@@ -1,7 +1,7 @@
 use Rattle.std.proofs.Common.{List, option_map, ap, sym, ◌∙◌, refl}
 use Rattle.cs_accepted.specs.Faults.{ClassNotDue}
 use Rattle.cs_cert.specs.Certificate.{content}
-use Rattle.cs_windows.specs.Planned.{planned}
+use Rattle.cs_claim.specs.Planned.{planned}
 use Rattle.cs_windows.specs.declared.reach.JobReach.{JobReach}
 use Rattle.cs_check.proofs.Firsts.{unlike_first}
 use Rattle.cs_check.proofs.Fitting.{fits}

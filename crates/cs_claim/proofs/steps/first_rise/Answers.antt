@@ -1,6 +1,6 @@
 use Rattle.std.proofs.Common.{subst, sym, ◌∙◌, arith}
 use Rattle.cs_decl.specs.Plan.{as_plan}
-use Rattle.cs_stretch.proofs.Firsts.{minute-found, minutes-none, first_of-more}
+use Rattle.cs_accepted.proofs.Firsts.{minute-found, minutes-none, first_of-more}
 use Rattle.cs_claim.specs.Work.{AreWorks, rise_at}
 use Rattle.cs_claim.proofs.steps.first_rise.Goals as goal
 

@@ -1,7 +1,7 @@
 use Rattle.std.proofs.Common.{◌≡◌, ◌<◌, ℕ, None, subst, sym, ap, ◌∙◌, arith}
 use Rattle.cs_history.specs.Lists.{below}
 use Rattle.cs_accepted.specs.Faults.{first_of}
-use Rattle.cs_stretch.proofs.Firsts.{below-found, below-none, first_of-more}
+use Rattle.cs_accepted.proofs.Firsts.{below-found, below-none, first_of-more}
 use Rattle.cs_claim.proofs.Lists.{within}
 use Rattle.cs_claim.specs.Work.{IsWork, rise_of}
 use Rattle.cs_claim.proofs.steps.rise_at.Goals as goal

@@ -1,5 +1,5 @@
 use Rattle.std.proofs.Common.{◌≡◌, ◌++◌, drop, flat_map}
-use Rattle.cs_cli.specs.Response.{anacron_text}
+use Rattle.cs_cli.specs.DayAnswer.{anacron_text}
 use Rattle.cs_cli.proofs.day.add_jobs.Given as goal
 
 -- the text so far and that of the jobs that are left

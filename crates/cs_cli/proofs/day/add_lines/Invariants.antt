@@ -1,5 +1,5 @@
 use Rattle.std.proofs.Common.{◌≡◌, ◌++◌, drop, flat_map}
-use Rattle.cs_cli.specs.Response.{line_text}
+use Rattle.cs_cli.specs.DayAnswer.{line_text}
 use Rattle.cs_cli.proofs.day.add_lines.Given as goal
 
 -- the text so far and that of the lines that are left

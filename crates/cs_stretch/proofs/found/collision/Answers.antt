@@ -1,6 +1,6 @@
 use Rattle.std.proofs.Common.{sym, ◌∙◌, arith}
 use Rattle.cs_stretch.specs.Found.{collision_at}
-use Rattle.cs_stretch.proofs.Firsts.{minute-found, minutes-none, first_of-more}
+use Rattle.cs_accepted.proofs.Firsts.{minute-found, minutes-none, first_of-more}
 use Rattle.cs_stretch.proofs.found.collision.Goals as goal
 
 pub returns-in-Some : goal.returns-in-Some

@@ -4,7 +4,7 @@ use Rattle.cs_history.specs.Lists.{below}
 use Rattle.cs_accepted.specs.Faults.{first_of}
 use Rattle.cs_accepted.specs.Windows.{holders}
 use Rattle.cs_stretch.specs.Found.{collision_of}
-use Rattle.cs_stretch.proofs.Firsts.{below-found, below-none, first_of-more}
+use Rattle.cs_accepted.proofs.Firsts.{below-found, below-none, first_of-more}
 use Rattle.cs_stretch.proofs.found.collision_at.Goals as goal
 
 pub returns-in-Some : goal.returns-in-Some

@@ -1,7 +1,7 @@
 use Rattle.std.proofs.Common.{sym, ◌∙◌, arith}
 use Rattle.cs_windows.specs.Tree.{tree_of}
 use Rattle.cs_stretch.specs.Found.{missing_at}
-use Rattle.cs_stretch.proofs.Firsts.{minute-found, minutes-none, first_of-more}
+use Rattle.cs_accepted.proofs.Firsts.{minute-found, minutes-none, first_of-more}
 use Rattle.cs_stretch.proofs.found.missing.Goals as goal
 
 pub returns-in-Some : goal.returns-in-Some

@@ -1,5 +1,5 @@
 use Rattle.std.proofs.Common.{◌≡◌, drop}
-use Rattle.cs_windows.specs.Planned.{reach_of}
+use Rattle.cs_windows.specs.Reach.{reach_of}
 use Rattle.cs_windows.proofs.reach.reach_of.Given as goal
 
 abbrev pub invariant-loop-listed : goal.invariant-loop-listed

@@ -1,0 +1,203 @@
+-- The command line, as `clap` reads it, and what its words ask.
+use Rattle.std.specs.Prelude.{◌≡◌, ◌≢◌, ◌⊎◌, ◌^◌, ℕ, Bool, false, List, [], ◌∷◌, Option, Some, None, true, codes, option_and_then, option_map, unwrap_or, length, if◌then◌else◌, nat_lt, ◌&&◌, ◌||◌}
+use Rattle.std.specs.Str.Parse.{digits_value}
+use Rattle.std.specs.Char.{is_ascii_digit}
+use Rattle.std.specs.List.{list_all}
+use Rattle.std.specs.Option.{option_map_or}
+use Rattle.std.specs.Str.{bytes_eq}
+use Rattle.clap.specs.Words.{App, IsAmong, Row, Rule, Text, fault_of, first_of, new_app, new_rule, subcommand_of, with_rule, with_subcommand}
+use Rattle.clap.specs.Simple.{on_top}
+use Rattle.clap.specs.declared.error.kind.ErrorKind.{ErrorKind}
+use Rattle.clap.specs.declared.error.kind.ErrorKind.TheVariants.{DisplayHelp, DisplayVersion}
+
+-- an argument that stands without a name, and has to
+abbrev pub required_rule : Text → Rule
+required_rule id = record (new_rule id) { required = true }
+
+-- an option with one value, `--NAME VALUE`
+abbrev pub option_rule : Text → Rule
+option_rule id = record (new_rule id) { long = Some id; value_names = 1 }
+
+-- `TABLE DATE MAX`
+abbrev pub with_words : App → App
+with_words app = with_rule (with_rule (with_rule app (required_rule (codes "TABLE"))) (required_rule (codes "DATE"))) (required_rule (codes "MAX"))
+
+-- `[--anacrontab FILE] [--from M] [--to M]`
+abbrev pub with_hours : App → App
+with_hours app = with_rule (with_rule (with_rule app (option_rule (codes "anacrontab"))) (option_rule (codes "from"))) (option_rule (codes "to"))
+
+-- `day TABLE DATE MAX [--anacrontab FILE] [--from M] [--to M]`
+abbrev pub day_app : App
+day_app = with_hours (with_words (new_app (codes "day")))
+
+-- `[--max N] [--anacrontab FILE] [--declarations FILE]`
+abbrev pub with_terms : App → App
+with_terms app = with_rule (with_rule (with_rule app (option_rule (codes "max"))) (option_rule (codes "anacrontab"))) (option_rule (codes "declarations"))
+
+-- `replay TABLE SCRIPT [--max N] [--anacrontab FILE] [--declarations FILE]`
+abbrev pub replay_app : App
+replay_app = with_terms (with_rule (with_rule (new_app (codes "replay")) (required_rule (codes "TABLE"))) (required_rule (codes "SCRIPT")))
+
+-- `check TABLE DECLS CERT [--anacrontab FILE]`
+abbrev pub check_app : App
+check_app = with_rule (with_rule (with_rule (with_rule (new_app (codes "check")) (required_rule (codes "TABLE"))) (required_rule (codes "DECLS"))) (required_rule (codes "CERT"))) (option_rule (codes "anacrontab"))
+
+-- `help [COMMAND]`
+abbrev pub help_app : App
+help_app = with_rule (new_app (codes "help")) (new_rule (codes "COMMAND"))
+
+-- what `cronsafe` says of itself: it has a version, and wants a subcommand, of which `help` is its own
+abbrev pub top_app : App
+top_app = on_top (λ s. record s { disable_help_subcommand = true; subcommand_required = true; has_version = true })
+    (new_app (codes "cronsafe"))
+
+-- `cronsafe` with the subcommands `day` and `replay`
+abbrev pub day_and_replay_app : App
+day_and_replay_app = with_subcommand (with_subcommand top_app day_app.top) replay_app.top
+
+-- and with `check` and `help`
+abbrev pub cronsafe_app : App
+cronsafe_app = with_subcommand (with_subcommand day_and_replay_app check_app.top) help_app.top
+
+-- the number that digits write, where it is below 2 ^ 64
+abbrev pub number_of : Text → Option ℕ
+number_of text =
+    if list_all is_ascii_digit text
+    then (if nat_lt 0 (length text) && nat_lt (digits_value 10 text) (2 ^ 64) then Some (digits_value 10 text) else None)
+    else None
+
+-- what `day` is asked: a table's path, the text of a date, a longest time in minutes, the path of an
+-- anacrontab, and the catch-up hours, by their first minute of the day and the first behind them
+pub record Asked : Type 0 where
+  pub table : Text
+  pub date : Text
+  pub max : ℕ
+  pub anacrontab : Option Text
+  pub from : ℕ
+  pub to : ℕ
+
+-- what `replay` is asked: the paths of a table and a script, a longest time in minutes, and the paths of
+-- an anacrontab and of declarations
+pub record AskedReplay : Type 0 where
+  pub table : Text
+  pub script : Text
+  pub max : ℕ
+  pub anacrontab : Option Text
+  pub declarations : Option Text
+
+-- what `check` is asked: the paths of a table, of declarations, of a certificate and of an anacrontab
+pub record AskedCheck : Type 0 where
+  pub table : Text
+  pub declarations : Text
+  pub certificate : Text
+  pub anacrontab : Option Text
+
+-- what words may ask: a subcommand, or, by the subcommand `help`, how the program is called
+pub data Asking : Type 0 where
+  Day : Asked → Asking
+  Replay : AskedReplay → Asking
+  Check : AskedCheck → Asking
+  Help : Asking
+
+-- the first value of an argument, and this text where it has none
+abbrev pub value_or : Text → Text → List Row → Text
+value_or absent id rows = unwrap_or (first_of id rows) absent
+
+-- both paths name standard input
+abbrev pub is_dash : Text → Bool
+is_dash path = bytes_eq path (45 ∷ [])
+
+abbrev pub is_twice_standard : Text → Option Text → Bool
+is_twice_standard table anacrontab = is_dash table && option_map_or is_dash anacrontab false
+
+-- what the entries of `day` ask, where MAX, `--from` and `--to` have these numbers
+abbrev pub asked_with : List Row → ℕ → ℕ → ℕ → Option Asked
+asked_with rows max from to =
+    let table = value_or [] (codes "TABLE") rows in
+    let anacrontab = first_of (codes "anacrontab") rows in
+    if is_twice_standard table anacrontab then None
+    else Some (record { table = table; date = value_or [] (codes "DATE") rows; max = max; anacrontab = anacrontab; from = from; to = to })
+
+-- what the entries of `day` ask: MAX and the hours have to be numbers, the hours are by default the
+-- whole day, and standard input is named once at most
+abbrev pub asked_in : List Row → Option Asked
+asked_in rows =
+    option_and_then (λ max. option_and_then (λ from. option_and_then (λ to. asked_with rows max from to)
+    (number_of (value_or (codes "1440") (codes "to") rows))) (number_of (value_or (codes "0") (codes "from") rows))) (number_of (value_or [] (codes "MAX") rows))
+
+-- whether an option names standard input
+abbrev pub is_dash_in : Option Text → Bool
+is_dash_in path = option_map_or is_dash path false
+
+-- two of the four paths name standard input
+abbrev pub are_dashes : Text → Text → Option Text → Option Text → Bool
+are_dashes table script anacrontab declarations =
+    (is_dash table && is_dash script)
+    || (((is_dash table || is_dash script) && (is_dash_in anacrontab || is_dash_in declarations))
+    || (is_dash_in anacrontab && is_dash_in declarations))
+
+-- what the entries of `replay` ask, where `--max` has this number
+abbrev pub replay_with : List Row → ℕ → Option AskedReplay
+replay_with rows max =
+    let table = value_or [] (codes "TABLE") rows in
+    let script = value_or [] (codes "SCRIPT") rows in
+    let anacrontab = first_of (codes "anacrontab") rows in
+    let declarations = first_of (codes "declarations") rows in
+    if are_dashes table script anacrontab declarations then None
+    else Some (record { table = table; script = script; max = max; anacrontab = anacrontab; declarations = declarations })
+
+-- what the entries of `replay` ask: `--max` has to be a number, by default a day's minutes, and standard
+-- input is named once at most
+abbrev pub replay_in : List Row → Option AskedReplay
+replay_in rows = option_and_then (λ max. replay_with rows max) (number_of (value_or (codes "1440") (codes "max") rows))
+
+-- what the entries of `check` ask: standard input is named once at most
+abbrev pub check_in : List Row → Option AskedCheck
+check_in rows =
+    let table = value_or [] (codes "TABLE") rows in
+    let declarations = value_or [] (codes "DECLS") rows in
+    let certificate = value_or [] (codes "CERT") rows in
+    let anacrontab = first_of (codes "anacrontab") rows in
+    if are_dashes table declarations anacrontab (Some certificate) then None
+    else Some (record { table = table; declarations = declarations; certificate = certificate; anacrontab = anacrontab })
+
+-- the names of the subcommands
+abbrev pub is_subcommand : Text → Bool
+is_subcommand name =
+    bytes_eq name (codes "day") || (bytes_eq name (codes "replay")
+    || (bytes_eq name (codes "check") || bytes_eq name (codes "help")))
+
+-- what the entries of `help` ask: help, but of no other subcommand
+abbrev pub help_in : List Row → Option Asking
+help_in rows = if option_map_or is_subcommand (first_of (codes "COMMAND") rows) true then Some Help else None
+
+-- what the entries of a subcommand ask, by its name
+abbrev pub asked_by : Text → List Row → Option Asking
+asked_by name rows =
+    if bytes_eq name (codes "replay") then option_map Replay (replay_in rows)
+    else if bytes_eq name (codes "check") then option_map Check (check_in rows)
+    else if bytes_eq name (codes "help") then help_in rows
+    else option_map Day (asked_in rows)
+
+-- what words ask, the first of which is the program's name
+abbrev pub asked_of : List Text → Option Asking
+asked_of words = option_and_then (λ p. asked_by p.0 p.1) (subcommand_of cronsafe_app words)
+
+-- the words are those of a call, which asks this
+abbrev pub Asks : List Text → Asking → Type 0
+Asks words a = (fault_of cronsafe_app words ≡ []) × (asked_of words ≡ Some a)
+
+-- the words are a call for help, by `--help` or by the subcommand `help`
+abbrev pub AsksHelp : List Text → Type 0
+AsksHelp words = IsAmong DisplayHelp (fault_of cronsafe_app words) ⊎ Asks words Help
+
+-- the words are a call for the version
+abbrev pub AsksVersion : List Text → Type 0
+AsksVersion words = IsAmong DisplayVersion (fault_of cronsafe_app words)
+
+-- the words are no call: `clap` refuses them; or a number is none, standard input is named twice, or
+-- help is asked of what is no subcommand
+abbrev pub IsNoCall : List Text → Type 0
+IsNoCall words =
+    ((fault : ErrorKind) × IsAmong fault (fault_of cronsafe_app words) × (fault ≢ DisplayHelp) × (fault ≢ DisplayVersion))
+    ⊎ ((fault_of cronsafe_app words ≡ []) × (asked_of words ≡ None))

@@ -1,0 +1,6 @@
+pub mod CommandLine
+pub mod Asked
+pub mod Hours
+pub mod Question
+pub mod Words
+pub mod Version

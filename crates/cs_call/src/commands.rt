@@ -1,0 +1,201 @@
+//! The command line, as `clap` is told of it.
+ghost use Rattle.std.specs.Prelude.{◌≡◌, IfOk, false, is_some};
+ghost use Rattle.clap.specs.Words.{app_of, rule_of, with_rule};
+ghost use Rattle.clap.specs.declared.builder.command.Command.TheViews.{out-Command as fields_of};
+ghost use Rattle.cs_call.specs.CommandLine.{check_app, cronsafe_app, day_and_replay_app, day_app, help_app, is_subcommand, option_rule, replay_app, required_rule, with_hours, with_terms, with_words};
+
+use crate::texts::{
+    ABOUT, ANACRONTAB_HELP, CERTIFICATE_HELP, CHECK_ABOUT, CHECK_EXAMPLE, COMMAND_HELP, DATE_HELP,
+    DAY_ABOUT, DAY_EXAMPLE, DECLARATIONS_HELP, EXAMPLE, FROM_HELP, HELP_ABOUT, MAX_HELP,
+    REPLAY_ABOUT, REPLAY_EXAMPLE, REPLAY_MAX_HELP, SCRIPT_HELP, TABLE_HELP, TO_HELP,
+};
+use crate::version::version_text;
+use clap::error::ErrorKind;
+use clap::{Arg, Command};
+use std::alloc::{AllocError, Global};
+
+/// An argument that stands without a name, and has to.
+fn required_arg<'a>(alloc: Global, id: &'a str, help: &'a str) -> Arg<'a>
+    ensures rule { rule_of result ≡ required_rule id.now }
+    ensures local { result.global ≡ false }
+{
+    Arg::new(alloc, id).required(true).help(help)
+}
+
+/// An option with one value, `--NAME VALUE`.
+fn option_arg<'a>(alloc: Global, name: &'a str, value: &'a str, help: &'a str) -> Arg<'a>
+    ensures rule { rule_of result ≡ option_rule name.now }
+    ensures local { result.global ≡ false }
+{
+    Arg::new(alloc, name)
+        .long(name)
+        .value_name(value)
+        .help(help)
+}
+
+/// A command with `TABLE DATE MAX`.
+fn with_words<'a>(alloc: Global, command: Command<'a>) -> Result<Command<'a>, AllocError>
+    ensures app { IfOk result (λ c. app_of c ≡ with_words (app_of command.entry)) }
+    ensures local { (fields_of command.entry).has_globals ≡ false → IfOk result (λ c. (fields_of c).has_globals ≡ false) }
+{
+    command
+        .arg(required_arg(alloc, "TABLE", TABLE_HELP))?
+        .arg(required_arg(alloc, "DATE", DATE_HELP))?
+        .arg(required_arg(alloc, "MAX", MAX_HELP))
+}
+
+/// A command with one option more.
+fn with_option<'a>(
+    alloc: Global,
+    command: Command<'a>,
+    name: &'a str,
+    value: &'a str,
+    help: &'a str,
+) -> Result<Command<'a>, AllocError>
+    ensures app { IfOk result (λ c. app_of c ≡ with_rule (app_of command.entry) (option_rule name.now)) }
+    ensures local { (fields_of command.entry).has_globals ≡ false → IfOk result (λ c. (fields_of c).has_globals ≡ false) }
+{
+    command.arg(option_arg(alloc, name, value, help))
+}
+
+/// A command with `[--anacrontab FILE] [--from M] [--to M]`.
+fn with_hours<'a>(alloc: Global, command: Command<'a>) -> Result<Command<'a>, AllocError>
+    ensures app { IfOk result (λ c. app_of c ≡ with_hours (app_of command.entry)) }
+    ensures local { (fields_of command.entry).has_globals ≡ false → IfOk result (λ c. (fields_of c).has_globals ≡ false) }
+{
+    let command = with_option(alloc, command, "anacrontab", "FILE", ANACRONTAB_HELP)?;
+    let command = with_option(alloc, command, "from", "M", FROM_HELP)?;
+    with_option(alloc, command, "to", "M", TO_HELP)
+}
+
+/// `day TABLE DATE MAX [--anacrontab FILE] [--from M] [--to M]`.
+fn day_command<'a>(alloc: Global) -> Result<Command<'a>, AllocError>
+    ensures app { IfOk result (λ c. app_of c ≡ day_app) }
+    ensures local { IfOk result (λ c. (fields_of c).has_globals ≡ false) }
+{
+    let command = Command::new(alloc, "day")
+        .about(DAY_ABOUT)
+        .after_help(DAY_EXAMPLE);
+    with_hours(alloc, with_words(alloc, command)?)
+}
+
+/// A command with `[--max N] [--anacrontab FILE] [--declarations FILE]`.
+fn with_terms<'a>(alloc: Global, command: Command<'a>) -> Result<Command<'a>, AllocError>
+    ensures app { IfOk result (λ c. app_of c ≡ with_terms (app_of command.entry)) }
+    ensures local { (fields_of command.entry).has_globals ≡ false → IfOk result (λ c. (fields_of c).has_globals ≡ false) }
+{
+    let command = with_option(alloc, command, "max", "N", REPLAY_MAX_HELP)?;
+    let command = with_option(alloc, command, "anacrontab", "FILE", ANACRONTAB_HELP)?;
+    with_option(alloc, command, "declarations", "FILE", DECLARATIONS_HELP)
+}
+
+/// `replay TABLE SCRIPT [--max N] [--anacrontab FILE] [--declarations FILE]`.
+fn replay_command<'a>(alloc: Global) -> Result<Command<'a>, AllocError>
+    ensures app { IfOk result (λ c. app_of c ≡ replay_app) }
+    ensures local { IfOk result (λ c. (fields_of c).has_globals ≡ false) }
+{
+    let command = Command::new(alloc, "replay")
+        .about(REPLAY_ABOUT)
+        .after_help(REPLAY_EXAMPLE)
+        .arg(required_arg(alloc, "TABLE", TABLE_HELP))?
+        .arg(required_arg(alloc, "SCRIPT", SCRIPT_HELP))?;
+    with_terms(alloc, command)
+}
+
+/// `check TABLE DECLS CERT [--anacrontab FILE]`.
+fn check_command<'a>(alloc: Global) -> Result<Command<'a>, AllocError>
+    ensures app { IfOk result (λ c. app_of c ≡ check_app) }
+    ensures local { IfOk result (λ c. (fields_of c).has_globals ≡ false) }
+{
+    let command = Command::new(alloc, "check")
+        .about(CHECK_ABOUT)
+        .after_help(CHECK_EXAMPLE)
+        .arg(required_arg(alloc, "TABLE", TABLE_HELP))?
+        .arg(required_arg(alloc, "DECLS", DECLARATIONS_HELP))?
+        .arg(required_arg(alloc, "CERT", CERTIFICATE_HELP))?;
+    with_option(alloc, command, "anacrontab", "FILE", ANACRONTAB_HELP)
+}
+
+/// `help [COMMAND]`.
+fn help_command<'a>(alloc: Global) -> Result<Command<'a>, AllocError>
+    ensures app { IfOk result (λ c. app_of c ≡ help_app) }
+    ensures local { IfOk result (λ c. (fields_of c).has_globals ≡ false) }
+{
+    Command::new(alloc, "help")
+        .about(HELP_ABOUT)
+        .arg(Arg::new(alloc, "COMMAND").help(COMMAND_HELP))
+}
+
+/// The program with the subcommands `day` and `replay`.
+fn day_and_replay<'a>(alloc: Global) -> Result<Command<'a>, AllocError>
+    ensures { IfOk result (λ c. app_of c ≡ day_and_replay_app) }
+{
+    let cronsafe = Command::new(alloc, "cronsafe")
+        .about(ABOUT)
+        .version(version_text())
+        .after_help(EXAMPLE)
+        .disable_help_subcommand(true)
+        .subcommand_required(true);
+    cronsafe
+        .subcommand(day_command(alloc)?)?
+        .subcommand(replay_command(alloc)?)
+}
+
+/// The command line of the program.
+pub(crate) fn command<'a>(alloc: Global) -> Result<Command<'a>, AllocError>
+    ensures { IfOk result (λ c. app_of c ≡ cronsafe_app) }
+{
+    day_and_replay(alloc)?
+        .subcommand(check_command(alloc)?)?
+        .subcommand(help_command(alloc)?)
+}
+
+/// A subcommand by its name.
+#[derive(Clone, Copy, Debug, PartialEq, Eq)]
+pub(crate) enum Subcommand {
+    Day,
+    Replay,
+    Check,
+    Help,
+}
+
+impl Subcommand {
+    /// The subcommand of a name.
+    pub(crate) fn named(name: &str) -> Option<Subcommand>
+        ensures { is_some result ≡ is_subcommand name.now }
+    {
+        match name {
+            "day" => Some(Subcommand::Day),
+            "replay" => Some(Subcommand::Replay),
+            "check" => Some(Subcommand::Check),
+            "help" => Some(Subcommand::Help),
+            _ => None,
+        }
+    }
+
+    /// Its command line alone, as its usage names it.
+    fn command<'a>(self, alloc: Global) -> Result<Command<'a>, AllocError> {
+        match self {
+            Subcommand::Day => day_command(alloc)?.bin_name("cronsafe day"),
+            Subcommand::Replay => replay_command(alloc)?.bin_name("cronsafe replay"),
+            Subcommand::Check => check_command(alloc)?.bin_name("cronsafe check"),
+            Subcommand::Help => help_command(alloc)?.bin_name("cronsafe help"),
+        }
+    }
+
+    /// Its help.
+    pub(crate) fn help(self, alloc: Global) -> Result<String, AllocError> {
+        self.command(alloc)?.render_help()
+    }
+
+    /// What is wrong with its words, and its usage, as `clap` tells its own faults.
+    pub(crate) fn fault(self, alloc: Global, message: &str) -> Result<String, AllocError> {
+        let error = self
+            .command(alloc)?
+            .error(ErrorKind::ValueValidation, message)?;
+        match error.to_string(alloc) {
+            Ok(text) => Ok(text),
+            Err(_) => Err(AllocError),
+        }
+    }
+}

@@ -1,0 +1,16 @@
+//! The words of a call: what they ask, or why they are no call.
+#![tactic(auto)]
+
+mod command_line;
+mod commands;
+mod hours;
+mod question;
+mod request;
+mod texts;
+mod version;
+
+pub use command_line::parse_words;
+pub use hours::Hours;
+pub use question::{Question, WordFault};
+pub use request::{CheckWords, DayWords, ReplayWords, Request, UsageFault};
+pub use version::version_text;

@@ -1,0 +1,90 @@
+//! What a call asks, and why words are no call.
+ghost use Rattle.std.specs.Prelude.{◌≡◌};
+ghost use Rattle.cs_call.specs.declared.request.UsageFault.TheVariants.{OutOfMemory as no_memory};
+
+use std::alloc::{AllocError, AllocFailed};
+
+/// What `day` is asked.
+#[derive(Clone, Copy, Debug)]
+pub struct DayWords<'a> {
+    /// The path of a crontab.
+    pub table: &'a str,
+    /// The text of a date.
+    pub date: &'a str,
+    /// The longest time of each job, in minutes.
+    pub max: u64,
+    /// The path of an anacrontab.
+    pub anacrontab: Option<&'a str>,
+    /// The first minute of the day at which an anacron job may be started.
+    pub from: u64,
+    /// The first minute of the day behind the catch-up hours.
+    pub to: u64,
+}
+
+/// What `replay` is asked.
+#[derive(Clone, Copy, Debug)]
+pub struct ReplayWords<'a> {
+    /// The path of a crontab.
+    pub table: &'a str,
+    /// The path of a script.
+    pub script: &'a str,
+    /// The longest time of each job, in minutes, where nothing is declared.
+    pub max: u64,
+    /// The path of an anacrontab.
+    pub anacrontab: Option<&'a str>,
+    /// The path of declarations.
+    pub declarations: Option<&'a str>,
+}
+
+/// What `check` is asked.
+#[derive(Clone, Copy, Debug)]
+pub struct CheckWords<'a> {
+    /// The path of a crontab.
+    pub table: &'a str,
+    /// The path of declarations.
+    pub declarations: &'a str,
+    /// The path of a certificate.
+    pub certificate: &'a str,
+    /// The path of an anacrontab.
+    pub anacrontab: Option<&'a str>,
+}
+
+/// What a call asks.
+#[derive(Clone, Copy, Debug)]
+pub enum Request<'a> {
+    /// A day of the tables.
+    Day(DayWords<'a>),
+    /// The replay of a script.
+    Replay(ReplayWords<'a>),
+    /// The check of a certificate.
+    Check(CheckWords<'a>),
+}
+
+/// Why words are no call.
+#[derive(Debug, Drop)]
+pub enum UsageFault {
+    /// Help is asked for: its text.
+    Help(String),
+    /// The version is asked for.
+    Version,
+    /// The words are no call of the program: what is wrong with them.
+    NoCall(String),
+    /// There was no room for the words or the text.
+    OutOfMemory,
+}
+
+impl From<AllocError> for UsageFault {
+    ghost from_gives = { λ _ e. e ≡ no_memory };
+
+    fn from(_error: AllocError) -> UsageFault {
+        UsageFault::OutOfMemory
+    }
+}
+
+impl<T: Drop> From<AllocFailed<T>> for UsageFault {
+    ghost from_gives = { λ _ e. e ≡ no_memory };
+
+    fn from(_error: AllocFailed<T>) -> UsageFault {
+        UsageFault::OutOfMemory
+    }
+}

@@ -1,0 +1,8 @@
+use Rattle.std.proofs.Common.{◌≡◌, map}
+use Rattle.cs_history.specs.Lists.{below}
+use Rattle.cs_windows.specs.Occupied.{job_of}
+use Rattle.cs_claim.specs.Planned.{planned_job}
+use Rattle.cs_claim.proofs.planned.occupied.Given as goal
+
+abbrev pub invariant-loop-number : goal.invariant-loop-number
+invariant-loop-number l = map job_of l.jobs.items ≡ map (planned_job l.plan l.reaches) (below l.number)

@@ -1,0 +1,39 @@
+use Rattle.std.proofs.Common.{◌≡◌, ◌∙◌, Bool, Ok, Err, ap, inr, subst}
+use Rattle.std.proofs.lemmas.Result.{err_from_is_err_and}
+use Rattle.cs_cert.specs.Certificate.{content}
+use Rattle.cs_cert.specs.Content.{Content}
+use Rattle.cs_check.specs.Case.{fault_of}
+use Rattle.cs_cli.specs.Check.{ReadsCertificate, verdict}
+use Rattle.cs_cli.specs.Reads.{ReadsDeclared}
+use Rattle.cs_call.specs.Asked.{asked_check}
+use Rattle.cs_cli.specs.Reads.{AndThen, Gives}
+use Rattle.cs_cli.specs.Trouble.{CameTo}
+use Rattle.cs_cli.proofs.TroubleLemmas.{goes_on, moved, stops}
+use Rattle.cs_cli.proofs.check.judged.Goals as goal
+
+pub returns-in_err-certificate-clause-step : goal.returns-in_err-certificate-clause-step
+returns-in_err-certificate-clause-step g c = λ fresh.
+    let files = g.I.Inputs.whole c.args.inputs.now in
+    let before = g.I.Inputs.failed c.args.inputs.now in
+    let after = g.I.Inputs.failed c.certificate_from.new.inputs in
+    let a = asked_check c.args.request.now in
+    let plan = c.in_ok-plan.plan in
+    let fault = c.in_err-certificate.field-0.0 in
+    let one = subst (λ (f : Bool). ReadsDeclared files (c.args.table, c.args.jobs) a.declarations before f (Ok plan)) c.in_ok-plan.ensures.works (c.in_ok-plan.ensures.step fresh) in
+    let two = moved (λ w f. CameTo {X = Content} (ReadsCertificate w a.certificate f after) (Err fault)) (g.I.Inputs.whole c.declared_plan_from.new.inputs) files (g.I.Inputs.failed c.declared_plan_from.new.inputs) before c.declared_plan_from.ensures.whole c.in_ok-plan.ensures.works (c.in_err-certificate.ensures.step (c.in_ok-plan.ensures.fresh fresh)) in
+    let next = stops (ReadsCertificate files a.certificate) (λ x. Gives (Ok (verdict plan (fault_of plan x)))) before after fault two in
+    let p = err_from_is_err_and c.from_residual-in_err-certificate.result c.from_residual-in_err-certificate.ensures.1 in
+    rw (p.1, p.2) (goes_on (ReadsDeclared files (c.args.table, c.args.jobs) a.declarations) (λ plan. AndThen (ReadsCertificate files a.certificate) (λ x. Gives (Ok (verdict plan (fault_of plan x))))) before after plan (Err fault) one next)
+
+pub returns-clause-step : goal.returns-clause-step
+returns-clause-step g c = λ fresh.
+    let files = g.I.Inputs.whole c.args.inputs.now in
+    let before = g.I.Inputs.failed c.args.inputs.now in
+    let after = g.I.Inputs.failed c.certificate_from.new.inputs in
+    let a = asked_check c.args.request.now in
+    let plan = c.in_ok-plan.plan in
+    let x = content c.in_ok-certificate.certificate in
+    let one = subst (λ (f : Bool). ReadsDeclared files (c.args.table, c.args.jobs) a.declarations before f (Ok plan)) c.in_ok-plan.ensures.works (c.in_ok-plan.ensures.step fresh) in
+    let two = moved (λ w f. ReadsCertificate w a.certificate f after (Ok x)) (g.I.Inputs.whole c.declared_plan_from.new.inputs) files (g.I.Inputs.failed c.declared_plan_from.new.inputs) before c.declared_plan_from.ensures.whole c.in_ok-plan.ensures.works (c.in_ok-certificate.ensures.step (c.in_ok-plan.ensures.fresh fresh)) in
+    let same : after ≡ before = c.in_ok-certificate.ensures.works ∙ c.in_ok-plan.ensures.works in
+    inr (plan, one, inr (x, subst (λ (f : Bool). ReadsCertificate files a.certificate before f (Ok x)) same two, (same, ap Ok c.in_ok-judge.ensures)))

@@ -1,5 +1,0 @@
-use Rattle.cs_cli.proofs.StageLemmas.{table_told}
-use Rattle.cs_cli.proofs.stages.table_of.Goals as goal
-
-pub returns-in-Err-clause-value : goal.returns-in-Err-clause-value
-returns-in-Err-clause-value c = table_told c.args.bytes.now c.in-Err.fault c.answer_fault.result c.halt.result c.in-Err.ensures.fault c.answer_fault.ensures c.halt.ensures

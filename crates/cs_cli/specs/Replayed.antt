@@ -1,0 +1,46 @@
+-- What is answered to `replay`: each event of a script, as the rules of histories have it.
+use Rattle.std.specs.Prelude.{◌≡◌, ℕ, Bool, if◌then◌else◌, List, [], Option, Some, None, Result, Ok}
+use Rattle.clap.specs.Words.{Text}
+use Rattle.cs_crontab.specs.Crontab.{Table}
+use Rattle.cs_anacrontab.specs.Anacrontab.{Table as JobTable}
+use Rattle.cs_decl.specs.Plain.{plain_of}
+use Rattle.cs_decl.specs.Plan.{Declared}
+use Rattle.cs_script.specs.Script.{Numbered, numbered_script_of}
+use Rattle.cs_call.specs.CommandLine.{AskedReplay}
+use Rattle.cs_cli.specs.Reads.{AndThen, Answered, Gives, ReadsAs, ReadsDeclared, ReadsTables}
+use Rattle.cs_cli.specs.Reads.{planned}
+use Rattle.cs_cli.specs.Replay.{has_refusal, replay_text}
+use Rattle.cs_cli.specs.Response.{Ending}
+use Rattle.cs_cli.specs.Trouble.{InScript, Trouble}
+
+-- the plan of both tables: as it is declared, or with one longest time for all jobs
+abbrev pub ReadsPlan : (List ℕ → Option (List ℕ)) → Table × JobTable → ℕ → Option Text → Bool → Bool
+    → Result Declared Trouble → Type 0
+ReadsPlan files tables max None = Gives (planned (plain_of tables.0 tables.1 max))
+ReadsPlan files tables max (Some path) = ReadsDeclared files tables path
+
+-- the script at a path, under the plan
+abbrev pub ReadsScript : (List ℕ → Option (List ℕ)) → Declared → Text → Bool → Bool
+    → Result Numbered Trouble → Type 0
+ReadsScript files plan path =
+    ReadsAs files path (λ bytes s. numbered_script_of plan bytes ≡ s) InScript
+
+-- the status is 1 where an event was refused
+abbrev pub replayed : Declared → Numbered → Ending
+replayed plan script = record {
+  status = if has_refusal plan script then 1 else 0;
+  out = replay_text plan script;
+  err = [];
+}
+
+-- the plan and the script are read, and each event is tried
+abbrev pub Replays : (List ℕ → Option (List ℕ)) → AskedReplay → Table × JobTable → Bool → Bool
+    → Result Ending Trouble → Type 0
+Replays files a tables = AndThen (ReadsPlan files tables a.max a.declarations) (λ plan.
+    AndThen (ReadsScript files plan a.script) (λ script. Gives (Ok (replayed plan script))))
+
+-- what is answered to `replay`: the replayed script, or the first fault of a file, and no file is
+-- read before its own turn
+abbrev pub AnswersReplay : AskedReplay → (List ℕ → Option (List ℕ)) → Bool → Bool → Ending → Type 0
+AnswersReplay a files =
+    Answered (ReadsTables files a.table a.anacrontab) (λ both. Replays files a both)

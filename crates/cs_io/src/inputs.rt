@@ -1,0 +1,87 @@
+//! What the program reads.
+ghost use Rattle.std.specs.Prelude.{◌≡◌, ◌≤◌, ◌<◌, ◌+◌, ◌^◌, ℕ, List, Option, Some, None, Bool, true, false, IfOk, IfErr, OnErr, OnOk, length};
+ghost use Rattle.cs_io.specs.Files.{IsNextOf, Gives, IsFresh};
+ghost use Rattle.cs_io.specs.declared.inputs.ReadFault.TheVariants.{CannotRead as cannot_read, OutOfMemory as no_memory};
+
+use std::alloc::{AllocError, AllocFailed, Global};
+
+/// A path that cannot be read.
+#[derive(Clone, Copy, Debug, PartialEq, Eq)]
+pub struct CannotRead;
+
+/// Files by their paths, read from front to back. The path `-` is standard input.
+pub trait Inputs {
+    /// What a path has from its front on, where that is known.
+    ghost whole: { Self → List ℕ → Option (List ℕ) } = { λ _ _. None };
+
+    /// What the next reads of a path give up to its end, where that is known.
+    ghost left: { Self → List ℕ → Option (List ℕ) } = { λ _ _. None };
+
+    /// Whether a read has failed.
+    ghost failed: { Self → Bool };
+
+    /// Gives the next bytes of a path, and 0 at its end, after which a read of it begins anew.
+    fn read(&mut self, path: &str, buf: &mut [u8]) -> Result<usize, CannotRead>
+        ensures bound { IfOk result (λ n. n ≤ length buf.new) }
+        ensures bytes { IfOk result (λ n. IsNextOf path.now (whole self.old) (left self.old)
+            (left self.new) n buf.new) }
+        ensures whole { whole self.new ≡ whole self.old }
+        ensures works { OnOk result (failed self.new ≡ failed self.old) }
+        ensures fails { OnErr result (failed self.new ≡ true) };
+}
+
+/// Why an input was not read.
+#[derive(Clone, Copy, Debug, PartialEq, Eq)]
+pub enum ReadFault {
+    /// A read of it failed.
+    CannotRead,
+    /// There was no room for its bytes.
+    OutOfMemory,
+}
+
+impl<T: Drop> From<AllocFailed<T>> for ReadFault {
+    ghost from_gives = { λ _ e. e ≡ no_memory };
+
+    fn from(_error: AllocFailed<T>) -> ReadFault {
+        ReadFault::OutOfMemory
+    }
+}
+
+impl From<AllocError> for ReadFault {
+    ghost from_gives = { λ _ e. e ≡ no_memory };
+
+    fn from(_error: AllocError) -> ReadFault {
+        ReadFault::OutOfMemory
+    }
+}
+
+/// Reads all of a path, or more than `limit` bytes of it where it is longer: an input without end is
+/// left as soon as it is too long. Each read gives a byte at least, so there are at most `limit + 1`.
+pub fn read_up_to<I: Inputs>(
+    alloc: Global,
+    inputs: &mut I,
+    path: &str,
+    limit: u32,
+) -> Result<Vec<u8>, ReadFault>
+    ensures bytes { IfOk result (λ v. Gives limit path.now (I.left inputs.old) v.items) }
+    ensures works { OnOk result (I.failed inputs.new ≡ I.failed inputs.old) }
+    ensures whole { I.whole inputs.new ≡ I.whole inputs.old }
+
+    // a path that was read to its end, and each other one, is to be read from its front again
+    ensures fresh { IfOk result (λ v. length v.items ≤ limit → IsFresh (I.whole inputs.old) (I.left inputs.old) → IsFresh (I.whole inputs.new) (I.left inputs.new)) }
+    ensures fails { IfErr result (λ e. e ≡ cannot_read → I.failed inputs.new ≡ true) }
+{
+    let mut bytes = Vec::new(alloc);
+    let mut buf = [0u8; 4096];
+    for _reads in 0..u64::from(limit) + 1 {
+        match inputs.read(path, buf.as_mut_slice()) {
+            Err(CannotRead) => return Err(ReadFault::CannotRead),
+            Ok(0) => return Ok(bytes),
+            Ok(n) => bytes.extend_from_slice(&buf[..n])?,
+        }
+        if bytes.len() > limit as usize {
+            return Ok(bytes);
+        }
+    }
+    Ok(bytes)
+}

@@ -1,0 +1,68 @@
+//! The machine's files and its standard input.
+ghost use Rattle.std.specs.Prelude.{◌≡◌, ◌≤◌, IfSome, false, length};
+
+use crate::inputs::{CannotRead, Inputs};
+use std::fs;
+use std::io::Read;
+use std::rt::Files;
+
+/// The machine's files and its standard input. A path is read to its end before another is.
+#[derive(Drop)]
+pub struct Machine<'a, R: Files + Input> {
+    rt: &'a R,
+    open: Option<R::File>,
+    has_failed: bool,
+}
+
+impl<'a, R: Files + Input> Machine<'a, R> {
+    /// The machine's inputs, of which none is open and no read has failed.
+    pub fn new(rt: &'a R) -> Machine<'a, R>
+        ensures { result.has_failed ≡ false }
+    {
+        Machine {
+            rt,
+            open: None,
+            has_failed: false,
+        }
+    }
+
+    fn read_file(&mut self, path: &str, buf: &mut [u8]) -> Option<usize>
+        ensures bound { IfSome result (λ n. n ≤ length buf.new) }
+        ensures flag { self.new.has_failed ≡ self.old.has_failed }
+    {
+        let mut file = match self.open.take() {
+            Some(file) => file,
+            None => fs::open(self.rt, path).ok()?,
+        };
+        let n = file.read(buf).ok()?;
+        if n != 0 {
+            self.open = Some(file);
+        }
+        Some(n)
+    }
+
+    fn read_standard(&self, buf: &mut [u8]) -> Option<usize>
+        ensures { IfSome result (λ n. n ≤ length buf.new) }
+    {
+        self.rt.reader().read(buf).ok()
+    }
+}
+
+impl<'a, R: Files + Input> Inputs for Machine<'a, R> {
+    ghost failed = { λ s. s.has_failed };
+
+    fn read(&mut self, path: &str, buf: &mut [u8]) -> Result<usize, CannotRead> {
+        let given = if path == "-" {
+            self.read_standard(buf)
+        } else {
+            self.read_file(path, buf)
+        };
+        match given {
+            Some(n) => Ok(n),
+            None => {
+                self.has_failed = true;
+                Err(CannotRead)
+            }
+        }
+    }
+}

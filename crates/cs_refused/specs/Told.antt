@@ -1,0 +1,15 @@
+-- What a fault says, as the rules have it.
+use Rattle.cs_accepted.specs.Faults.{Fault, ClassNotDue, Missing, BacklogRises, ReachTooShort, WindowMissing, Collision, OverCapacity, SkipBlocked}
+use Rattle.cs_refused.specs.declared.fault.CheckFault.{CheckFault}
+use Rattle.cs_refused.specs.declared.fault.CheckFault.TheVariants as faults
+
+-- what a fault says
+abbrev pub told : CheckFault → Fault
+told (faults.ClassNotDue kind) = ClassNotDue kind
+told (faults.MissingPair kinds) = Missing kinds.items
+told (faults.BacklogRises group at) = BacklogRises group at
+told (faults.ReachTooShort job) = ReachTooShort job
+told (faults.WindowMissing window at) = WindowMissing window at
+told (faults.Collision at one other) = Collision at one other
+told (faults.OverCapacity at load) = OverCapacity at load
+told (faults.SkipBlocked at skip other) = SkipBlocked at skip other

@@ -1,0 +1,89 @@
+-- The text of a script that can be named is read back as that script.
+use Rattle.std.proofs.Common.{◌≡◌, ℕ, ◌+◌, ◌≤◌, true, ◌&&◌, nat_le, List, [], ◌∷◌, ◌++◌, length, map, Option, Some, None, Ok, refl, sym, ap, ◌∙◌}
+use Rattle.std.specs.Prelude.{codes, flat_map}
+use Rattle.std.specs.List.{list_all}
+use Rattle.std.proofs.lemmas.Bool.{leb-true, le-ltb}
+use Rattle.std.proofs.lemmas.List.{append_assoc}
+use Rattle.cs_civil.specs.Calendar.{date_of, last_minute}
+use Rattle.cs_civil.specs.Text.{date_bytes}
+use Rattle.cs_crontab.specs.Text.{lines_of}
+use Rattle.cs_anacrontab.specs.Anacrontab.{JobLine}
+use Rattle.cs_history.specs.Plan.{first_start}
+use Rattle.cs_history.specs.declared.event.Event.{Event}
+use Rattle.cs_history.specs.declared.script.Script.{Script}
+use Rattle.cs_decl.specs.Plan.{Declared}
+use Rattle.cs_script.specs.declared.script.TheConstants.{MAX_SCRIPT}
+use Rattle.cs_script.specs.Script.{lines_from, nothing, with_opening, numbered, script_of, numbered_script_of}
+use Rattle.cs_script.specs.ScriptLine.{is_word}
+use Rattle.cs_script.specs.ScriptText.{are_nameable_stamps, event_line, event_text, is_name, is_nameable, is_nameable_event, on_day, script_text, stamp_lines}
+use Rattle.cs_script.proofs.NamedJobs.{and_left, and_right}
+use Rattle.cs_script.proofs.Loop.{goes_on}
+use Rattle.cs_script.proofs.BackWords.{line_of, is_inside, date_solid}
+use Rattle.cs_script.specs.ReadBack.{AreNames, IsWritable, fits}
+use Rattle.cs_script.proofs.BackLines.{joined, inside, none_inside, numbered_from, with_events, events_read, event_lines}
+use Rattle.cs_script.proofs.BackStart.{start_text, taken_start, start_first}
+use Rattle.cs_script.proofs.BackStamps.{reading, stamp_text}
+use Rattle.cs_script.proofs.BackStampLines.{stamp_texts, stamps_read}
+
+stamp_shape : (id y z rest : List ℕ) → ((id ++ (y ++ 10 ∷ [])) ++ z) ++ rest ≡ (id ++ y) ++ 10 ∷ (z ++ rest)
+stamp_shape id y z rest =
+    append_assoc (id ++ (y ++ 10 ∷ [])) z rest ∙ append_assoc id (y ++ 10 ∷ []) (z ++ rest)
+    ∙ ap (λ (l : List ℕ). id ++ l) (append_assoc y (10 ∷ []) (z ++ rest)) ∙ sym (append_assoc id y (10 ∷ (z ++ rest)))
+
+named_inside : (text : List ℕ) → is_name text ≡ true → list_all is_inside text ≡ true
+unfolding is_name
+named_inside text h = none_inside text (and_right (is_word text) _ h)
+
+stamp_inside : (id : List ℕ) (day : ℕ) → is_name id ≡ true → list_all is_inside (stamp_text id day) ≡ true
+stamp_inside id day h = joined id (on_day day) (named_inside id h) (inside (date_bytes (date_of day)) (date_solid (date_of day)))
+
+stamp_rows : (lines : List JobLine) (stamps : List (Option ℕ)) (rest : List ℕ) → are_nameable_stamps lines stamps ≡ true → lines_of (stamp_lines lines stamps ++ rest) ≡ stamp_texts lines stamps ++ lines_of rest
+unfolding stamp_lines are_nameable_stamps
+stamp_rows [] [] rest h = refl
+stamp_rows [] (s ∷ stamps) rest h = absurd cc
+stamp_rows (line ∷ lines) [] rest h = absurd cc
+stamp_rows (line ∷ lines) (None ∷ stamps) rest h = stamp_rows lines stamps rest h
+stamp_rows (line ∷ lines) (Some day ∷ stamps) rest h =
+    let name = and_right (nat_le 1 day) (is_name line.identifier) (and_left (nat_le 1 day && is_name line.identifier) (are_nameable_stamps lines stamps) h) in
+    ap (λ (l : List ℕ). lines_of (codes "stamp " ++ l)) (stamp_shape line.identifier (on_day day) (stamp_lines lines stamps) rest)
+    ∙ line_of (stamp_text line.identifier day) (stamp_lines lines stamps ++ rest) (stamp_inside line.identifier day name)
+    ∙ ap (λ (ls : List (List ℕ)). stamp_text line.identifier day ∷ ls) (stamp_rows lines stamps rest (and_right (nat_le 1 day && is_name line.identifier) (are_nameable_stamps lines stamps) h))
+
+unnumbered : (n : ℕ) (es : List Event) → map (λ e. e.1) (numbered_from n es) ≡ es
+unnumbered n [] = refl
+unnumbered n (e ∷ es) = ap (λ (l : List Event). e ∷ l) (unnumbered (n + 1) es)
+
+module _ (d : Declared) (names : AreNames d) (s : Script) (h : is_nameable d s ≡ true) (late : s.start.now ≤ last_minute) (days : list_all fits s.start.stamps ≡ true) where
+  abbrev rows : List (List ℕ)
+  rows = start_text s.start.now s.start.up ∷ (stamp_texts d.anacrontab.lines s.start.stamps ++ map (event_text d) s.events)
+
+  -- what is named
+  parts : (first_start ≤ s.start.now) × (are_nameable_stamps d.anacrontab.lines s.start.stamps ≡ true) × (list_all (is_nameable_event d) s.events ≡ true)
+  unfolding is_nameable
+  parts =
+      let more = and_right (nat_le first_start s.start.now) _ h in
+      (leb-true first_start s.start.now (and_left (nat_le first_start s.start.now) _ h), and_left (are_nameable_stamps d.anacrontab.lines s.start.stamps) _ more, and_right (are_nameable_stamps d.anacrontab.lines s.start.stamps) _ more)
+
+  text_rows : lines_of (script_text d s) ≡ rows
+  unfolding script_text
+  text_rows =
+      start_first s.start (stamp_lines d.anacrontab.lines s.start.stamps ++ flat_map (event_line d) s.events)
+      ∙ ap (λ (ls : List (List ℕ)). start_text s.start.now s.start.up ∷ ls)
+      (stamp_rows d.anacrontab.lines s.start.stamps (flat_map (event_line d) s.events) parts.1 ∙ ap (λ (ls : List (List ℕ)). stamp_texts d.anacrontab.lines s.start.stamps ++ ls) (event_lines d names s.events parts.2))
+
+  abbrev first_event : ℕ
+  first_event = 2 + length (stamp_texts d.anacrontab.lines s.start.stamps)
+
+  rows_read : lines_from d 1 (nothing d) rows ≡ Ok (with_events (reading (s.start.now, s.start.up) s.start.stamps) first_event s.events)
+  rows_read =
+      sym (goes_on d 1 (nothing d) (with_opening (nothing d) s.start.now s.start.up) (start_text s.start.now s.start.up) (stamp_texts d.anacrontab.lines s.start.stamps ++ map (event_text d) s.events) (ap (numbered 1) (taken_start d 1 s.start.now s.start.up parts.0 late)))
+      ∙ stamps_read d names (s.start.now, s.start.up) d.anacrontab.lines 2 [] [] s.start.stamps (map (event_text d) s.events) refl refl parts.1 days
+      ∙ events_read d names first_event (reading (s.start.now, s.start.up) s.start.stamps) (s.start.now, s.start.up) s.events refl parts.2
+
+  -- the law
+  pub script_back : length (script_text d s) ≤ MAX_SCRIPT → script_of d (script_text d s) ≡ Ok s
+  unfolding script_of numbered_script_of
+  script_back short = rw (le-ltb MAX_SCRIPT (length (script_text d s)) short, text_rows, rows_read, unnumbered first_event s.events) refl
+
+pub reads_back : (d : Declared) (s : Script) → IsWritable d s → script_of d (script_text d s) ≡ Ok s
+reads_back d s is = script_back d is.names s is.nameable is.start is.stamps is.short

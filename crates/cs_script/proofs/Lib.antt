@@ -1,0 +1,15 @@
+pub mod Named
+pub mod Digits
+pub mod Lines
+pub mod Stamps
+pub mod Loop
+pub mod NamedJobs
+pub mod BackWords
+pub mod BackNames
+pub mod BackMoments
+pub mod BackEvents
+pub mod BackLines
+pub mod BackStart
+pub mod BackStamps
+pub mod BackStampLines
+pub mod BackScript

@@ -1,0 +1,6 @@
+use Rattle.std.proofs.Common.{◌≡◌, ◌++◌, drop, flat_map}
+use Rattle.cs_script.specs.ScriptText.{event_line}
+use Rattle.cs_script.proofs.writing.push_events.Given as goal
+
+abbrev pub invariant-loop-event : goal.invariant-loop-event
+invariant-loop-event l = l.text.items ++ flat_map (event_line l.plan) (drop l.event-index l.events) ≡ l.fn.text.items ++ flat_map (event_line l.plan) l.events

@@ -1,0 +1,21 @@
+//! Scripts of events, read and written, and the texts that tell what an event is answered.
+#![tactic(auto)]
+
+mod dates;
+mod draft;
+mod fault;
+mod laws;
+mod nameable;
+mod names;
+mod reply;
+mod script;
+mod script_line;
+mod words;
+mod writing;
+
+pub use fault::{ScriptError, ScriptFault};
+pub use laws::scripts_are_read_back;
+pub use nameable::is_nameable;
+pub use reply::{push_reply, reply_text};
+pub use script::{MAX_SCRIPT, NumberedScript, read_numbered_script, read_script};
+pub use writing::script_text;

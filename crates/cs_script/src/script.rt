@@ -1,0 +1,141 @@
+//! Scripts: a start, and the events that are tried from there on.
+ghost use Rattle.std.specs.Prelude.{◌≡◌, ◌≤◌, ◌++◌, length, map, IfOk};
+ghost use Rattle.cs_crontab.specs.Text.{lines_of};
+ghost use Rattle.cs_script.specs.declared.script.TheConstants.{MAX_SCRIPT};
+ghost use Rattle.cs_script.specs.Script.{Denotes, lines_from, nothing, numbered_script_of, script_of};
+
+use crate::draft::Draft;
+use crate::fault::{ScriptError, ScriptFault};
+use cs_civil::Sequence;
+use cs_crontab::text::first_line;
+use cs_decl::Plan;
+use cs_history::{Event, Script, Start};
+use std::alloc::{AllocError, Global};
+use std::marker::Model;
+
+/// The bytes of the longest script that is read: 16 MiB (this profile).
+pub const MAX_SCRIPT: usize = 16_777_216;
+
+/// A script, and the number of the line of each event, counted from 1.
+#[derive(Debug, Drop)]
+pub struct NumberedScript {
+    opening: Start,
+    list: Sequence<(u32, Event)>,
+}
+
+impl Model for NumberedScript {
+    ghost use Rattle.cs_script.specs.Script.{Numbered};
+
+    ghost Value = { Numbered };
+
+    ghost view = { λ a. record { start = a.opening; events = a.list } };
+
+    ghost use Rattle.cs_history.specs.Plan.{first_start};
+    ghost use Rattle.std.specs.Prelude.{◌≤◌};
+
+    ghost invariant = { λ a. first_start ≤ a.opening.now };
+}
+
+impl NumberedScript {
+    ghost use Rattle.cs_history.specs.Plan.{first_start};
+
+    /// The start.
+    pub fn start(&self) -> &Start
+        ensures { result.now ≡ self.now.start }
+    {
+        &self.opening
+    }
+
+    /// The start, and the events, each with the number of its line. The start is from 1970-01-04 00:00 on.
+    pub fn into_parts(self) -> (Start, Sequence<(u32, Event)>)
+        ensures start { result.0 ≡ self.start }
+        ensures late { first_start ≤ result.0.now }
+        ensures events { result.1 ≡ self.events }
+    {
+        let NumberedScript { opening, list } = self;
+        (opening, list)
+    }
+
+    /// The events, each with the number of its line.
+    pub fn events(&self) -> &[(u32, Event)]
+        ensures { result.now ≡ self.now.events }
+    {
+        self.list.as_slice()
+    }
+}
+
+fn read_lines(alloc: Global, plan: &Plan, bytes: &[u8]) -> Result<Draft, ScriptError>
+    requires { length bytes.now ≤ MAX_SCRIPT }
+    ensures { Denotes (λ draft. draft) (lines_from plan.now 1 (nothing plan.now) (lines_of bytes.now)) result }
+{
+    let mut draft = Draft::new(alloc, plan);
+    let mut number = 0u32;
+    let mut rest = bytes;
+    while !rest.is_empty() {
+        let (line, after) = first_line(rest);
+        number += 1;
+        draft.take(plan, number, line)?;
+        rest = after;
+    }
+    Ok(draft)
+}
+
+/// The script that the bytes denote under the plan, with the number of the line of each event, or its first fault, as
+/// [`read_script`] answers it.
+#[tactic(auto, unfolding(crate::specs::Script::numbered_script_of))]
+pub fn read_numbered_script(
+    alloc: Global,
+    plan: &Plan,
+    bytes: &[u8],
+) -> Result<NumberedScript, ScriptError>
+    ensures { Denotes (λ script. script) (numbered_script_of plan.now bytes.now) result }
+{
+    if bytes.len() > MAX_SCRIPT {
+        return Err(ScriptError::At {
+            line: 0,
+            fault: ScriptFault::TooLong,
+        });
+    }
+    let draft = read_lines(alloc, plan, bytes)?;
+    match draft.start {
+        Some((minute, up)) => Ok(NumberedScript {
+            opening: Start::new(minute, up, draft.days),
+            list: draft.list,
+        }),
+        None => Err(ScriptError::At {
+            line: 0,
+            fault: ScriptFault::NoStart,
+        }),
+    }
+}
+
+fn events_of(alloc: Global, numbered: &[(u32, Event)]) -> Result<Sequence<Event>, AllocError>
+    ensures { IfOk result (λ events. events ≡ map (λ e. e.1) numbered.now) }
+{
+    let mut events = Sequence::new(alloc);
+    for (_, event) in numbered {
+        events.push(*event)?;
+    }
+    Ok(events)
+}
+
+/// The script that the bytes denote under the plan, or its first fault.
+///
+/// Empty lines and lines that begin with `#` count for nothing. The first other line is `start DT up` or `start DT down`, DT being
+/// `YYYY-MM-DD HH:MM` from 1970-01-04 00:00 on. `stamp ID YYYY-MM-DD` comes before any event, each identifier once. The events are
+/// `minute DT`, `up DT`, `down`, `begin line N`, `got line N DT`, `catch ID`, `end line N DT` and `end job ID DT`, where N is the
+/// number of a command's line in the crontab and ID an identifier of the anacrontab. Words are parted by one space.
+///
+/// In a line the faults come in the order of [`ScriptFault`]'s numbers. A line without fault that should be the start is
+/// [`NoStart`](ScriptFault::NoStart).
+#[tactic(auto, unfolding(crate::specs::Script::script_of))]
+pub fn read_script(alloc: Global, plan: &Plan, bytes: &[u8]) -> Result<Script, ScriptError>
+    ensures { Denotes (λ script. script) (script_of plan.now bytes.now) result }
+{
+    let numbered = read_numbered_script(alloc, plan, bytes)?;
+    let NumberedScript { opening, list } = numbered;
+    Ok(Script {
+        start: opening,
+        events: events_of(alloc, list.as_slice())?,
+    })
+}

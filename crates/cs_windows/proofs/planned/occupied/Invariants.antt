@@ -1,8 +1,0 @@
-use Rattle.std.proofs.Common.{◌≡◌, map}
-use Rattle.cs_history.specs.Lists.{below}
-use Rattle.cs_windows.specs.Occupied.{job_of}
-use Rattle.cs_windows.specs.Planned.{planned_job}
-use Rattle.cs_windows.proofs.planned.occupied.Given as goal
-
-abbrev pub invariant-loop-number : goal.invariant-loop-number
-invariant-loop-number l = map job_of l.jobs.items ≡ map (planned_job l.plan l.reaches) (below l.number)

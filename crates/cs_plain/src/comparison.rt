@@ -134,27 +134,49 @@ fn any_among(story: &Story, jobs: &[u16], chance: &mut Chance) -> u16 {
     }
 }
 
+/// A begin of a pending job, mostly; a minute where none is pending.
+fn any_begin(alloc: Global, story: &Story, chance: &mut Chance) -> Result<Event, AllocError> {
+    let pending = story.pending(alloc)?;
+    if pending.is_empty() {
+        return Ok(Event::Minute(any_minute(story, chance)));
+    }
+    Ok(Event::Begin(any_among(story, pending.as_slice(), chance)))
+}
+
+/// The grant of a lock, mostly to a run that waits.
+fn any_grant(alloc: Global, story: &Story, chance: &mut Chance) -> Result<Event, AllocError> {
+    let waiting = story.waiting(alloc)?;
+    let run = any_listed(story, waiting.as_slice(), chance);
+    Ok(Event::Got(run.job, run.at))
+}
+
+/// A catch-up, mostly of a job that the open pass has still to start.
+fn any_catch(alloc: Global, story: &Story, chance: &mut Chance) -> Result<Event, AllocError> {
+    let pass = story.pass(alloc)?;
+    Ok(Event::Catch(any_among(story, pass.left.as_slice(), chance)))
+}
+
+/// An end, mostly of a run that is running.
+fn any_end(alloc: Global, story: &Story, chance: &mut Chance) -> Result<Event, AllocError> {
+    let names = names(alloc, story)?;
+    Ok(Event::End(any_listed(story, names.as_slice(), chance)))
+}
+
 /// An event to try, of any kind and whether it may come or not; those that get on with the history are likelier.
 fn any_event(alloc: Global, story: &Story, chance: &mut Chance) -> Result<Event, AllocError> {
     if !story.is_up() && chance.once_in(2) {
         return Ok(Event::Up(any_return(story, chance)));
     }
-    let pending = story.pending(alloc)?;
-    Ok(match chance.below(60) {
-        0 => Event::Down,
-        1 => Event::Up(any_return(story, chance)),
-        2..=23 if !pending.is_empty() => {
-            Event::Begin(any_among(story, pending.as_slice(), chance))
-        }
-        2..=35 => Event::Minute(any_minute(story, chance)),
-        36 => Event::Begin(any_job(story.table, chance)),
-        37..=42 => {
-            let run = any_listed(story, story.waiting(alloc)?.as_slice(), chance);
-            Event::Got(run.job, run.at)
-        }
-        43..=45 => Event::Catch(any_among(story, story.pass(alloc)?.left.as_slice(), chance)),
-        _ => Event::End(any_listed(story, names(alloc, story)?.as_slice(), chance)),
-    })
+    match chance.below(60) {
+        0 => Ok(Event::Down),
+        1 => Ok(Event::Up(any_return(story, chance))),
+        2..=23 => any_begin(alloc, story, chance),
+        24..=35 => Ok(Event::Minute(any_minute(story, chance))),
+        36 => Ok(Event::Begin(any_job(story.table, chance))),
+        37..=42 => any_grant(alloc, story, chance),
+        43..=45 => any_catch(alloc, story, chance),
+        _ => any_end(alloc, story, chance),
+    }
 }
 
 /// The names of the runs that are running.
@@ -212,32 +234,83 @@ fn is_in_state(alloc: Global, core: &Core, story: &Story) -> Result<bool, AllocE
     )
 }
 
+/// A core and a list of the same events, from the same start.
+#[derive(Drop)]
+struct Trial {
+    table: Table,
+    opening: Opening,
+    core: Core,
+    entries: Vec<Entry>,
+}
+
+impl Trial {
+    /// A trial without events, of a random plan and start; None where no history starts there.
+    fn any(alloc: Global, chance: &mut Chance) -> Result<Option<Trial>, Fail> {
+        let table = Table::any(alloc, chance)?;
+        let opening = Opening::any(alloc, chance)?;
+        let Some(start) = opening.start() else {
+            return Ok(None);
+        };
+        let core = Core::open(alloc, &table.plan(alloc)?, start)?;
+        Ok(Some(Trial {
+            table,
+            opening,
+            core,
+            entries: Vec::new(alloc),
+        }))
+    }
+
+    fn story(&self) -> Story<'_> {
+        self.opening.story(&self.table, self.entries.as_slice())
+    }
+
+    fn has_open_pass(&self, alloc: Global) -> Result<bool, AllocError> {
+        Ok(!self.story().pass(alloc)?.left.is_empty())
+    }
+
+    /// Whether the core answers so, in a test and in a step, which it takes.
+    fn core_answers(&mut self, event: Event, wanted: Result<Reply, Refusal>) -> bool {
+        let is_tested = self.core.test(&event) == wanted.map(|_| ());
+        let is_answered = self.core.step(event) == wanted;
+        is_tested && is_answered
+    }
+
+    /// Writes the event at the end of the list where it is accepted.
+    fn write(&mut self, event: Event, wanted: Result<Reply, Refusal>) -> Result<(), AllocError> {
+        if let Ok(reply) = wanted {
+            self.entries.push(Entry { event, reply })?;
+        }
+        Ok(())
+    }
+
+    /// Sends an event to both. Says whether they answer alike, and stand alike then.
+    fn is_met(
+        &mut self,
+        alloc: Global,
+        event: Event,
+        tally: &mut Tally,
+    ) -> Result<bool, AllocError> {
+        let wanted = answer(alloc, &self.story(), event)?;
+        tally.add(outcome(&self.table, event, wanted));
+        let had_pass = self.has_open_pass(alloc)?;
+        let is_answered = self.core_answers(event, wanted);
+        self.write(event, wanted)?;
+        if !had_pass && self.has_open_pass(alloc)? {
+            tally.add(pass_at(event));
+        }
+        Ok(is_answered && is_in_state(alloc, &self.core, &self.story())?)
+    }
+}
+
 /// Sends random events to a core and to a list. Says at which event they first differ, None where they don't.
 fn first_difference(alloc: Global, seed: u64, tally: &mut Tally) -> Result<Option<u64>, Fail> {
     let mut chance = Chance::new(seed);
-    let table = Table::any(alloc, &mut chance)?;
-    let opening = Opening::any(alloc, &mut chance)?;
-    let Some(start) = opening.start() else {
+    let Some(mut trial) = Trial::any(alloc, &mut chance)? else {
         return Ok(Some(0));
     };
-    let mut core = Core::open(alloc, &table.plan(alloc)?, start)?;
-    let mut entries = Vec::new(alloc);
     for number in 0..EVENTS {
-        let story = opening.story(&table, entries.as_slice());
-        let event = any_event(alloc, &story, &mut chance)?;
-        let wanted = answer(alloc, &story, event)?;
-        let is_tested = core.test(&event) == wanted.map(|_| ());
-        let is_answered = core.step(event) == wanted;
-        tally.add(outcome(&table, event, wanted));
-        let had_pass = !story.pass(alloc)?.left.is_empty();
-        if let Ok(reply) = wanted {
-            entries.push(Entry { event, reply })?;
-        }
-        let story = opening.story(&table, entries.as_slice());
-        if !had_pass && !story.pass(alloc)?.left.is_empty() {
-            tally.add(pass_at(event));
-        }
-        if !is_tested || !is_answered || !is_in_state(alloc, &core, &story)? {
+        let event = any_event(alloc, &trial.story(), &mut chance)?;
+        if !trial.is_met(alloc, event, tally)? {
             return Ok(Some(number));
         }
     }

@@ -1,9 +1,6 @@
-//! Rows of the checker: chains of days, stretches in use, and where the first fault of a
-//! certificate is.
+//! Rows of the checker: where the first fault of a certificate is, and what is accepted.
 #![tactic(auto)]
 
-#[cfg(test)]
-mod chains;
 #[cfg(test)]
 mod faults;
 #[cfg(test)]

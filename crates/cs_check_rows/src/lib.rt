@@ -1,7 +1,6 @@
-//! Rows of the checker: where the first fault of a certificate is, and what is accepted.
+//! Rows of the checker by one thread and by several: what is accepted, and where a fault is. Each rule's faults and places are cases of
+//! the program.
 #![tactic(auto)]
 
 #[cfg(test)]
-mod faults;
-#[cfg(test)]
-mod places;
+mod accepted;

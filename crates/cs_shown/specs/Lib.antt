@@ -1,0 +1,5 @@
+pub mod Break
+pub mod FirstBreak
+pub mod Shown
+pub mod ShownText
+pub mod Trial

@@ -1,0 +1,17 @@
+//! Scripts that show a plan unsafe: what the first event breaks that breaks something.
+#![tactic(auto)]
+
+mod breaking;
+mod deadline;
+mod laws;
+mod proving;
+mod rules;
+mod shown;
+mod text;
+mod trial;
+
+pub use laws::first_breaks;
+pub use proving::prove_unsafe;
+pub use shown::{NotShown, Shown};
+pub use text::shown_text;
+pub use trial::Trial;

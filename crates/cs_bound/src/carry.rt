@@ -1,0 +1,109 @@
+//! What may be left of the days before when a day begins: the least that no successive days exceed.
+use crate::gains::Arrivals;
+use crate::numbers::{minutes_at, number_at};
+use cs_profile::Facts;
+use std::alloc::{AllocError, Global};
+
+/// As often as this all kinds of days are gone through. Where that doesn't settle what is left, the lock is never free for more
+/// than six days, so that a run waits for it longer than three.
+const ROUNDS: u8 = 9;
+
+/// Where more is left than this, in minutes, some run waits longer than three days.
+const MOST_LEFT: u32 = 12_960;
+
+/// What is left when days begin, and how it goes on from day to day.
+#[derive(Drop)]
+struct Carries<'a> {
+    facts: &'a Facts,
+    /// What arrives on the days of each profile.
+    arrivals: &'a [Arrivals],
+    /// The place of each kind of days, by number: kinds that have one place are taken to be alike.
+    places: &'a [u16],
+    /// What is left when a day begins, by place.
+    left: Vec<u32>,
+}
+
+impl<'a> Carries<'a> {
+    /// What is left when a day of this kind begins.
+    fn before(&self, kind: usize) -> u32 {
+        minutes_at(
+            self.left.as_slice(),
+            usize::from(number_at(self.places, kind)),
+        )
+    }
+
+    /// What is left when a day of this kind ends.
+    fn after(&self, kind: usize) -> u32 {
+        let profile = number_at(self.facts.profiles(), kind);
+        match self.arrivals.get(usize::from(profile)) {
+            Some(arrivals) => arrivals.left(self.before(kind)),
+            None => 0,
+        }
+    }
+
+    /// At least so much is left when days of these kinds begin; whether that is more than was known.
+    fn raise(&mut self, kinds: &[u16], left: u32) -> bool {
+        let mut is_more = false;
+        for kind in kinds {
+            let place = number_at(self.places, usize::from(*kind));
+            if let Some(before) = self.left.get_mut(usize::from(place)) {
+                is_more = is_more || *before < left;
+                *before = left.max(*before);
+            }
+        }
+        is_more
+    }
+
+    /// Takes what each kind of days leaves to those that can come next; whether that is more than was known.
+    fn go_on(&mut self) -> bool {
+        let mut is_more = false;
+        for (kind, next) in self.facts.successors().iter().enumerate() {
+            let left = self.after(kind);
+            is_more = self.raise(next.as_slice(), left) || is_more;
+        }
+        is_more
+    }
+
+    /// Goes on until nothing is more than was known; whether that came about.
+    fn settle(&mut self) -> bool {
+        for _ in 0..ROUNDS {
+            if !self.go_on() {
+                return true;
+            }
+        }
+        false
+    }
+
+    /// What is left when days of each kind begin, by the kind's number.
+    fn by_kind(&self, alloc: Global) -> Result<Vec<u32>, AllocError> {
+        let mut by_kind = Vec::new(alloc);
+        for kind in 0..self.places.len() {
+            by_kind.push(self.before(kind))?;
+        }
+        Ok(by_kind)
+    }
+}
+
+/// The least that may be left when days of each kind begin, by the kind's number, where kinds that have one place are taken to
+/// be alike. `None` where more than 12,960 minutes may be left, or ever more.
+pub(crate) fn least_carries(
+    alloc: Global,
+    facts: &Facts,
+    arrivals: &[Arrivals],
+    places: &[u16],
+) -> Result<Option<Vec<u32>>, AllocError> {
+    let mut carries = Carries {
+        facts,
+        arrivals,
+        places,
+        left: Vec::from_elem(alloc, 0, facts.kinds().len())?,
+    };
+    if !carries.settle() {
+        return Ok(None);
+    }
+    let by_kind = carries.by_kind(alloc)?;
+    if by_kind.as_slice().iter().any(|left| *left > MOST_LEFT) {
+        return Ok(None);
+    }
+    Ok(Some(by_kind))
+}

@@ -1,0 +1,246 @@
+use crate::gains::{MINUTES_OF_DAY, waits_for};
+use crate::latest::latest_starts;
+use crate::queue::{Queue, QueuedRun};
+use cs_cert::MAX_GROUPS;
+use cs_profile::{Calendar, Facts};
+use cs_windows::{Window, touches};
+use indexmap::{IndexMap, IndexSet};
+use std::alloc::{AllocError, Global};
+
+/// What is due on the first days of a calendar may have waited for longer than the calendar tells.
+const FIRST_PLACE: usize = 10;
+
+/// How long runs that wait for a lock may really go on, day by day of a calendar.
+///
+/// A run that begins in minute s has ended before s and its longest time, so the next holder begins a minute before that at the
+/// latest: each link of a chain of runs loses a minute against the bounds of a certificate. What is told here comes about in some
+/// history of the plan, as long as no run that skips finds the lock held. Runs that share a lock may wait for longer than is told,
+/// and others for them: here they wait for all that are alone with it, and nothing waits for them.
+#[derive(Drop)]
+pub struct ExactWaits<'a> {
+    facts: &'a Facts,
+    calendar: &'a Calendar,
+    queues: Vec<Queue>,
+}
+
+/// Who waits for the locks of all groups.
+fn queues(alloc: Global, facts: &Facts, calendar: &Calendar) -> Result<Vec<Queue>, AllocError> {
+    let mut queues = Vec::new(alloc);
+    for group in 0..MAX_GROUPS {
+        if facts.tasks().iter().any(|task| waits_for(task, group)) {
+            queues.push(Queue::of(alloc, facts, calendar, group)?)?;
+        }
+    }
+    Ok(queues)
+}
+
+/// The profiles of up to four successive days, with one that is no day's in the place of those that lack.
+type Profiles = [u16; 4];
+
+/// The profiles of so many days from this place on.
+fn profiles_from(profiles: &[u16], first: usize, length: usize) -> Profiles {
+    let mut found = [u16::MAX; 4];
+    for (place, profile) in found.iter_mut().enumerate() {
+        if place < length {
+            *profile = profiles
+                .get(first.saturating_add(place))
+                .copied()
+                .unwrap_or(u16::MAX);
+        }
+    }
+    found
+}
+
+/// The places of first days whose profiles are the same, of which no one's locks are all free by when another's are.
+#[derive(Drop)]
+struct Firsts {
+    places: Vec<usize>,
+}
+
+impl Firsts {
+    /// Takes one more of them.
+    fn add(&mut self, waits: &ExactWaits<'_>, first: usize) -> Result<(), AllocError> {
+        if self
+            .places
+            .as_slice()
+            .iter()
+            .any(|other| waits.is_within(first, *other))
+        {
+            return Ok(());
+        }
+        self.places.retain(|other| !waits.is_within(*other, first));
+        self.places.push(first)?;
+        Ok(())
+    }
+}
+
+/// The window of a run on the last of so many days, if it waits and is on it.
+fn window_of(facts: &Facts, run: &QueuedRun, length: u8) -> Option<Window> {
+    let task = facts.tasks().get(usize::from(run.job))?;
+    let place = u8::try_from(run.due / MINUTES_OF_DAY).ok()?;
+    let until = run.start.saturating_add(u32::from(task.max));
+    let window = Window {
+        job: usize::from(run.job),
+        day_back: length.checked_sub(1)?.checked_sub(place)?,
+        from: u16::try_from(run.due % MINUTES_OF_DAY).ok()?,
+        reach: u16::try_from(until.saturating_sub(run.due)).unwrap_or(u16::MAX),
+    };
+    if task.waits() && touches(&window, 0, cs_windows::MINUTES_OF_DAY) {
+        Some(window)
+    } else {
+        None
+    }
+}
+
+/// Adds the windows of the runs that wait and are on the last of so many days.
+fn add_windows(
+    windows: &mut Vec<Window>,
+    facts: &Facts,
+    runs: &[QueuedRun],
+    length: u8,
+) -> Result<(), AllocError> {
+    for run in runs {
+        if let Some(window) = window_of(facts, run, length) {
+            windows.push(window)?;
+        }
+    }
+    Ok(())
+}
+
+/// What names a window of a stretch: its job, the days back and the minute from which it is.
+type Name = (usize, u8, u16);
+
+/// The windows by their names.
+fn by_name(alloc: Global, windows: &[Window]) -> Result<IndexMap<Name, Window>, AllocError> {
+    let mut by_name = IndexMap::new(alloc);
+    for window in windows {
+        by_name.insert((window.job, window.day_back, window.from), *window)?;
+    }
+    Ok(by_name)
+}
+
+/// The places of the first days that were kept for all profiles, as the civil days that come so many days after them.
+fn days_after(alloc: Global, firsts: &[Firsts], after: u64) -> Result<Vec<u64>, AllocError> {
+    let mut days = Vec::new(alloc);
+    for first in firsts {
+        for place in first.places.as_slice() {
+            days.push(after.saturating_add(*place as u64))?;
+        }
+    }
+    days.sort()?;
+    Ok(days)
+}
+
+impl<'a> ExactWaits<'a> {
+    /// The waits of a plan, over a calendar of it. The only error is want of memory.
+    pub fn of(
+        alloc: Global,
+        facts: &'a Facts,
+        calendar: &'a Calendar,
+    ) -> Result<ExactWaits<'a>, AllocError> {
+        Ok(ExactWaits {
+            facts,
+            calendar,
+            queues: queues(alloc, facts, calendar)?,
+        })
+    }
+
+    /// Whether each lock is free on one day by the minute from which on it is free on the other.
+    fn is_within(&self, one: usize, other: usize) -> bool {
+        self.queues
+            .as_slice()
+            .iter()
+            .all(|queue| queue.free_on(one) <= queue.free_on(other))
+    }
+
+    /// The place of the first of so many days, of which this is the last.
+    fn first_place(&self, last_day: u64, length: u8) -> Option<usize> {
+        let place = last_day
+            .checked_add(1)?
+            .checked_sub(u64::from(length))?
+            .checked_sub(self.calendar.first_day())?;
+        Some(place as usize)
+    }
+
+    /// The first days of so many, sorted by the profiles of all of them.
+    fn firsts(&self, alloc: Global, length: usize) -> Result<Vec<Firsts>, AllocError> {
+        let profiles = self.calendar.profiles();
+        let mut seen = IndexSet::new(alloc);
+        let mut sorted: Vec<Firsts> = Vec::new(alloc);
+        for first in FIRST_PLACE..profiles.len().saturating_add(1).saturating_sub(length) {
+            let (number, is_new) = seen.insert_full(profiles_from(profiles, first, length))?;
+            if is_new {
+                sorted.push(Firsts {
+                    places: Vec::new(alloc),
+                })?;
+            }
+            if let Some(firsts) = sorted.get_mut(number) {
+                firsts.add(self, first)?;
+            }
+        }
+        Ok(sorted)
+    }
+
+    /// The last days of stretches of so many days, up to four, that are worth a look, rising, as days since 1970-01-01: where
+    /// two stretches have the same profiles, and each lock is free for the first of the one by when it is for that of the other,
+    /// the one is left out. The only error is want of memory.
+    pub fn last_days(&self, alloc: Global, length: u8) -> Result<Vec<u64>, AllocError> {
+        let firsts = self.firsts(alloc, usize::from(length))?;
+        let after = self
+            .calendar
+            .first_day()
+            .saturating_add(u64::from(length))
+            .saturating_sub(1);
+        days_after(alloc, firsts.as_slice(), after)
+    }
+
+    /// The windows of jobs that wait, on the last of so many days, up to four, that end with this one: of each run that is due on
+    /// one of them, from its due minute to the last in which it may go on. They are in no order. The only error is want of memory.
+    pub fn windows(
+        &self,
+        alloc: Global,
+        last_day: u64,
+        length: u8,
+    ) -> Result<Vec<Window>, AllocError> {
+        let mut windows = Vec::new(alloc);
+        let Some(first) = self.first_place(last_day, length) else {
+            return Ok(windows);
+        };
+        let profiles = profiles_from(self.calendar.profiles(), first, usize::from(length));
+        for queue in self.queues.as_slice() {
+            let runs = latest_starts(alloc, queue, profiles.as_slice(), queue.free_on(first))?;
+            add_windows(&mut windows, self.facts, runs.as_slice(), length)?;
+        }
+        Ok(windows)
+    }
+
+    /// A window of the stretch as it really is.
+    fn exact(&self, own: &IndexMap<Name, Window>, window: &Window) -> Option<Window> {
+        match self.facts.tasks().get(window.job) {
+            Some(task) if task.is_cron && task.waits() => own
+                .get(&(window.job, window.day_back, window.from))
+                .copied(),
+            _ => Some(*window),
+        }
+    }
+
+    /// The windows of the stretch of so many days that ends with this day, each of a job that waits cut to what it really can be,
+    /// and left out where it isn't on the last day any more. They stay in their order. The only error is want of memory.
+    pub fn cut(
+        &self,
+        alloc: Global,
+        last_day: u64,
+        length: u8,
+        windows: &[Window],
+    ) -> Result<Vec<Window>, AllocError> {
+        let waiting = self.windows(alloc, last_day, length)?;
+        let own = by_name(alloc, waiting.as_slice())?;
+        let mut exact = Vec::new(alloc);
+        for window in windows {
+            if let Some(window) = self.exact(&own, window) {
+                exact.push(window)?;
+            }
+        }
+        Ok(exact)
+    }
+}

@@ -1,0 +1,127 @@
+//! What arrives for the lock of a group on the days of each profile, and what that leaves for the day after.
+use cs_profile::{Facts, Task};
+use std::alloc::{AllocError, Global};
+
+/// How many minutes a day has.
+pub(crate) const MINUTES_OF_DAY: u32 = 1_440;
+
+/// Runs that are due at one minute and take the lock of a group.
+#[derive(Clone, Copy)]
+pub(crate) struct Arrival {
+    /// The minute of the day.
+    pub(crate) minute: u32,
+    /// How long they take together, one after the other, in minutes.
+    pub(crate) work: u32,
+}
+
+impl Arrival {
+    /// From when on the lock is free, if it was to be free from `free` on before these came.
+    pub(crate) fn free_after(&self, free: u32) -> u32 {
+        free.max(self.minute).saturating_add(self.work)
+    }
+}
+
+/// What arrives for the lock of a group on the days of a profile.
+#[derive(Drop)]
+pub(crate) struct Arrivals {
+    /// By minute, rising; minutes at which nothing arrives aren't there.
+    pub(crate) list: Vec<Arrival>,
+    /// How long all of it takes together.
+    work: u32,
+    /// What is left of it when the day ends, if nothing was left from the day before.
+    rest: u32,
+}
+
+impl Arrivals {
+    /// What is left when a day ends at whose start so much was left.
+    pub(crate) fn left(&self, carry: u32) -> u32 {
+        let through = carry.saturating_add(self.work);
+        through.saturating_sub(MINUTES_OF_DAY).max(self.rest)
+    }
+}
+
+/// Whether runs of the job take the lock of the group.
+pub(crate) fn takes_lock_of(task: &Task, group: u8) -> bool {
+    task.is_cron && task.takes_lock() && task.group == Some(group)
+}
+
+/// Whether runs of the job wait for the lock of the group.
+pub(crate) fn waits_for(task: &Task, group: u8) -> bool {
+    task.is_cron && task.waits() && task.group == Some(group)
+}
+
+/// The runs of a job arrive at each minute at which it is due.
+fn add_job(work: &mut [u32], task: &Task) {
+    for minute in task.minutes.as_slice() {
+        if let Some(work) = work.get_mut(usize::from(*minute)) {
+            *work = work.saturating_add(u32::from(task.max));
+        }
+    }
+}
+
+/// What arrives at each minute of a day on which these jobs are due.
+fn work_by_minute(
+    alloc: Global,
+    tasks: &[Task],
+    due: &[u16],
+    group: u8,
+) -> Result<Vec<u32>, AllocError> {
+    let mut work = Vec::from_elem(alloc, 0, MINUTES_OF_DAY as usize)?;
+    for job in due {
+        if let Some(task) = tasks.get(usize::from(*job)) {
+            if takes_lock_of(task, group) {
+                add_job(work.as_mut_slice(), task);
+            }
+        }
+    }
+    Ok(work)
+}
+
+/// The minutes at which something arrives.
+fn arrivals_among(alloc: Global, work: &[u32]) -> Result<Vec<Arrival>, AllocError> {
+    let mut arrivals = Vec::new(alloc);
+    for (minute, work) in (0..MINUTES_OF_DAY).zip(work) {
+        if *work > 0 {
+            arrivals.push(Arrival {
+                minute,
+                work: *work,
+            })?;
+        }
+    }
+    Ok(arrivals)
+}
+
+/// What arrives on a day on which these jobs are due.
+fn arrivals_of(
+    alloc: Global,
+    tasks: &[Task],
+    due: &[u16],
+    group: u8,
+) -> Result<Arrivals, AllocError> {
+    let work = work_by_minute(alloc, tasks, due, group)?;
+    let list = arrivals_among(alloc, work.as_slice())?;
+    let mut sum: u32 = 0;
+    let mut free: u32 = 0;
+    for arrival in list.as_slice() {
+        sum = sum.saturating_add(arrival.work);
+        free = arrival.free_after(free);
+    }
+    Ok(Arrivals {
+        list,
+        work: sum,
+        rest: free.saturating_sub(MINUTES_OF_DAY),
+    })
+}
+
+/// What arrives for the lock of a group on the days of each profile.
+pub(crate) fn arrivals_by_profile(
+    alloc: Global,
+    facts: &Facts,
+    group: u8,
+) -> Result<Vec<Arrivals>, AllocError> {
+    let mut by_profile = Vec::new(alloc);
+    for due in facts.due() {
+        by_profile.push(arrivals_of(alloc, facts.tasks(), due.as_slice(), group)?)?;
+    }
+    Ok(by_profile)
+}

@@ -1,0 +1,63 @@
+//! When runs have the lock of a group at the latest, over some successive days.
+use crate::gains::MINUTES_OF_DAY;
+use crate::queue::{Queue, QueuedRun, line_up};
+use std::alloc::{AllocError, Global};
+
+/// Adds the runs on days of a profile, the first minute of which is so many after that of the first day.
+fn add_day(
+    runs: &mut Vec<QueuedRun>,
+    queue: &Queue,
+    profile: u16,
+    first: u32,
+) -> Result<(), AllocError> {
+    for run in queue.runs_of(profile) {
+        let mut run = *run;
+        run.due = run.due.saturating_add(first);
+        runs.push(run)?;
+    }
+    Ok(())
+}
+
+/// The runs on successive days of these profiles.
+fn runs_over(alloc: Global, queue: &Queue, profiles: &[u16]) -> Result<Vec<QueuedRun>, AllocError> {
+    let mut runs = Vec::new(alloc);
+    let mut first: u32 = 0;
+    for profile in profiles {
+        add_day(&mut runs, queue, *profile, first)?;
+        first = first.saturating_add(MINUTES_OF_DAY);
+    }
+    Ok(runs)
+}
+
+/// Puts each run that keeps the lock for so long behind all that can be before it: it waits on as long as another is due by the
+/// minute at which the others have had the lock.
+fn put_last(runs: &mut [QueuedRun], work: u32) {
+    let mut next_due = u32::MAX;
+    let mut start = 0;
+    for run in runs.iter_mut().rev() {
+        let free = run.free.saturating_sub(work);
+        if next_due > free {
+            start = free;
+        }
+        if run.work == work {
+            run.start = start;
+        }
+        next_due = run.due;
+    }
+}
+
+/// The runs on successive days of these profiles, with the latest minute at which each that waits has the lock, where it is free
+/// for the first of them from this minute of the first day on.
+pub(crate) fn latest_starts(
+    alloc: Global,
+    queue: &Queue,
+    profiles: &[u16],
+    free: u32,
+) -> Result<Vec<QueuedRun>, AllocError> {
+    let mut runs = runs_over(alloc, queue, profiles)?;
+    let _ = line_up(runs.as_mut_slice(), free);
+    for work in queue.works.as_slice() {
+        put_last(runs.as_mut_slice(), *work);
+    }
+    Ok(runs)
+}

@@ -1,0 +1,96 @@
+//! What is known of each lock that jobs wait for.
+use crate::carry::least_carries;
+use crate::gains::{Arrivals, arrivals_by_profile, waits_for};
+use crate::reaches::{Longest, longest_waits};
+use cs_cert::MAX_GROUPS;
+use cs_profile::Facts;
+use std::alloc::{AllocError, Global};
+
+/// The greatest reach of a certificate, in minutes.
+pub(crate) const MOST_REACH: u32 = 4_320;
+
+/// The lock of a group that jobs wait for.
+#[derive(Drop)]
+pub(crate) struct Lock {
+    pub(crate) group: u8,
+    /// What arrives for it on the days of each profile.
+    pub(crate) arrivals: Vec<Arrivals>,
+    /// What may be left when days of each kind begin, by the kind's number.
+    pub(crate) carries: Vec<u32>,
+    /// For how long runs of the jobs may go on that wait for it, by the job's number.
+    pub(crate) longest: Vec<Longest>,
+}
+
+/// What is left when days of each profile begin, by the kind's number, if it is no more than that for which these are the
+/// longest waits.
+fn coarse_carries(
+    alloc: Global,
+    facts: &Facts,
+    group: u8,
+    arrivals: &[Arrivals],
+    longest: &[Longest],
+) -> Result<Option<Vec<u32>>, AllocError> {
+    let Some(carries) = least_carries(alloc, facts, arrivals, facts.profiles())? else {
+        return Ok(None);
+    };
+    let waits = longest_waits(alloc, facts, group, arrivals, carries.as_slice())?;
+    if waits.as_slice() == longest {
+        Ok(Some(carries))
+    } else {
+        Ok(None)
+    }
+}
+
+/// The lock of this group. `None` where what waits for it has no bound, or a run waits for longer than three days. Days of one
+/// profile are taken to be alike where no reach is longer for it. `kinds` are the numbers of all kinds.
+fn lock_of(
+    alloc: Global,
+    facts: &Facts,
+    group: u8,
+    kinds: &[u16],
+) -> Result<Option<Lock>, AllocError> {
+    let arrivals = arrivals_by_profile(alloc, facts, group)?;
+    let Some(least) = least_carries(alloc, facts, arrivals.as_slice(), kinds)? else {
+        return Ok(None);
+    };
+    let longest = longest_waits(alloc, facts, group, arrivals.as_slice(), least.as_slice())?;
+    if longest
+        .as_slice()
+        .iter()
+        .any(|wait| wait.reach > MOST_REACH)
+    {
+        return Ok(None);
+    }
+    let coarse = coarse_carries(alloc, facts, group, arrivals.as_slice(), longest.as_slice())?;
+    Ok(Some(Lock {
+        group,
+        arrivals,
+        carries: coarse.unwrap_or(least),
+        longest,
+    }))
+}
+
+/// The numbers of all kinds of days.
+fn kind_numbers(alloc: Global, facts: &Facts) -> Result<Vec<u16>, AllocError> {
+    let mut numbers = Vec::new(alloc);
+    for kind in 0..facts.kinds().len() {
+        numbers.push(u16::try_from(kind).unwrap_or(u16::MAX))?;
+    }
+    Ok(numbers)
+}
+
+/// The locks that jobs wait for, by group. `None` where one of them has no bound, or none by which runs wait for at most three
+/// days.
+pub(crate) fn locks(alloc: Global, facts: &Facts) -> Result<Option<Vec<Lock>>, AllocError> {
+    let kinds = kind_numbers(alloc, facts)?;
+    let mut locks = Vec::new(alloc);
+    for group in 0..MAX_GROUPS {
+        if facts.tasks().iter().any(|task| waits_for(task, group)) {
+            match lock_of(alloc, facts, group, kinds.as_slice())? {
+                Some(lock) => locks.push(lock)?,
+                None => return Ok(None),
+            }
+        }
+    }
+    Ok(Some(locks))
+}

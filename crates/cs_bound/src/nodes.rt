@@ -1,0 +1,68 @@
+//! The classes of a certificate to be: days of one profile, at whose start as much is left of the days before.
+use crate::lock::Lock;
+use crate::numbers::{first_places, minutes_at, number_at, told_apart};
+use crate::pieces::pieces;
+use cs_profile::{Classing, DayClass, Facts, GroupBound};
+use std::alloc::{AllocError, Global};
+
+/// The class of each kind, by the kind's number.
+fn class_of(alloc: Global, facts: &Facts, locks: &[Lock]) -> Result<Vec<u16>, AllocError> {
+    let mut classes = Vec::from_slice(alloc, facts.profiles())?;
+    for lock in locks {
+        classes = told_apart(alloc, classes.as_slice(), lock.carries.as_slice())?;
+    }
+    Ok(classes)
+}
+
+/// The bound of a group on days of the kind.
+fn bound_on(
+    alloc: Global,
+    lock: &Lock,
+    profile: u16,
+    kind: usize,
+) -> Result<GroupBound, AllocError> {
+    let carry = minutes_at(lock.carries.as_slice(), kind);
+    let arrivals = match lock.arrivals.get(usize::from(profile)) {
+        Some(arrivals) => arrivals.list.as_slice(),
+        None => &[],
+    };
+    Ok(GroupBound {
+        group: lock.group,
+        pieces: pieces(alloc, arrivals, carry)?,
+    })
+}
+
+/// The bounds of all groups for which something waits or runs on days of the kind.
+fn bounds_on(
+    alloc: Global,
+    locks: &[Lock],
+    profile: u16,
+    kind: usize,
+) -> Result<Vec<GroupBound>, AllocError> {
+    let mut bounds = Vec::new(alloc);
+    for lock in locks {
+        let bound = bound_on(alloc, lock, profile, kind)?;
+        if !bound.pieces.is_empty() {
+            bounds.push(bound)?;
+        }
+    }
+    Ok(bounds)
+}
+
+/// The classes that the bounds of these locks give the days: the profiles where nothing else tells days apart.
+pub(crate) fn classing(
+    alloc: Global,
+    facts: &Facts,
+    locks: &[Lock],
+) -> Result<Classing, AllocError> {
+    let class_of = class_of(alloc, facts, locks)?;
+    let mut classes = Vec::new(alloc);
+    for kind in first_places(alloc, class_of.as_slice())?.as_slice() {
+        let profile = number_at(facts.profiles(), *kind);
+        classes.push(DayClass {
+            profile,
+            bounds: bounds_on(alloc, locks, profile, *kind)?,
+        })?;
+    }
+    Ok(Classing { class_of, classes })
+}

@@ -1,0 +1,185 @@
+//! Who comes one after the other for the lock of a group, day by day.
+use crate::gains::{MINUTES_OF_DAY, takes_lock_of, waits_for};
+use cs_history::Mode;
+use cs_profile::{Calendar, Facts, Task};
+use std::alloc::{AllocError, Global};
+
+/// From when on the lock is free is followed no further than this many minutes.
+const MOST_AHEAD: u32 = 11_520;
+
+/// A run that takes the lock of a group.
+#[derive(Clone, Copy)]
+pub(crate) struct QueuedRun {
+    pub(crate) job: u16,
+    /// The minute at which it is due, from the start of the day, or of the first of some days.
+    pub(crate) due: u32,
+    /// For how many minutes it keeps the lock from the next: one less than its longest time, since the next begins in the
+    /// minute in which it ends. A run that shares the lock keeps it from nobody: it is to wait until the others have had it.
+    pub(crate) work: u32,
+    /// When the next has the lock, if all that are due up to this one have had it before.
+    pub(crate) free: u32,
+    /// When it has the lock at the latest.
+    pub(crate) start: u32,
+}
+
+/// Who takes the lock on the days of a profile.
+#[derive(Drop)]
+pub(crate) struct QueueDay {
+    /// By the minute at which they are due.
+    pub(crate) runs: Vec<QueuedRun>,
+    /// For how long they keep the lock together.
+    work: u32,
+    /// From when on it is free, if it is when the day begins.
+    free: u32,
+}
+
+impl QueueDay {
+    /// From when on the lock is free, in minutes of the next day, if it is from this minute of the day on.
+    fn next(&self, free: u32) -> u32 {
+        let ahead = free.saturating_add(self.work).max(self.free);
+        ahead.saturating_sub(MINUTES_OF_DAY).min(MOST_AHEAD)
+    }
+}
+
+/// Who takes the lock of a group for which jobs wait.
+#[derive(Drop)]
+pub(crate) struct Queue {
+    /// By profile.
+    days: Vec<QueueDay>,
+    /// From when on the lock is free on each day of the calendar, in minutes of that day, for all that was due before.
+    free: Vec<u32>,
+    /// For how long runs that wait for it may keep it from the next, each once.
+    pub(crate) works: Vec<u32>,
+}
+
+/// For how many minutes runs of a job keep the lock from the next.
+pub(crate) fn work_of(task: &Task) -> u32 {
+    match task.mode {
+        Mode::Shared => 0,
+        Mode::Plain | Mode::Skip | Mode::Wait => u32::from(task.max).saturating_sub(1),
+    }
+}
+
+/// The runs of a job on a day on which it is due.
+fn add_runs(runs: &mut Vec<QueuedRun>, job: u16, task: &Task) -> Result<(), AllocError> {
+    for minute in task.minutes.as_slice() {
+        let due = u32::from(*minute);
+        runs.push(QueuedRun {
+            job,
+            due,
+            work: work_of(task),
+            free: 0,
+            start: due,
+        })?;
+    }
+    Ok(())
+}
+
+/// The runs on a day on which these jobs are due that take the lock of the group, by the minute at which they are due.
+fn runs_on(
+    alloc: Global,
+    tasks: &[Task],
+    due: &[u16],
+    group: u8,
+) -> Result<Vec<QueuedRun>, AllocError> {
+    let mut runs = Vec::new(alloc);
+    for job in due {
+        if let Some(task) = tasks.get(usize::from(*job)) {
+            if takes_lock_of(task, group) {
+                add_runs(&mut runs, *job, task)?;
+            }
+        }
+    }
+    runs.sort_by_key(|run| run.due)?;
+    Ok(runs)
+}
+
+/// Lets all of these runs have the lock one after the other, from the minute on at which it is free for them. When it is free
+/// after them.
+pub(crate) fn line_up(runs: &mut [QueuedRun], free: u32) -> u32 {
+    let mut free = free;
+    for run in runs.iter_mut() {
+        free = free.max(run.due).saturating_add(run.work);
+        run.free = free;
+    }
+    free
+}
+
+/// For how long runs keep the lock together.
+fn work_together(runs: &[QueuedRun]) -> u32 {
+    let mut work: u32 = 0;
+    for run in runs {
+        work = work.saturating_add(run.work);
+    }
+    work
+}
+
+/// Who takes the lock of the group on the days of each profile.
+fn queue_days(alloc: Global, facts: &Facts, group: u8) -> Result<Vec<QueueDay>, AllocError> {
+    let mut days = Vec::new(alloc);
+    for due in facts.due() {
+        let mut runs = runs_on(alloc, facts.tasks(), due.as_slice(), group)?;
+        let free = line_up(runs.as_mut_slice(), 0);
+        days.push(QueueDay {
+            work: work_together(runs.as_slice()),
+            free,
+            runs,
+        })?;
+    }
+    Ok(days)
+}
+
+/// From when on the lock is free on each day of the calendar.
+fn free_by_day(alloc: Global, days: &[QueueDay], profiles: &[u16]) -> Result<Vec<u32>, AllocError> {
+    let mut by_day = Vec::new(alloc);
+    let mut free = 0;
+    for profile in profiles {
+        by_day.push(free)?;
+        if let Some(day) = days.get(usize::from(*profile)) {
+            free = day.next(free);
+        }
+    }
+    Ok(by_day)
+}
+
+/// For how long runs that wait for the lock may keep it from the next, each once.
+fn works_of(alloc: Global, tasks: &[Task], group: u8) -> Result<Vec<u32>, AllocError> {
+    let mut works: Vec<u32> = Vec::new(alloc);
+    for task in tasks {
+        let work = work_of(task);
+        if waits_for(task, group) && !works.as_slice().contains(&work) {
+            works.push(work)?;
+        }
+    }
+    Ok(works)
+}
+
+impl Queue {
+    /// Who takes the lock of this group, day by day of the calendar.
+    pub(crate) fn of(
+        alloc: Global,
+        facts: &Facts,
+        calendar: &Calendar,
+        group: u8,
+    ) -> Result<Queue, AllocError> {
+        let days = queue_days(alloc, facts, group)?;
+        Ok(Queue {
+            free: free_by_day(alloc, days.as_slice(), calendar.profiles())?,
+            days,
+            works: works_of(alloc, facts.tasks(), group)?,
+        })
+    }
+
+    /// From when on the lock is free on a day, by its place in the calendar, in minutes of the day.
+    pub(crate) fn free_on(&self, place: usize) -> u32 {
+        self.free.get(place).copied().unwrap_or(0)
+    }
+
+    /// The runs on days of a profile.
+    pub(crate) fn runs_of(&self, profile: u16) -> &[QueuedRun] {
+        match self.days.get(usize::from(profile)) {
+            Some(day) => day.runs.as_slice(),
+            None => &[],
+        }
+    }
+}

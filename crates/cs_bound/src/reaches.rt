@@ -1,0 +1,209 @@
+//! How long runs may go on that wait for the lock of a group.
+use crate::busy::{BusyTime, busy_times};
+use crate::gains::{Arrivals, MINUTES_OF_DAY, waits_for};
+use crate::numbers::{first_places, minutes_at, number_at, told_apart};
+use cs_profile::{Facts, Task};
+use std::alloc::{AllocError, Global};
+
+/// How many days are looked at for a minute at which a lock is free.
+const MOST_DAYS: u32 = 4;
+
+/// The end of these days.
+const LATEST: u32 = 5_760;
+
+/// How long a run of a job may go on after it was due.
+#[derive(Clone, Copy, PartialEq, Eq)]
+pub(crate) struct Longest {
+    /// The most minutes from a due minute to the first at which all that waited has had the lock.
+    pub(crate) reach: u32,
+    /// The latest such minute, counted from the start of the day of the due minute.
+    pub(crate) end: u32,
+}
+
+impl Longest {
+    /// No run goes on at all.
+    pub(crate) const NONE: Longest = Longest { reach: 0, end: 0 };
+
+    /// The longer of each.
+    pub(crate) fn or(self, other: Longest) -> Longest {
+        Longest {
+            reach: self.reach.max(other.reach),
+            end: self.end.max(other.end),
+        }
+    }
+}
+
+/// Days of one profile at whose start as much is left.
+#[derive(Drop)]
+struct LikeDays {
+    profile: u16,
+    busy: Vec<BusyTime>,
+    /// Where the lock isn't free any more on such a day, the first minute after it at which it is, counted from the start of
+    /// the day: the latest that the days after may bring.
+    free_after: u32,
+}
+
+/// The days of each number, whose free minutes after their end aren't known yet.
+fn like_days(
+    alloc: Global,
+    facts: &Facts,
+    arrivals: &[Arrivals],
+    carries: &[u32],
+    numbers: &[u16],
+) -> Result<Vec<LikeDays>, AllocError> {
+    let mut days = Vec::new(alloc);
+    for kind in first_places(alloc, numbers)?.as_slice() {
+        let profile = number_at(facts.profiles(), *kind);
+        let list = match arrivals.get(usize::from(profile)) {
+            Some(arrivals) => arrivals.list.as_slice(),
+            None => &[],
+        };
+        days.push(LikeDays {
+            profile,
+            busy: busy_times(alloc, list, minutes_at(carries, *kind))?,
+            free_after: 0,
+        })?;
+    }
+    Ok(days)
+}
+
+/// The first minute of such a day at which the lock is free; four days where it is at none.
+fn first_free(days: &[LikeDays], number: u16) -> u32 {
+    let Some(day) = days.get(usize::from(number)) else {
+        return 0;
+    };
+    match day.busy.as_slice().first() {
+        Some(busy) if busy.until < MINUTES_OF_DAY => busy.until,
+        Some(_) => LATEST,
+        None => 0,
+    }
+}
+
+/// The first free minute of days of each kind, by the kind's number; four days where it isn't known.
+fn first_free_by_kind(
+    alloc: Global,
+    days: &[LikeDays],
+    numbers: &[u16],
+) -> Result<Vec<u32>, AllocError> {
+    let mut free = Vec::new(alloc);
+    for number in numbers {
+        free.push(first_free(days, *number))?;
+    }
+    Ok(free)
+}
+
+/// The latest first free minute of the days that come next, counted from the start of the day before them, and never more
+/// than four days.
+fn next_free(free: &[u32], next: &[u16]) -> u32 {
+    let mut latest = 0;
+    for kind in next {
+        latest = minutes_at(free, usize::from(*kind)).max(latest);
+    }
+    latest.saturating_add(MINUTES_OF_DAY).min(LATEST)
+}
+
+/// Where the lock isn't free on days of a kind, looks at what is known of the days after them.
+fn look_on(free: &mut [u32], facts: &Facts) {
+    for (kind, next) in facts.successors().iter().enumerate() {
+        let later = next_free(free, next.as_slice());
+        if let Some(free) = free.get_mut(kind) {
+            if *free >= MINUTES_OF_DAY {
+                *free = later;
+            }
+        }
+    }
+}
+
+/// Notes what the days after each day bring.
+fn look_after(days: &mut [LikeDays], facts: &Facts, numbers: &[u16], free: &[u32]) {
+    for (number, next) in numbers.iter().zip(facts.successors()) {
+        let later = next_free(free, next.as_slice());
+        if let Some(day) = days.get_mut(usize::from(*number)) {
+            day.free_after = day.free_after.max(later);
+        }
+    }
+}
+
+/// The sorts of days that the lock sees, with what the days after them bring.
+fn days_of(
+    alloc: Global,
+    facts: &Facts,
+    arrivals: &[Arrivals],
+    carries: &[u32],
+) -> Result<Vec<LikeDays>, AllocError> {
+    let numbers = told_apart(alloc, facts.profiles(), carries)?;
+    let mut days = like_days(alloc, facts, arrivals, carries, numbers.as_slice())?;
+    let mut free = first_free_by_kind(alloc, days.as_slice(), numbers.as_slice())?;
+    for _ in 0..MOST_DAYS {
+        look_on(free.as_mut_slice(), facts);
+    }
+    look_after(
+        days.as_mut_slice(),
+        facts,
+        numbers.as_slice(),
+        free.as_slice(),
+    );
+    Ok(days)
+}
+
+/// For how long runs of a job may go on that are due in a busy time.
+fn longest_in(busy: &BusyTime, minutes: &[u16], free_after: u32) -> Longest {
+    let first = minutes.partition_point(|minute| u32::from(*minute) < busy.from);
+    let Some(minute) = minutes.get(first) else {
+        return Longest::NONE;
+    };
+    let due = u32::from(*minute);
+    if busy.until <= due {
+        return Longest::NONE;
+    }
+    let end = if busy.until < MINUTES_OF_DAY {
+        busy.until
+    } else {
+        free_after
+    };
+    Longest {
+        reach: end.saturating_sub(due),
+        end,
+    }
+}
+
+/// The same on the whole day.
+fn longest_on(day: &LikeDays, task: &Task) -> Longest {
+    let mut longest = Longest::NONE;
+    for busy in day.busy.as_slice() {
+        longest = longest.or(longest_in(busy, task.minutes.as_slice(), day.free_after));
+    }
+    longest
+}
+
+/// The same of each job that is due on such a day and waits for the lock of the group.
+fn add_day(longest: &mut [Longest], facts: &Facts, group: u8, day: &LikeDays) {
+    let Some(due) = facts.due().get(usize::from(day.profile)) else {
+        return;
+    };
+    for job in due.as_slice() {
+        let place = usize::from(*job);
+        if let (Some(task), Some(longest)) = (facts.tasks().get(place), longest.get_mut(place)) {
+            if waits_for(task, group) {
+                *longest = longest.or(longest_on(day, task));
+            }
+        }
+    }
+}
+
+/// For how long runs of each job may go on that wait for the lock of the group, by the job's number, where so much is left when
+/// days of each kind begin. A job that doesn't wait for it has none.
+pub(crate) fn longest_waits(
+    alloc: Global,
+    facts: &Facts,
+    group: u8,
+    arrivals: &[Arrivals],
+    carries: &[u32],
+) -> Result<Vec<Longest>, AllocError> {
+    let days = days_of(alloc, facts, arrivals, carries)?;
+    let mut longest = Vec::from_elem(alloc, Longest::NONE, facts.tasks().len())?;
+    for day in days.as_slice() {
+        add_day(longest.as_mut_slice(), facts, group, day);
+    }
+    Ok(longest)
+}

@@ -1,0 +1,205 @@
+//! On which numbers of which part a day tree is split.
+use crate::grouping::groups_of;
+use crate::kinds::{Classed, NUMBERS, Numbers, Possible, number_in};
+use cs_daytree::KindPart;
+use std::alloc::{AllocError, Global};
+
+/// With so many splits left the numbers of a part are halved: then 4 splits on months, 5 on days and 3 on weekdays leave one
+/// kind, so that a tree never is too deep.
+const HALVING_SPLITS: u8 = 12;
+
+/// Of more groups than that none is tried alone.
+const MOST_GROUPS: usize = 16;
+
+/// How good a split is: of two the lesser is the better one.
+#[derive(Clone, Copy, PartialEq, Eq, PartialOrd, Ord)]
+struct Rank {
+    /// The classes inside, and those outside: the less, the fewer stand on both sides.
+    classes: u32,
+    /// Those of the side that has more of them.
+    most: u32,
+    /// How many numbers the split lists.
+    listed: u32,
+}
+
+/// A split: the kinds with one of these numbers there go inside.
+#[derive(Clone, Copy)]
+pub(crate) struct Choice {
+    pub(crate) part: KindPart,
+    pub(crate) numbers: Numbers,
+    rank: Rank,
+}
+
+/// By which split a class was seen last on each side.
+#[derive(Clone, Copy)]
+struct Seen {
+    inside: u32,
+    outside: u32,
+}
+
+/// Counts the classes on both sides of splits.
+#[derive(Drop)]
+pub(crate) struct Tally {
+    seen: Vec<Seen>,
+    split: u32,
+}
+
+/// The greatest of these classes.
+fn greatest(class_of: &[u16]) -> u16 {
+    let mut greatest = 0;
+    for class in class_of {
+        greatest = greatest.max(*class);
+    }
+    greatest
+}
+
+impl Tally {
+    /// A tally of these classes, before any split.
+    pub(crate) fn new(alloc: Global, class_of: &[u16]) -> Result<Tally, AllocError> {
+        let never = Seen {
+            inside: 0,
+            outside: 0,
+        };
+        Ok(Tally {
+            seen: Vec::from_elem(alloc, never, usize::from(greatest(class_of)) + 1)?,
+            split: 0,
+        })
+    }
+
+    /// Whether the class is seen for the first time on this side of the split.
+    fn is_new(&mut self, class: u16, inside: bool) -> bool {
+        let split = self.split;
+        let Some(seen) = self.seen.get_mut(usize::from(class)) else {
+            return false;
+        };
+        let before = if inside { seen.inside } else { seen.outside };
+        if inside {
+            seen.inside = split;
+        } else {
+            seen.outside = split;
+        }
+        before != split
+    }
+
+    /// The split of these kinds on these numbers of a part.
+    fn choice(&mut self, kinds: &[Classed], part: KindPart, numbers: Numbers) -> Choice {
+        self.split = self.split.saturating_add(1);
+        let mut within: u32 = 0;
+        let mut without: u32 = 0;
+        for classed in kinds {
+            let inside = numbers.has(number_in(classed.kind, part));
+            if self.is_new(classed.class, inside) {
+                within = within.saturating_add(u32::from(inside));
+                without = without.saturating_add(u32::from(!inside));
+            }
+        }
+        let rank = Rank {
+            classes: within.saturating_add(without),
+            most: within.max(without),
+            listed: numbers.count(),
+        };
+        Choice {
+            part,
+            numbers,
+            rank,
+        }
+    }
+}
+
+/// The lower half of the numbers.
+fn half_of(numbers: Numbers) -> Numbers {
+    let mut half = Numbers::none();
+    for number in 0..NUMBERS {
+        if numbers.has(number) && half.count() < numbers.count() / 2 {
+            half = half.with(number);
+        }
+    }
+    half
+}
+
+/// The numbers of the first half of the groups.
+fn first_half(groups: &[Numbers]) -> Numbers {
+    let mut half = Numbers::none();
+    for group in groups.iter().take(groups.len() / 2) {
+        half = half.with_all(*group);
+    }
+    half
+}
+
+/// Those of the numbers, or the other possible ones where they are fewer.
+fn fewer(numbers: Numbers, possible: Numbers) -> Numbers {
+    let others = possible.without(numbers);
+    if others.count() < numbers.count() {
+        others
+    } else {
+        numbers
+    }
+}
+
+/// The numbers of a part that a split of these kinds may list, with so many splits left; none where they needn't be told apart.
+fn candidates(
+    alloc: Global,
+    kinds: &[Classed],
+    part: KindPart,
+    possible: Numbers,
+    splits: u8,
+) -> Result<Vec<Numbers>, AllocError> {
+    let mut found = groups_of(alloc, kinds, part, possible)?;
+    if found.len() < 2 {
+        found.clear();
+        return Ok(found);
+    }
+    if splits <= HALVING_SPLITS {
+        found.clear();
+        found.push(half_of(possible))?;
+        return Ok(found);
+    }
+    let half = first_half(&found);
+    if found.len() > MOST_GROUPS {
+        found.clear();
+    }
+    found.push(half)?;
+    Ok(found)
+}
+
+/// The better of two splits.
+fn better(one: Option<Choice>, other: Choice) -> Choice {
+    match one {
+        Some(choice) if choice.rank <= other.rank => choice,
+        _ => other,
+    }
+}
+
+/// The best of a split and those of these kinds on numbers of a part.
+fn best_in(
+    tally: &mut Tally,
+    kinds: &[Classed],
+    part: KindPart,
+    possible: Numbers,
+    candidates: &[Numbers],
+    best: Option<Choice>,
+) -> Option<Choice> {
+    let mut best = best;
+    for numbers in candidates {
+        let choice = tally.choice(kinds, part, fewer(*numbers, possible));
+        best = Some(better(best, choice));
+    }
+    best
+}
+
+/// The best split of these kinds where these numbers are possible and so many splits are left; none where they have one class.
+pub(crate) fn best_choice(
+    alloc: Global,
+    tally: &mut Tally,
+    kinds: &[Classed],
+    possible: Possible,
+    splits: u8,
+) -> Result<Option<Choice>, AllocError> {
+    let mut best = None;
+    for part in [KindPart::Month, KindPart::Day, KindPart::Weekday] {
+        let numbers = possible.of(part);
+        let candidates = candidates(alloc, kinds, part, numbers, splits)?;
+        best = best_in(tally, kinds, part, numbers, &candidates, best);
+    }
+    Ok(best)
+}

@@ -1,0 +1,75 @@
+//! What a certificate says of the days of one class.
+use cs_cert::{CertError, CertFault, Class, DueList, GroupBacklog};
+use cs_civil::Sequence;
+use cs_profile::{DayClass, Facts, GroupBound, Task};
+use cs_wait::{Backlog, BadPiece};
+use std::alloc::{AllocError, Global};
+
+/// The minutes at which a job is due.
+fn due_list(alloc: Global, job: u16, task: &Task) -> Result<DueList, AllocError> {
+    Ok(DueList {
+        job,
+        minutes: Sequence::from_slice(alloc, &task.minutes)?,
+    })
+}
+
+/// The due minutes of these jobs, without those that have none.
+fn due_lists(alloc: Global, facts: &Facts, jobs: &[u16]) -> Result<Sequence<DueList>, AllocError> {
+    let mut lists = Sequence::new(alloc);
+    for job in jobs {
+        let Some(task) = facts.tasks().get(usize::from(*job)) else {
+            continue;
+        };
+        if !task.minutes.is_empty() {
+            lists.push(due_list(alloc, *job, task)?)?;
+        }
+    }
+    Ok(lists)
+}
+
+/// The backlog of a group. `BadEntry` where its pieces make none.
+fn group_backlog(alloc: Global, bound: &GroupBound) -> Result<GroupBacklog, CertError> {
+    match Backlog::new(Vec::from_slice(alloc, &bound.pieces)?) {
+        Ok(backlog) => Ok(GroupBacklog {
+            group: bound.group,
+            backlog,
+        }),
+        Err(BadPiece) => Err(CertError::Fault(CertFault::BadEntry)),
+    }
+}
+
+/// The backlogs of these groups, without those that have no piece.
+fn backlogs(alloc: Global, bounds: &[GroupBound]) -> Result<Sequence<GroupBacklog>, CertError> {
+    let mut backlogs = Sequence::new(alloc);
+    for bound in bounds {
+        if !bound.pieces.is_empty() {
+            backlogs.push(group_backlog(alloc, bound)?)?;
+        }
+    }
+    Ok(backlogs)
+}
+
+/// What is said of one class.
+fn class_of(alloc: Global, facts: &Facts, class: &DayClass) -> Result<Class, CertError> {
+    let jobs = match facts.due().get(usize::from(class.profile)) {
+        Some(jobs) => jobs.as_slice(),
+        None => &[],
+    };
+    Ok(Class {
+        due: due_lists(alloc, facts, jobs)?,
+        backlog: backlogs(alloc, &class.bounds)?,
+    })
+}
+
+/// What is said of each class.
+pub(crate) fn classes_of(
+    alloc: Global,
+    facts: &Facts,
+    classes: &[DayClass],
+) -> Result<Sequence<Class>, CertError> {
+    let mut listed = Sequence::new(alloc);
+    for class in classes {
+        listed.push(class_of(alloc, facts, class)?)?;
+    }
+    Ok(listed)
+}

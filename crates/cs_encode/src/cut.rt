@@ -1,0 +1,94 @@
+//! Where a range of minutes is cut in two, so that few windows have to be listed on both sides.
+use cs_windows::{MINUTES_OF_DAY, Window};
+use std::alloc::{AllocError, Global};
+
+/// How many windows begin to hold minutes of a range at one minute, and how many hold none from it on.
+#[derive(Clone, Copy)]
+pub(crate) struct Turn {
+    begun: u32,
+    ended: u32,
+}
+
+/// A minute at which a range may be cut. Of two cuts the lesser is the better one.
+#[derive(Clone, Copy, PartialEq, Eq, PartialOrd, Ord)]
+pub(crate) struct Cut {
+    /// How many windows hold minutes on both sides.
+    pub(crate) across: u32,
+    /// By how much one side is longer than the other.
+    uneven: u16,
+    pub(crate) at: u16,
+}
+
+/// The first minute of `[lo, hi)` that a window holds and the one after the last, both counted from `lo`.
+fn held_minutes(window: &Window, lo: u16, hi: u16) -> (u32, u32) {
+    let day = u32::from(MINUTES_OF_DAY) * u32::from(window.day_back);
+    let start = day + u32::from(lo);
+    let from = u32::from(window.from);
+    let to = from + u32::from(window.reach);
+    let length = u32::from(hi.saturating_sub(lo));
+    (
+        from.saturating_sub(start),
+        to.saturating_sub(start).min(length),
+    )
+}
+
+/// What begins and ends at each minute of `[lo, hi)`, and at `hi`.
+pub(crate) fn turns(
+    alloc: Global,
+    windows: &[Window],
+    lo: u16,
+    hi: u16,
+) -> Result<Vec<Turn>, AllocError> {
+    let none = Turn { begun: 0, ended: 0 };
+    let mut turns = Vec::from_elem(alloc, none, usize::from(hi.saturating_sub(lo)) + 1)?;
+    for window in windows {
+        let (from, to) = held_minutes(window, lo, hi);
+        if let Some(turn) = turns.get_mut(from as usize) {
+            turn.begun = turn.begun.saturating_add(1);
+        }
+        if let Some(turn) = turns.get_mut(to as usize) {
+            turn.ended = turn.ended.saturating_add(1);
+        }
+    }
+    Ok(turns)
+}
+
+/// The most windows that hold one minute.
+pub(crate) fn most_at_once(turns: &[Turn]) -> u32 {
+    let mut held: u32 = 0;
+    let mut most = 0;
+    for turn in turns {
+        held = held.saturating_sub(turn.ended).saturating_add(turn.begun);
+        most = held.max(most);
+    }
+    most
+}
+
+/// Whether a minute of `[lo, hi)` is in its middle third, and leaves a minute on both sides.
+fn is_middle(at: u16, lo: u16, hi: u16) -> bool {
+    let third = (hi.saturating_sub(lo) / 3).max(1);
+    at.saturating_sub(lo) >= third && hi.saturating_sub(at) >= third
+}
+
+/// The lesser of two cuts.
+fn better(one: Option<Cut>, other: Cut) -> Cut {
+    match one {
+        Some(cut) if cut < other => cut,
+        _ => other,
+    }
+}
+
+/// The cut of `[lo, hi)` in its middle third with the fewest windows across, and of those the one nearest to the middle.
+pub(crate) fn best_cut(turns: &[Turn], lo: u16, hi: u16) -> Option<Cut> {
+    let mut held: u32 = 0;
+    let mut best = None;
+    for (at, turn) in (lo..hi).zip(turns) {
+        let across = held.saturating_sub(turn.ended);
+        if is_middle(at, lo, hi) {
+            let uneven = at.saturating_sub(lo).abs_diff(hi.saturating_sub(at));
+            best = Some(better(best, Cut { across, uneven, at }));
+        }
+        held = across.saturating_add(turn.begun);
+    }
+    best
+}

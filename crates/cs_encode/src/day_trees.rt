@@ -1,0 +1,86 @@
+use crate::choice::{Choice, Tally, best_choice};
+use crate::kinds::{Classed, Possible, all_classed, number_in};
+use cs_cert::MAX_DEPTH;
+use cs_daytree::DayTree;
+use std::alloc::{AllocError, Global};
+
+/// The leaf with the class of these kinds, or with class 0 where no day has such a kind.
+fn leaf(kinds: &[Classed]) -> DayTree {
+    match kinds.first() {
+        Some(first) => DayTree::Leaf(u32::from(first.class)),
+        None => DayTree::Leaf(0),
+    }
+}
+
+/// Whether all kinds have the class of the first.
+fn are_alike(kinds: &[Classed]) -> bool {
+    match kinds.first() {
+        Some(first) => kinds.iter().all(|classed| classed.class == first.class),
+        None => true,
+    }
+}
+
+/// The kinds on one side of a split, in order.
+fn on_side(
+    alloc: Global,
+    kinds: &[Classed],
+    choice: Choice,
+    inside: bool,
+) -> Result<Vec<Classed>, AllocError> {
+    let mut kept = Vec::new(alloc);
+    for classed in kinds {
+        if choice.numbers.has(number_in(classed.kind, choice.part)) == inside {
+            kept.push(*classed)?;
+        }
+    }
+    Ok(kept)
+}
+
+/// The split on these numbers, with its two halves.
+fn split(
+    alloc: Global,
+    choice: Choice,
+    inside: DayTree,
+    outside: DayTree,
+) -> Result<DayTree, AllocError> {
+    Ok(DayTree::Split {
+        part: choice.part,
+        values: choice.numbers.rising(alloc)?,
+        inside: Box::new(alloc, inside)?,
+        outside: Box::new(alloc, outside)?,
+    })
+}
+
+/// A tree of so many splits above one another at most that gives these kinds their classes, where these numbers are possible.
+fn tree_of(
+    alloc: Global,
+    tally: &mut Tally,
+    kinds: &[Classed],
+    possible: Possible,
+    splits: u8,
+) -> Result<DayTree, AllocError> {
+    if splits == 0 || are_alike(kinds) {
+        return Ok(leaf(kinds));
+    }
+    let Some(choice) = best_choice(alloc, tally, kinds, possible, splits)? else {
+        return Ok(leaf(kinds));
+    };
+    let numbers = possible.of(choice.part);
+    let within = possible.only(choice.part, choice.numbers);
+    let inside = on_side(alloc, kinds, choice, true)?;
+    let inside = tree_of(alloc, tally, &inside, within, splits - 1)?;
+    let without = possible.only(choice.part, numbers.without(choice.numbers));
+    let outside = on_side(alloc, kinds, choice, false)?;
+    let outside = tree_of(alloc, tally, &outside, without, splits - 1)?;
+    split(alloc, choice, inside, outside)
+}
+
+/// A day tree that gives each kind of day its class. The classes are given by the kinds' numbers, in the order of
+/// [`all_kinds`](cs_civil::all_kinds).
+///
+/// It is made to have few leaves. Its depth is at most 24, and each of its splits is possible. The only error is want of memory.
+pub fn day_tree(alloc: Global, class_of: &[u16]) -> Result<DayTree, AllocError> {
+    let kinds = all_classed(alloc, class_of)?;
+    let mut tally = Tally::new(alloc, class_of)?;
+    tree_of(alloc, &mut tally, &kinds, Possible::all(), MAX_DEPTH)
+}

@@ -1,0 +1,112 @@
+//! Which numbers of a part of a kind needn't be told apart.
+use crate::kinds::{Classed, NUMBERS, Numbers, number_in};
+use cs_civil::DayKind;
+use cs_daytree::KindPart;
+use std::alloc::{AllocError, Global};
+
+/// The places of kinds among those that are alike in one part are below this.
+const PLACES: usize = 404;
+
+/// Numbers of a part whose kinds have the same classes where the other two parts are the same. A number whose kind there is no
+/// day of agrees with any.
+#[derive(Drop)]
+struct Group {
+    numbers: Numbers,
+    classes: Vec<Option<u16>>,
+}
+
+/// The place of a kind among those that have the same number there.
+fn place_in(kind: DayKind, part: KindPart) -> usize {
+    let month = usize::from(kind.month());
+    let day = usize::from(kind.dom());
+    let weekday = usize::from(kind.dow());
+    match part {
+        KindPart::Month => 7 * day + weekday,
+        KindPart::Day => 7 * month + weekday,
+        KindPart::Weekday => 31 * month + day,
+    }
+}
+
+impl Group {
+    /// A group of no number yet.
+    fn new(alloc: Global) -> Result<Group, AllocError> {
+        Ok(Group {
+            numbers: Numbers::none(),
+            classes: Vec::from_elem(alloc, None, PLACES)?,
+        })
+    }
+
+    /// Whether the class of each of these kinds is that of the group's, where it has one.
+    fn agrees(&self, part: KindPart, kinds: &[Classed]) -> bool {
+        kinds.iter().all(|classed| {
+            match self.classes.get(place_in(classed.kind, part)) {
+                Some(Some(class)) => *class == classed.class,
+                _ => true,
+            }
+        })
+    }
+
+    /// Takes a number in, which has these kinds.
+    fn take(&mut self, number: u8, part: KindPart, kinds: &[Classed]) {
+        self.numbers = self.numbers.with(number);
+        for classed in kinds {
+            if let Some(class) = self.classes.get_mut(place_in(classed.kind, part)) {
+                *class = Some(classed.class);
+            }
+        }
+    }
+}
+
+/// The kinds that have this number there, in order.
+fn having(
+    alloc: Global,
+    kinds: &[Classed],
+    part: KindPart,
+    number: u8,
+) -> Result<Vec<Classed>, AllocError> {
+    let mut having = Vec::new(alloc);
+    for classed in kinds {
+        if number_in(classed.kind, part) == number {
+            having.push(*classed)?;
+        }
+    }
+    Ok(having)
+}
+
+/// Takes a number, which has these kinds, into the first group that agrees, or into one of its own.
+fn take_in(
+    alloc: Global,
+    groups: &mut Vec<Group>,
+    number: u8,
+    part: KindPart,
+    kinds: &[Classed],
+) -> Result<(), AllocError> {
+    for group in groups.iter_mut() {
+        if group.agrees(part, kinds) {
+            group.take(number, part, kinds);
+            return Ok(());
+        }
+    }
+    let mut group = Group::new(alloc)?;
+    group.take(number, part, kinds);
+    groups.push(group)?;
+    Ok(())
+}
+
+/// The possible numbers of a part of these kinds, by groups that needn't be told apart. Where each part has one group alone, all
+/// kinds have one class.
+pub(crate) fn groups_of(
+    alloc: Global,
+    kinds: &[Classed],
+    part: KindPart,
+    possible: Numbers,
+) -> Result<Vec<Numbers>, AllocError> {
+    let mut groups: Vec<Group> = Vec::new(alloc);
+    for number in 0..NUMBERS {
+        if possible.has(number) {
+            let having = having(alloc, kinds, part, number)?;
+            take_in(alloc, &mut groups, number, part, &having)?;
+        }
+    }
+    groups.iter().map(|group| group.numbers).collect(alloc)
+}

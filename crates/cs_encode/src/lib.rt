@@ -1,0 +1,18 @@
+//! Certificates of classes of days and the windows of their stretches. Nothing trusts them, so nothing is promised of them
+//! but that these calls return: `Certificate::new` judges what is made.
+#![tactic(auto)]
+
+mod certificates;
+mod choice;
+mod class;
+mod cut;
+mod day_trees;
+mod grouping;
+mod kinds;
+mod minute_trees;
+mod size;
+
+pub use certificates::{certificate, stretch};
+pub use day_trees::day_tree;
+pub use minute_trees::minute_tree;
+pub use size::least_text;

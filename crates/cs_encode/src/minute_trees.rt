@@ -1,0 +1,112 @@
+use crate::cut::{best_cut, most_at_once, turns};
+use cs_cert::MAX_ENTRIES;
+use cs_civil::Sequence;
+use cs_windows::{Entry, MINUTES_OF_DAY, MinuteTree, Window, touches};
+use std::alloc::{AllocError, Global};
+
+/// A leaf of so many entries isn't split.
+const SHORT_LEAF: usize = 64;
+
+/// A longer one that may stand isn't split either where more than one window of so many would be listed on both sides.
+const ONE_ACROSS_OF: usize = 8;
+
+/// Each side of a cut has two thirds of the minutes at most, so after so many of them a range is one minute of the day.
+const MOST_CUTS: u8 = 18;
+
+/// The name of a window. A job that no plan has stays one: the greatest `u16`.
+fn entry_of(window: &Window) -> Entry {
+    Entry {
+        job: u16::try_from(window.job).unwrap_or(u16::MAX),
+        day_back: window.day_back,
+        from: window.from,
+    }
+}
+
+/// The leaf that lists these windows.
+fn leaf(alloc: Global, windows: &[Window]) -> Result<MinuteTree, AllocError> {
+    let mut entries = Vec::with_capacity(alloc, windows.len())?;
+    for window in windows {
+        entries.push(entry_of(window))?;
+    }
+    Ok(MinuteTree::Leaf(Sequence::from_vec(entries)))
+}
+
+/// Those of the windows that hold a minute of `[lo, hi)`, in order.
+fn touching(
+    alloc: Global,
+    windows: &[Window],
+    lo: u16,
+    hi: u16,
+) -> Result<Vec<Window>, AllocError> {
+    let mut held = Vec::new(alloc);
+    for window in windows {
+        if touches(window, lo, hi) {
+            held.push(*window)?;
+        }
+    }
+    Ok(held)
+}
+
+/// Where a tree over `[lo, hi)` whose leaves list these windows is split, if it isn't to be a leaf.
+fn split_at(
+    alloc: Global,
+    windows: &[Window],
+    lo: u16,
+    hi: u16,
+) -> Result<Option<u16>, AllocError> {
+    let count = windows.len();
+    if count <= SHORT_LEAF {
+        return Ok(None);
+    }
+    let turns = turns(alloc, windows, lo, hi)?;
+    match best_cut(&turns, lo, hi) {
+        Some(cut) if count > MAX_ENTRIES || cut.across as usize <= count / ONE_ACROSS_OF => {
+            Ok(Some(cut.at))
+        }
+        _ => Ok(None),
+    }
+}
+
+/// The tree over `[lo, hi)` whose leaves list these windows, all of which touch the range, split so often at most.
+fn tree_over(
+    alloc: Global,
+    windows: &[Window],
+    lo: u16,
+    hi: u16,
+    cuts: u8,
+) -> Result<MinuteTree, AllocError> {
+    if cuts == 0 {
+        return leaf(alloc, windows);
+    }
+    let Some(at) = split_at(alloc, windows, lo, hi)? else {
+        return leaf(alloc, windows);
+    };
+    let earlier = touching(alloc, windows, lo, at)?;
+    let before = tree_over(alloc, &earlier, lo, at, cuts - 1)?;
+    let later = touching(alloc, windows, at, hi)?;
+    let after = tree_over(alloc, &later, at, hi, cuts - 1)?;
+    Ok(MinuteTree::Split {
+        at,
+        before: Box::new(alloc, before)?,
+        after: Box::new(alloc, after)?,
+    })
+}
+
+/// Whether more windows hold one minute than a leaf may list.
+fn are_too_many(alloc: Global, windows: &[Window]) -> Result<bool, AllocError> {
+    let turns = turns(alloc, windows, 0, MINUTES_OF_DAY)?;
+    Ok(most_at_once(&turns) as usize > MAX_ENTRIES)
+}
+
+/// A tree over the minutes of a day each of whose leaves lists every window that touches its range, in the order given.
+///
+/// Windows that one leaf may list stand in a leaf of the whole day, which is shortest as text and is gone through once by
+/// [`covers`](MinuteTree::covers). Of more windows the tree is made to be short as text and to have short leaves. Where more than
+/// 4,096 windows hold one minute no certificate can list them: all are then in one leaf. The only error is want of memory.
+pub fn minute_tree(alloc: Global, windows: &[Window]) -> Result<MinuteTree, AllocError> {
+    let held = touching(alloc, windows, 0, MINUTES_OF_DAY)?;
+    if held.len() <= MAX_ENTRIES || are_too_many(alloc, &held)? {
+        return leaf(alloc, &held);
+    }
+    tree_over(alloc, &held, 0, MINUTES_OF_DAY, MOST_CUTS)
+}

@@ -1,0 +1,117 @@
+//! What the windows of a stretch break, and the civil minute at which that is met.
+use cs_profile::Calendar;
+use cs_story::{Breach, Rule, Span};
+use cs_stretch::{Quiet, Roles};
+use cs_windows::{MINUTES_OF_DAY, Window, touches};
+use std::alloc::{AllocError, Global};
+
+/// 2024-01-01, counted from 1970-01-01: breaches are dated from then on.
+const FIRST_DAY: u64 = 19_723;
+
+/// Behind the last day on which they may begin: 28 years later each stretch of days has been.
+const LAST_DAY: u64 = FIRST_DAY + 10_231;
+
+/// A rule that the windows of a stretch break, and the first minute of its last day at which they do.
+#[derive(Clone, Copy, Debug, PartialEq, Eq)]
+pub(crate) struct Found {
+    pub(crate) rule: Rule,
+    pub(crate) minute: u16,
+}
+
+/// What these windows of a stretch break, if they break a rule of which a quick test of them, or of longer ones, doesn't say
+/// that it is kept. The only error is want of memory.
+pub(crate) fn broken_by(
+    alloc: Global,
+    roles: &Roles,
+    quiet: Quiet,
+    windows: &[Window],
+) -> Result<Option<Found>, AllocError> {
+    if !quiet.is_apart {
+        if let Some((minute, _, _)) = roles.collision(alloc, windows)? {
+            let rule = Rule::Collision;
+            return Ok(Some(Found { rule, minute }));
+        }
+    }
+    if !quiet.is_within {
+        if let Some((minute, _)) = roles.overload(alloc, windows)? {
+            let rule = Rule::OverCapacity;
+            return Ok(Some(Found { rule, minute }));
+        }
+    }
+    if !quiet.is_free {
+        if let Some((minute, skip, _)) = roles.blocked(alloc, windows)? {
+            let skip = u16::try_from(skip.job).unwrap_or(0);
+            let rule = Rule::SkipBlocked { skip };
+            return Ok(Some(Found { rule, minute }));
+        }
+    }
+    Ok(None)
+}
+
+/// Whether the days from this place on begin with these profiles.
+fn begins_with(days: &[u16], place: usize, profiles: &[u16]) -> bool {
+    match days.get(place..) {
+        Some(days) => days.starts_with(profiles),
+        None => false,
+    }
+}
+
+/// The first civil day from 2024-01-01 on that is the last of days with these profiles, counted from 1970-01-01. There always
+/// is one; else it would be 2024-01-01.
+pub(crate) fn last_day(calendar: &Calendar, profiles: &[u16]) -> u64 {
+    let days_before = (profiles.len() as u64).saturating_sub(1);
+    let first = FIRST_DAY.saturating_sub(days_before);
+    for day in first..LAST_DAY {
+        let place = day.saturating_sub(calendar.first_day()) as usize;
+        if begins_with(calendar.profiles(), place, profiles) {
+            return day.saturating_add(days_before);
+        }
+    }
+    FIRST_DAY
+}
+
+/// The civil minute with this number on a day.
+fn minute_on(day: u64, minute: u16) -> u64 {
+    day.saturating_mul(u64::from(MINUTES_OF_DAY))
+        .saturating_add(u64::from(minute))
+}
+
+/// The civil minutes of a window that is looked at from this day.
+fn span_on(day: u64, window: &Window) -> Span {
+    let from = minute_on(day.saturating_sub(u64::from(window.day_back)), window.from);
+    Span {
+        job: u16::try_from(window.job).unwrap_or(0),
+        from,
+        to: from.saturating_add(u64::from(window.reach)),
+    }
+}
+
+/// The civil minutes of the windows that hold this minute of a day.
+fn held_at(
+    alloc: Global,
+    day: u64,
+    windows: &[Window],
+    minute: u16,
+) -> Result<Vec<Span>, AllocError> {
+    let mut held = Vec::new(alloc);
+    for window in windows {
+        if touches(window, minute, minute.saturating_add(1)) {
+            held.push(span_on(day, window))?;
+        }
+    }
+    Ok(held)
+}
+
+/// The breach that was found in these windows of the stretch that ends on this day. The only error is want of memory.
+pub(crate) fn breach_on(
+    alloc: Global,
+    day: u64,
+    windows: &[Window],
+    found: Found,
+) -> Result<Breach, AllocError> {
+    Ok(Breach {
+        rule: found.rule,
+        at: minute_on(day, found.minute),
+        held: held_at(alloc, day, windows, found.minute)?,
+    })
+}

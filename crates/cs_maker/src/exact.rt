@@ -1,0 +1,115 @@
+//! Stories of jobs that wait for a lock, from windows that are as long as their runs can really go on.
+use crate::breaches::{breach_on, broken_by};
+use crate::stretches::days_of;
+use crate::subject::Subject;
+use cs_bound::ExactWaits;
+use cs_chains::Chain;
+use cs_civil::{Day, kind_of};
+use cs_claim::occupied;
+use cs_history::Script;
+use cs_profile::Facts;
+use cs_story::{Breach, tell};
+use cs_windows::{JobReach, Occupied, windows_on};
+use std::alloc::{AllocError, Global};
+
+/// The greatest reach of a certificate, in minutes.
+const GREATEST_REACH: u16 = 4_320;
+
+/// After so many breaches of which there is no story no other is looked for.
+const MOST_BREACHES: u8 = 16;
+
+/// Longer reaches for the jobs that wait than any that a certificate has.
+pub(crate) fn greatest_reaches(alloc: Global, facts: &Facts) -> Result<Vec<JobReach>, AllocError> {
+    let mut reaches = Vec::new(alloc);
+    for (number, task) in facts.tasks().iter().enumerate() {
+        if task.is_cron && task.waits() {
+            reaches.push(JobReach {
+                job: u16::try_from(number).unwrap_or(u16::MAX),
+                reach: GREATEST_REACH,
+            })?;
+        }
+    }
+    Ok(reaches)
+}
+
+/// The kinds of so many days, of which this is the last, eldest first.
+fn kinds_until(last_day: u64, days: u8) -> Chain {
+    let mut kinds = Chain::new();
+    for days_back in (0..days.min(4)).rev() {
+        if let Some(day) = Day::new(last_day.saturating_sub(u64::from(days_back))) {
+            let _ = kinds.try_push(kind_of(day));
+        }
+    }
+    kinds
+}
+
+/// Windows that can't be shorter than the exact ones, and the days of their stretches.
+#[derive(Drop)]
+struct Bounded<'a> {
+    occupied: Vec<Occupied<'a>>,
+    days: u8,
+}
+
+/// What the exact windows of the stretch break that ends on this day.
+fn breach_until(
+    alloc: Global,
+    subject: &Subject<'_>,
+    waits: &ExactWaits<'_>,
+    bounded: &Bounded<'_>,
+    last_day: u64,
+) -> Result<Option<Breach>, AllocError> {
+    let kinds = kinds_until(last_day, bounded.days);
+    let windows = windows_on(alloc, bounded.occupied.as_slice(), kinds.as_slice())?;
+    let quiet = subject.roles.quiet(alloc, windows.as_slice())?;
+    if quiet.by_all() {
+        return Ok(None);
+    }
+    let exact = waits.cut(alloc, last_day, bounded.days, windows.as_slice())?;
+    match broken_by(alloc, subject.roles, quiet, exact.as_slice())? {
+        Some(found) => Ok(Some(breach_on(alloc, last_day, exact.as_slice(), found)?)),
+        None => Ok(None),
+    }
+}
+
+/// The first story of what exact windows break on one of these days. None where there is none, or many breaches have none.
+fn story_on(
+    alloc: Global,
+    subject: &Subject<'_>,
+    waits: &ExactWaits<'_>,
+    bounded: &Bounded<'_>,
+    last_days: &[u64],
+) -> Result<Option<Script>, AllocError> {
+    let mut untold: u8 = 0;
+    for last_day in last_days {
+        let Some(breach) = breach_until(alloc, subject, waits, bounded, *last_day)? else {
+            continue;
+        };
+        let told = tell(
+            alloc,
+            subject.plan,
+            subject.facts,
+            subject.calendar,
+            &breach,
+        )?;
+        untold = untold.saturating_add(1);
+        if told.is_some() || untold == MOST_BREACHES {
+            return Ok(told);
+        }
+    }
+    Ok(None)
+}
+
+/// A story of what windows break in which each run goes on as long as it really can. The reaches are those of jobs that wait,
+/// none less than the exact one. None where no such story is found. The only error is want of memory.
+pub(crate) fn exact_story(
+    alloc: Global,
+    subject: &Subject<'_>,
+    reaches: &[JobReach],
+) -> Result<Option<Script>, AllocError> {
+    let waits = ExactWaits::of(alloc, subject.facts, subject.calendar)?;
+    let occupied = occupied(alloc, subject.plan, reaches)?;
+    let days = days_of(occupied.as_slice());
+    let bounded = Bounded { occupied, days };
+    let last_days = waits.last_days(alloc, days)?;
+    story_on(alloc, subject, &waits, &bounded, last_days.as_slice())
+}

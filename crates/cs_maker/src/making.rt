@@ -1,0 +1,103 @@
+//! The way from a plan to what is made for it: windows that break a rule first, then bounds, then the certificate.
+use crate::encoding::certificate_of;
+use crate::exact::{exact_story, greatest_reaches};
+use crate::made::{Made, Reason};
+use crate::subject::Subject;
+use crate::sweep::first_breach;
+use cs_bound::{Bounds, least_bounds};
+use cs_decl::Plan;
+use cs_profile::{Calendar, Facts};
+use cs_story::{Breach, tell};
+use cs_stretch::Roles;
+use std::alloc::{AllocError, Global};
+
+/// A story of jobs that wait for as long as they really can, where nothing bounds for how long; or else this reason.
+fn made_without_bounds(
+    alloc: Global,
+    subject: &Subject<'_>,
+    reason: Reason,
+) -> Result<Made, AllocError> {
+    let reaches = greatest_reaches(alloc, subject.facts)?;
+    Ok(match exact_story(alloc, subject, reaches.as_slice())? {
+        Some(script) => Made::Unsafe(script),
+        None => Made::Unknown(reason),
+    })
+}
+
+/// The story of a breach of windows in which no job waits.
+fn made_of_breach(
+    alloc: Global,
+    subject: &Subject<'_>,
+    breach: &Breach,
+) -> Result<Made, AllocError> {
+    let told = tell(alloc, subject.plan, subject.facts, subject.calendar, breach)?;
+    match told {
+        Some(script) => Ok(Made::Unsafe(script)),
+        None => made_without_bounds(alloc, subject, Reason::NoScript),
+    }
+}
+
+/// What is made where the windows of these bounds break a rule: a story of jobs that wait for as long as they really can, or
+/// else the certificate, which the checker refuses.
+fn made_in_doubt(
+    alloc: Global,
+    subject: &Subject<'_>,
+    bounds: &Bounds,
+) -> Result<Made, AllocError> {
+    if let Some(script) = exact_story(alloc, subject, bounds.reaches.as_slice())? {
+        return Ok(Made::Unsafe(script));
+    }
+    Ok(match certificate_of(alloc, subject, bounds)? {
+        Ok(certificate) => Made::Refused(certificate, Reason::NoScript),
+        Err(_) => Made::Unknown(Reason::NoScript),
+    })
+}
+
+/// The certificate of these bounds, unless their windows break a rule.
+fn made_of_bounds(
+    alloc: Global,
+    subject: &Subject<'_>,
+    bounds: &Bounds,
+) -> Result<Made, AllocError> {
+    let reaches = bounds.reaches.as_slice();
+    if !reaches.is_empty() && first_breach(alloc, subject, reaches)?.is_some() {
+        return made_in_doubt(alloc, subject, bounds);
+    }
+    Ok(match certificate_of(alloc, subject, bounds)? {
+        Ok(certificate) => Made::Safe(certificate),
+        Err(reason) => Made::Unknown(reason),
+    })
+}
+
+/// What is made for the plan. The only error is want of memory.
+fn made_of(alloc: Global, subject: &Subject<'_>) -> Result<Made, AllocError> {
+    if let Some(breach) = first_breach(alloc, subject, &[])? {
+        return made_of_breach(alloc, subject, &breach);
+    }
+    match least_bounds(alloc, subject.plan, subject.facts)? {
+        Some(bounds) => made_of_bounds(alloc, subject, &bounds),
+        None => made_without_bounds(alloc, subject, Reason::NoReach),
+    }
+}
+
+/// The same, with what is read off the plan once.
+fn made_of_plan(alloc: Global, plan: &Plan) -> Result<Made, AllocError> {
+    let facts = Facts::of(alloc, plan)?;
+    let calendar = Calendar::of(alloc, &facts)?;
+    let roles = Roles::of(alloc, plan)?;
+    let subject = Subject {
+        plan,
+        facts: &facts,
+        calendar: &calendar,
+        roles: &roles,
+    };
+    made_of(alloc, &subject)
+}
+
+/// A certificate for the plan, or a script that breaks it, or why neither is known. The only error is want of memory.
+pub fn make(alloc: Global, plan: &Plan) -> Made {
+    match made_of_plan(alloc, plan) {
+        Ok(made) => made,
+        Err(AllocError) => Made::Unknown(Reason::NoMemory),
+    }
+}

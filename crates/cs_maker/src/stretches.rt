@@ -1,0 +1,44 @@
+//! The stretches of successive days that the windows of a plan are looked at by.
+ghost use Rattle.std.specs.Prelude.{◌≤◌};
+
+use cs_chains::{Chain, chains, stretch_length};
+use cs_civil::kind_number;
+use cs_windows::Occupied;
+use std::alloc::{AllocError, Global};
+use std::collections::BTreeMap;
+
+/// Stretches by the numbers of their days, as profiles or classes, eldest first, each with kinds of such days. They rise.
+pub(crate) type Stretches = BTreeMap<Vec<u16>, Chain>;
+
+/// Of how many days the stretches are.
+pub(crate) fn days_of(occupied: &[Occupied<'_>]) -> u8
+    ensures { (1 ≤ result) × (result ≤ 4) }
+{
+    stretch_length(occupied).max(2).min(4)
+}
+
+/// The numbers of these days.
+fn numbers_of(alloc: Global, chain: &Chain, by_kind: &[u16]) -> Result<Vec<u16>, AllocError> {
+    let mut numbers = Vec::new(alloc);
+    for kind in chain.as_slice() {
+        let number = by_kind.get(usize::from(kind_number(*kind)));
+        numbers.push(number.copied().unwrap_or(0))?;
+    }
+    Ok(numbers)
+}
+
+/// The stretches of so many days that successive days have, where each kind of day has this number.
+pub(crate) fn stretches_by(
+    alloc: Global,
+    days: u8,
+    by_kind: &[u16],
+) -> Result<Stretches, AllocError>
+    requires { (1 ≤ days) × (days ≤ 4) }
+{
+    let mut stretches = BTreeMap::new(alloc);
+    for chain in chains(alloc, days)? {
+        let numbers = numbers_of(alloc, &chain, by_kind)?;
+        stretches.insert(numbers, chain)?;
+    }
+    Ok(stretches)
+}

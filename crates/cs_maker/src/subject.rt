@@ -1,0 +1,12 @@
+use cs_decl::Plan;
+use cs_profile::{Calendar, Facts};
+use cs_stretch::Roles;
+
+/// A plan, and what is read off it once.
+#[derive(Drop)]
+pub(crate) struct Subject<'a> {
+    pub(crate) plan: &'a Plan,
+    pub(crate) facts: &'a Facts,
+    pub(crate) calendar: &'a Calendar,
+    pub(crate) roles: &'a Roles,
+}

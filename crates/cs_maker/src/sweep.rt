@@ -1,0 +1,41 @@
+//! The first breach in the windows of a plan, stretch by stretch.
+ghost use Rattle.std.specs.Prelude.{IfOk, ◌≤◌, length};
+ghost use Rattle.cs_windows.specs.Window.{IsRising};
+
+use crate::breaches::{Found, breach_on, broken_by, last_day};
+use crate::stretches::{days_of, stretches_by};
+use crate::subject::Subject;
+use cs_claim::occupied;
+use cs_story::Breach;
+use cs_stretch::Roles;
+use cs_windows::{JobReach, Window, windows_on};
+use std::alloc::{AllocError, Global};
+
+/// What these windows of a stretch break. Most break nothing, which the quick test tells.
+fn found_in(alloc: Global, roles: &Roles, windows: &[Window]) -> Result<Option<Found>, AllocError>
+    requires { IsRising windows.now }
+{
+    let quiet = roles.quiet(alloc, windows)?;
+    broken_by(alloc, roles, quiet, windows)
+}
+
+/// The first breach in the windows of a plan, where jobs that wait have these reaches, and those without one their declared
+/// times. Where there is none, no history breaks what is declared, if runs end within the reaches. The only error is want of memory.
+pub(crate) fn first_breach(
+    alloc: Global,
+    subject: &Subject<'_>,
+    reaches: &[JobReach],
+) -> Result<Option<Breach>, AllocError> {
+    let occupied = occupied(alloc, subject.plan, reaches)?;
+    let days = days_of(occupied.as_slice());
+    let stretches = stretches_by(alloc, days, subject.facts.profiles())?;
+    for (profiles, kinds) in &stretches {
+        let windows = windows_on(alloc, occupied.as_slice(), kinds.as_slice())?;
+        let windows = windows.as_slice();
+        if let Some(found) = found_in(alloc, subject.roles, windows)? {
+            let day = last_day(subject.calendar, profiles.as_slice());
+            return Ok(Some(breach_on(alloc, day, windows, found)?));
+        }
+    }
+    Ok(None)
+}

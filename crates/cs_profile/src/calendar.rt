@@ -1,0 +1,56 @@
+use crate::facts::Facts;
+use cs_civil::{Day, kind_number, kind_of};
+use std::alloc::{AllocError, Global};
+
+/// 2024-01-01, counted from 1970-01-01.
+const FIRST_DAY: u64 = 19_723;
+
+/// The days before that, so that what goes on for some days is seen from its start.
+const DAYS_BEFORE: u64 = 10;
+
+/// In 28 years each day has each weekday, and successive days are all that they can be.
+const DAYS_OF_28_YEARS: u64 = 10_231;
+
+/// The profiles of civil days, from shortly before 2024-01-01 on for 28 years.
+#[derive(Debug, Drop)]
+pub struct Calendar {
+    profiles: Vec<u16>,
+}
+
+/// The profile of the civil day with this number.
+fn profile_on(facts: &Facts, number: u64) -> u16 {
+    match Day::new(number) {
+        Some(day) => match facts.profiles().get(usize::from(kind_number(kind_of(day)))) {
+            Some(profile) => *profile,
+            None => 0,
+        },
+        None => 0,
+    }
+}
+
+impl Calendar {
+    /// The calendar of a plan. The only error is want of memory.
+    pub fn of(alloc: Global, facts: &Facts) -> Result<Calendar, AllocError> {
+        let mut profiles = Vec::new(alloc);
+        for number in (FIRST_DAY - DAYS_BEFORE)..(FIRST_DAY + DAYS_OF_28_YEARS) {
+            profiles.push(profile_on(facts, number))?;
+        }
+        Ok(Calendar { profiles })
+    }
+
+    /// The first of the civil days, counted from 1970-01-01.
+    pub fn first_day(&self) -> u64 {
+        FIRST_DAY - DAYS_BEFORE
+    }
+
+    /// The profiles of the civil days, from the first on.
+    pub fn profiles(&self) -> &[u16] {
+        self.profiles.as_slice()
+    }
+
+    /// The profile of a civil day, counted from 1970-01-01, if it is one of these.
+    pub fn profile_on(&self, day: u64) -> Option<u16> {
+        let place = day.checked_sub(self.first_day())?;
+        self.profiles.get(place as usize).copied()
+    }
+}

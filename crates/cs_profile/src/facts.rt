@@ -1,0 +1,104 @@
+use crate::kinds;
+use crate::task::{Task, schedule_of, tasks_of};
+use cs_civil::DayKind;
+use cs_decl::Plan;
+use std::alloc::{AllocError, Global};
+
+/// What the maker reads off a plan once.
+#[derive(Debug, Drop)]
+pub struct Facts {
+    tasks: Vec<Task>,
+    kinds: Vec<DayKind>,
+    successors: Vec<[u16; 2]>,
+    profiles: Vec<u16>,
+    due: Vec<Vec<u16>>,
+    first_kinds: Vec<DayKind>,
+}
+
+/// The first kind of each profile.
+fn first_kinds(
+    alloc: Global,
+    kinds: &[DayKind],
+    profiles: &[u16],
+) -> Result<Vec<DayKind>, AllocError> {
+    let mut first: Vec<DayKind> = Vec::new(alloc);
+    for (kind, profile) in kinds.iter().zip(profiles) {
+        if usize::from(*profile) == first.len() {
+            first.push(*kind)?;
+        }
+    }
+    Ok(first)
+}
+
+/// The jobs of the crontab that are due on days of this kind.
+fn due_on(alloc: Global, plan: &Plan, kind: DayKind) -> Result<Vec<u16>, AllocError> {
+    let mut due = Vec::new(alloc);
+    for number in 0..plan.crons() {
+        if let Some(schedule) = schedule_of(plan, number) {
+            if schedule.is_day_due(kind) {
+                due.push(u16::try_from(number).unwrap_or(u16::MAX))?;
+            }
+        }
+    }
+    Ok(due)
+}
+
+/// The same for each of these kinds.
+fn due_lists(alloc: Global, plan: &Plan, kinds: &[DayKind]) -> Result<Vec<Vec<u16>>, AllocError> {
+    let mut lists = Vec::new(alloc);
+    for kind in kinds {
+        lists.push(due_on(alloc, plan, *kind)?)?;
+    }
+    Ok(lists)
+}
+
+impl Facts {
+    /// What there is to know of this plan. The only error is want of memory.
+    pub fn of(alloc: Global, plan: &Plan) -> Result<Facts, AllocError> {
+        let tasks = tasks_of(alloc, plan)?;
+        let kinds = kinds::kinds(alloc)?;
+        let successors = kinds::successors(alloc, kinds.as_slice())?;
+        let profiles = kinds::profiles(alloc, plan, kinds.as_slice())?;
+        let first_kinds = first_kinds(alloc, kinds.as_slice(), profiles.as_slice())?;
+        let due = due_lists(alloc, plan, first_kinds.as_slice())?;
+        Ok(Facts {
+            tasks,
+            kinds,
+            successors,
+            profiles,
+            due,
+            first_kinds,
+        })
+    }
+
+    /// What each job does, by number.
+    pub fn tasks(&self) -> &[Task] {
+        self.tasks.as_slice()
+    }
+
+    /// All kinds of days, by number.
+    pub fn kinds(&self) -> &[DayKind] {
+        self.kinds.as_slice()
+    }
+
+    /// The numbers of the two kinds that can come after each kind, by number; twice the same where there is one alone.
+    pub fn successors(&self) -> &[[u16; 2]] {
+        self.successors.as_slice()
+    }
+
+    /// The profile of each kind, by number: the same where the same jobs of the crontab are due. They are numbered from 0, as
+    /// they come first.
+    pub fn profiles(&self) -> &[u16] {
+        self.profiles.as_slice()
+    }
+
+    /// The jobs of the crontab that are due on days of each profile, rising.
+    pub fn due(&self) -> &[Vec<u16>] {
+        self.due.as_slice()
+    }
+
+    /// The first kind of each profile.
+    pub fn first_kinds(&self) -> &[DayKind] {
+        self.first_kinds.as_slice()
+    }
+}

@@ -1,0 +1,99 @@
+use cs_crontab::When;
+use cs_decl::{Job, Plan};
+use cs_history::Mode;
+use cs_schedule::Schedule;
+use std::alloc::{AllocError, Global};
+
+/// What a job of a plan does, as the maker sees it.
+#[derive(Debug, Drop)]
+pub struct Task {
+    /// Whether it is of the crontab; else it is of the anacrontab, and catches up.
+    pub is_cron: bool,
+    pub mode: Mode,
+    /// The number of its group among the plan's, if it belongs to one.
+    pub group: Option<u8>,
+    /// Whether that group is exclusive.
+    pub is_exclusive: bool,
+    pub weight: u8,
+    /// The longest time of a run, in minutes.
+    pub max: u16,
+    /// For how many minutes it is put off in its pass; 0 for a job of the crontab.
+    pub delay: u32,
+    /// At which minutes it is due on each of its days, rising; none for a job of the anacrontab.
+    pub minutes: Vec<u16>,
+}
+
+impl Task {
+    /// Whether its runs take the lock of their group.
+    pub fn takes_lock(&self) -> bool {
+        self.mode != Mode::Plain
+    }
+
+    /// Whether its runs wait for that lock.
+    pub fn waits(&self) -> bool {
+        self.mode == Mode::Wait || self.mode == Mode::Shared
+    }
+}
+
+/// The schedule of the job with this number, where it is of the crontab.
+pub(crate) fn schedule_of(plan: &Plan, number: usize) -> Option<&Schedule> {
+    match plan.crontab().lines().get(number)?.when() {
+        When::At(schedule) => Some(schedule),
+        When::Reboot => None,
+    }
+}
+
+/// The minutes at which the job is due on each of its days.
+fn minutes_of(alloc: Global, plan: &Plan, number: usize) -> Result<Vec<u16>, AllocError> {
+    let mut minutes = Vec::new(alloc);
+    if let Some(schedule) = schedule_of(plan, number) {
+        for minute in schedule.times().iter() {
+            minutes.push(minute)?;
+        }
+    }
+    Ok(minutes)
+}
+
+/// For how many minutes a job of the anacrontab is put off.
+fn delay_of(plan: &Plan, number: usize) -> u32 {
+    let place = number.saturating_sub(plan.crons());
+    match plan.anacrontab().lines().get(place) {
+        Some(line) => line.delay(),
+        None => 0,
+    }
+}
+
+/// Whether this group of the plan is exclusive.
+fn is_exclusive(plan: &Plan, group: Option<u8>) -> bool {
+    match group {
+        Some(number) => match plan.groups().get(usize::from(number)) {
+            Some(group) => group.is_exclusive(),
+            None => false,
+        },
+        None => false,
+    }
+}
+
+/// What the job with this number does.
+fn task_of(alloc: Global, plan: &Plan, number: usize, job: Job) -> Result<Task, AllocError> {
+    let is_cron = number < plan.crons();
+    Ok(Task {
+        is_cron,
+        mode: job.mode(),
+        group: job.group(),
+        is_exclusive: is_exclusive(plan, job.group()),
+        weight: job.weight(),
+        max: job.max(),
+        delay: if is_cron { 0 } else { delay_of(plan, number) },
+        minutes: minutes_of(alloc, plan, number)?,
+    })
+}
+
+/// What the jobs of a plan do, by number.
+pub(crate) fn tasks_of(alloc: Global, plan: &Plan) -> Result<Vec<Task>, AllocError> {
+    let mut tasks = Vec::new(alloc);
+    for (number, job) in plan.jobs().iter().enumerate() {
+        tasks.push(task_of(alloc, plan, number, *job)?)?;
+    }
+    Ok(tasks)
+}

@@ -1,0 +1,28 @@
+/// The rule about windows that is broken.
+#[derive(Clone, Copy, Debug, PartialEq, Eq)]
+pub enum Rule {
+    /// Two windows of an exclusive group meet.
+    Collision,
+    /// What may run weighs more than the capacity.
+    OverCapacity,
+    /// The lock may be kept from this skip job, which is due at the minute.
+    SkipBlocked { skip: u16 },
+}
+
+/// A window by civil minutes, counted since 1970-01-01: in `[from, to)` one run of the job may go on.
+#[derive(Clone, Copy, Debug, PartialEq, Eq)]
+pub struct Span {
+    pub job: u16,
+    pub from: u64,
+    pub to: u64,
+}
+
+/// A civil minute at which windows break a rule.
+#[derive(Debug, Drop)]
+pub struct Breach {
+    pub rule: Rule,
+    /// The minute, counted since 1970-01-01.
+    pub at: u64,
+    /// The windows that hold it.
+    pub held: Vec<Span>,
+}

@@ -1,0 +1,254 @@
+//! How other runs hold the lock of a group without a gap, so that a run gets it late.
+use crate::part::{Part, is_of, part_of};
+use crate::wanted::{MINUTES_OF_DAY, Wanted, task_of};
+use cs_profile::{Calendar, Facts};
+use std::alloc::{AllocError, Global};
+
+/// How many days before it ends a chain may begin.
+const MAX_DAYS: u64 = 8;
+
+/// Other runs that hold the lock of a group one after the other, from one civil minute on to another, in which the last of
+/// them ends and the wanted ones start.
+#[derive(Clone, Copy)]
+pub(crate) struct Chain {
+    pub group: u8,
+    pub from: u64,
+    pub to: u64,
+}
+
+/// What is wanted of a chain: that the lock is held when the first wanted run is due, and until the last of them is to start.
+#[derive(Clone, Copy)]
+struct Hold {
+    group: u8,
+    due: u64,
+    start: u64,
+    // Whether the wanted runs share the lock, so that others that share it don't keep it from them.
+    is_shared: bool,
+}
+
+/// What is wanted of the chain for a run that waits.
+fn hold_for(facts: &Facts, run: Wanted) -> Option<Hold> {
+    let own = task_of(facts, run.job)?;
+    Some(Hold {
+        group: own.group?,
+        due: run.due,
+        start: run.start,
+        is_shared: part_of(facts, run) == Some(Part::Sharer),
+    })
+}
+
+/// What is wanted of one chain for both, which are of one group.
+fn joined(one: Hold, other: Hold) -> Hold {
+    Hold {
+        group: one.group,
+        due: one.due.min(other.due),
+        start: one.start.max(other.start),
+        is_shared: one.is_shared && other.is_shared,
+    }
+}
+
+/// Adds what is wanted of a chain, or joins it to what is wanted of that group's.
+fn add_hold(holds: &mut Vec<Hold>, hold: Hold) -> Result<(), AllocError> {
+    for own in holds.iter_mut() {
+        if own.group == hold.group {
+            *own = joined(*own, hold);
+            return Ok(());
+        }
+    }
+    holds.push(hold)?;
+    Ok(())
+}
+
+/// What is wanted of the chains for these runs, one for each group in which one waits.
+fn holds_for(alloc: Global, facts: &Facts, runs: &[Wanted]) -> Result<Vec<Hold>, AllocError> {
+    let mut holds: Vec<Hold> = Vec::new(alloc);
+    for run in runs {
+        if run.queues() {
+            if let Some(hold) = hold_for(facts, *run) {
+                add_hold(&mut holds, hold)?;
+            }
+        }
+    }
+    Ok(holds)
+}
+
+/// By how many minutes the runs that are due at one minute put off the end of a chain.
+#[derive(Clone, Copy)]
+struct Link {
+    // One after the other, each less the minute in which it ends.
+    alone: u64,
+    // The longest of those that share the lock.
+    shared: u64,
+}
+
+impl Link {
+    /// With the run of a job of this longest time, in minutes.
+    fn add(&mut self, part: Part, max: u16) {
+        let minutes = u64::from(max.saturating_sub(1));
+        match part {
+            Part::Holder => self.alone = self.alone.saturating_add(minutes),
+            Part::Sharer => self.shared = self.shared.max(minutes),
+            Part::Free => {}
+            Part::CatchUp => {}
+        }
+    }
+
+    /// For a run that shares the lock, or doesn't.
+    fn minutes(self, is_shared: bool) -> u64 {
+        if is_shared {
+            self.alone
+        } else {
+            self.alone.saturating_add(self.shared)
+        }
+    }
+}
+
+/// Whether a run of this job due at this minute is one of these.
+fn is_wanted(runs: &[Wanted], job: u16, due: u64) -> bool {
+    runs.iter().any(|run| run.job == job && run.due == due)
+}
+
+/// Adds the runs of a job on a day, but the wanted ones.
+fn add_job(links: &mut Vec<Link>, facts: &Facts, runs: &[Wanted], job: u16, midnight: u64) {
+    let Some(own) = task_of(facts, job) else {
+        return;
+    };
+    let run = Wanted {
+        job,
+        due: midnight,
+        start: midnight,
+    };
+    let Some(part) = part_of(facts, run) else {
+        return;
+    };
+    for minute in own.minutes.as_slice() {
+        if !is_wanted(runs, job, midnight.saturating_add(u64::from(*minute))) {
+            if let Some(link) = links.get_mut(usize::from(*minute)) {
+                link.add(part, own.max);
+            }
+        }
+    }
+}
+
+/// The links of each minute of a day, where these jobs are due on it.
+fn links_on(
+    alloc: Global,
+    facts: &Facts,
+    runs: &[Wanted],
+    due: &[u16],
+    group: u8,
+    midnight: u64,
+) -> Result<Vec<Link>, AllocError> {
+    let none = Link {
+        alone: 0,
+        shared: 0,
+    };
+    let mut links: Vec<Link> = Vec::from_elem(alloc, none, MINUTES_OF_DAY as usize)?;
+    for job in due {
+        let run = Wanted {
+            job: *job,
+            due: midnight,
+            start: midnight,
+        };
+        if is_of(facts, run, group) {
+            add_job(&mut links, facts, runs, *job, midnight);
+        }
+    }
+    Ok(links)
+}
+
+/// How far a chain was followed back: until when the lock has to be held before, and where it can begin.
+#[derive(Clone, Copy)]
+struct Back {
+    until: u64,
+    begins: Option<u64>,
+}
+
+impl Back {
+    /// Over a minute before, whose runs hold the lock for so long if it is held until then, or free. A chain begins where they
+    /// need no others.
+    fn over(self, hold: Hold, minute: u64, minutes: u64) -> Back {
+        if self.begins.is_some() || minute >= hold.start || minutes == 0 {
+            return self;
+        }
+        let until = self.until.saturating_sub(minutes);
+        if minute <= hold.due && until <= minute {
+            return Back {
+                until,
+                begins: Some(minute),
+            };
+        }
+        Back {
+            until: until.max(minute),
+            begins: None,
+        }
+    }
+
+    /// Over a day.
+    fn over_day(self, hold: Hold, midnight: u64, links: &[Link]) -> Back {
+        let mut back = self;
+        for (minute, link) in links.iter().enumerate().rev() {
+            let at = midnight.saturating_add(minute as u64);
+            back = back.over(hold, at, link.minutes(hold.is_shared));
+        }
+        back
+    }
+}
+
+/// The jobs that are due on the civil day with this number.
+fn due_on<'a>(facts: &'a Facts, calendar: &Calendar, day: u64) -> Option<&'a [u16]> {
+    let profile = calendar.profile_on(day)?;
+    match facts.due().get(usize::from(profile)) {
+        Some(due) => Some(due.as_slice()),
+        None => None,
+    }
+}
+
+/// The chain that begins last.
+fn chain_for(
+    alloc: Global,
+    facts: &Facts,
+    calendar: &Calendar,
+    runs: &[Wanted],
+    hold: Hold,
+) -> Result<Option<Chain>, AllocError> {
+    let mut back = Back {
+        until: hold.start,
+        begins: None,
+    };
+    let last = hold.start / MINUTES_OF_DAY;
+    for days in 0..=MAX_DAYS {
+        let day = last.saturating_sub(days);
+        let midnight = day.saturating_mul(MINUTES_OF_DAY);
+        if let (None, Some(due)) = (back.begins, due_on(facts, calendar, day)) {
+            let links = links_on(alloc, facts, runs, due, hold.group, midnight)?;
+            back = back.over_day(hold, midnight, links.as_slice());
+        }
+    }
+    Ok(match back.begins {
+        Some(from) => Some(Chain {
+            group: hold.group,
+            from,
+            to: hold.start,
+        }),
+        None => None,
+    })
+}
+
+/// The chains by which these runs start as late as they are to, one for each group in which one waits; `None` if one of them
+/// can't be had.
+pub(crate) fn chains_for(
+    alloc: Global,
+    facts: &Facts,
+    calendar: &Calendar,
+    runs: &[Wanted],
+) -> Result<Option<Vec<Chain>>, AllocError> {
+    let mut chains: Vec<Chain> = Vec::new(alloc);
+    for hold in holds_for(alloc, facts, runs)?.as_slice() {
+        match chain_for(alloc, facts, calendar, runs, *hold)? {
+            Some(chain) => chains.push(chain)?,
+            None => return Ok(None),
+        }
+    }
+    Ok(Some(chains))
+}

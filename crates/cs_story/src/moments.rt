@@ -1,0 +1,185 @@
+//! What happens within a minute of a story.
+use crate::chain::Chain;
+use crate::play::{Ending, Play};
+use crate::plot::Plot;
+use crate::wanted::task_of;
+use cs_history::{Event, Going, Mode, Run};
+
+/// The first job that is due and that no wanted run is of.
+fn unwanted_job(play: &Play, plot: &Plot<'_>) -> Option<u16> {
+    for job in play.core().pending() {
+        if !plot.wants(*job, play.now()) {
+            return Some(*job);
+        }
+    }
+    None
+}
+
+/// Ends the run, if it is the one that started last.
+fn end_if_started(play: &mut Play, run: Run) -> Result<(), Ending> {
+    if let Some(going) = play.core().running().last() {
+        if going.run == run {
+            play.take(Event::End(run))?;
+        }
+    }
+    Ok(())
+}
+
+/// Begins the jobs that are due, but those of wanted runs. Their runs end at once, unless they are to hold a lock.
+fn begin_unwanted(play: &mut Play, plot: &Plot<'_>) -> Result<(), Ending> {
+    let at = play.now();
+    for _ in 0..play.core().pending().len() {
+        if let Some(job) = unwanted_job(play, plot) {
+            play.take(Event::Begin(job))?;
+            if !plot.links(job, at) {
+                end_if_started(play, Run { job, at })?;
+            }
+        }
+    }
+    Ok(())
+}
+
+/// Whether the run is in its last minute.
+fn is_in_last_minute(plot: &Plot<'_>, going: Going, now: u64) -> bool {
+    let max = match task_of(plot.facts, going.run.job) {
+        Some(task) => u64::from(task.max),
+        None => 0,
+    };
+    now.saturating_add(1) >= going.since.saturating_add(max)
+}
+
+/// A run of a chain that has to end in this minute.
+fn held_out(play: &Play, plot: &Plot<'_>, chain: Chain) -> Option<Run> {
+    let now = play.now();
+    for going in play.core().running() {
+        let run = going.run;
+        let is_link = plot.takes_lock_of(run.job, chain.group) && !plot.wants(run.job, run.at);
+        if is_link && (now >= chain.to || is_in_last_minute(plot, *going, now)) {
+            return Some(run);
+        }
+    }
+    None
+}
+
+/// Ends the runs of a chain that have to.
+fn end_links(play: &mut Play, plot: &Plot<'_>, chain: Chain) -> Result<(), Ending> {
+    for _ in 0..play.core().running().len() {
+        if let Some(run) = held_out(play, plot, chain) {
+            play.take(Event::End(run))?;
+        }
+    }
+    Ok(())
+}
+
+/// The first run of this mode that waits for the lock of a chain's group and can have it, but no wanted one.
+fn next_link(play: &Play, plot: &Plot<'_>, chain: Chain, mode: Mode) -> Option<Run> {
+    for run in play.core().waiting() {
+        let is_mode = match task_of(plot.facts, run.job) {
+            Some(task) => task.mode == mode && task.group == Some(chain.group),
+            None => false,
+        };
+        if is_mode && !plot.wants(run.job, run.at) && play.can(Event::Got(run.job, run.at)) {
+            return Some(*run);
+        }
+    }
+    None
+}
+
+/// Hands the lock of a chain on to its next run, as often as one ends at once.
+fn hand_on(play: &mut Play, plot: &Plot<'_>, chain: Chain) -> Result<(), Ending> {
+    end_links(play, plot, chain)?;
+    for _ in 0..play.core().waiting().len() {
+        let next = match next_link(play, plot, chain, Mode::Wait) {
+            Some(run) => Some(run),
+            None => next_link(play, plot, chain, Mode::Shared),
+        };
+        if let Some(run) = next {
+            play.take(Event::Got(run.job, run.at))?;
+            end_links(play, plot, chain)?;
+        }
+    }
+    Ok(())
+}
+
+/// Goes on with the chains: before the end of one its lock is handed on, and there it is let go.
+fn follow_chains(play: &mut Play, plot: &Plot<'_>) -> Result<(), Ending> {
+    let now = play.now();
+    for chain in plot.chains.as_slice() {
+        if chain.from <= now && now < chain.to {
+            hand_on(play, plot, *chain)?;
+        }
+        if now == chain.to {
+            end_links(play, plot, *chain)?;
+        }
+    }
+    Ok(())
+}
+
+/// Begins the jobs of wanted runs that are due.
+fn begin_wanted(play: &mut Play, plot: &Plot<'_>) -> Result<(), Ending> {
+    let now = play.now();
+    for run in plot.runs.as_slice() {
+        if run.due == now && Some(*run) != plot.catch_up() {
+            play.take(Event::Begin(run.job))?;
+        }
+    }
+    Ok(())
+}
+
+/// Gives the wanted runs that are to start the lock that they wait for.
+fn grant_wanted(play: &mut Play, plot: &Plot<'_>) -> Result<(), Ending> {
+    let now = play.now();
+    for run in plot.runs.as_slice() {
+        let got = Event::Got(run.job, run.due);
+        if run.start <= now && play.can(got) {
+            play.take(got)?;
+        }
+    }
+    Ok(())
+}
+
+/// Starts the wanted run that catches up.
+fn catch_up(play: &mut Play, plot: &Plot<'_>) -> Result<(), Ending> {
+    if let Some(run) = plot.catch_up() {
+        if run.start == play.now() {
+            play.take(Event::Catch(run.job))?;
+        }
+    }
+    Ok(())
+}
+
+/// The first run that can have the lock that it waits for, but no wanted one.
+fn unwanted_waiter(play: &Play, plot: &Plot<'_>) -> Option<Run> {
+    for run in play.core().waiting() {
+        if !plot.wants(run.job, run.at) && play.can(Event::Got(run.job, run.at)) {
+            return Some(*run);
+        }
+    }
+    None
+}
+
+/// Starts and ends the runs that are in no one's way and wait for a lock that is free, since no minute goes by before.
+fn settle(play: &mut Play, plot: &Plot<'_>) -> Result<(), Ending> {
+    for _ in 0..play.core().waiting().len() {
+        if let Some(run) = unwanted_waiter(play, plot) {
+            play.take(Event::Got(run.job, run.at))?;
+            play.take(Event::End(run))?;
+        }
+    }
+    Ok(())
+}
+
+/// What happens in the present minute, after which the daemon goes down or the clock goes on.
+pub(crate) fn live(play: &mut Play, plot: &Plot<'_>, goes_on: bool) -> Result<(), Ending> {
+    if goes_on {
+        begin_unwanted(play, plot)?;
+    }
+    follow_chains(play, plot)?;
+    begin_wanted(play, plot)?;
+    grant_wanted(play, plot)?;
+    catch_up(play, plot)?;
+    if goes_on {
+        settle(play, plot)?;
+    }
+    Ok(())
+}

@@ -1,0 +1,94 @@
+ghost use Rattle.std.specs.Prelude.{◌≤◌};
+ghost use Rattle.cs_history.specs.Plan.{first_start};
+
+use cs_civil::Sequence;
+use cs_core::Core;
+use cs_decl::Plan;
+use cs_history::{Event, Start};
+use cs_shown::{NotShown, Trial};
+use std::alloc::{AllocError, Global};
+
+/// How many events a story has at most.
+const MAX_EVENTS: usize = 400_000;
+
+/// Why a story goes no further.
+#[derive(Debug, Drop)]
+pub(crate) enum Ending {
+    /// Something is broken.
+    Broken,
+    /// Its next event is refused, or comes when a run is over its declared time, or it would be too long.
+    Stuck,
+    /// Memory ran out.
+    OutOfMemory,
+}
+
+impl From<AllocError> for Ending {
+    fn from(_error: AllocError) -> Ending {
+        Ending::OutOfMemory
+    }
+}
+
+impl From<NotShown> for Ending {
+    fn from(fault: NotShown) -> Ending {
+        match fault {
+            NotShown::Illegal(_, _) => Ending::Stuck,
+            NotShown::Late(_) => Ending::Stuck,
+            NotShown::NothingBroken => Ending::Stuck,
+            NotShown::OutOfMemory => Ending::OutOfMemory,
+        }
+    }
+}
+
+/// The events of a story, each of which was tried.
+#[derive(Drop)]
+pub(crate) struct Play {
+    trial: Trial,
+    events: Sequence<Event>,
+}
+
+impl Play {
+    /// No events yet.
+    pub(crate) fn open(alloc: Global, plan: &Plan, start: &Start) -> Result<Play, AllocError>
+        requires { first_start ≤ start.now.now }
+    {
+        Ok(Play {
+            trial: Trial::open(alloc, plan, start)?,
+            events: Sequence::new(alloc),
+        })
+    }
+
+    /// What the events have left.
+    pub(crate) fn core(&self) -> &Core {
+        self.trial.core()
+    }
+
+    /// The present civil minute.
+    pub(crate) fn now(&self) -> u64 {
+        self.core().now().number()
+    }
+
+    /// Whether the event may come next.
+    pub(crate) fn can(&self, event: Event) -> bool {
+        self.core().test(&event).is_ok()
+    }
+
+    /// Takes an event, unless the story ends before it; it ends with it if something is broken.
+    pub(crate) fn take(&mut self, event: Event) -> Result<(), Ending> {
+        let number = self.events.len();
+        if number >= MAX_EVENTS {
+            return Err(Ending::Stuck);
+        }
+        self.trial.take(event, number + 1)?;
+        self.events.push(event)?;
+        match self.trial.shown() {
+            Some(_) => Err(Ending::Broken),
+            None => Ok(()),
+        }
+    }
+
+    /// The events.
+    pub(crate) fn into_events(self) -> Sequence<Event> {
+        let Play { trial: _, events } = self;
+        events
+    }
+}

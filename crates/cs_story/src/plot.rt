@@ -1,0 +1,100 @@
+use crate::aim::Aim;
+use crate::chain::{Chain, chains_for};
+use crate::part::is_of;
+use crate::stay::{Stay, stays_for};
+use crate::wanted::{Wanted, task_of};
+use cs_profile::{Calendar, Facts};
+use std::alloc::{AllocError, Global};
+
+/// How a story is to come to its aim.
+#[derive(Drop)]
+pub(crate) struct Plot<'a> {
+    pub facts: &'a Facts,
+    /// The runs of the aim.
+    pub runs: Vec<Wanted>,
+    /// By which of them start late.
+    pub chains: Vec<Chain>,
+    /// When the daemon is up.
+    pub stays: Vec<Stay>,
+}
+
+/// Whether the run waits for the end of this chain.
+fn waits_for(facts: &Facts, chain: Chain, run: Wanted) -> bool {
+    let waits = match task_of(facts, run.job) {
+        Some(task) => task.waits(),
+        None => false,
+    };
+    waits && is_of(facts, run, chain.group) && chain.from <= run.due && run.due < chain.to
+}
+
+/// The run, which starts with the others of its group if it waits as they do.
+fn put_off(facts: &Facts, chains: &[Chain], run: Wanted) -> Wanted {
+    let mut later = run;
+    for chain in chains {
+        if waits_for(facts, *chain, run) {
+            later.start = later.start.max(chain.to);
+        }
+    }
+    later
+}
+
+impl<'a> Plot<'a> {
+    /// The plot of an aim, if the runs that are to start late can.
+    pub(crate) fn of(
+        alloc: Global,
+        facts: &'a Facts,
+        calendar: &Calendar,
+        aim: &Aim,
+    ) -> Result<Option<Plot<'a>>, AllocError> {
+        let aimed = aim.runs.as_slice();
+        let Some(chains) = chains_for(alloc, facts, calendar, aimed)? else {
+            return Ok(None);
+        };
+        let mut runs: Vec<Wanted> = Vec::new(alloc);
+        for run in aimed {
+            runs.push(put_off(facts, chains.as_slice(), *run))?;
+        }
+        let stays = stays_for(alloc, facts, chains.as_slice(), runs.as_slice())?;
+        Ok(Some(Plot {
+            facts,
+            runs,
+            chains,
+            stays,
+        }))
+    }
+
+    /// Whether this run is wanted.
+    pub(crate) fn wants(&self, job: u16, due: u64) -> bool {
+        self.runs
+            .as_slice()
+            .iter()
+            .any(|run| run.job == job && run.due == due)
+    }
+
+    /// Whether the job is of this group, and takes its lock.
+    pub(crate) fn takes_lock_of(&self, job: u16, group: u8) -> bool {
+        match task_of(self.facts, job) {
+            Some(task) => task.takes_lock() && task.group == Some(group),
+            None => false,
+        }
+    }
+
+    /// Whether a run of this job that begins in this minute becomes part of a chain.
+    pub(crate) fn links(&self, job: u16, minute: u64) -> bool {
+        self.chains.as_slice().iter().any(|chain| {
+            chain.from <= minute && minute < chain.to && self.takes_lock_of(job, chain.group)
+        })
+    }
+
+    /// The wanted run that catches up, if there is one.
+    pub(crate) fn catch_up(&self) -> Option<Wanted> {
+        for run in self.runs.as_slice() {
+            if let Some(task) = task_of(self.facts, run.job) {
+                if !task.is_cron {
+                    return Some(*run);
+                }
+            }
+        }
+        None
+    }
+}

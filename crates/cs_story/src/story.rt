@@ -1,0 +1,119 @@
+ghost use Rattle.std.specs.Prelude.{◌≤◌, IfOk, IfSome};
+ghost use Rattle.cs_history.specs.Plan.{first_start};
+
+use crate::aim::{Aim, MAX_AIMS, aims};
+use crate::breach::Breach;
+use crate::moments::live;
+use crate::play::{Ending, Play};
+use crate::plot::Plot;
+use crate::start::start_at;
+use crate::stay::Stay;
+use cs_civil::Minute;
+use cs_decl::Plan;
+use cs_history::{Event, Script};
+use cs_profile::{Calendar, Facts};
+use std::alloc::{AllocError, Global};
+
+/// 1970-01-04 00:00, before which no history starts.
+const FIRST_START: u64 = 4_320;
+
+/// The daemon comes up for a stay. Before the first it is up from the start on, unless a pass is to begin.
+fn come_up(play: &mut Play, plot: &Plot<'_>, place: usize, stay: Stay) -> Result<(), Ending> {
+    if place > 0 {
+        play.take(Event::Down)?;
+    }
+    if !play.core().is_up() {
+        play.take(Event::Up(stay.up))?;
+    }
+    live(play, plot, stay.up < stay.last)
+}
+
+/// The minutes of a stay.
+fn stay_up(play: &mut Play, plot: &Plot<'_>, stay: Stay) -> Result<(), Ending> {
+    for before in stay.up..stay.last {
+        let minute = before + 1;
+        play.take(Event::Minute(minute))?;
+        live(play, plot, minute < stay.last)?;
+    }
+    Ok(())
+}
+
+/// All stays.
+fn perform(play: &mut Play, plot: &Plot<'_>) -> Result<(), Ending> {
+    for (place, stay) in plot.stays.as_slice().iter().enumerate() {
+        come_up(play, plot, place, *stay)?;
+        stay_up(play, plot, *stay)?;
+    }
+    Ok(())
+}
+
+/// The script of a plot, from this minute on, if it breaks the plan.
+fn script_from(
+    alloc: Global,
+    plan: &Plan,
+    plot: &Plot<'_>,
+    minute: Minute,
+) -> Result<Option<Script>, AllocError>
+    ensures { IfOk result (λ found. IfSome found (λ script. first_start ≤ script.start.now)) }
+{
+    if minute.number() < FIRST_START {
+        return Ok(None);
+    }
+    let start = start_at(plan, plot, minute);
+    let mut play = Play::open(alloc, plan, &start)?;
+    match perform(&mut play, plot) {
+        Ok(()) => Ok(None),
+        Err(Ending::Stuck) => Ok(None),
+        Err(Ending::OutOfMemory) => Err(AllocError),
+        Err(Ending::Broken) => Ok(Some(Script {
+            start,
+            events: play.into_events(),
+        })),
+    }
+}
+
+/// The script of an aim, if one was found.
+fn script_of(
+    alloc: Global,
+    plan: &Plan,
+    facts: &Facts,
+    calendar: &Calendar,
+    aim: &Aim,
+) -> Result<Option<Script>, AllocError>
+    ensures { IfOk result (λ found. IfSome found (λ script. first_start ≤ script.start.now)) }
+{
+    let Some(plot) = Plot::of(alloc, facts, calendar, aim)? else {
+        return Ok(None);
+    };
+    let Some(stay) = plot.stays.as_slice().first() else {
+        return Ok(None);
+    };
+    match Minute::new(stay.up) {
+        Some(minute) => script_from(alloc, plan, &plot, minute),
+        None => Ok(None),
+    }
+}
+
+/// A script in which the plan is broken although each run ends within its declared time, where these windows break a rule. What
+/// it breaks first may be something else. It starts at 1970-01-04 00:00 or later. `None` if none of at most 400,000 events was
+/// found. The only error is want of memory.
+pub fn tell(
+    alloc: Global,
+    plan: &Plan,
+    facts: &Facts,
+    calendar: &Calendar,
+    breach: &Breach,
+) -> Result<Option<Script>, AllocError>
+    ensures { IfOk result (λ found. IfSome found (λ script. first_start ≤ script.start.now)) }
+{
+    for aim in aims(alloc, plan, facts, breach)?
+        .as_slice()
+        .iter()
+        .take(MAX_AIMS)
+    {
+        if let Some(script) = script_of(alloc, plan, facts, calendar, aim)? {
+            return Ok(Some(script));
+        }
+    }
+    Ok(None)
+}

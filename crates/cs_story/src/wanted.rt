@@ -1,0 +1,79 @@
+use crate::breach::{Breach, Span};
+use cs_decl::Plan;
+use cs_profile::{Facts, Task};
+use std::alloc::{AllocError, Global};
+use std::cmp::Reverse;
+
+/// The minutes of a day.
+pub(crate) const MINUTES_OF_DAY: u64 = 1_440;
+
+/// A run that a story is to bring about, by civil minutes.
+#[derive(Clone, Copy, PartialEq, Eq)]
+pub(crate) struct Wanted {
+    pub job: u16,
+    /// When the job is due; of an anacron job, when the run is to start.
+    pub due: u64,
+    /// When the run is to start.
+    pub start: u64,
+}
+
+impl Wanted {
+    /// Whether it is to wait for a lock that others hold.
+    pub(crate) fn queues(self) -> bool {
+        self.start > self.due
+    }
+}
+
+/// What the job with this number does.
+pub(crate) fn task_of(facts: &Facts, job: u16) -> Option<&Task> {
+    facts.tasks().get(usize::from(job))
+}
+
+/// The last minute of the catch-up hours of the day that this minute is of.
+fn last_of_hours(plan: &Plan, minute: u64) -> u64 {
+    let midnight = minute.saturating_sub(minute % MINUTES_OF_DAY);
+    midnight
+        .saturating_add(u64::from(plan.hours().to()))
+        .saturating_sub(1)
+}
+
+/// The run of a window that goes on at this minute, started as early as will do if its job waits.
+fn run_in(plan: &Plan, facts: &Facts, span: Span, at: u64) -> Option<Wanted> {
+    let task = task_of(facts, span.job)?;
+    if at < span.from || at >= span.to {
+        return None;
+    }
+    let due = if task.is_cron {
+        span.from
+    } else {
+        at.min(last_of_hours(plan, span.from))
+    };
+    let start = if task.waits() {
+        due.max(at.saturating_add(1).saturating_sub(u64::from(task.max)))
+    } else {
+        due
+    };
+    Some(Wanted {
+        job: span.job,
+        due,
+        start,
+    })
+}
+
+/// The runs of the windows of a breach that go on at its minute, the plainest first: those that needn't wait, then those that
+/// start last.
+pub(crate) fn runs_of(
+    alloc: Global,
+    plan: &Plan,
+    facts: &Facts,
+    breach: &Breach,
+) -> Result<Vec<Wanted>, AllocError> {
+    let mut runs: Vec<Wanted> = Vec::new(alloc);
+    for span in breach.held.as_slice() {
+        if let Some(run) = run_in(plan, facts, *span, breach.at) {
+            runs.push(run)?;
+        }
+    }
+    runs.sort_by_key(|run| (run.queues(), Reverse(run.start)))?;
+    Ok(runs)
+}

@@ -6,6 +6,8 @@ use Rattle.clap.specs.declared.error.kind.ErrorKind.TheVariants.{DisplayHelp, Di
 use Rattle.clap.specs.declared.error.kind.ErrorKind.TheVariants as kind
 use Rattle.cs_call.specs.CommandLine.{Asked, AskedCheck, AskedReplay, Asking, Asks, AsksHelp, AsksVersion, Check, Day, Help as HelpAsking, IsNoCall, Replay, asked_by, asked_in, check_in, help_in, replay_in}
 use Rattle.cs_call.specs.declared.request.CheckWords.{CheckWords}
+use Rattle.cs_call.specs.CommandLine.{AskedJudge, Judge, Make, judge_in}
+use Rattle.cs_call.specs.declared.request.JudgeWords.{JudgeWords}
 use Rattle.cs_call.specs.declared.request.DayWords.{DayWords}
 use Rattle.cs_call.specs.declared.request.ReplayWords.{ReplayWords}
 use Rattle.cs_call.specs.declared.request.Request.{Request}
@@ -28,10 +30,19 @@ asked_replay r = record {
 abbrev pub asked_check : CheckWords → AskedCheck
 asked_check c = record { table = c.table.now; declarations = c.declarations.now; certificate = c.certificate.now; anacrontab = option_map (λ path. path.now) c.anacrontab }
 
+abbrev pub asked_judge : JudgeWords → AskedJudge
+asked_judge j = record {
+  table = j.table.now;
+  declarations = j.declarations.now;
+  anacrontab = option_map (λ path. path.now) j.anacrontab;
+}
+
 abbrev pub asking : Request → Asking
 asking (request.Day d) = Day (asked d)
 asking (request.Replay r) = Replay (asked_replay r)
 asking (request.Check c) = Check (asked_check c)
+asking (request.Judge j) = Judge (asked_judge j)
+asking (request.Make j) = Make (asked_judge j)
 
 -- the words ask what is answered; help and the version are answered where they are asked for, and a
 -- fault of the words where there is one
@@ -73,6 +84,14 @@ CheckAsked rows (Err (Help text)) = ⊥
 CheckAsked rows (Err Version) = ⊥
 CheckAsked rows (Err (NoCall text)) = check_in rows ≡ None
 CheckAsked rows (Err OutOfMemory) = ⊤
+
+-- and of those that follow `judge` or `make`
+abbrev pub JudgeAsked : List Row → Result JudgeWords UsageFault → Type 0
+JudgeAsked rows (Ok j) = judge_in rows ≡ Some (asked_judge j)
+JudgeAsked rows (Err (Help text)) = ⊥
+JudgeAsked rows (Err Version) = ⊥
+JudgeAsked rows (Err (NoCall text)) = judge_in rows ≡ None
+JudgeAsked rows (Err OutOfMemory) = ⊤
 
 -- and of those that follow `help`: a text of it
 abbrev pub HelpAsked : {T : Type 0} → List Row → Result T UsageFault → Type 0

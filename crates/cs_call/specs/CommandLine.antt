@@ -42,6 +42,20 @@ replay_app = with_terms (with_rule (with_rule (new_app (codes "replay")) (requir
 abbrev pub check_app : App
 check_app = with_rule (with_rule (with_rule (with_rule (new_app (codes "check")) (required_rule (codes "TABLE"))) (required_rule (codes "DECLS"))) (required_rule (codes "CERT"))) (option_rule (codes "anacrontab"))
 
+-- `NAME TABLE DECLS [--anacrontab FILE]`
+abbrev pub plan_app : Text → App
+plan_app name =
+    with_rule (with_rule (with_rule (new_app name) (required_rule (codes "TABLE")))
+    (required_rule (codes "DECLS"))) (option_rule (codes "anacrontab"))
+
+-- `judge TABLE DECLS [--anacrontab FILE]`
+abbrev pub judge_app : App
+judge_app = plan_app (codes "judge")
+
+-- `make TABLE DECLS [--anacrontab FILE]`
+abbrev pub make_app : App
+make_app = plan_app (codes "make")
+
 -- `help [COMMAND]`
 abbrev pub help_app : App
 help_app = with_rule (new_app (codes "help")) (new_rule (codes "COMMAND"))
@@ -51,13 +65,17 @@ abbrev pub top_app : App
 top_app = on_top (λ s. record s { disable_help_subcommand = true; subcommand_required = true; has_version = true })
     (new_app (codes "cronsafe"))
 
--- `cronsafe` with the subcommands `day` and `replay`
-abbrev pub day_and_replay_app : App
-day_and_replay_app = with_subcommand (with_subcommand top_app day_app.top) replay_app.top
+-- `cronsafe` with the subcommands `judge` and `make`
+abbrev pub judge_and_make_app : App
+judge_and_make_app = with_subcommand (with_subcommand top_app judge_app.top) make_app.top
 
--- and with `check` and `help`
+-- and with `check` and `day`
+abbrev pub up_to_day_app : App
+up_to_day_app = with_subcommand (with_subcommand judge_and_make_app check_app.top) day_app.top
+
+-- and with `replay` and `help`
 abbrev pub cronsafe_app : App
-cronsafe_app = with_subcommand (with_subcommand day_and_replay_app check_app.top) help_app.top
+cronsafe_app = with_subcommand (with_subcommand up_to_day_app replay_app.top) help_app.top
 
 -- the number that digits write, where it is below 2 ^ 64
 abbrev pub number_of : Text → Option ℕ
@@ -92,11 +110,19 @@ pub record AskedCheck : Type 0 where
   pub certificate : Text
   pub anacrontab : Option Text
 
+-- what `judge` and `make` are asked: the paths of a table, of declarations and of an anacrontab
+pub record AskedJudge : Type 0 where
+  pub table : Text
+  pub declarations : Text
+  pub anacrontab : Option Text
+
 -- what words may ask: a subcommand, or, by the subcommand `help`, how the program is called
 pub data Asking : Type 0 where
   Day : Asked → Asking
   Replay : AskedReplay → Asking
   Check : AskedCheck → Asking
+  Judge : AskedJudge → Asking
+  Make : AskedJudge → Asking
   Help : Asking
 
 -- the first value of an argument, and this text where it has none
@@ -161,11 +187,21 @@ check_in rows =
     if are_dashes table declarations anacrontab (Some certificate) then None
     else Some (record { table = table; declarations = declarations; certificate = certificate; anacrontab = anacrontab })
 
+-- what the entries of `judge` and of `make` ask: standard input is named once at most
+abbrev pub judge_in : List Row → Option AskedJudge
+judge_in rows =
+    let table = value_or [] (codes "TABLE") rows in
+    let declarations = value_or [] (codes "DECLS") rows in
+    let anacrontab = first_of (codes "anacrontab") rows in
+    if are_dashes table declarations anacrontab None then None
+    else Some (record { table = table; declarations = declarations; anacrontab = anacrontab })
+
 -- the names of the subcommands
 abbrev pub is_subcommand : Text → Bool
 is_subcommand name =
     bytes_eq name (codes "day") || (bytes_eq name (codes "replay")
-    || (bytes_eq name (codes "check") || bytes_eq name (codes "help")))
+    || (bytes_eq name (codes "check") || (bytes_eq name (codes "judge")
+    || (bytes_eq name (codes "make") || bytes_eq name (codes "help")))))
 
 -- what the entries of `help` ask: help, but of no other subcommand
 abbrev pub help_in : List Row → Option Asking
@@ -176,6 +212,8 @@ abbrev pub asked_by : Text → List Row → Option Asking
 asked_by name rows =
     if bytes_eq name (codes "replay") then option_map Replay (replay_in rows)
     else if bytes_eq name (codes "check") then option_map Check (check_in rows)
+    else if bytes_eq name (codes "judge") then option_map Judge (judge_in rows)
+    else if bytes_eq name (codes "make") then option_map Make (judge_in rows)
     else if bytes_eq name (codes "help") then help_in rows
     else option_map Day (asked_in rows)
 

@@ -5,9 +5,10 @@ ghost use Rattle.std.specs.List.{list_all};
 ghost use Rattle.clap.specs.Words.{first_of, found_of, rows_of};
 ghost use Rattle.cs_call.specs.CommandLine.{are_dashes, is_dash_in, is_twice_standard, number_of, value_or};
 ghost use Rattle.cs_call.specs.Asked.{CheckAsked, DayAsked, FaultOf, HelpAsked, NumberAsked, Parses, ReplayAsked, RequestAsked};
+ghost use Rattle.cs_call.specs.Asked.{JudgeAsked};
 
 use crate::commands::{Subcommand, command};
-use crate::request::{CheckWords, DayWords, ReplayWords, Request, UsageFault};
+use crate::request::{CheckWords, DayWords, JudgeWords, ReplayWords, Request, UsageFault};
 use clap::error::ErrorKind;
 use clap::{ArgMatches, Error};
 use std::alloc::{AllocError, Global};
@@ -205,6 +206,27 @@ fn check_words<'a>(alloc: Global, given: &ArgMatches<'a>) -> Result<CheckWords<'
     })
 }
 
+/// What the entries of `judge` or of `make` ask.
+fn judge_words<'a>(
+    alloc: Global,
+    subcommand: Subcommand,
+    given: &ArgMatches<'a>,
+) -> Result<JudgeWords<'a>, UsageFault>
+    ensures { JudgeAsked (rows_of (found_of given.now)) result }
+{
+    let table = text_of(given, "TABLE", "");
+    let declarations = text_of(given, "DECLS", "");
+    let anacrontab = value_of(given, "anacrontab");
+    if are_dashes(table, declarations, anacrontab, None) {
+        return Err(UsageFault::NoCall(twice_standard(alloc, subcommand)?));
+    }
+    Ok(JudgeWords {
+        table,
+        declarations,
+        anacrontab,
+    })
+}
+
 /// The help that the entries of `help` ask for, of the program or of a subcommand.
 fn help_text(alloc: Global, given: &ArgMatches<'_>) -> Result<String, UsageFault>
     ensures { HelpAsked (rows_of (found_of given.now)) result }
@@ -234,6 +256,12 @@ fn asked_by<'a>(
     }
     if name == "check" {
         return Ok(Request::Check(check_words(alloc, given)?));
+    }
+    if name == "judge" {
+        return Ok(Request::Judge(judge_words(alloc, Subcommand::Judge, given)?));
+    }
+    if name == "make" {
+        return Ok(Request::Make(judge_words(alloc, Subcommand::Make, given)?));
     }
     if name == "help" {
         return Err(UsageFault::Help(help_text(alloc, given)?));

@@ -2,12 +2,13 @@
 ghost use Rattle.std.specs.Prelude.{◌≡◌, IfOk, false, is_some};
 ghost use Rattle.clap.specs.Words.{app_of, rule_of, with_rule};
 ghost use Rattle.clap.specs.declared.builder.command.Command.TheViews.{out-Command as fields_of};
-ghost use Rattle.cs_call.specs.CommandLine.{check_app, cronsafe_app, day_and_replay_app, day_app, help_app, is_subcommand, option_rule, replay_app, required_rule, with_hours, with_terms, with_words};
+ghost use Rattle.cs_call.specs.CommandLine.{check_app, cronsafe_app, day_app, help_app, judge_and_make_app, judge_app, make_app, plan_app, up_to_day_app, is_subcommand, option_rule, replay_app, required_rule, with_hours, with_terms, with_words};
 
 use crate::texts::{
     ABOUT, ANACRONTAB_HELP, CERTIFICATE_HELP, CHECK_ABOUT, CHECK_EXAMPLE, COMMAND_HELP, DATE_HELP,
-    DAY_ABOUT, DAY_EXAMPLE, DECLARATIONS_HELP, EXAMPLE, FROM_HELP, HELP_ABOUT, MAX_HELP,
-    REPLAY_ABOUT, REPLAY_EXAMPLE, REPLAY_MAX_HELP, SCRIPT_HELP, TABLE_HELP, TO_HELP,
+    DAY_ABOUT, DAY_EXAMPLE, DECLARATIONS_HELP, EXAMPLE, FROM_HELP, HELP_ABOUT, JUDGE_ABOUT,
+    JUDGE_EXAMPLE, MAKE_ABOUT, MAKE_EXAMPLE, MAX_HELP, REPLAY_ABOUT, REPLAY_EXAMPLE,
+    REPLAY_MAX_HELP, SCRIPT_HELP, TABLE_HELP, TO_HELP,
 };
 use crate::version::version_text;
 use clap::error::ErrorKind;
@@ -116,6 +117,40 @@ fn check_command<'a>(alloc: Global) -> Result<Command<'a>, AllocError>
     with_option(alloc, command, "anacrontab", "FILE", ANACRONTAB_HELP)
 }
 
+/// `NAME TABLE DECLS [--anacrontab FILE]`.
+fn plan_command<'a>(
+    alloc: Global,
+    name: &'a str,
+    about: &'a str,
+    example: &'a str,
+) -> Result<Command<'a>, AllocError>
+    ensures app { IfOk result (λ c. app_of c ≡ plan_app name.now) }
+    ensures local { IfOk result (λ c. (fields_of c).has_globals ≡ false) }
+{
+    let command = Command::new(alloc, name)
+        .about(about)
+        .after_help(example)
+        .arg(required_arg(alloc, "TABLE", TABLE_HELP))?
+        .arg(required_arg(alloc, "DECLS", DECLARATIONS_HELP))?;
+    with_option(alloc, command, "anacrontab", "FILE", ANACRONTAB_HELP)
+}
+
+/// `judge TABLE DECLS [--anacrontab FILE]`.
+fn judge_command<'a>(alloc: Global) -> Result<Command<'a>, AllocError>
+    ensures app { IfOk result (λ c. app_of c ≡ judge_app) }
+    ensures local { IfOk result (λ c. (fields_of c).has_globals ≡ false) }
+{
+    plan_command(alloc, "judge", JUDGE_ABOUT, JUDGE_EXAMPLE)
+}
+
+/// `make TABLE DECLS [--anacrontab FILE]`.
+fn make_command<'a>(alloc: Global) -> Result<Command<'a>, AllocError>
+    ensures app { IfOk result (λ c. app_of c ≡ make_app) }
+    ensures local { IfOk result (λ c. (fields_of c).has_globals ≡ false) }
+{
+    plan_command(alloc, "make", MAKE_ABOUT, MAKE_EXAMPLE)
+}
+
 /// `help [COMMAND]`.
 fn help_command<'a>(alloc: Global) -> Result<Command<'a>, AllocError>
     ensures app { IfOk result (λ c. app_of c ≡ help_app) }
@@ -126,9 +161,9 @@ fn help_command<'a>(alloc: Global) -> Result<Command<'a>, AllocError>
         .arg(Arg::new(alloc, "COMMAND").help(COMMAND_HELP))
 }
 
-/// The program with the subcommands `day` and `replay`.
-fn day_and_replay<'a>(alloc: Global) -> Result<Command<'a>, AllocError>
-    ensures { IfOk result (λ c. app_of c ≡ day_and_replay_app) }
+/// The program with the subcommands `judge` and `make`.
+fn judge_and_make<'a>(alloc: Global) -> Result<Command<'a>, AllocError>
+    ensures { IfOk result (λ c. app_of c ≡ judge_and_make_app) }
 {
     let cronsafe = Command::new(alloc, "cronsafe")
         .about(ABOUT)
@@ -137,16 +172,25 @@ fn day_and_replay<'a>(alloc: Global) -> Result<Command<'a>, AllocError>
         .disable_help_subcommand(true)
         .subcommand_required(true);
     cronsafe
-        .subcommand(day_command(alloc)?)?
-        .subcommand(replay_command(alloc)?)
+        .subcommand(judge_command(alloc)?)?
+        .subcommand(make_command(alloc)?)
+}
+
+/// And with `check` and `day`.
+fn up_to_day<'a>(alloc: Global) -> Result<Command<'a>, AllocError>
+    ensures { IfOk result (λ c. app_of c ≡ up_to_day_app) }
+{
+    judge_and_make(alloc)?
+        .subcommand(check_command(alloc)?)?
+        .subcommand(day_command(alloc)?)
 }
 
 /// The command line of the program.
 pub(crate) fn command<'a>(alloc: Global) -> Result<Command<'a>, AllocError>
     ensures { IfOk result (λ c. app_of c ≡ cronsafe_app) }
 {
-    day_and_replay(alloc)?
-        .subcommand(check_command(alloc)?)?
+    up_to_day(alloc)?
+        .subcommand(replay_command(alloc)?)?
         .subcommand(help_command(alloc)?)
 }
 
@@ -156,6 +200,8 @@ pub(crate) enum Subcommand {
     Day,
     Replay,
     Check,
+    Judge,
+    Make,
     Help,
 }
 
@@ -168,6 +214,8 @@ impl Subcommand {
             "day" => Some(Subcommand::Day),
             "replay" => Some(Subcommand::Replay),
             "check" => Some(Subcommand::Check),
+            "judge" => Some(Subcommand::Judge),
+            "make" => Some(Subcommand::Make),
             "help" => Some(Subcommand::Help),
             _ => None,
         }
@@ -179,6 +227,8 @@ impl Subcommand {
             Subcommand::Day => day_command(alloc)?.bin_name("cronsafe day"),
             Subcommand::Replay => replay_command(alloc)?.bin_name("cronsafe replay"),
             Subcommand::Check => check_command(alloc)?.bin_name("cronsafe check"),
+            Subcommand::Judge => judge_command(alloc)?.bin_name("cronsafe judge"),
+            Subcommand::Make => make_command(alloc)?.bin_name("cronsafe make"),
             Subcommand::Help => help_command(alloc)?.bin_name("cronsafe help"),
         }
     }

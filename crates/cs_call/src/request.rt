@@ -49,6 +49,17 @@ pub struct CheckWords<'a> {
     pub anacrontab: Option<&'a str>,
 }
 
+/// What `judge` and `make` are asked.
+#[derive(Clone, Copy, Debug)]
+pub struct JudgeWords<'a> {
+    /// The path of a crontab.
+    pub table: &'a str,
+    /// The path of declarations.
+    pub declarations: &'a str,
+    /// The path of an anacrontab.
+    pub anacrontab: Option<&'a str>,
+}
+
 /// What a call asks.
 #[derive(Clone, Copy, Debug)]
 pub enum Request<'a> {
@@ -58,6 +69,10 @@ pub enum Request<'a> {
     Replay(ReplayWords<'a>),
     /// The check of a certificate.
     Check(CheckWords<'a>),
+    /// Whether a plan is safe, or a history that breaks it.
+    Judge(JudgeWords<'a>),
+    /// A certificate of a plan, or a history that breaks it.
+    Make(JudgeWords<'a>),
 }
 
 /// Why words are no call.

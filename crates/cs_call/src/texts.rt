@@ -1,16 +1,17 @@
 //! What the help says.
 
 pub(crate) const ABOUT: &str =
-    "Shows when the jobs of crontab(5) and anacrontab(5) tables may run and what became of them, and
-checks that they keep out of each other's way.";
+    "Tells whether the jobs of crontab(5) and anacrontab(5) tables keep out of each other's way whatever
+happens, shows when they may run, and what became of them.";
 
 pub(crate) const EXAMPLE: &str =
-    "Example, the jobs of root's table on a date, none of which lasts longer than an hour:
-  crontab -l | cronsafe day - 2024-09-13 60
+    "Example, a table that is to go live, with its jobs' longest times, weights and groups declared:
+  cronsafe judge night.cron night.json
 
-'cronsafe day --help', 'cronsafe replay --help' and 'cronsafe check --help' tell of each word.
-Status: 0 done or safe, 1 an event of a script or a certificate was refused, 3 bad input, 4 no call,
-5 no memory, 6 a file that can't be read or standard output that can't be written.";
+'cronsafe judge --help', or another subcommand's, tells of each word.
+Status: 0 done or safe; 1 unsafe, or an event of a script or a certificate was refused; 2 unknown;
+3 bad input; 4 no call; 5 no memory; 6 a file that can't be read or standard output that can't be
+written.";
 
 pub(crate) const DAY_ABOUT: &str =
     "Shows when the jobs of a crontab are due on a date, and which minutes each may occupy.";
@@ -51,6 +52,30 @@ started, wait, end, or are caught up after an outage lets two runs of an exclusi
 once (two that both hold the lock shared excepted), lets running jobs weigh more than the capacity,
 or lets a due minute of a skip job be skipped. Refused means that this certificate doesn't prove it.
 The status is 1 where the certificate is refused.";
+
+pub(crate) const JUDGE_ABOUT: &str =
+    "Tells whether declared jobs keep out of each other's way, or shows how they may not.";
+
+pub(crate) const JUDGE_EXAMPLE: &str =
+    "Example, a backup at 23:30 and a report at midnight that must not run at once:
+  cronsafe judge night.cron night.json
+
+It prints 'safe'; or 'unsafe', what goes wrong, and a script of events in which it does although
+each run ends within its declared time, as 'cronsafe replay' reads it; or 'unknown' with a reason.
+Safe means: as long as each run ends within its declared time, no order in which the jobs are
+started, wait, end, or are caught up after an outage lets two runs of an exclusive group run at
+once (two that both hold the lock shared excepted), lets running jobs weigh more than the capacity,
+or lets a due minute of a skip job be skipped.
+The status is 1 where the plan is unsafe and 2 where neither is known.";
+
+pub(crate) const MAKE_ABOUT: &str =
+    "Makes the certificate that proves that declared jobs keep out of each other's way.";
+
+pub(crate) const MAKE_EXAMPLE: &str = "Example, a certificate that 'cronsafe check' accepts:
+  cronsafe make night.cron night.json > night.cert
+
+It prints the certificate; or, as 'cronsafe judge' does, 'unsafe' with a script that shows it, or
+'unknown' with a reason. The status is 1 where the plan is unsafe and 2 where neither is known.";
 
 pub(crate) const TABLE_HELP: &str = "Path of a crontab, or - for standard input";
 

@@ -35,6 +35,10 @@ ReadsAs files path means told before after (Err t) =
 abbrev pub Gives : {X : Type 0} → Result X Trouble → Bool → Bool → Result X Trouble → Type 0
 Gives given before after r = (after ≡ before) × (r ≡ given)
 
+-- nothing is read, and something is given of which this holds
+abbrev pub GivesSome : {X : Type 0} → (X → Type 0) → Bool → Bool → Result X Trouble → Type 0
+GivesSome R before after r = (after ≡ before) × ((x : _) × R x × (r ≡ Ok x))
+
 -- one step, and then another on what it gave; the first fault ends the call
 abbrev pub AndThen : {X Y : Type 0} → (Bool → Bool → Result X Trouble → Type 0)
     → (X → Bool → Bool → Result Y Trouble → Type 0) → Bool → Bool → Result Y Trouble → Type 0

@@ -1,7 +1,7 @@
 -- What a call of the program writes, and the status that it ends with.
 use Rattle.std.specs.Prelude.{ℕ, List, ◌∷◌, ◌++◌, [], codes}
 use Rattle.cs_cli.specs.declared.response.Status.{Status}
-use Rattle.cs_cli.specs.declared.response.Status.TheVariants.{Done, Refused, BadInput, NoCall, NoMemory, DeviceFailed}
+use Rattle.cs_cli.specs.declared.response.Status.TheVariants.{Done, Refused, Unknown, BadInput, NoCall, NoMemory, DeviceFailed}
 
 -- a status, what is written to standard output, and what to standard error
 pub record Ending : Type 0 where
@@ -13,6 +13,7 @@ pub record Ending : Type 0 where
 abbrev pub status_of : Status → ℕ
 status_of Done = 0
 status_of Refused = 1
+status_of Unknown = 2
 status_of BadInput = 3
 status_of NoCall = 4
 status_of NoMemory = 5

@@ -5,6 +5,7 @@ mod check;
 mod day;
 mod day_text;
 mod fault;
+mod judge;
 mod program;
 mod reads;
 mod replay;

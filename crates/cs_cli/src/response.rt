@@ -11,8 +11,10 @@ use std::marker::Model;
 pub enum Status {
     /// What is asked was done, or help was shown.
     Done,
-    /// An event of a script, or a certificate, was refused.
+    /// A plan is unsafe, or an event of a script, or a certificate, was refused.
     Refused,
+    /// Whether a plan is safe is not known.
+    Unknown,
     /// The words or a file hold a fault.
     BadInput,
     /// The words are no call.
@@ -31,6 +33,7 @@ impl Status {
         match self {
             Status::Done => 0,
             Status::Refused => 1,
+            Status::Unknown => 2,
             Status::BadInput => 3,
             Status::NoCall => 4,
             Status::NoMemory => 5,
@@ -121,6 +124,17 @@ impl Response {
     {
         Response {
             ends: Status::Refused,
+            shown: Bytes::from_vec(text),
+            told: warnings,
+        }
+    }
+
+    /// A plan was judged: the status, what is told of it, and what is to be warned of.
+    pub(crate) fn told(status: Status, text: Vec<u8>, warnings: Bytes) -> Response
+        ensures { result ≡ record { status = status_of status; out = text.items; err = warnings } }
+    {
+        Response {
+            ends: status,
             shown: Bytes::from_vec(text),
             told: warnings,
         }

@@ -8,11 +8,13 @@ ghost use Rattle.cs_cli.specs.Response.{done, status_of};
 
 use crate::check::check_certificate;
 use crate::day::day;
+use crate::judge::judge_plan;
 use crate::replay::replay;
 use crate::response::{Response, Status};
 use cs_call::{Request, UsageFault, parse_words, version_text};
 use cs_civil::Bytes;
 use cs_io::{CannotWrite, Inputs, Output};
+use cs_judge::Wanted;
 use std::alloc::{AllocError, Global};
 use std::convert::AsStr;
 use std::thread::Threads;
@@ -34,6 +36,8 @@ pub fn respond<R: Threads + Sync, S: AsStr, I: Inputs>(
         Ok(Request::Day(request)) => day(alloc, &request, inputs),
         Ok(Request::Replay(request)) => replay(alloc, &request, inputs),
         Ok(Request::Check(request)) => check_certificate(rt, alloc, &request, inputs),
+        Ok(Request::Judge(request)) => judge_plan(rt, alloc, &request, Wanted::Verdict, inputs),
+        Ok(Request::Make(request)) => judge_plan(rt, alloc, &request, Wanted::Certificate, inputs),
         Err(UsageFault::Help(text)) => Ok(Response::done(text.into_bytes(), Bytes::new(alloc))),
         Err(UsageFault::Version) => show_version(alloc),
         Err(UsageFault::NoCall(text)) => Ok(Response::no_call(alloc, text.into_bytes())),
@@ -73,8 +77,8 @@ fn finish<O: Output, E: Output>(response: &Response, out: &mut O, err: &mut E) -
 }
 
 /// Runs the program on its words, of which the first is its name, and gives the status that the
-/// process ends with: 0 done, safe, help or the version, 1 an event or a certificate was refused, 3 a fault in the words or in a file, 4 no call, 5 want of
-/// memory, 6 a file that can't be read or standard output that can't be written.
+/// process ends with: 0 done, safe, help or the version, 1 unsafe, or an event or a certificate was refused, 2 unknown, 3 a fault in
+/// the words or in a file, 4 no call, 5 want of memory, 6 a file that can't be read or standard output that can't be written.
 pub fn run_words<R: Threads + Sync, S: AsStr, I: Inputs, O: Output, E: Output>(
     rt: &R,
     alloc: Global,

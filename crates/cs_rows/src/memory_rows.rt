@@ -49,6 +49,20 @@ fn run_in<R: Threads + Sync + AllocGlobal>(
     )
 }
 
+/// Whether it was said on standard error that memory ran out, and nothing else.
+fn is_no_memory(shown: u64, told: u64, err: &[u8]) -> bool {
+    shown == 0 && told == 24 && err.starts_with(b"cronsafe: out of memory\n".as_slice())
+}
+
+/// Whether it was said of a plan, and nothing else, that memory ran out while it was judged.
+fn is_unknown(words: &[&str], shown: u64, told: u64, out: &[u8]) -> bool {
+    let judges = match words.get(1) {
+        Some(word) => *word == "judge",
+        None => false,
+    };
+    judges && shown == 18 && told == 0 && out.starts_with(b"unknown: NoMemory\n".as_slice())
+}
+
 /// Runs a call again and again, with hardly any memory at first and `step` bytes more each time.
 /// Each run has to say that memory ran out and nothing else, until one has another answer: this
 /// one, and how often memory ran out before.
@@ -67,9 +81,7 @@ fn run_starved<R: Abort + AllocGlobal + Threads + Sync>(
             hoard.free_all();
             return Ok(((status, shown, told), refusals));
         }
-        assert!(rt;
-            shown == 0 && told == 24 && err.starts_with(b"cronsafe: out of memory\n".as_slice())
-        );
+        assert!(rt; is_no_memory(shown, told, err) || is_unknown(words, shown, told, out));
         assert!(rt; hoard.give_back(step));
     }
     Ok(((5, 0, 0), 60_000))
@@ -233,5 +245,22 @@ fn refused_growths_of_check(rt: HostRuntime) -> Result<(), Fail> {
         );
         assert!(rt; refusals > 20, "{refusals} refusals at {line}");
     }
+    Ok(())
+}
+
+#[test]
+fn refused_growths_of_a_plan(rt: HostRuntime) -> Result<(), Fail> {
+    let words = ["cronsafe", "judge", "nightly", "terms"];
+    let mut out = [0u8; 200];
+    let mut err = [0u8; 200];
+    let (answer, refusals) = run_starved(
+        &rt,
+        words.as_slice(),
+        512,
+        out.as_mut_slice(),
+        err.as_mut_slice(),
+    )?;
+    assert!(rt; answer == (0, 5, 0) && out.starts_with(b"safe\n".as_slice()));
+    assert!(rt; refusals > 100, "{refusals} refusals");
     Ok(())
 }

@@ -1,0 +1,38 @@
+-- What is answered to `judge` and to `make`: how the tables stand as they are declared.
+use Rattle.std.specs.Prelude.{◌≡◌, ℕ, Bool, List, [], Option, Result}
+use Rattle.cs_crontab.specs.Crontab.{Table}
+use Rattle.cs_anacrontab.specs.Anacrontab.{Table as JobTable}
+use Rattle.cs_decl.specs.Plan.{Declared}
+use Rattle.cs_judge.specs.Answer.{IsAnswer}
+use Rattle.cs_judge.specs.declared.answers.Outcome.{Outcome}
+use Rattle.cs_judge.specs.declared.answers.Outcome.TheVariants.{NoMemory, Safe, Unknown, Unsafe}
+use Rattle.cs_judge.specs.declared.answers.Wanted.{Wanted}
+use Rattle.cs_call.specs.CommandLine.{AskedJudge}
+use Rattle.cs_cli.specs.Response.{Ending}
+use Rattle.cs_cli.specs.Reads.{AndThen, Answered, GivesSome, ReadsDeclared, ReadsTables}
+use Rattle.cs_cli.specs.Trouble.{Trouble}
+
+-- the status of a call by how the plan was found
+abbrev pub outcome_status : Outcome → ℕ
+outcome_status Safe = 0
+outcome_status Unsafe = 1
+outcome_status Unknown = 2
+outcome_status NoMemory = 5
+
+-- what is printed of a plan, and the status
+abbrev pub IsJudged : Wanted → Declared → Ending → Type 0
+IsJudged wanted plan ending = (found : Outcome) × IsAnswer wanted plan found ending.out
+    × (ending.status ≡ outcome_status found) × (ending.err ≡ [])
+
+-- the declarations are read, and the plan is judged
+abbrev pub JudgesPlan : Wanted → (List ℕ → Option (List ℕ)) → AskedJudge → Table × JobTable → Bool
+    → Bool → Result Ending Trouble → Type 0
+JudgesPlan wanted files a tables =
+    AndThen (ReadsDeclared files tables a.declarations) (λ plan. GivesSome (IsJudged wanted plan))
+
+-- what is answered where this is wanted: how the plan was found, or the first fault of a file, and no
+-- file is read before its own turn
+abbrev pub AnswersJudge : Wanted → AskedJudge → (List ℕ → Option (List ℕ)) → Bool → Bool → Ending
+    → Type 0
+AnswersJudge wanted a files =
+    Answered (ReadsTables files a.table a.anacrontab) (λ both. JudgesPlan wanted files a both)

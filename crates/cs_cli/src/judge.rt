@@ -1,0 +1,92 @@
+//! The subcommands `judge` and `make`.
+ghost use Rattle.std.specs.Prelude.{◌≡◌, ◌≢◌, IfErr, IfOk, true};
+ghost use Rattle.cs_call.specs.Asked.{asked_judge};
+ghost use Rattle.cs_io.specs.Files.{IsFresh};
+ghost use Rattle.cs_cli.specs.Judge.{AnswersJudge, IsJudged, JudgesPlan, outcome_status};
+ghost use Rattle.cs_cli.specs.Response.{status_of};
+ghost use Rattle.cs_cli.specs.Trouble.{CameTo, IsHonestOf};
+
+use crate::fault::Fault;
+use crate::reads::{declared_plan_from, read_tables};
+use crate::response::{Response, Status};
+use cs_anacrontab::Anacrontab;
+use cs_call::JudgeWords;
+use cs_civil::Bytes;
+use cs_crontab::Crontab;
+use cs_decl::Plan;
+use cs_io::Inputs;
+use cs_judge::{Outcome, Wanted, answer, judge};
+use cs_warning::warnings;
+use std::alloc::{AllocError, Global};
+use std::thread::Threads;
+
+/// The status that a call ends with where the plan is found so.
+fn status_for(outcome: Outcome) -> Status
+    ensures { status_of result ≡ outcome_status outcome }
+{
+    match outcome {
+        Outcome::Safe => Status::Done,
+        Outcome::Unsafe => Status::Refused,
+        Outcome::Unknown => Status::Unknown,
+        Outcome::NoMemory => Status::NoMemory,
+    }
+}
+
+/// What is answered of a plan.
+fn judged<R: Threads + Sync>(
+    rt: &R,
+    alloc: Global,
+    plan: &Plan,
+    wanted: Wanted,
+) -> Result<Response, AllocError>
+    ensures { IfOk result (IsJudged wanted plan.now) }
+{
+    let judged = judge(rt, alloc, plan);
+    let (outcome, text) = answer(alloc, plan, wanted, &judged)?;
+    Ok(Response::told(status_for(outcome), text, Bytes::new(alloc)))
+}
+
+/// What is answered once both tables were read.
+fn told<'a, R: Threads + Sync, I: Inputs>(
+    rt: &R,
+    alloc: Global,
+    inputs: &mut I,
+    request: &JudgeWords<'a>,
+    wanted: Wanted,
+    table: Crontab,
+    jobs: Anacrontab,
+) -> Result<Response, Fault<'a>>
+    ensures step { IsFresh (I.whole inputs.old) (I.left inputs.old)
+        → CameTo (JudgesPlan wanted (I.whole inputs.old) (asked_judge request.now) (table, jobs)
+        (I.failed inputs.old) (I.failed inputs.new)) result }
+    ensures status { IfErr result (IsHonestOf (I.failed inputs.new)) }
+    ensures done { IfOk result (λ r. r.status ≢ 6) }
+{
+    let plan = declared_plan_from(alloc, inputs, request.declarations, table, jobs)?;
+    Ok(judged(rt, alloc, &plan, wanted)?)
+}
+
+/// The answer to `judge TABLE DECLS [--anacrontab FILE]`, where a verdict is wanted, and to `make` with the same words,
+/// where a certificate is.
+pub(crate) fn judge_plan<R: Threads + Sync, I: Inputs>(
+    rt: &R,
+    alloc: Global,
+    request: &JudgeWords<'_>,
+    wanted: Wanted,
+    inputs: &mut I,
+) -> Result<Response, AllocError>
+    ensures value { IsFresh (I.whole inputs.old) (I.left inputs.old)
+        → IfOk result (AnswersJudge wanted (asked_judge request.now) (I.whole inputs.old)
+        (I.failed inputs.old) (I.failed inputs.new)) }
+    ensures status { IfOk result (λ r. r.status ≡ 6 → I.failed inputs.new ≡ true) }
+{
+    let (table, jobs) = match read_tables(alloc, inputs, request.table, request.anacrontab) {
+        Ok(tables) => tables,
+        Err(fault) => return fault.response(alloc, b"".as_slice()),
+    };
+    let warnings = warnings(alloc, &table, &jobs)?;
+    match told(rt, alloc, inputs, request, wanted, table, jobs) {
+        Ok(answer) => Ok(answer.behind(warnings)),
+        Err(fault) => fault.response(alloc, warnings.as_slice()),
+    }
+}

@@ -1,0 +1,49 @@
+-- What is known of a plan.
+use Rattle.std.specs.Prelude.{◌≡◌, Bool, true, Option, Some, None, ⊤, ℕ}
+use Rattle.cs_history.specs.declared.script.Script.{Script}
+use Rattle.cs_decl.specs.Plan.{Declared, as_plan}
+use Rattle.cs_cert.specs.Content.{Content}
+use Rattle.cs_check.specs.Case.{fault_of}
+use Rattle.cs_check.specs.Checked.{certificate_in, plan_in}
+use Rattle.cs_check.specs.declared.checked.Checked.{Checked}
+use Rattle.cs_refused.specs.Told.{told}
+use Rattle.cs_refused.specs.declared.fault.CheckFault.{CheckFault}
+use Rattle.cs_script.specs.ScriptText.{is_nameable}
+use Rattle.cs_shown.specs.Shown.{IsShown, IsTellable}
+use Rattle.cs_shown.specs.declared.shown.Shown.{Shown}
+use Rattle.cs_judge.specs.declared.judged.Judged.{Judged}
+use Rattle.cs_judge.specs.declared.judged.Judged.TheVariants.{Safe, Unsafe, Unknown}
+
+-- what holds of the checked plan, where the answer is safe
+abbrev pub IfSafe : Judged → (Checked → Type 0) → Type 0
+IfSafe (Safe checked) P = P checked
+IfSafe (Unsafe script shown) P = ⊤
+IfSafe (Unknown reason refusal) P = ⊤
+
+-- and of the script and of what it breaks first, where it is unsafe
+abbrev pub IfUnsafe : Judged → (Script → Shown → Type 0) → Type 0
+IfUnsafe (Safe checked) P = ⊤
+IfUnsafe (Unsafe script shown) P = P script shown
+IfUnsafe (Unknown reason refusal) P = ⊤
+
+-- and of the refusal, where there is one behind what is unknown
+abbrev pub IfRefused : Judged → (CheckFault → Type 0) → Type 0
+IfRefused (Safe checked) P = ⊤
+IfRefused (Unsafe script shown) P = ⊤
+IfRefused (Unknown reason None) P = ⊤
+IfRefused (Unknown reason (Some fault)) P = P fault
+
+-- the checker has accepted this plan
+abbrev pub IsCheckedFor : Declared → Checked → Type 0
+IsCheckedFor plan checked = (plan_in checked ≡ plan) × (fault_of plan (certificate_in checked) ≡ None)
+
+-- the script can be written, and shows that the plan is unsafe: each of its events may come when it
+-- comes, each run ends within its declared time, and this is broken first, of which can be told
+pub record Shows (plan : Declared) (script : Script) (shown : Shown) : Type 0 where
+  pub nameable : is_nameable plan script ≡ true
+  pub breaks : IsShown (as_plan plan) script shown
+  pub tellable : IsTellable (as_plan plan) shown
+
+-- the checker refuses some certificate of the plan so
+abbrev pub IsRefusal : Declared → CheckFault → Type 0
+IsRefusal plan fault = (c : Content) × (fault_of plan c ≡ Some (told fault))

@@ -1,0 +1,16 @@
+use cs_check::Checked;
+use cs_history::Script;
+use cs_maker::Reason;
+use cs_refused::CheckFault;
+use cs_shown::Shown;
+
+/// What is known of a plan.
+#[derive(Debug, Drop)]
+pub enum Judged {
+    /// It is safe, whatever happens: the checker has accepted it with this certificate.
+    Safe(Checked),
+    /// It is unsafe: this script is a history in which each run ends in time, and breaks this first.
+    Unsafe(Script, Shown),
+    /// Neither is known, and why; and why the checker refuses the certificate that the maker gave, if it gave one.
+    Unknown(Reason, Option<CheckFault>),
+}

@@ -1,0 +1,76 @@
+ghost use Rattle.cs_check.specs.Checked.{IsHeadline};
+ghost use Rattle.cs_decl.specs.Plan.{as_plan};
+ghost use Rattle.cs_judge.specs.Judged.{IfRefused, IfSafe, IfUnsafe, IsCheckedFor, IsRefusal, Shows};
+
+use crate::judged::Judged;
+use cs_cert::Certificate;
+use cs_check::{CheckError, check_parallel};
+use cs_decl::Plan;
+use cs_history::Script;
+use cs_maker::{Made, Reason, make};
+use cs_script::is_nameable;
+use cs_shown::{NotShown, prove_unsafe};
+use std::alloc::Global;
+use std::thread::Threads;
+
+/// What the checker says of a certificate; and this is why nothing is known where it refuses it.
+fn confirm<R: Threads + Sync>(
+    rt: &R,
+    alloc: Global,
+    plan: &Plan,
+    certificate: Certificate,
+    reason: Reason,
+) -> Judged
+    ensures safe { IfSafe result (IsCheckedFor plan.now) }
+    ensures headline { IfSafe result (λ checked. IsHeadline (as_plan plan.now)) }
+    ensures shown { IfUnsafe result (Shows plan.now) }
+    ensures refused { IfRefused result (IsRefusal plan.now) }
+{
+    match check_parallel(rt, alloc, plan, certificate) {
+        Ok(checked) => Judged::Safe(checked),
+        Err(CheckError::Fault(fault)) => Judged::Unknown(reason, Some(fault)),
+        Err(CheckError::OutOfMemory) => Judged::Unknown(Reason::NoMemory, None),
+    }
+}
+
+/// What a script shows, if it can be written and shows anything.
+fn show(alloc: Global, plan: &Plan, script: Script) -> Judged
+    ensures safe { IfSafe result (IsCheckedFor plan.now) }
+    ensures headline { IfSafe result (λ checked. IsHeadline (as_plan plan.now)) }
+    ensures shown { IfUnsafe result (Shows plan.now) }
+    ensures refused { IfRefused result (IsRefusal plan.now) }
+{
+    if !is_nameable(plan, &script) {
+        return Judged::Unknown(Reason::NotChecked, None);
+    }
+    match prove_unsafe(alloc, plan, &script) {
+        Ok(shown) => Judged::Unsafe(script, shown),
+        Err(NotShown::OutOfMemory) => Judged::Unknown(Reason::NoMemory, None),
+        Err(_) => Judged::Unknown(Reason::NotChecked, None),
+    }
+}
+
+/// Judges a plan by what the maker gives for it, which isn't trusted: a certificate is checked, by as many threads as the machine
+/// has processors, and a script is tried.
+///
+/// `Safe` says that every legal history in which each run ends within its declared time is safe, and `Unsafe` shows one that
+/// isn't. `Unknown` has the maker's reason, `NotChecked` where what it gave wasn't confirmed, and `NoMemory` where memory ran
+/// out.
+pub fn judge<R: Threads + Sync>(rt: &R, alloc: Global, plan: &Plan) -> Judged
+    // what is called safe was accepted by the checker, and every legal history in time is safe
+    ensures safe { IfSafe result (IsCheckedFor plan.now) }
+    ensures headline { IfSafe result (λ checked. IsHeadline (as_plan plan.now)) }
+
+    // what is called unsafe is shown by a script that can be written
+    ensures shown { IfUnsafe result (Shows plan.now) }
+
+    // and a refusal behind what is unknown is the checker's
+    ensures refused { IfRefused result (IsRefusal plan.now) }
+{
+    match make(alloc, plan) {
+        Made::Safe(certificate) => confirm(rt, alloc, plan, certificate, Reason::NotChecked),
+        Made::Refused(certificate, reason) => confirm(rt, alloc, plan, certificate, reason),
+        Made::Unsafe(script) => show(alloc, plan, script),
+        Made::Unknown(reason) => Judged::Unknown(reason, None),
+    }
+}

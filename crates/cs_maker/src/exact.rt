@@ -9,7 +9,7 @@ use cs_claim::occupied;
 use cs_history::Script;
 use cs_profile::Facts;
 use cs_story::{Breach, tell};
-use cs_windows::{JobReach, Occupied, windows_on};
+use cs_windows::{JobReach, MINUTES_OF_DAY, Occupied, Window, windows_on};
 use std::alloc::{AllocError, Global};
 
 /// The greatest reach of a certificate, in minutes.
@@ -17,6 +17,12 @@ const GREATEST_REACH: u16 = 4_320;
 
 /// After so many breaches of which there is no story no other is looked for.
 const MOST_BREACHES: u8 = 16;
+
+/// Nor after so many looks: at a window, for each other that is open with it or each few minutes of a day.
+const MOST_LOOKS: u64 = 100_000_000;
+
+/// For so many minutes of a day that a window is held against, a look is counted.
+const MINUTES_OF_LOOK: u64 = 8;
 
 /// Longer reaches for the jobs that wait than any that a certificate has.
 pub(crate) fn greatest_reaches(alloc: Global, facts: &Facts) -> Result<Vec<JobReach>, AllocError> {
@@ -43,6 +49,22 @@ fn kinds_until(last_day: u64, days: u8) -> Chain {
     kinds
 }
 
+/// How many looks the quick test of these windows takes: at each, for each other that is open with it.
+fn looks_at_open(windows: &[Window]) -> u64 {
+    let mut held = 0u64;
+    for window in windows {
+        held = held.saturating_add(u64::from(window.reach));
+    }
+    let open = held / u64::from(MINUTES_OF_DAY);
+    (windows.len() as u64).saturating_mul(open.saturating_add(1))
+}
+
+/// How many looks it takes to hold these windows against each minute of a day.
+fn looks_by_minute(windows: &[Window]) -> u64 {
+    let looks = u64::from(MINUTES_OF_DAY) / MINUTES_OF_LOOK;
+    (windows.len() as u64).saturating_mul(looks)
+}
+
 /// Windows that can't be shorter than the exact ones, and the days of their stretches.
 #[derive(Drop)]
 struct Bounded<'a> {
@@ -50,20 +72,23 @@ struct Bounded<'a> {
     days: u8,
 }
 
-/// What the exact windows of the stretch break that ends on this day.
+/// What the exact windows of the stretch break that ends on this day. `looks` is how many are left, and are left then.
 fn breach_until(
     alloc: Global,
     subject: &Subject<'_>,
     waits: &ExactWaits<'_>,
     bounded: &Bounded<'_>,
     last_day: u64,
+    looks: &mut u64,
 ) -> Result<Option<Breach>, AllocError> {
     let kinds = kinds_until(last_day, bounded.days);
     let windows = windows_on(alloc, bounded.occupied.as_slice(), kinds.as_slice())?;
+    *looks = looks.saturating_sub(looks_at_open(windows.as_slice()));
     let quiet = subject.roles.quiet(alloc, windows.as_slice())?;
     if quiet.by_all() {
         return Ok(None);
     }
+    *looks = looks.saturating_sub(looks_by_minute(windows.as_slice()));
     let exact = waits.cut(alloc, last_day, bounded.days, windows.as_slice())?;
     match broken_by(alloc, subject.roles, quiet, exact.as_slice())? {
         Some(found) => Ok(Some(breach_on(alloc, last_day, exact.as_slice(), found)?)),
@@ -71,7 +96,8 @@ fn breach_until(
     }
 }
 
-/// The first story of what exact windows break on one of these days. None where there is none, or many breaches have none.
+/// The first story of what exact windows break on one of these days. None where there is none, many breaches have none, or it
+/// took many looks to find none.
 fn story_on(
     alloc: Global,
     subject: &Subject<'_>,
@@ -80,8 +106,13 @@ fn story_on(
     last_days: &[u64],
 ) -> Result<Option<Script>, AllocError> {
     let mut untold: u8 = 0;
+    let mut looks = MOST_LOOKS;
     for last_day in last_days {
-        let Some(breach) = breach_until(alloc, subject, waits, bounded, *last_day)? else {
+        if looks == 0 {
+            return Ok(None);
+        }
+        let found = breach_until(alloc, subject, waits, bounded, *last_day, &mut looks)?;
+        let Some(breach) = found else {
             continue;
         };
         let told = tell(

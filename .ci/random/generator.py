@@ -1,0 +1,101 @@
+"""Random plans: the texts of a crontab, of declarations and of an anacrontab ('' for none)."""
+import json
+
+# day of the month, month, weekday
+DAYS = [
+    ("*", "*", "*"), ("*", "*", "*"), ("*", "*", "*"), ("*", "*", "1-5"), ("*", "*", "0"),
+    ("*", "*", "3,6"), ("1", "*", "*"), ("28", "2", "*"), ("29", "2", "*"), ("1", "3", "*"),
+    ("13", "*", "5"), ("*/2", "*", "1"), ("31", "*", "*"), ("30", "2", "*"), ("*", "jan", "*"),
+    ("1,15", "*", "*"), ("1-7", "*", "mon"), ("*", "12", "sun"),
+]
+MODES = {
+    "no waiting": ["none", "none", "skip"],
+    "waiting": ["none", "skip", "wait", "wait"],
+    "sharing": ["none", "skip", "wait", "shared", "shared"],
+    "all modes": ["none", "skip", "wait", "shared"],
+}
+PERIODS = ["1", "7", "@daily", "@weekly", "@monthly", "30"]
+
+
+def minute_and_hour(rng, often):
+    """Two fields: mostly one of a few minutes of the day, so that jobs meet."""
+    minute = rng.choice(often) if rng.random() < 0.7 else rng.randrange(1440)
+    hours = [str(minute // 60)] * 30
+    hours += [f"*/{rng.choice([4, 6, 8, 12])}"] * 4
+    hours += [f"{minute // 60},{rng.randrange(24)}"] * 3 + ["*"] * 3
+    return f"{minute % 60} {rng.choice(hours)}"
+
+
+def declared(rng, modes, groups, longest):
+    """What is declared of a cron job but its line."""
+    said = {"max": longest}
+    mode = rng.choice(modes)
+    if mode != "none":
+        said["mode"] = mode
+    if mode != "none" or rng.random() < 0.5:
+        said["group"] = f"g{rng.randrange(groups)}"
+    if rng.random() < 0.3:
+        said["weight"] = rng.randint(1, 3)
+    return said
+
+
+def longest_time(rng):
+    most = rng.choice([20, 90, 90, 600, 4320])
+    return rng.randint(1, most)
+
+
+def groups_of(rng, count):
+    return [{"name": f"g{it}", "exclusive": rng.random() < 0.8} for it in range(count)]
+
+
+def random_plan(rng, modes):
+    """Two to six lines, due on all sorts of days, and up to three jobs of catch-up."""
+    count, often = rng.choice([1, 1, 2, 3]), rng.sample(range(1440), 8)
+    crontab, cron = "", []
+    for line in range(1, rng.randint(2, 6) + 1):
+        crontab += f"{minute_and_hour(rng, often)} {' '.join(rng.choice(DAYS))} /bin/job\n"
+        cron.append({"line": line, **declared(rng, MODES[modes], count, longest_time(rng))})
+    said = {"capacity": rng.choice([2, 3, 4, 5, 6, 64]), "groups": groups_of(rng, count)}
+    said["cron"] = cron
+    anacrontab = random_catch_up(rng, said, count) if rng.random() < 0.35 else ""
+    return crontab, json.dumps(said), anacrontab
+
+
+def random_catch_up(rng, said, groups):
+    """Puts hours, a pass minute and anacron jobs into declarations; returns the anacrontab."""
+    first = rng.randrange(1440)
+    said["hours"] = [first, rng.randint(first + 1, min(1440, first + rng.choice([1, 240, 1440])))]
+    if rng.random() < 0.4:
+        said["pass"] = rng.randrange(1440)
+    anacrontab, said["anacron"] = "", []
+    for number in range(rng.randint(1, 3)):
+        delay = rng.choice([0, 5, 10, 65, rng.randint(0, 2000)])
+        anacrontab += f"{rng.choice(PERIODS)} {delay} job{number} /bin/catch\n"
+        most = rng.choice([1, rng.randint(1, 60), rng.randint(1, 2000)])
+        its = {"id": f"job{number}", "max": most}
+        if rng.random() < 0.5:
+            its["group"] = f"g{rng.randrange(groups)}"
+        said["anacron"].append(its)
+    return anacrontab
+
+
+def tiny_plan(rng, modes, noon):
+    """Two to four lines due within six minutes after noon of every day, with runs of minutes."""
+    count = rng.choice([1, 1, 2])
+    crontab, cron = "", []
+    for line in range(1, rng.randint(2, 4) + 1):
+        crontab += f"{rng.randint(0, 6)} {noon // 60} * * * /bin/job\n"
+        cron.append({"line": line, **declared(rng, MODES[modes], count, rng.randint(1, 4))})
+    said = {"capacity": rng.choice([1, 2, 2, 3, 4, 64]), "groups": groups_of(rng, count)}
+    said["cron"] = cron
+    anacrontab = ""
+    if rng.random() < 0.3:
+        first = noon + rng.randint(0, 6)
+        said["hours"], said["anacron"] = [first, first + rng.randint(1, 4)], []
+        for number in range(rng.randint(1, 2)):
+            anacrontab += f"1 {rng.randint(0, 2)} job{number} /bin/catch\n"
+            its = {"id": f"job{number}", "max": rng.randint(1, 3)}
+            if rng.random() < 0.6:
+                its["group"] = f"g{rng.randrange(count)}"
+            said["anacron"].append(its)
+    return crontab, json.dumps(said), anacrontab

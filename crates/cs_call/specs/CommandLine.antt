@@ -7,12 +7,18 @@ use Rattle.std.specs.Option.{option_map_or}
 use Rattle.std.specs.Str.{bytes_eq}
 use Rattle.clap.specs.Words.{App, IsAmong, Row, Rule, Text, fault_of, first_of, new_app, new_rule, subcommand_of, with_rule, with_subcommand}
 use Rattle.clap.specs.Simple.{on_top}
+use Rattle.clap.specs.declared.builder.command.Command.{Command}
+use Rattle.clap.specs.declared.builder.command.Command.TheViews.{out-Command as fields_of}
 use Rattle.clap.specs.declared.error.kind.ErrorKind.{ErrorKind}
 use Rattle.clap.specs.declared.error.kind.ErrorKind.TheVariants.{DisplayHelp, DisplayVersion}
 
 -- an argument that stands without a name, and has to
 abbrev pub required_rule : Text → Rule
 required_rule id = record (new_rule id) { required = true }
+
+-- no argument of the command counts for its subcommands too
+abbrev pub IsLocal : Command → Type 0
+IsLocal c = (fields_of c).has_globals ≡ false
 
 -- an option with one value, `--NAME VALUE`
 abbrev pub option_rule : Text → Rule

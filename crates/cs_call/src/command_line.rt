@@ -53,7 +53,8 @@ fn digits(text: &str) -> Option<u64>
 /// The first value of an argument, if it has one.
 #[tactic(auto, using(crate::proofs::CommandLineLemmas::first_value_rows))]
 fn value_of<'a>(given: &ArgMatches<'a>, id: &str) -> Option<&'a str>
-    ensures { option_map (λ text. text.now) result ≡ first_of id.now (rows_of (found_of given.now)) }
+    ensures { option_map (λ text. text.now) result
+        ≡ first_of id.now (rows_of (found_of given.now)) }
 {
     given.get_str(id)
 }
@@ -70,7 +71,8 @@ fn text_of<'a>(given: &ArgMatches<'a>, id: &str, absent: &'a str) -> &'a str
 
 /// Whether both paths name standard input.
 fn is_twice_standard(table: &str, anacrontab: Option<&str>) -> bool
-    ensures { result ≡ is_twice_standard table.now (option_map (λ path. path.now) anacrontab.entry) }
+    ensures { result
+        ≡ is_twice_standard table.now (option_map (λ path. path.now) anacrontab.entry) }
 {
     match anacrontab {
         Some(path) => table == "-" && path == "-",
@@ -152,7 +154,9 @@ fn are_dashes(
     anacrontab: Option<&str>,
     declarations: Option<&str>,
 ) -> bool
-    ensures { result ≡ are_dashes table.now script.now (option_map (λ path. path.now) anacrontab.entry) (option_map (λ path. path.now) declarations.entry) }
+    ensures { result ≡ are_dashes table.now script.now
+        (option_map (λ path. path.now) anacrontab.entry)
+        (option_map (λ path. path.now) declarations.entry) }
 {
     let tables = (table == "-", script == "-");
     let options = (is_dash_in(anacrontab), is_dash_in(declarations));

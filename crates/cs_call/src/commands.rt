@@ -1,8 +1,9 @@
 //! The command line, as `clap` is told of it.
 ghost use Rattle.std.specs.Prelude.{◌≡◌, IfOk, false, is_some};
 ghost use Rattle.clap.specs.Words.{app_of, rule_of, with_rule};
-ghost use Rattle.clap.specs.declared.builder.command.Command.TheViews.{out-Command as fields_of};
-ghost use Rattle.cs_call.specs.CommandLine.{check_app, cronsafe_app, day_app, help_app, judge_and_make_app, judge_app, make_app, plan_app, up_to_day_app, is_subcommand, option_rule, replay_app, required_rule, with_hours, with_terms, with_words};
+ghost use Rattle.cs_call.specs.CommandLine.{IsLocal, check_app, cronsafe_app, day_app, help_app, judge_and_make_app};
+ghost use Rattle.cs_call.specs.CommandLine.{judge_app, make_app, plan_app, replay_app, up_to_day_app};
+ghost use Rattle.cs_call.specs.CommandLine.{is_subcommand, option_rule, required_rule, with_hours, with_terms, with_words};
 
 use crate::texts::{
     ABOUT, ANACRONTAB_HELP, CERTIFICATE_HELP, CHECK_ABOUT, CHECK_EXAMPLE, COMMAND_HELP, DATE_HELP,
@@ -37,7 +38,7 @@ fn option_arg<'a>(alloc: Global, name: &'a str, value: &'a str, help: &'a str) -
 /// A command with `TABLE DATE MAX`.
 fn with_words<'a>(alloc: Global, command: Command<'a>) -> Result<Command<'a>, AllocError>
     ensures app { IfOk result (λ c. app_of c ≡ with_words (app_of command.entry)) }
-    ensures local { (fields_of command.entry).has_globals ≡ false → IfOk result (λ c. (fields_of c).has_globals ≡ false) }
+    ensures local { IsLocal command.entry → IfOk result IsLocal }
 {
     command
         .arg(required_arg(alloc, "TABLE", TABLE_HELP))?
@@ -53,8 +54,9 @@ fn with_option<'a>(
     value: &'a str,
     help: &'a str,
 ) -> Result<Command<'a>, AllocError>
-    ensures app { IfOk result (λ c. app_of c ≡ with_rule (app_of command.entry) (option_rule name.now)) }
-    ensures local { (fields_of command.entry).has_globals ≡ false → IfOk result (λ c. (fields_of c).has_globals ≡ false) }
+    ensures app { IfOk result (λ c.
+        app_of c ≡ with_rule (app_of command.entry) (option_rule name.now)) }
+    ensures local { IsLocal command.entry → IfOk result IsLocal }
 {
     command.arg(option_arg(alloc, name, value, help))
 }
@@ -62,7 +64,7 @@ fn with_option<'a>(
 /// A command with `[--anacrontab FILE] [--from M] [--to M]`.
 fn with_hours<'a>(alloc: Global, command: Command<'a>) -> Result<Command<'a>, AllocError>
     ensures app { IfOk result (λ c. app_of c ≡ with_hours (app_of command.entry)) }
-    ensures local { (fields_of command.entry).has_globals ≡ false → IfOk result (λ c. (fields_of c).has_globals ≡ false) }
+    ensures local { IsLocal command.entry → IfOk result IsLocal }
 {
     let command = with_option(alloc, command, "anacrontab", "FILE", ANACRONTAB_HELP)?;
     let command = with_option(alloc, command, "from", "M", FROM_HELP)?;
@@ -72,7 +74,7 @@ fn with_hours<'a>(alloc: Global, command: Command<'a>) -> Result<Command<'a>, Al
 /// `day TABLE DATE MAX [--anacrontab FILE] [--from M] [--to M]`.
 fn day_command<'a>(alloc: Global) -> Result<Command<'a>, AllocError>
     ensures app { IfOk result (λ c. app_of c ≡ day_app) }
-    ensures local { IfOk result (λ c. (fields_of c).has_globals ≡ false) }
+    ensures local { IfOk result IsLocal }
 {
     let command = Command::new(alloc, "day")
         .about(DAY_ABOUT)
@@ -83,7 +85,7 @@ fn day_command<'a>(alloc: Global) -> Result<Command<'a>, AllocError>
 /// A command with `[--max N] [--anacrontab FILE] [--declarations FILE]`.
 fn with_terms<'a>(alloc: Global, command: Command<'a>) -> Result<Command<'a>, AllocError>
     ensures app { IfOk result (λ c. app_of c ≡ with_terms (app_of command.entry)) }
-    ensures local { (fields_of command.entry).has_globals ≡ false → IfOk result (λ c. (fields_of c).has_globals ≡ false) }
+    ensures local { IsLocal command.entry → IfOk result IsLocal }
 {
     let command = with_option(alloc, command, "max", "N", REPLAY_MAX_HELP)?;
     let command = with_option(alloc, command, "anacrontab", "FILE", ANACRONTAB_HELP)?;
@@ -93,7 +95,7 @@ fn with_terms<'a>(alloc: Global, command: Command<'a>) -> Result<Command<'a>, Al
 /// `replay TABLE SCRIPT [--max N] [--anacrontab FILE] [--declarations FILE]`.
 fn replay_command<'a>(alloc: Global) -> Result<Command<'a>, AllocError>
     ensures app { IfOk result (λ c. app_of c ≡ replay_app) }
-    ensures local { IfOk result (λ c. (fields_of c).has_globals ≡ false) }
+    ensures local { IfOk result IsLocal }
 {
     let command = Command::new(alloc, "replay")
         .about(REPLAY_ABOUT)
@@ -106,7 +108,7 @@ fn replay_command<'a>(alloc: Global) -> Result<Command<'a>, AllocError>
 /// `check TABLE DECLS CERT [--anacrontab FILE]`.
 fn check_command<'a>(alloc: Global) -> Result<Command<'a>, AllocError>
     ensures app { IfOk result (λ c. app_of c ≡ check_app) }
-    ensures local { IfOk result (λ c. (fields_of c).has_globals ≡ false) }
+    ensures local { IfOk result IsLocal }
 {
     let command = Command::new(alloc, "check")
         .about(CHECK_ABOUT)
@@ -125,7 +127,7 @@ fn plan_command<'a>(
     example: &'a str,
 ) -> Result<Command<'a>, AllocError>
     ensures app { IfOk result (λ c. app_of c ≡ plan_app name.now) }
-    ensures local { IfOk result (λ c. (fields_of c).has_globals ≡ false) }
+    ensures local { IfOk result IsLocal }
 {
     let command = Command::new(alloc, name)
         .about(about)
@@ -138,7 +140,7 @@ fn plan_command<'a>(
 /// `judge TABLE DECLS [--anacrontab FILE]`.
 fn judge_command<'a>(alloc: Global) -> Result<Command<'a>, AllocError>
     ensures app { IfOk result (λ c. app_of c ≡ judge_app) }
-    ensures local { IfOk result (λ c. (fields_of c).has_globals ≡ false) }
+    ensures local { IfOk result IsLocal }
 {
     plan_command(alloc, "judge", JUDGE_ABOUT, JUDGE_EXAMPLE)
 }
@@ -146,7 +148,7 @@ fn judge_command<'a>(alloc: Global) -> Result<Command<'a>, AllocError>
 /// `make TABLE DECLS [--anacrontab FILE]`.
 fn make_command<'a>(alloc: Global) -> Result<Command<'a>, AllocError>
     ensures app { IfOk result (λ c. app_of c ≡ make_app) }
-    ensures local { IfOk result (λ c. (fields_of c).has_globals ≡ false) }
+    ensures local { IfOk result IsLocal }
 {
     plan_command(alloc, "make", MAKE_ABOUT, MAKE_EXAMPLE)
 }
@@ -154,7 +156,7 @@ fn make_command<'a>(alloc: Global) -> Result<Command<'a>, AllocError>
 /// `help [COMMAND]`.
 fn help_command<'a>(alloc: Global) -> Result<Command<'a>, AllocError>
     ensures app { IfOk result (λ c. app_of c ≡ help_app) }
-    ensures local { IfOk result (λ c. (fields_of c).has_globals ≡ false) }
+    ensures local { IfOk result IsLocal }
 {
     Command::new(alloc, "help")
         .about(HELP_ABOUT)

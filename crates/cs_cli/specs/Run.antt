@@ -10,20 +10,43 @@ pub record Sink : Type 0 where
   pub contents : Option (List ℕ)
   pub failed : Bool
 
+-- an output that holds these bytes, and whether a write has failed
+abbrev pub sink : Option (List ℕ) → Bool → Sink
+sink contents failed = record { contents = contents; failed = failed }
+
 -- the text was written, behind what was there
 pub record Writes (text : List ℕ) (old new : Sink) : Type 0 where
   pub appended : Appends old.contents new.contents text
   pub fine : new.failed ≡ old.failed
+
+-- the text was written if it could be
+abbrev pub Tries : List ℕ → Sink → Sink → Type 0
+Tries text old new = (new.failed ≡ true) ⊎ Writes text old new
 
 -- an ending is carried out: its status is answered where its text was written to standard output,
 -- else that of a failed device; what goes to standard error is written if it can be
 abbrev pub Ends : Ending → Sink → Sink → Sink → Sink → ℕ → Type 0
 Ends ending out-old out-new err-old err-new status =
     ((out-new.failed ≡ true) × (status ≡ 6) × (err-new ≡ err-old))
-    ⊎ (Writes ending.out out-old out-new × (status ≡ ending.status) × ((err-new.failed ≡ true) ⊎ Writes ending.err err-old err-new))
+    ⊎ (Writes ending.out out-old out-new × (status ≡ ending.status)
+    × Tries ending.err err-old err-new)
 
--- the words are answered, or memory ran out: then nothing is written to standard output
-abbrev pub Runs : List Text → (List ℕ → Option (List ℕ)) → Bool → Bool → Sink → Sink → Sink → Sink → ℕ → Type 0
+-- memory ran out: nothing is written to standard output
+abbrev pub RunsOut : Sink → Sink → Sink → Sink → ℕ → Type 0
+RunsOut out-old out-new err-old err-new status = (status ≡ 5) × (out-new ≡ out-old)
+    × Tries (codes "cronsafe: out of memory\n") err-old err-new
+
+-- the words are answered so, and the answer is carried out
+abbrev pub Carries : List Text → (List ℕ → Option (List ℕ)) → Bool → Bool → Ending → Sink → Sink
+    → Sink → Sink → ℕ → Type 0
+Carries words files failed-old failed-new ending out-old out-new err-old err-new status =
+    Answers words files failed-old failed-new ending × (ending.status ≡ 6 → failed-new ≡ true)
+    × Ends ending out-old out-new err-old err-new status
+
+-- the words are answered, or memory ran out
+abbrev pub Runs : List Text → (List ℕ → Option (List ℕ)) → Bool → Bool → Sink → Sink → Sink
+    → Sink → ℕ → Type 0
 Runs words files failed-old failed-new out-old out-new err-old err-new status =
-    ((ending : Ending) × Answers words files failed-old failed-new ending × (ending.status ≡ 6 → failed-new ≡ true) × Ends ending out-old out-new err-old err-new status)
-    ⊎ ((status ≡ 5) × (out-new ≡ out-old) × ((err-new.failed ≡ true) ⊎ Writes (codes "cronsafe: out of memory\n") err-old err-new))
+    ((ending : Ending)
+    × Carries words files failed-old failed-new ending out-old out-new err-old err-new status)
+    ⊎ RunsOut out-old out-new err-old err-new status

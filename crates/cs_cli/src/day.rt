@@ -50,7 +50,8 @@ fn add_lines(
     lines: &[Line],
     question: Question,
 ) -> Result<(), AllocError>
-    ensures { OnOk result (text.new.items ≡ text.old.items ++ flat_map (line_text question) lines.now) }
+    ensures { OnOk result
+        (text.new.items ≡ text.old.items ++ flat_map (line_text question) lines.now) }
 {
     for line in lines {
         add_line(alloc, text, line, question)?;
@@ -84,7 +85,8 @@ fn add_jobs(
     jobs: &[Job],
     question: Question,
 ) -> Result<(), AllocError>
-    ensures { OnOk result (text.new.items ≡ text.old.items ++ flat_map (anacron_text question) jobs.now) }
+    ensures { OnOk result
+        (text.new.items ≡ text.old.items ++ flat_map (anacron_text question) jobs.now) }
 {
     for job in jobs {
         add_anacron(alloc, text, job, question)?;

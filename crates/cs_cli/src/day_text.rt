@@ -137,7 +137,8 @@ pub(crate) fn add_job(
     max: u16,
 ) -> Result<(), AllocError>
     requires { 3 ≤ day }
-    ensures { OnOk result (text.new.items ≡ text.old.items ++ job_text day max number schedule.now) }
+    ensures { OnOk result
+        (text.new.items ≡ text.old.items ++ job_text day max number schedule.now) }
 {
     let due = schedule.minutes_of(kind_of(day)).len();
     text.extend_from_slice(format!(in alloc; "line {number}: due {due}\n")?.as_bytes())?;
@@ -171,7 +172,8 @@ pub(crate) fn add_catch_up(
 ) -> Result<(), AllocError>
     requires day { 3 ≤ day }
     requires max { (1 ≤ max) × (max ≤ 4_320) }
-    ensures { OnOk result (text.new.items ≡ text.old.items ++ catch_up_text day max hours.from hours.to identifier.now) }
+    ensures { OnOk result (text.new.items
+        ≡ text.old.items ++ catch_up_text day max hours.from hours.to identifier.now) }
 {
     add_identifier(text, identifier)?;
     let from = hours.from();

@@ -48,9 +48,12 @@ fn push_tried(
     core: &mut Core,
     numbered: (u32, Event),
 ) -> Result<bool, AllocError>
-    ensures text { OnOk result (text.new.items ≡ text.old.items ++ event_line numbered.0 (tried (as_plan core.old.plan) core.old.state numbered.1)) }
-    ensures refused { IfOk result (λ refused. refused ≡ is_err (tried (as_plan core.old.plan) core.old.state numbered.1)) }
-    ensures state { OnOk result (core.new.state ≡ next (as_plan core.old.plan) core.old.state numbered.1) }
+    ensures text { OnOk result (text.new.items ≡ text.old.items
+        ++ event_line numbered.0 (tried (as_plan core.old.plan) core.old.state numbered.1)) }
+    ensures refused { IfOk result (λ refused.
+        refused ≡ is_err (tried (as_plan core.old.plan) core.old.state numbered.1)) }
+    ensures state { OnOk result
+        (core.new.state ≡ next (as_plan core.old.plan) core.old.state numbered.1) }
     ensures plan { core.new.plan ≡ core.old.plan }
 {
     let answer = try_event(core, numbered.1)?;
@@ -66,9 +69,12 @@ fn push_events(
     core: &mut Core,
     events: &[(u32, Event)],
 ) -> Result<bool, AllocError>
-    ensures text { OnOk result (text.new.items ≡ text.old.items ++ event_lines (as_plan core.old.plan) core.old.state events.now) }
-    ensures refused { IfOk result (λ refused. refused ≡ is_any_refused (as_plan core.old.plan) core.old.state events.now) }
-    ensures state { OnOk result (core.new.state ≡ last_state (as_plan core.old.plan) core.old.state events.now) }
+    ensures text { OnOk result (text.new.items ≡ text.old.items
+        ++ event_lines (as_plan core.old.plan) core.old.state events.now) }
+    ensures refused { IfOk result (λ refused.
+        refused ≡ is_any_refused (as_plan core.old.plan) core.old.state events.now) }
+    ensures state { OnOk result
+        (core.new.state ≡ last_state (as_plan core.old.plan) core.old.state events.now) }
 {
     let mut refused = false;
     let mut rest = events;
@@ -94,7 +100,8 @@ fn push_count(
 
 /// Adds `up` or `down` and the minute.
 fn push_moment(text: &mut Vec<u8>, core: &Core) -> Result<(), AllocError>
-    ensures { OnOk result (text.new.items ≡ text.old.items ++ (side core.now.state.up ++ minute_text core.now.state.now)) }
+    ensures { OnOk result (text.new.items
+        ≡ text.old.items ++ (side core.now.state.up ++ minute_text core.now.state.now)) }
 {
     text.extend_from_slice(side(core.is_up()).as_bytes())?;
     text.extend_from_slice(&date_text(core.now()))

@@ -104,7 +104,8 @@ impl Response {
 
     /// A script was replayed: what is told of it, whether an event was refused, and what is to be warned of.
     pub(crate) fn replayed(text: Vec<u8>, refused: bool, warnings: Bytes) -> Response
-        ensures { result ≡ record { status = if refused then 1 else 0; out = text.items; err = warnings } }
+        ensures { result
+            ≡ record { status = if refused then 1 else 0; out = text.items; err = warnings } }
     {
         let ends = if refused {
             Status::Refused
@@ -158,7 +159,8 @@ impl Response {
         warnings: &[u8],
         fault: &[u8],
     ) -> Result<Response, AllocError>
-        ensures { IfOk result (λ r. r ≡ record { status = status_of status; out = []; err = warnings.now ++ complaint fault.now }) }
+        ensures { IfOk result (λ r. r ≡ record
+            { status = status_of status; out = []; err = warnings.now ++ complaint fault.now }) }
     {
         Ok(Response {
             ends: status,

@@ -1,8 +1,8 @@
 //! The program, as a function of its words, its inputs and two outputs.
-ghost use Rattle.std.specs.Prelude.{◌≡◌, ◌⊎◌, [], true, IfOk, map};
+ghost use Rattle.std.specs.Prelude.{◌≡◌, [], true, IfOk, map};
 ghost use Rattle.cs_io.specs.Files.{IsFresh};
 ghost use Rattle.cs_cli.specs.Call.{Answers};
-ghost use Rattle.cs_cli.specs.Run.{Ends, Runs, Writes};
+ghost use Rattle.cs_cli.specs.Run.{Ends, Runs, Tries, sink};
 ghost use Rattle.cs_call.specs.Version.{version_text};
 ghost use Rattle.cs_cli.specs.Response.{done, status_of};
 
@@ -29,7 +29,8 @@ pub fn respond<R: Threads + Sync, S: AsStr, I: Inputs>(
 ) -> Result<Response, AllocError>
     // Where each path of known bytes stands at its front.
     ensures value { IsFresh (I.whole inputs.old) (I.left inputs.old)
-        → IfOk result (Answers (map S.text words.now) (I.whole inputs.old) (I.failed inputs.old) (I.failed inputs.new)) }
+        → IfOk result (Answers (map S.text words.now) (I.whole inputs.old)
+        (I.failed inputs.old) (I.failed inputs.new)) }
     ensures status { IfOk result (λ r. r.status ≡ 6 → I.failed inputs.new ≡ true) }
 {
     match parse_words(alloc, words) {
@@ -55,7 +56,8 @@ fn show_version(alloc: Global) -> Result<Response, AllocError>
 
 /// Writes a text to standard error. What it does not take is lost.
 fn tell<E: Output>(err: &mut E, text: &[u8])
-    ensures { (E.failed err.new ≡ true) ⊎ Writes text.now (record { contents = E.contents err.old; failed = E.failed err.old }) (record { contents = E.contents err.new; failed = E.failed err.new }) }
+    ensures { Tries text.now (sink (E.contents err.old) (E.failed err.old))
+        (sink (E.contents err.new) (E.failed err.new)) }
 {
     match err.print(text) {
         Ok(()) => {}
@@ -66,8 +68,10 @@ fn tell<E: Output>(err: &mut E, text: &[u8])
 /// Writes an answer, and gives the status: that of a failed device where standard output does not
 /// take its text. What standard error does not take is lost.
 fn finish<O: Output, E: Output>(response: &Response, out: &mut O, err: &mut E) -> Status
-    ensures { Ends response.now (record { contents = O.contents out.old; failed = O.failed out.old }) (record { contents = O.contents out.new; failed = O.failed out.new })
-        (record { contents = E.contents err.old; failed = E.failed err.old }) (record { contents = E.contents err.new; failed = E.failed err.new }) (status_of result) }
+    ensures { Ends response.now
+        (sink (O.contents out.old) (O.failed out.old)) (sink (O.contents out.new) (O.failed out.new))
+        (sink (E.contents err.old) (E.failed err.old)) (sink (E.contents err.new) (E.failed err.new))
+        (status_of result) }
 {
     if out.print(response.out()).is_err() {
         return Status::DeviceFailed;
@@ -88,9 +92,11 @@ pub fn run_words<R: Threads + Sync, S: AsStr, I: Inputs, O: Output, E: Output>(
     err: &mut E,
 ) -> u8
     // Where each path of known bytes stands at its front.
-    ensures { IsFresh (I.whole inputs.old) (I.left inputs.old) → Runs (map S.text words.now) (I.whole inputs.old) (I.failed inputs.old) (I.failed inputs.new)
-        (record { contents = O.contents out.old; failed = O.failed out.old }) (record { contents = O.contents out.new; failed = O.failed out.new })
-        (record { contents = E.contents err.old; failed = E.failed err.old }) (record { contents = E.contents err.new; failed = E.failed err.new }) result }
+    ensures { IsFresh (I.whole inputs.old) (I.left inputs.old)
+        → Runs (map S.text words.now) (I.whole inputs.old) (I.failed inputs.old) (I.failed inputs.new)
+        (sink (O.contents out.old) (O.failed out.old)) (sink (O.contents out.new) (O.failed out.new))
+        (sink (E.contents err.old) (E.failed err.old)) (sink (E.contents err.new) (E.failed err.new))
+        result }
 {
     match respond(rt, alloc, words, inputs) {
         Ok(response) => finish(&response, out, err).code(),

@@ -2,13 +2,10 @@ use crate::gains::{MINUTES_OF_DAY, waits_for};
 use crate::latest::latest_starts;
 use crate::queue::{Queue, QueuedRun};
 use cs_cert::MAX_GROUPS;
-use cs_profile::{Calendar, Facts};
+use cs_profile::{Calendar, DAYS_BEFORE, Facts};
 use cs_windows::{Window, touches};
 use indexmap::{IndexMap, IndexSet};
 use std::alloc::{AllocError, Global};
-
-/// What is due on the first days of a calendar may have waited for longer than the calendar tells.
-const FIRST_PLACE: usize = 10;
 
 /// How long runs that wait for a lock may really go on, day by day of a calendar.
 ///
@@ -167,7 +164,7 @@ impl<'a> ExactWaits<'a> {
         let profiles = self.calendar.profiles();
         let mut seen = IndexSet::new(alloc);
         let mut sorted: Vec<Firsts> = Vec::new(alloc);
-        for first in FIRST_PLACE..profiles.len().saturating_add(1).saturating_sub(length) {
+        for first in DAYS_BEFORE..profiles.len().saturating_add(1).saturating_sub(length) {
             let (number, is_new) = seen.insert_full(profiles_from(profiles, first, length))?;
             if is_new {
                 sorted.push(Firsts {
@@ -186,11 +183,7 @@ impl<'a> ExactWaits<'a> {
     /// the one is left out. The only error is want of memory.
     pub fn last_days(&self, alloc: Global, length: u8) -> Result<Vec<u64>, AllocError> {
         let firsts = self.firsts(alloc, usize::from(length))?;
-        let after = self
-            .calendar
-            .first_day()
-            .saturating_add(u64::from(length))
-            .saturating_sub(1);
+        let after = self.calendar.day_at(usize::from(length)).saturating_sub(1);
         days_after(alloc, firsts.as_slice(), after)
     }
 

@@ -1,15 +1,9 @@
 //! What the windows of a stretch break, and the civil minute at which that is met.
-use cs_profile::Calendar;
+use cs_profile::{Calendar, DAYS_BEFORE};
 use cs_story::{Breach, Rule, Span};
 use cs_stretch::{Quiet, Roles};
 use cs_windows::{MINUTES_OF_DAY, Window, touches};
 use std::alloc::{AllocError, Global};
-
-/// 2024-01-01, counted from 1970-01-01: breaches are dated from then on.
-const FIRST_DAY: u64 = 19_723;
-
-/// Behind the last day on which they may begin: 28 years later each stretch of days has been.
-const LAST_DAY: u64 = FIRST_DAY + 10_231;
 
 /// A rule that the windows of a stretch break, and the first minute of its last day at which they do.
 #[derive(Clone, Copy, Debug, PartialEq, Eq)]
@@ -56,18 +50,17 @@ fn begins_with(days: &[u16], place: usize, profiles: &[u16]) -> bool {
     }
 }
 
-/// The first civil day from 2024-01-01 on that is the last of days with these profiles, counted from 1970-01-01. There always
-/// is one; else it would be 2024-01-01.
+/// The first civil day from 2024-01-01 on that is the last of days with these profiles, counted from 1970-01-01. In 28 years there
+/// always is one; else it would be the calendar's first day.
 pub(crate) fn last_day(calendar: &Calendar, profiles: &[u16]) -> u64 {
-    let days_before = (profiles.len() as u64).saturating_sub(1);
-    let first = FIRST_DAY.saturating_sub(days_before);
-    for day in first..LAST_DAY {
-        let place = day.saturating_sub(calendar.first_day()) as usize;
-        if begins_with(calendar.profiles(), place, profiles) {
-            return day.saturating_add(days_before);
-        }
+    let days = calendar.profiles();
+    let days_before = profiles.len().saturating_sub(1);
+    let first = DAYS_BEFORE.saturating_sub(days_before);
+    let place = (first..days.len()).find(|place| begins_with(days, *place, profiles));
+    match place {
+        Some(place) => calendar.day_at(place.saturating_add(days_before)),
+        None => calendar.first_day(),
     }
-    FIRST_DAY
 }
 
 /// The civil minute with this number on a day.

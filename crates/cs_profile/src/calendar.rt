@@ -3,10 +3,13 @@ use cs_civil::{Day, kind_number, kind_of};
 use std::alloc::{AllocError, Global};
 
 /// 2024-01-01, counted from 1970-01-01.
-const FIRST_DAY: u64 = 19_723;
+const NEW_YEAR: u64 = 19_723;
 
-/// The days before that, so that what goes on for some days is seen from its start.
-const DAYS_BEFORE: u64 = 10;
+/// How many days of a calendar are before 2024-01-01, so that what goes on for some days is seen from its start.
+pub const DAYS_BEFORE: usize = 10;
+
+/// The first day of a calendar, counted from 1970-01-01.
+const FIRST_DAY: u64 = NEW_YEAR - DAYS_BEFORE as u64;
 
 /// In 28 years each day has each weekday, and successive days are all that they can be.
 const DAYS_OF_28_YEARS: u64 = 10_231;
@@ -32,7 +35,7 @@ impl Calendar {
     /// The calendar of a plan. The only error is want of memory.
     pub fn of(alloc: Global, facts: &Facts) -> Result<Calendar, AllocError> {
         let mut profiles = Vec::new(alloc);
-        for number in (FIRST_DAY - DAYS_BEFORE)..(FIRST_DAY + DAYS_OF_28_YEARS) {
+        for number in FIRST_DAY..(NEW_YEAR + DAYS_OF_28_YEARS) {
             profiles.push(profile_on(facts, number))?;
         }
         Ok(Calendar { profiles })
@@ -40,7 +43,7 @@ impl Calendar {
 
     /// The first of the civil days, counted from 1970-01-01.
     pub fn first_day(&self) -> u64 {
-        FIRST_DAY - DAYS_BEFORE
+        FIRST_DAY
     }
 
     /// The profiles of the civil days, from the first on.
@@ -48,9 +51,14 @@ impl Calendar {
         self.profiles.as_slice()
     }
 
+    /// The civil day at a place of these, counted from 1970-01-01.
+    pub fn day_at(&self, place: usize) -> u64 {
+        FIRST_DAY.saturating_add(place as u64)
+    }
+
     /// The profile of a civil day, counted from 1970-01-01, if it is one of these.
     pub fn profile_on(&self, day: u64) -> Option<u16> {
-        let place = day.checked_sub(self.first_day())?;
+        let place = day.checked_sub(FIRST_DAY)?;
         self.profiles.get(place as usize).copied()
     }
 }

@@ -8,7 +8,7 @@ mod facts;
 mod kinds;
 mod task;
 
-pub use calendar::Calendar;
+pub use calendar::{Calendar, DAYS_BEFORE};
 pub use classing::{Classing, DayClass, GroupBound};
 pub use facts::Facts;
 pub use task::Task;

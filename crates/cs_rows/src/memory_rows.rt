@@ -87,74 +87,63 @@ fn run_starved<R: Abort + AllocGlobal + Threads + Sync>(
     Ok(((5, 0, 0), 60_000))
 }
 
-/// Words, and the answer to them: a status and two texts.
-type Row<'a> = (&'a [&'a str], u8, &'a [u8], &'a [u8]);
+/// A call of `day`, and the answer to it: a status and two texts.
+const DAYS: [(&str, u8, &[u8], &[u8]); 5] = [
+    (
+        "cronsafe day jobs 2024-09-13 60",
+        0,
+        b"2024-09-13 Fri\nline 1: due 1\n  12:00 to 13:00\n",
+        b"",
+    ),
+    (
+        "cronsafe day bad 2024-09-13 60",
+        3,
+        b"",
+        b"cronsafe: crontab line 1: 7 OutOfField\n",
+    ),
+    (
+        "cronsafe day absent 2024-09-13 60",
+        6,
+        b"",
+        b"cronsafe: can't read absent\n",
+    ),
+    (
+        "cronsafe day jobs 2024-09-13 60 --anacrontab anacron --to 5",
+        0,
+        b"2024-09-13 Fri\nline 1: due 1\n  12:00 to 13:00\njob a: catch-up\n  00:00 to 01:04\n",
+        b"warning: CRON_TZ on line 1 of the anacrontab has no effect\n",
+    ),
+    (
+        "cronsafe day jobs 2024-09-13 60 --anacrontab twice",
+        3,
+        b"",
+        b"cronsafe: anacrontab line 2: 9 TwiceNamed\n",
+    ),
+];
 
 #[test]
 fn refused_growths(rt: HostRuntime) -> Result<(), Fail> {
-    let rows: [Row<'_>; 5] = [
-        (
-            &["cronsafe", "day", "jobs", "2024-09-13", "60"],
-            0,
-            b"2024-09-13 Fri\nline 1: due 1\n  12:00 to 13:00\n",
-            b"",
-        ),
-        (
-            &["cronsafe", "day", "bad", "2024-09-13", "60"],
-            3,
-            b"",
-            b"cronsafe: crontab line 1: 7 OutOfField\n",
-        ),
-        (
-            &["cronsafe", "day", "absent", "2024-09-13", "60"],
-            6,
-            b"",
-            b"cronsafe: can't read absent\n",
-        ),
-        (
-            &[
-                "cronsafe",
-                "day",
-                "jobs",
-                "2024-09-13",
-                "60",
-                "--anacrontab",
-                "anacron",
-                "--to",
-                "5",
-            ],
-            0,
-            b"2024-09-13 Fri\nline 1: due 1\n  12:00 to 13:00\njob a: catch-up\n  00:00 to 01:04\n",
-            b"warning: CRON_TZ on line 1 of the anacrontab has no effect\n",
-        ),
-        (
-            &[
-                "cronsafe",
-                "day",
-                "jobs",
-                "2024-09-13",
-                "60",
-                "--anacrontab",
-                "twice",
-            ],
-            3,
-            b"",
-            b"cronsafe: anacrontab line 2: 9 TwiceNamed\n",
-        ),
-    ];
-    for (words, status, shown, told) in rows {
+    for (line, status, shown, told) in DAYS {
+        let words = line.split(' ').collect::<Vec<&str>>(rt.alloc())?;
         let mut out = [0u8; 200];
         let mut err = [0u8; 200];
         let (answer, refusals) = run_starved(
             &rt,
-            words,
+            words.as_slice(),
             16,
             out.as_mut_slice(),
             err.as_mut_slice(),
         )?;
-        assert_eq!(rt; answer, (status, shown.len() as u64, told.len() as u64));
-        assert!(rt; out.starts_with(shown) && err.starts_with(told));
-        assert!(rt; refusals > 100, "{refusals} refusals at {status}");
+        assert_eq!(rt;
+            answer,
+            (status, shown.len() as u64, told.len() as u64),
+            "at {line}"
+        );
+        assert!(rt;
+            out.starts_with(shown) && err.starts_with(told),
+            "at {line}"
+        );
+        assert!(rt; refusals > 100, "{refusals} refusals at {line}");
     }
     Ok(())
 }

@@ -4,6 +4,8 @@ use Rattle.cs_crontab.specs.Crontab.{Table}
 use Rattle.cs_anacrontab.specs.Anacrontab.{Table as JobTable}
 use Rattle.cs_decl.specs.Plan.{Declared}
 use Rattle.cs_judge.specs.Answer.{IsAnswer}
+use Rattle.cs_judge.specs.Judged.{IsJudgement}
+use Rattle.cs_judge.specs.declared.judged.Judged.{Judged}
 use Rattle.cs_judge.specs.declared.answers.Outcome.{Outcome}
 use Rattle.cs_judge.specs.declared.answers.Outcome.TheVariants.{NoMemory, Safe, Unknown, Unsafe}
 use Rattle.cs_judge.specs.declared.answers.Wanted.{Wanted}
@@ -19,10 +21,14 @@ outcome_status Unsafe = 1
 outcome_status Unknown = 2
 outcome_status NoMemory = 5
 
--- what is printed of a plan, and the status
-abbrev pub IsJudged : Wanted → Declared → Ending → Type 0
-IsJudged wanted plan ending = (found : Outcome) × IsAnswer wanted plan found ending.out
-    × (ending.status ≡ outcome_status found) × (ending.err ≡ [])
+-- what is known of a plan is printed, and the status is by how it was found
+pub record IsJudged (wanted : Wanted) (plan : Declared) (ending : Ending) : Type 0 where
+  pub judged : Judged
+  pub known : IsJudgement plan judged
+  pub found : Outcome
+  pub printed : IsAnswer wanted plan judged found ending.out
+  pub status : ending.status ≡ outcome_status found
+  pub err : ending.err ≡ []
 
 -- the declarations are read, and the plan is judged
 abbrev pub JudgesPlan : Wanted → (List ℕ → Option (List ℕ)) → AskedJudge → Table × JobTable → Bool

@@ -2,15 +2,15 @@
 use Rattle.std.specs.Prelude.{◌≡◌, ◌⊎◌, ◌<◌, ℕ, List, ◌∷◌, ◌++◌, [], Ok, None, Some, codes, length}
 use Rattle.serde_json.specs.Written.{compact_text}
 use Rattle.cs_history.specs.declared.script.Script.{Script}
-use Rattle.cs_decl.specs.Plan.{Declared, as_plan}
+use Rattle.cs_decl.specs.Plan.{Declared}
 use Rattle.cs_accepted.specs.Faults.{Fault}
 use Rattle.cs_cert.specs.Content.{Content}
 use Rattle.cs_cert.specs.Denoted.{certificate_by}
 use Rattle.cs_cert.specs.Written.{certificate_data}
 use Rattle.cs_cert.specs.declared.limits.TheConstants.{MAX_CERTIFICATE}
-use Rattle.cs_check.specs.Case.{fault_of}
-use Rattle.cs_check.specs.Checked.{IsHeadline}
+use Rattle.cs_check.specs.Checked.{certificate_in}
 use Rattle.cs_refused.specs.Refused.{fault_text}
+use Rattle.cs_refused.specs.Told.{told}
 use Rattle.cs_maker.specs.Reason.{reason_name}
 use Rattle.cs_maker.specs.declared.made.Reason.{Reason}
 use Rattle.cs_maker.specs.declared.made.Reason.TheVariants.{TooManyClasses, LeafTooLong, TooDeep, NoReach, NoScript, NotChecked, NoMemory}
@@ -18,6 +18,8 @@ use Rattle.cs_script.specs.ScriptText.{script_text}
 use Rattle.cs_shown.specs.ShownText.{shown_text}
 use Rattle.cs_shown.specs.declared.shown.Shown.{Shown}
 use Rattle.cs_judge.specs.Judged.{Shows}
+use Rattle.cs_judge.specs.declared.judged.Judged.{Judged}
+use Rattle.cs_judge.specs.declared.judged.Judged.TheVariants.{Safe, Unsafe, Unknown}
 use Rattle.cs_judge.specs.declared.answers.Outcome.{Outcome}
 use Rattle.cs_judge.specs.declared.answers.Outcome.TheVariants as outcome
 use Rattle.cs_judge.specs.declared.answers.Wanted.{Wanted}
@@ -45,21 +47,19 @@ unknown_outcome NoScript = outcome.Unknown
 unknown_outcome NotChecked = outcome.Unknown
 unknown_outcome NoMemory = outcome.NoMemory
 
--- a script shows that the plan is unsafe, and this is printed of it
-abbrev pub IsUnsafe : Declared → Outcome → List ℕ → Type 0
-IsUnsafe plan found text = (script : Script) × (shown : Shown) × Shows plan script shown
-    × (found ≡ outcome.Unsafe) × (text ≡ unsafe_text plan script shown)
+-- how a plan was found
+abbrev pub outcome_of : Judged → Outcome
+outcome_of (Safe checked) = outcome.Safe
+outcome_of (Unsafe script shown) = outcome.Unsafe
+outcome_of (Unknown reason refusal) = unknown_outcome reason
 
--- nothing is known, and this is printed of the reason
-abbrev pub IsUnknown : Outcome → List ℕ → Type 0
-IsUnknown found text =
-    (reason : Reason) × (found ≡ unknown_outcome reason) × (text ≡ unknown_text reason)
-
--- nothing is known, and behind the reason it is printed why a certificate is refused
-abbrev pub IsRefused : Declared → Outcome → List ℕ → Type 0
-IsRefused plan found text = (reason : Reason) × (c : Content) × (fault : Fault)
-    × (fault_of plan c ≡ Some fault) × (found ≡ unknown_outcome reason)
-    × (text ≡ unknown_text reason ++ refusal_text plan fault)
+-- what `judge` prints
+abbrev pub verdict_text : Declared → Judged → List ℕ
+verdict_text plan (Safe checked) = codes "safe\n"
+verdict_text plan (Unsafe script shown) = unsafe_text plan script shown
+verdict_text plan (Unknown reason None) = unknown_text reason
+verdict_text plan (Unknown reason (Some fault)) =
+    unknown_text reason ++ refusal_text plan (told fault)
 
 -- the text of a certificate, a line of a file that may be read again
 abbrev pub IsCertificate : Content → List ℕ → Type 0
@@ -67,22 +67,29 @@ IsCertificate c text = (written : List ℕ) × (written ≡ compact_text (certif
     × (certificate_by written ≡ Ok c) × (length written < MAX_CERTIFICATE)
     × (text ≡ written ++ 10 ∷ [])
 
--- what `judge` prints: `safe` only where every legal history in time is safe, `unsafe` only with a
--- script that shows it
-abbrev pub IsVerdict : Declared → Outcome → List ℕ → Type 0
-IsVerdict plan found text =
-    (IsHeadline (as_plan plan) × (found ≡ outcome.Safe) × (text ≡ codes "safe\n"))
-    ⊎ (IsUnsafe plan found text ⊎ (IsUnknown found text ⊎ IsRefused plan found text))
+-- what `make` prints of a plan that was accepted with this certificate: the certificate, or that no
+-- file can hold it
+abbrev pub IsSafeMade : Content → Outcome → List ℕ → Type 0
+IsSafeMade c found text = ((found ≡ outcome.Safe) × IsCertificate c text)
+    ⊎ ((found ≡ outcome.Unknown) × (text ≡ unknown_text LeafTooLong))
 
--- what `make` prints: a certificate only that is accepted, and then every legal history in time is
--- safe; `unsafe` only with a script that shows it
-abbrev pub IsMade : Declared → Outcome → List ℕ → Type 0
-IsMade plan found text =
-    (IsHeadline (as_plan plan) × (found ≡ outcome.Safe)
-    × ((c : Content) × (fault_of plan c ≡ None) × IsCertificate c text))
-    ⊎ (IsUnsafe plan found text ⊎ IsUnknown found text)
+-- what `make` prints
+abbrev pub IsMade : Declared → Judged → Outcome → List ℕ → Type 0
+IsMade plan (Safe checked) found text = IsSafeMade (certificate_in checked) found text
+IsMade plan (Unsafe script shown) found text =
+    (found ≡ outcome.Unsafe) × (text ≡ unsafe_text plan script shown)
+IsMade plan (Unknown reason refusal) found text =
+    (found ≡ unknown_outcome reason) × (text ≡ unknown_text reason)
 
--- what is printed of a plan, by what is wanted of it
-abbrev pub IsAnswer : Wanted → Declared → Outcome → List ℕ → Type 0
-IsAnswer Verdict plan found text = IsVerdict plan found text
-IsAnswer Certificate plan found text = IsMade plan found text
+-- what is printed of a plan that was judged, by what is wanted of it
+abbrev pub IsAnswer : Wanted → Declared → Judged → Outcome → List ℕ → Type 0
+IsAnswer Verdict plan judged found text =
+    (found ≡ outcome_of judged) × (text ≡ verdict_text plan judged)
+IsAnswer Certificate plan judged found text = IsMade plan judged found text
+
+-- the text tells what a script breaks first, and is followed by the script: it shows that the plan is unsafe
+pub record IsStory (plan : Declared) (text : List ℕ) : Type 0 where
+  pub script : Script
+  pub shown : Shown
+  pub shows : Shows plan script shown
+  pub told : text ≡ unsafe_text plan script shown

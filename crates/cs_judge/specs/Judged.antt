@@ -1,10 +1,10 @@
 -- What is known of a plan.
-use Rattle.std.specs.Prelude.{◌≡◌, Bool, true, Option, Some, None, ⊤, ℕ}
+use Rattle.std.specs.Prelude.{◌≡◌, true, Some, None, ⊤}
 use Rattle.cs_history.specs.declared.script.Script.{Script}
 use Rattle.cs_decl.specs.Plan.{Declared, as_plan}
 use Rattle.cs_cert.specs.Content.{Content}
 use Rattle.cs_check.specs.Case.{fault_of}
-use Rattle.cs_check.specs.Checked.{certificate_in, plan_in}
+use Rattle.cs_check.specs.Checked.{IsHeadline, certificate_in, plan_in}
 use Rattle.cs_check.specs.declared.checked.Checked.{Checked}
 use Rattle.cs_refused.specs.Told.{told}
 use Rattle.cs_refused.specs.declared.fault.CheckFault.{CheckFault}
@@ -34,8 +34,9 @@ IfRefused (Unknown reason None) P = ⊤
 IfRefused (Unknown reason (Some fault)) P = P fault
 
 -- the checker has accepted this plan
-abbrev pub IsCheckedFor : Declared → Checked → Type 0
-IsCheckedFor plan checked = (plan_in checked ≡ plan) × (fault_of plan (certificate_in checked) ≡ None)
+pub record IsCheckedFor (plan : Declared) (checked : Checked) : Type 0 where
+  pub same : plan_in checked ≡ plan
+  pub accepted : fault_of plan (certificate_in checked) ≡ None
 
 -- the script can be written, and shows that the plan is unsafe: each of its events may come when it
 -- comes, each run ends within its declared time, and this is broken first, of which can be told
@@ -47,3 +48,11 @@ pub record Shows (plan : Declared) (script : Script) (shown : Shown) : Type 0 wh
 -- the checker refuses some certificate of the plan so
 abbrev pub IsRefusal : Declared → CheckFault → Type 0
 IsRefusal plan fault = (c : Content) × (fault_of plan c ≡ Some (told fault))
+
+-- what is known of a plan is so: where it is called safe, the checker has accepted it and every legal
+-- history in time is safe; where it is called unsafe, the script shows it; and a refusal is the checker's
+pub record IsJudgement (plan : Declared) (judged : Judged) : Type 0 where
+  pub safe : IfSafe judged (IsCheckedFor plan)
+  pub headline : IfSafe judged (λ checked. IsHeadline (as_plan plan))
+  pub shown : IfUnsafe judged (Shows plan)
+  pub refused : IfRefused judged (IsRefusal plan)

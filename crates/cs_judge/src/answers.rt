@@ -1,10 +1,11 @@
 //! What is printed of a plan that was judged.
-ghost use Rattle.std.specs.Prelude.{◌≡◌, ◌<◌, ◌++◌, ◌∷◌, [], IfOk, IfSome, OnOk};
+ghost use Rattle.std.specs.Prelude.{◌≡◌, ◌++◌, IfOk, IfSome};
 ghost use Rattle.cs_cert.specs.Certificate.{content};
-ghost use Rattle.cs_check.specs.Checked.{IsHeadline};
-ghost use Rattle.cs_decl.specs.Plan.{as_plan};
-ghost use Rattle.cs_judge.specs.Answer.{IsAnswer, IsCertificate, IsMade, IsVerdict, refusal_text, unknown_outcome, unknown_text, unsafe_text};
-ghost use Rattle.cs_judge.specs.Judged.{IfRefused, IfSafe, IfUnsafe, IsCheckedFor, IsRefusal, Shows};
+ghost use Rattle.cs_check.specs.Checked.{certificate_in};
+ghost use Rattle.cs_judge.specs.Answer.{IsAnswer, IsCertificate, IsMade, IsSafeMade};
+ghost use Rattle.cs_judge.specs.Answer.{outcome_of, refusal_text, unknown_outcome};
+ghost use Rattle.cs_judge.specs.Answer.{unknown_text, unsafe_text, verdict_text};
+ghost use Rattle.cs_judge.specs.Judged.{IfUnsafe, Shows};
 ghost use Rattle.cs_refused.specs.Told.{told};
 
 use crate::judged::Judged;
@@ -76,40 +77,51 @@ fn unsafe_text(
     Ok(text)
 }
 
-/// Adds the line of a refusal, if there is one.
-#[tactic(auto, unfolding(crate::specs::Answer::refusal_text))]
-fn push_refusal(
-    alloc: Global,
-    text: &mut Vec<u8>,
-    plan: &Plan,
-    refusal: &CheckFault,
-) -> Result<(), AllocError>
-    ensures { OnOk result (text.new.items ≡ text.old.items ++ refusal_text plan.now (told refusal.now)) }
+/// How a plan was found, by what is known of it.
+fn outcome_of(judged: &Judged) -> Outcome
+    ensures { result ≡ outcome_of judged.now }
 {
-    text.extend_from_slice(fault_text(alloc, plan, refusal)?.as_slice())?;
-    text.extend_from_slice(b"\n")
+    match judged {
+        Judged::Safe(_) => Outcome::Safe,
+        Judged::Unsafe(_, _) => Outcome::Unsafe,
+        Judged::Unknown(reason, _) => unknown_outcome(*reason),
+    }
 }
 
-/// What is printed of a plan of which nothing is known.
-fn unknown_verdict(
+/// Why nothing is known of a plan, a line, and the line of the refusal behind it.
+#[tactic(auto, unfolding(crate::specs::Answer::refusal_text))]
+fn refused_text(
     alloc: Global,
     plan: &Plan,
     reason: Reason,
-    refusal: &Option<CheckFault>,
-) -> Result<(Outcome, Vec<u8>), AllocError>
-    requires { IfSome refusal.now (IsRefusal plan.now) }
-    ensures { IfOk result (λ answer. IsVerdict plan.now answer.0 answer.1.items) }
+    refusal: &CheckFault,
+) -> Result<Vec<u8>, AllocError>
+    ensures { IfOk result (λ text.
+        text.items ≡ unknown_text reason ++ refusal_text plan.now (told refusal.now)) }
 {
     let mut text = unknown_text(alloc, reason)?;
-    if let Some(fault) = refusal {
-        push_refusal(alloc, &mut text, plan, fault)?;
+    text.extend_from_slice(fault_text(alloc, plan, refusal)?.as_slice())?;
+    text.extend_from_slice(b"\n")?;
+    Ok(text)
+}
+
+/// What is printed of a plan where it is asked whether it is safe.
+fn verdict_text(alloc: Global, plan: &Plan, judged: &Judged) -> Result<Vec<u8>, AllocError>
+    requires { IfUnsafe judged.now (Shows plan.now) }
+    ensures { IfOk result (λ text. text.items ≡ verdict_text plan.now judged.now) }
+{
+    match judged {
+        Judged::Safe(_) => Vec::from_slice(alloc, b"safe\n".as_slice()),
+        Judged::Unsafe(script, shown) => unsafe_text(alloc, plan, script, shown),
+        Judged::Unknown(reason, None) => unknown_text(alloc, *reason),
+        Judged::Unknown(reason, Some(refusal)) => refused_text(alloc, plan, *reason, refusal),
     }
-    Ok((unknown_outcome(reason), text))
 }
 
 /// The text of a certificate, a line, where a file may hold it.
 fn certificate_line(alloc: Global, certificate: &Certificate) -> Result<Option<Vec<u8>>, AllocError>
-    ensures { IfOk result (λ line. IfSome line (λ text. IsCertificate (content certificate.now) text.items)) }
+    ensures { IfOk result (λ line.
+        IfSome line (λ text. IsCertificate (content certificate.now) text.items)) }
 {
     if least_text(certificate) >= MAX_CERTIFICATE as u64 {
         return Ok(None);
@@ -123,14 +135,9 @@ fn certificate_line(alloc: Global, certificate: &Certificate) -> Result<Option<V
 }
 
 /// What `make` prints of a plan that is safe.
-fn safe_made(
-    alloc: Global,
-    plan: &Plan,
-    checked: &Checked,
-) -> Result<(Outcome, Vec<u8>), AllocError>
-    requires checked { IsCheckedFor plan.now checked.now }
-    requires headline { IsHeadline (as_plan plan.now) }
-    ensures { IfOk result (λ answer. IsMade plan.now answer.0 answer.1.items) }
+fn safe_made(alloc: Global, checked: &Checked) -> Result<(Outcome, Vec<u8>), AllocError>
+    ensures { IfOk result (λ told.
+        IsSafeMade (certificate_in checked.now) told.0 told.1.items) }
 {
     match certificate_line(alloc, checked.certificate())? {
         Some(text) => Ok((Outcome::Safe, text)),
@@ -138,31 +145,13 @@ fn safe_made(
     }
 }
 
-/// What is printed of a plan where it is asked whether it is safe.
-fn verdict(alloc: Global, plan: &Plan, judged: &Judged) -> Result<(Outcome, Vec<u8>), AllocError>
-    requires headline { IfSafe judged.now (λ checked. IsHeadline (as_plan plan.now)) }
-    requires shown { IfUnsafe judged.now (Shows plan.now) }
-    requires refused { IfRefused judged.now (IsRefusal plan.now) }
-    ensures { IfOk result (λ answer. IsVerdict plan.now answer.0 answer.1.items) }
-{
-    match judged {
-        Judged::Safe(_) => Ok((Outcome::Safe, Vec::from_slice(alloc, b"safe\n".as_slice())?)),
-        Judged::Unsafe(script, shown) => {
-            Ok((Outcome::Unsafe, unsafe_text(alloc, plan, script, shown)?))
-        }
-        Judged::Unknown(reason, refusal) => unknown_verdict(alloc, plan, *reason, refusal),
-    }
-}
-
 /// What is printed of a plan where its certificate is asked for.
 fn made(alloc: Global, plan: &Plan, judged: &Judged) -> Result<(Outcome, Vec<u8>), AllocError>
-    requires safe { IfSafe judged.now (IsCheckedFor plan.now) }
-    requires headline { IfSafe judged.now (λ checked. IsHeadline (as_plan plan.now)) }
-    requires shown { IfUnsafe judged.now (Shows plan.now) }
-    ensures { IfOk result (λ answer. IsMade plan.now answer.0 answer.1.items) }
+    requires { IfUnsafe judged.now (Shows plan.now) }
+    ensures { IfOk result (λ told. IsMade plan.now judged.now told.0 told.1.items) }
 {
     match judged {
-        Judged::Safe(checked) => safe_made(alloc, plan, checked),
+        Judged::Safe(checked) => safe_made(alloc, checked),
         Judged::Unsafe(script, shown) => {
             Ok((Outcome::Unsafe, unsafe_text(alloc, plan, script, shown)?))
         }
@@ -172,24 +161,23 @@ fn made(alloc: Global, plan: &Plan, judged: &Judged) -> Result<(Outcome, Vec<u8>
     }
 }
 
-/// What is printed of a plan that was judged, and how it was found. `safe`, or its certificate where that is wanted, a line: only
-/// where every legal history in time is safe. What a history breaks first and the script of it, lines: only where the script
-/// shows it. Else `unknown: REASON` and, where a verdict is wanted and the checker refused a certificate, the line of that refusal.
-/// A certificate whose text a file can't hold (16 MiB) is `LeafTooLong`. The only error is want of memory.
+/// What is printed of a plan that was judged, and how it was found.
+///
+/// A verdict is `safe`, a line; or what a history breaks first and the script of it, lines; or `unknown: REASON` and, where the
+/// checker refused a certificate, the line of that refusal. Where a certificate is wanted, it is printed in place of `safe`, a
+/// line, and no refusal behind what is unknown; one that a file can't hold (16 MiB) is `unknown: LeafTooLong`. The only error is
+/// want of memory.
 pub fn answer(
     alloc: Global,
     plan: &Plan,
     wanted: Wanted,
     judged: &Judged,
 ) -> Result<(Outcome, Vec<u8>), AllocError>
-    requires safe { IfSafe judged.now (IsCheckedFor plan.now) }
-    requires headline { IfSafe judged.now (λ checked. IsHeadline (as_plan plan.now)) }
-    requires shown { IfUnsafe judged.now (Shows plan.now) }
-    requires refused { IfRefused judged.now (IsRefusal plan.now) }
-    ensures { IfOk result (λ answer. IsAnswer wanted plan.now answer.0 answer.1.items) }
+    requires { IfUnsafe judged.now (Shows plan.now) }
+    ensures { IfOk result (λ told. IsAnswer wanted plan.now judged.now told.0 told.1.items) }
 {
     match wanted {
-        Wanted::Verdict => verdict(alloc, plan, judged),
+        Wanted::Verdict => Ok((outcome_of(judged), verdict_text(alloc, plan, judged)?)),
         Wanted::Certificate => made(alloc, plan, judged),
     }
 }

@@ -5,7 +5,9 @@
 mod answers;
 mod judged;
 mod judging;
+mod laws;
 
 pub use answers::{Outcome, Wanted, answer};
 pub use judged::Judged;
 pub use judging::judge;
+pub use laws::outcomes_hold;

@@ -1,0 +1,24 @@
+ghost use Rattle.std.specs.Prelude.{◌≡◌, ℕ, List};
+ghost use Rattle.cs_check.specs.Checked.{IsHeadline};
+ghost use Rattle.cs_decl.specs.Plan.{Declared, as_plan};
+ghost use Rattle.cs_judge.specs.Answer.{IsAnswer, IsStory};
+ghost use Rattle.cs_judge.specs.Judged.{IsJudgement};
+ghost use Rattle.cs_judge.specs.declared.answers.Outcome.{Outcome};
+ghost use Rattle.cs_judge.specs.declared.answers.Outcome.TheVariants.{Safe, Unsafe};
+ghost use Rattle.cs_judge.specs.declared.answers.Wanted.{Wanted};
+ghost use Rattle.cs_judge.specs.declared.judged.Judged.{Judged};
+
+/// What an answer stands for where what is known of the plan is so. The call does nothing.
+#[tactic(auto, using(crate::proofs::Outcomes::safe_stands, crate::proofs::Outcomes::unsafe_stands))]
+pub fn outcomes_hold()
+
+    // a plan that was found safe: every legal history in time is safe
+    ensures safe { (wanted : Wanted) (plan : Declared) (judged : Judged) (found : Outcome)
+        (text : List ℕ) → IsJudgement plan judged → IsAnswer wanted plan judged found text
+        → found ≡ Safe → IsHeadline (as_plan plan) }
+
+    // one that was found unsafe: the text is a story that shows it
+    ensures story { (wanted : Wanted) (plan : Declared) (judged : Judged) (found : Outcome)
+        (text : List ℕ) → IsJudgement plan judged → IsAnswer wanted plan judged found text
+        → found ≡ Unsafe → IsStory plan text }
+{}

@@ -1,6 +1,7 @@
 -- What a call of a core does.
 use Rattle.std.specs.Prelude.{◌≡◌, Bool, true, false, Result, Ok, Err}
 use Rattle.cs_history.specs.Plan.{Plan}
+use Rattle.cs_history.specs.History.{Answer, Starts, Waits, Skips}
 use Rattle.cs_history.specs.Step.{State, after, reply}
 use Rattle.cs_history.specs.declared.event.Event.{Event}
 use Rattle.cs_history.specs.declared.event.Event.TheVariants.{Minute, Begin, Got, Catch, End, Down, Up}
@@ -22,3 +23,9 @@ needs_memory (Up t) = false
 abbrev pub Takes : Plan → State → Event → Result Reply Refusal → State → Type 0
 Takes p s e (Ok r) n = (r ≡ reply p s e) × (n ≡ after p s e)
 Takes p s e (Err f) n = (f ≡ OutOfMemory) × (n ≡ s)
+
+-- whether the Begin of a job comes to a start
+abbrev pub is_start : Answer → Bool
+is_start Starts = true
+is_start Waits = false
+is_start Skips = false

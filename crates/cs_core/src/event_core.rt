@@ -1,20 +1,20 @@
 ghost use Rattle.std.specs.Prelude.{◌≡◌, ◌≤◌, IfOk, IfErr, MatchResult, None, Some, true, ◌-◌, [], ◌++◌, length, replicate, take};
 ghost use Rattle.std.specs.Option.{option_map};
 ghost use Rattle.cs_core.specs.Standing.{Standing};
-ghost use Rattle.cs_core.specs.Steps.{Takes, needs_memory};
+ghost use Rattle.cs_core.specs.Steps.{Takes, is_start, needs_memory};
 ghost use Rattle.cs_decl.specs.Plan.{as_plan};
-ghost use Rattle.cs_history.specs.History.{From, History};
+ghost use Rattle.cs_history.specs.History.{From, History, answer};
 ghost use Rattle.cs_history.specs.Names.{jobs_left};
 ghost use Rattle.cs_history.specs.Plan.{first_start};
-ghost use Rattle.cs_history.specs.Step.{Follows, Steps, refusal, state_of};
+ghost use Rattle.cs_history.specs.Step.{Follows, Steps, after, refusal, state_of};
 ghost use Rattle.cs_history.specs.declared.refusal.Refusal.TheVariants.{OutOfMemory};
 
-use crate::lists::stamp_at;
+use crate::lists::{count_others, stamp_at};
 use crate::rules::Rules;
 use arrayvec::ArrayVec;
 use cs_civil::{Day, Minute};
 use cs_decl::Plan;
-use cs_history::{Event, Going, Refusal, Reply, Run, Start};
+use cs_history::{Event, Going, Mode, Refusal, Reply, Run, Start};
 use std::alloc::{AllocError, Global};
 use std::marker::Model;
 
@@ -120,6 +120,43 @@ impl Core {
         ensures { result.now ≡ self.now.state.running }
     {
         self.running.as_slice()
+    }
+
+    /// How many runs run after the event, where it is accepted.
+    pub fn runs_after(&self, event: &Event) -> usize
+        ensures { result ≡ length (after (as_plan self.now.plan) self.now.state event.now).running }
+    {
+        let running = self.running.as_slice();
+        match *event {
+            Event::Minute(_) => running.len(),
+            Event::Begin(job) => {
+                if self.starts(job) {
+                    running.len() + 1
+                } else {
+                    running.len()
+                }
+            }
+            Event::Got(_, _) => running.len() + 1,
+            Event::Catch(_) => running.len() + 1,
+            Event::End(run) => count_others(running, run),
+            Event::Down => running.len(),
+            Event::Up(_) => running.len(),
+        }
+    }
+
+    /// Whether the Begin of the job starts its run.
+    fn starts(&self, job: u16) -> bool
+        ensures { result ≡ is_start (answer (as_plan self.now.plan) self.now.state.running job) }
+    {
+        if self.rules.is_free(self.running.as_slice(), job) {
+            return true;
+        }
+        match self.rules.mode(job) {
+            Mode::Plain => true,
+            Mode::Skip => false,
+            Mode::Wait => false,
+            Mode::Shared => false,
+        }
     }
 
     /// The stamps, by anacron job.

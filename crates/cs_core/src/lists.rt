@@ -1,4 +1,4 @@
-ghost use Rattle.std.specs.Prelude.{◌≡◌, ◌≤◌, ◌==◌, not, filter, get_or, None};
+ghost use Rattle.std.specs.Prelude.{◌≡◌, ◌≤◌, ◌==◌, not, filter, get_or, length, None};
 ghost use Rattle.std.specs.List.{list_any};
 ghost use Rattle.cs_history.specs.History.{same_run};
 
@@ -60,6 +60,16 @@ pub(crate) fn take_running(running: &mut Vec<Going>, run: Run)
     ensures { running.new.items ≡ filter (λ x. not (same_run run x.run)) running.old.items }
 {
     running.retain(|going| !is_same_run(run, going.run));
+}
+
+/// How many of these go on when the run ends.
+pub(crate) fn count_others(running: &[Going], run: Run) -> usize
+    ensures { result ≡ length (filter (λ x. not (same_run run x.run)) running.now) }
+{
+    running
+        .iter()
+        .filter(|going| !is_same_run(run, going.run))
+        .count()
 }
 
 /// The stamp at a place of the list, None behind its end.

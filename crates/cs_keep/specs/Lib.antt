@@ -1,0 +1,5 @@
+pub mod Closed
+pub mod Invariant
+pub mod Keeping
+pub mod Seat
+pub mod Tick

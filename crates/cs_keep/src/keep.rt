@@ -1,0 +1,172 @@
+//! A journal whose total is the sum of the seats' shares.
+ghost use Rattle.std.specs.Prelude.{◌≡◌, ◌↔◌, ◌≤◌, ◌<◌, ◌^◌, IfErr, IfOk, IsTrue, None, OnErr, OnOk, if◌then◌else◌};
+ghost use Rattle.cs_check.specs.Checked.{plan_in};
+ghost use Rattle.cs_history.specs.Plan.{first_start};
+ghost use Rattle.cs_keep.specs.Closed.{checked_in, keeping_in};
+ghost use Rattle.cs_keep.specs.Keeping.{IsFewInTime, IsIdle, IsKept, IsRefused, IsSafeInTime, cut_here, opened, refusal_in, reply_in, with_event};
+ghost use Rattle.cs_keep.specs.Seat.{all_parts, counted};
+
+use crate::journaled_core::JournaledCore;
+use crate::kept::Kept;
+use crate::seat::Seat;
+use cs_check::Checked;
+use cs_core::Core;
+use cs_history::{Event, Refusal, Reply, Start};
+use std::alloc::{AllocError, Global};
+use std::marker::Model;
+use std::sync::ledger::{Blank, Book, Ledger};
+
+/// An event core of a checked plan with the journal of its events, and with the book of their total.
+/// It may be shared by threads under a lock.
+#[derive(Drop)]
+pub struct Keep<L: Ledger> {
+    journaled: JournaledCore,
+    book: Book<L>,
+}
+
+impl<L: Ledger> Model for Keep<L> {
+    ghost use Rattle.std.specs.Prelude.{◌≡◌};
+    ghost use Rattle.cs_keep.specs.Keeping.{Keeping};
+
+    ghost Value = { Keeping };
+
+    ghost view = { λ a. a.journaled };
+
+    ghost invariant = { λ a. a.book.total ≡ a.journaled.total };
+}
+
+impl<L: Ledger> Keep<L> {
+    /// An empty journal of a checked plan from this start, and a seat with every part of the blank, of
+    /// which there are `parts`. The keep holds a copy of the plan. The only error is want of memory.
+    pub fn open(
+        alloc: Global,
+        blank: Blank,
+        parts: u64,
+        checked: &Checked,
+        start: Start,
+    ) -> Result<(Keep<L>, Seat<L>), AllocError>
+        requires name { blank.name ≡ L.name }
+        requires all { blank.parts ≡ L.parts }
+        requires parts { blank.parts ≡ parts }
+        requires some { 0 < parts }
+        requires start { first_start ≤ start.now }
+        ensures keep { IfOk result (λ both. both.0 ≡ opened (plan_in checked.now) start) }
+        ensures seat { IfOk result (λ both. both.1 ≡ all_parts L.parts) }
+    {
+        let journaled = JournaledCore::open(alloc, checked, start)?;
+        let (book, mark) = blank.open::<L>();
+        Ok((
+            Keep { journaled, book },
+            Seat {
+                mark,
+                parts,
+                share: 0,
+                seen: 0,
+            },
+        ))
+    }
+
+    /// Makes the event, writes it into the journal with its reply, and counts it in the total and in
+    /// the seat's share. A refused event changes nothing: the core's refusals come first, then
+    /// `HistoryFull`, then `OutOfMemory`. A place is kept for the end of each run that runs, so an end
+    /// is refused by the core alone.
+    pub fn step(&mut self, seat: &mut Seat<L>, event: Event) -> Result<Reply, Refusal>
+        ensures legal { OnOk result (refusal_in self.old event ≡ None) }
+        ensures reply { IfOk result (λ r. r ≡ reply_in self.old event) }
+        ensures event { OnOk result (self.new ≡ with_event self.old event) }
+        ensures seat { OnOk result (seat.new ≡ counted seat.old self.new.total) }
+        ensures refused { IfErr result (IsRefused self.old event) }
+        ensures same { OnErr result ((self.new ≡ self.old) × (seat.new ≡ seat.old)) }
+        // Where each run has ended within its declared time, the journal is safe, and no more runs run
+        // than the capacity.
+        ensures safe { IsSafeInTime self.new }
+        ensures few { IsFewInTime self.new }
+    {
+        let result = self.add(seat, event);
+        let _core = self.journaled.core();
+        result
+    }
+
+    fn add(&mut self, seat: &mut Seat<L>, event: Event) -> Result<Reply, Refusal>
+        ensures legal { OnOk result (refusal_in self.old event ≡ None) }
+        ensures reply { IfOk result (λ r. r ≡ reply_in self.old event) }
+        ensures event { OnOk result (self.new ≡ with_event self.old event) }
+        ensures seat { OnOk result (seat.new ≡ counted seat.old self.new.total) }
+        ensures refused { IfErr result (IsRefused self.old event) }
+        ensures same { OnErr result ((self.new ≡ self.old) × (seat.new ≡ seat.old)) }
+    {
+        let reply = self.journaled.step(event)?;
+        self.book.add(&mut seat.mark, 1);
+        seat.share = seat.share.saturating_add(1);
+        seat.seen = self.journaled.total();
+        Ok(reply)
+    }
+
+    /// Begins the journal anew at the present state, where nothing is pending, waits or runs and no
+    /// pass is open; else answers false. The total stays.
+    pub fn cut(&mut self) -> bool
+        ensures idle { IsTrue result ↔ IsIdle self.old.core.state }
+        ensures cut { self.new ≡ (if result then cut_here self.old else self.old) }
+    {
+        self.journaled.cut()
+    }
+
+    /// How the seat's share stands to the total: who holds every part holds all of it, so no step of
+    /// any seat is missing or made up. The call does nothing.
+    pub fn audit(&mut self, seat: &mut Seat<L>)
+        ensures keep { self.new ≡ self.old }
+        ensures seat { seat.new ≡ seat.old }
+        ensures bound { seat.old.share ≤ self.old.total }
+        ensures whole { seat.old.parts ≡ L.parts → seat.old.share ≡ self.old.total }
+        ensures fits { self.old.total < 2 ^ 64 }
+    {
+        self.book.audit(&mut seat.mark);
+        let _total = self.journaled.total();
+    }
+
+    /// The events since the base with their replies, the latest last.
+    pub fn journal(&self) -> &[(Event, Reply)]
+        ensures value { result.now ≡ self.now.journal }
+        // It is a legal history of the core's plan, and leaves the core's state.
+        ensures kept { IsKept self.now }
+    {
+        self.journaled.journal()
+    }
+
+    /// The start from which the journal goes on.
+    pub fn base(&self) -> &Start
+        ensures { result.now ≡ self.now.base }
+    {
+        self.journaled.base()
+    }
+
+    /// How many events were accepted since the keep was opened.
+    pub fn total(&self) -> u64
+        ensures { result ≡ self.now.total }
+    {
+        self.journaled.total()
+    }
+
+    /// The event core.
+    pub fn core(&self) -> &Core
+        ensures value { result.now ≡ self.now.core }
+        // It is in the state that the journal leaves.
+        ensures kept { IsKept self.now }
+        // Where each run has ended within its declared time, the journal is safe, and no more runs run
+        // than the capacity.
+        ensures safe { IsSafeInTime self.now }
+        ensures few { IsFewInTime self.now }
+    {
+        self.journaled.core()
+    }
+
+    /// The journal without its book, beside what was checked: the very value that it is handed.
+    pub fn close(self, checked: Checked) -> Kept
+        requires { plan_in checked ≡ self.core.plan }
+        ensures checked { checked_in result ≡ checked }
+        ensures keeping { keeping_in result ≡ self }
+    {
+        let Keep { journaled, book: _ } = self;
+        Kept { checked, journaled }
+    }
+}

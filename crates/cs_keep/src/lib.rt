@@ -1,0 +1,19 @@
+//! The keep: an event core beside the journal of its events, and seats that share the count of them.
+#![tactic(auto)]
+
+mod journaled_core;
+mod keep;
+mod kept;
+mod laws;
+mod limits;
+mod readers;
+mod seat;
+mod starts;
+mod tick;
+
+pub use keep::Keep;
+pub use kept::Kept;
+pub use laws::choices_run_out;
+pub use limits::MAX_ENTRIES;
+pub use seat::Seat;
+pub use tick::TickFault;

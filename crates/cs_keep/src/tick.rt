@@ -1,0 +1,223 @@
+//! The events of a minute.
+ghost use Rattle.std.specs.Prelude.{◌≡◌, ◌≤◌, ◌<◌, ◌+◌, IfOk, OnOk, None, true, false, filter, [], ◌∷◌};
+ghost use Rattle.cs_history.specs.Plan.{IsCivil};
+ghost use Rattle.cs_history.specs.Step.{refusal};
+ghost use Rattle.cs_history.specs.declared.event.Event.TheVariants as event;
+ghost use Rattle.cs_keep.specs.Keeping.{plan_of};
+ghost use Rattle.cs_keep.specs.Tick.{Makes, Ticks, advancing, choosing, coming, first, is_of, moving_on, next_of, settling_catching, skipping, tick_events};
+
+use crate::keep::Keep;
+use crate::seat::Seat;
+use cs_civil::Minute;
+use cs_history::{Event, Refusal};
+use std::alloc::{AllocError, Global};
+use std::sync::ledger::Ledger;
+
+/// Why a tick ended early.
+#[derive(Clone, Copy, Debug, PartialEq, Eq)]
+pub enum TickFault {
+    /// The present minute is another than the last one, or the new one lies before it.
+    ClockBack,
+    /// The journal has no room for the next event.
+    HistoryFull,
+    /// Memory ran out.
+    OutOfMemory,
+}
+
+/// A kind of events that are chosen one after another.
+#[derive(Clone, Copy)]
+pub(crate) enum Kind {
+    /// Begin and Got.
+    Settling,
+    /// Catch.
+    Catching,
+}
+
+impl Kind {
+    fn takes(self, event: &Event) -> bool
+        ensures { result ≡ is_of self event.now }
+    {
+        match (self, *event) {
+            (Kind::Settling, Event::Begin(_)) => true,
+            (Kind::Settling, Event::Got(_, _)) => true,
+            (Kind::Catching, Event::Catch(_)) => true,
+            _ => false,
+        }
+    }
+}
+
+/// The first event of the kind.
+fn first_of(events: &[Event], kind: Kind) -> Option<Event>
+    ensures { result ≡ first (filter (is_of kind) events.now) }
+{
+    for event in events {
+        if kind.takes(event) {
+            return Some(*event);
+        }
+    }
+    None
+}
+
+impl<L: Ledger> Keep<L> {
+    /// Goes on to a minute. A core that is down comes up in it. One that is up settles, moves on where
+    /// the minute is the next one, and settles again; past that it goes down and comes up. In the end
+    /// each catch-up run that may start does. To settle is to make the first Begin or Got of the
+    /// choices until there is none.
+    ///
+    /// `last` is the present minute. `ClockBack` changes nothing; where the journal is full or memory
+    /// runs out the earlier events stay. Memory may run out behind the last event, in the look at what
+    /// could follow.
+    pub fn tick(
+        &mut self,
+        alloc: Global,
+        seat: &mut Seat<L>,
+        last: Minute,
+        minute: Minute,
+    ) -> Result<(), TickFault>
+        ensures ticks { Ticks (self.old, seat.old) last minute result (self.new, seat.new) }
+        ensures now { OnOk result (self.new.core.state.now ≡ minute) }
+        // A later minute brings an event at least, whatever is due.
+        ensures rises { OnOk result (last < minute → seat.old.share < seat.new.share) }
+        ensures grows { seat.old.share ≤ seat.new.share }
+        ensures parts { seat.new.parts ≡ seat.old.parts }
+        ensures plan { self.new.core.plan ≡ self.old.core.plan }
+    {
+        self.tick_unless_back(alloc, seat, last, minute)
+    }
+
+    fn tick_unless_back(
+        &mut self,
+        alloc: Global,
+        seat: &mut Seat<L>,
+        last: Minute,
+        minute: Minute,
+    ) -> Result<(), TickFault>
+        ensures { Ticks (self.old, seat.old) last minute result (self.new, seat.new) }
+    {
+        if self.core().now().number() != last.number() || minute.number() < last.number() {
+            return Err(TickFault::ClockBack);
+        }
+        if let Err(fault) = self.go_on(alloc, seat, minute) {
+            return Err(fault);
+        }
+        Ok(())
+    }
+
+    /// Goes on to a minute that is not below the present one.
+    fn go_on(&mut self, alloc: Global, seat: &mut Seat<L>, minute: Minute) -> Result<(), TickFault>
+        requires { self.old.core.state.now ≤ minute }
+        ensures { Makes (tick_events minute) (self.old, seat.old) result (self.new, seat.new) }
+    {
+        let core = self.core();
+        let (up, present) = (core.is_up(), core.now().number());
+        let number = minute.number();
+        if !up {
+            return self.come(alloc, seat, number);
+        }
+        if number == present {
+            return self.settle_and_catch_up(alloc, seat);
+        }
+        if number == present + 1 {
+            return self.move_on(alloc, seat, number);
+        }
+        self.skip(alloc, seat, number)
+    }
+
+    /// Goes down and comes up in a later minute.
+    fn skip(&mut self, alloc: Global, seat: &mut Seat<L>, minute: u64) -> Result<(), TickFault>
+        requires up { self.old.core.state.up ≡ true }
+        requires civil { IsCivil minute }
+        requires later { self.old.core.state.now ≤ minute }
+        ensures { Makes (skipping minute) (self.old, seat.old) result (self.new, seat.new) }
+    {
+        if let Err(fault) = self.make(seat, Event::Down) {
+            return Err(fault);
+        }
+        self.come(alloc, seat, minute)
+    }
+
+    /// Comes up, and catches up.
+    fn come(&mut self, alloc: Global, seat: &mut Seat<L>, minute: u64) -> Result<(), TickFault>
+        requires down { self.old.core.state.up ≡ false }
+        requires civil { IsCivil minute }
+        requires later { self.old.core.state.now ≤ minute }
+        ensures { Makes (coming minute) (self.old, seat.old) result (self.new, seat.new) }
+    {
+        if let Err(fault) = self.make(seat, Event::Up(minute)) {
+            return Err(fault);
+        }
+        self.choose(alloc, seat, Kind::Catching)
+    }
+
+    /// Settles, and goes on to the next minute.
+    fn move_on(&mut self, alloc: Global, seat: &mut Seat<L>, minute: u64) -> Result<(), TickFault>
+        requires up { self.old.core.state.up ≡ true }
+        requires civil { IsCivil minute }
+        requires next { minute ≡ self.old.core.state.now + 1 }
+        requires present { IsCivil self.old.core.state.now }
+        ensures { Makes (moving_on minute) (self.old, seat.old) result (self.new, seat.new) }
+    {
+        if let Err(fault) = self.choose(alloc, seat, Kind::Settling) {
+            return Err(fault);
+        }
+        self.advance(alloc, seat, minute)
+    }
+
+    /// Goes on to the next minute, settles and catches up.
+    fn advance(&mut self, alloc: Global, seat: &mut Seat<L>, minute: u64) -> Result<(), TickFault>
+        requires { refusal (plan_of self.old) self.old.core.state (event.Minute minute) ≡ None }
+        ensures { Makes (advancing minute) (self.old, seat.old) result (self.new, seat.new) }
+    {
+        if let Err(fault) = self.make(seat, Event::Minute(minute)) {
+            return Err(fault);
+        }
+        self.settle_and_catch_up(alloc, seat)
+    }
+
+    fn settle_and_catch_up(&mut self, alloc: Global, seat: &mut Seat<L>) -> Result<(), TickFault>
+        ensures { Makes settling_catching (self.old, seat.old) result (self.new, seat.new) }
+    {
+        if let Err(fault) = self.choose(alloc, seat, Kind::Settling) {
+            return Err(fault);
+        }
+        self.choose(alloc, seat, Kind::Catching)
+    }
+
+    /// Makes the first choice of the kind until there is none.
+    fn choose(&mut self, alloc: Global, seat: &mut Seat<L>, kind: Kind) -> Result<(), TickFault>
+        ensures { Makes (choosing kind) (self.old, seat.old) result (self.new, seat.new) }
+    {
+        loop {
+            let next = match self.next(alloc, kind) {
+                Ok(next) => next,
+                Err(_) => return Err(TickFault::OutOfMemory),
+            };
+            let Some(event) = next else {
+                return Ok(());
+            };
+            if let Err(fault) = self.make(seat, event) {
+                return Err(fault);
+            }
+        }
+    }
+
+    /// The first choice of the kind.
+    fn next(&self, alloc: Global, kind: Kind) -> Result<Option<Event>, AllocError>
+        ensures { IfOk result (λ e. e ≡ next_of kind (plan_of self.now) self.now.core.state) }
+    {
+        let choices = self.core().choices(alloc)?;
+        Ok(first_of(choices.as_slice(), kind))
+    }
+
+    /// Makes an event that the core does not refuse.
+    fn make(&mut self, seat: &mut Seat<L>, event: Event) -> Result<(), TickFault>
+        requires { refusal (plan_of self.old) self.old.core.state event ≡ None }
+        ensures { Makes (λ p s. event ∷ []) (self.old, seat.old) result (self.new, seat.new) }
+    {
+        match self.step(seat, event) {
+            Ok(_) => Ok(()),
+            Err(Refusal::HistoryFull) => Err(TickFault::HistoryFull),
+            Err(_) => Err(TickFault::OutOfMemory),
+        }
+    }
+}

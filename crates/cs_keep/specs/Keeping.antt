@@ -1,5 +1,6 @@
 -- What a keep is seen as, and what a step does to it.
-use Rattle.std.specs.Prelude.{◌≡◌, ℕ, ◌+◌, ◌-◌, ◌^◌, ◌≤◌, List, [], ◌∷◌, ◌++◌, length, Bool, true, false, ◌||◌, if◌then◌else◌, nat_lt, Option, Some, None, ◌⊎◌}
+use Rattle.std.specs.Prelude.{◌≡◌, ◌⊎◌, ℕ, ◌+◌, ◌-◌, ◌^◌, ◌≤◌, nat_lt, List, [], ◌∷◌, ◌++◌, length}
+use Rattle.std.specs.Prelude.{Bool, true, false, ◌||◌, if◌then◌else◌, Option, Some, None}
 use Rattle.cs_decl.specs.Plan.{Declared, as_plan}
 use Rattle.cs_history.specs.Plan.{Plan}
 use Rattle.cs_history.specs.History.{From, Start, IsInTime, IsSafe}
@@ -28,20 +29,26 @@ plan_of k = as_plan k.core.plan
 
 -- a keep of this plan, just opened from this start
 abbrev pub opened : Declared → Start → Keeping
-opened d s = record { base = s; journal = []; total = 0; core = record { plan = d; state = state_of (as_plan d) (From s) } }
+opened d s = record
+    { base = s; journal = []; total = 0
+    ; core = record { plan = d; state = state_of (as_plan d) (From s) } }
 
--- the journal is a legal history of the plan, with its replies, and the core is in the state that this history leaves
+-- the journal is a legal history of the plan, with its replies, and the core is in the state that
+-- this history leaves
 abbrev pub IsKept : Keeping → Type 0
 IsKept k = IsJournal (plan_of k) k.base k.journal k.core.state
 
--- where each run has ended within its declared time, no two runs of an exclusive group ran at once, two that both share its lock
--- excepted, the capacity was never exceeded, and no due minute of a skip job was skipped
+-- where each run has ended within its declared time, no two runs of an exclusive group ran at once,
+-- two that both share its lock excepted, the capacity was never exceeded, and no due minute of a
+-- skip job was skipped
 abbrev pub IsSafeInTime : Keeping → Type 0
-IsSafeInTime k = IsInTime (plan_of k) (told k.base k.journal) → IsSafe (plan_of k) (told k.base k.journal)
+IsSafeInTime k =
+    IsInTime (plan_of k) (told k.base k.journal) → IsSafe (plan_of k) (told k.base k.journal)
 
 -- and at most as many runs run as the capacity
 abbrev pub IsFewInTime : Keeping → Type 0
-IsFewInTime k = IsInTime (plan_of k) (told k.base k.journal) → length k.core.state.running ≤ (plan_of k).capacity
+IsFewInTime k = IsInTime (plan_of k) (told k.base k.journal)
+    → length k.core.state.running ≤ (plan_of k).capacity
 
 -- how many runs run after an event, where it is accepted
 abbrev pub runs_after : Keeping → Event → ℕ
@@ -49,7 +56,8 @@ runs_after k e = length (after (plan_of k) k.core.state e).running
 
 -- no room in the journal, or in a total of 64 bits, for the event and the ends of what runs after it
 abbrev pub is_full : Keeping → Event → Bool
-is_full k e = nat_lt MAX_ENTRIES (length k.journal + 1 + runs_after k e) || nat_lt (2 ^ 64 - 1) (k.total + 1 + runs_after k e)
+is_full k e = nat_lt MAX_ENTRIES (length k.journal + 1 + runs_after k e)
+    || nat_lt (2 ^ 64 - 1) (k.total + 1 + runs_after k e)
 
 -- the core's refusal, and behind it that of a full journal
 abbrev pub or_full : Option Refusal → Bool → Option Refusal
@@ -69,7 +77,8 @@ is_end (End r) = true
 is_end Down = false
 is_end (Up t) = false
 
--- Why an event was refused: the first refusal, or where there is none want of memory. An end is refused by the core alone.
+-- Why an event was refused: the first refusal, or where there is none want of memory. An end is
+-- refused by the core alone.
 pub record IsRefused (k : Keeping) (e : Event) (f : Refusal) : Type 0 where
   pub first : (refusal_in k e ≡ Some f) ⊎ ((refusal_in k e ≡ None) × (f ≡ OutOfMemory))
   pub end : is_end e ≡ true → refusal (plan_of k) k.core.state e ≡ Some f
@@ -80,7 +89,9 @@ reply_in k e = reply (plan_of k) k.core.state e
 
 -- the core takes the event, which is added to the journal with its reply and to the total
 abbrev pub with_event : Keeping → Event → Keeping
-with_event k e = record k { journal = k.journal ++ (e, reply_in k e) ∷ []; total = k.total + 1; core = record { plan = k.core.plan; state = after (plan_of k) k.core.state e } }
+with_event k e = record k
+    { journal = k.journal ++ (e, reply_in k e) ∷ []; total = k.total + 1
+    ; core = record { plan = k.core.plan; state = after (plan_of k) k.core.state e } }
 
 -- nothing is pending, waits or runs, and no pass is open
 pub record IsIdle (s : State) : Type 0 where

@@ -1,5 +1,7 @@
 -- The events of a tick, and what they leave.
-use Rattle.std.specs.Prelude.{◌≡◌, ◌≢◌, ◌⊎◌, ◌<◌, ◌≤◌, ℕ, zero, suc, ◌+◌, ◌*◌, List, [], ◌∷◌, ◌++◌, length, filter, Bool, true, false, ◌==◌, if◌then◌else◌, Option, Some, None, ⊤, Result, Ok, Err}
+use Rattle.std.specs.Prelude.{◌≡◌, ◌≢◌, ◌⊎◌, ◌<◌, ◌≤◌, ℕ, zero, suc, ◌+◌, ◌*◌, ◌==◌, List, [], ◌∷◌, ◌++◌}
+use Rattle.std.specs.Prelude.{length, filter, Bool, true, false, if◌then◌else◌, Option, Some, None, ⊤}
+use Rattle.std.specs.Prelude.{Result, Ok, Err}
 use Rattle.cs_history.specs.Plan.{Plan}
 use Rattle.cs_history.specs.Names.{jobs_left}
 use Rattle.cs_history.specs.Step.{State, after}
@@ -14,7 +16,8 @@ use Rattle.cs_keep.specs.declared.tick.Kind.TheVariants.{Settling, Catching}
 use Rattle.cs_keep.specs.declared.tick.TickFault.{TickFault}
 use Rattle.cs_keep.specs.declared.tick.TickFault.TheVariants.{ClockBack, HistoryFull, OutOfMemory}
 
--- whether the event is of the kind: to settle, a job that is due begins, or a waiting run gets its lock; to catch up, an anacron job starts
+-- whether the event is of the kind: to settle, a job that is due begins, or a waiting run gets its
+-- lock; to catch up, an anacron job starts
 abbrev pub is_of : Kind → Event → Bool
 is_of Settling (Minute t) = false
 is_of Settling (Begin j) = true
@@ -42,10 +45,11 @@ next_of k p s = first (filter (is_of k) (choices p s))
 -- the first choice of the kind, and again from there on, until there is none or so many were made
 abbrev pub chosen : Kind → Plan → ℕ → State → List Event
 chosen k p zero s = []
-chosen k p (suc n) s = elim (next_of k p s) [ None ↦ [] | Some e ↦ e ∷ chosen k p n (after p s e) ]
+chosen k p (suc n) s =
+    elim (next_of k p s) [ None ↦ [] | Some e ↦ e ∷ chosen k p n (after p s e) ]
 
--- So many are enough: a Begin takes a job from those that are pending, and may add a run to those that wait; a Got takes one of these;
--- a Catch takes a job from those that the pass has left.
+-- So many are enough: a Begin takes a job from those that are pending, and may add a run to those
+-- that wait; a Got takes one of these; a Catch takes a job from those that the pass has left.
 abbrev pub most : Kind → State → ℕ
 most Settling s = 2 * length s.pending + length s.waiting
 most Catching s = length (jobs_left s.pass)
@@ -60,7 +64,8 @@ after_all p s (e ∷ es) = after_all p (after p s e) es
 
 -- until there is none, whatever the plan and the state
 abbrev pub ChoicesRunOut : Type 0
-ChoicesRunOut = (k : Kind) (p : Plan) (s : State) → next_of k p (after_all p s (choosing k p s)) ≡ None
+ChoicesRunOut =
+    (k : Kind) (p : Plan) (s : State) → next_of k p (after_all p s (choosing k p s)) ≡ None
 
 -- these events, and then those that follow in the state that they leave
 abbrev pub then_from : Plan → State → List Event → (State → List Event) → List Event
@@ -83,11 +88,13 @@ moving_on m p s = then_from p s (choosing Settling p s) (advancing m p)
 abbrev pub skipping : ℕ → Plan → State → List Event
 skipping m p s = then_from p s (Down ∷ []) (coming m p)
 
--- The events for a minute that is not below the present one. A core that is down comes up, and catches up. One that is up settles and
--- catches up; in the minute after the present one it settles, moves on, and does so again; past that it goes down and comes up.
+-- The events for a minute that is not below the present one. A core that is down comes up, and
+-- catches up. One that is up settles and catches up; in the minute after the present one it settles,
+-- moves on, and does so again; past that it goes down and comes up.
 abbrev pub tick_events : ℕ → Plan → State → List Event
 tick_events m p s =
-    if s.up then (if m == s.now then settling_catching p s else (if m == s.now + 1 then moving_on m p s else skipping m p s))
+    if s.up then (if m == s.now then settling_catching p s
+    else (if m == s.now + 1 then moving_on m p s else skipping m p s))
     else coming m p s
 
 -- a step of the keep, made through a seat
@@ -110,7 +117,8 @@ IsFault k es HistoryFull = IsFullAt k es
 IsFault k es OutOfMemory = ⊤
 
 -- of these events the first were made, and then this fault was met
-pub record IsCutShort (t : Keeping × Place) (es : List Event) (f : TickFault) (u : Keeping × Place) : Type 0 where
+pub record IsCutShort (t : Keeping × Place) (es : List Event) (f : TickFault) (u : Keeping × Place)
+    : Type 0 where
   pub made : List Event
   pub rest : List Event
   pub whole : es ≡ made ++ rest
@@ -118,12 +126,14 @@ pub record IsCutShort (t : Keeping × Place) (es : List Event) (f : TickFault) (
   pub why : IsFault (stepped_by t made).0 rest f
 
 -- these events were made, each as a step is, or the first of them
-abbrev pub IsMade : Keeping × Place → List Event → Result (Unit {0}) TickFault → Keeping × Place → Type 0
+abbrev pub IsMade : Keeping × Place → List Event → Result (Unit {0}) TickFault → Keeping × Place
+    → Type 0
 IsMade t es (Ok v) u = u ≡ stepped_by t es
 IsMade t es (Err f) u = IsCutShort t es f u
 
 -- the events that a rule says of the present state
-abbrev pub Makes : (Plan → State → List Event) → Keeping × Place → Result (Unit {0}) TickFault → Keeping × Place → Type 0
+abbrev pub Makes : (Plan → State → List Event) → Keeping × Place → Result (Unit {0}) TickFault
+    → Keeping × Place → Type 0
 Makes events t r u = IsMade t (events (plan_of t.0) t.0.core.state) r u
 
 -- the present minute is another than the last, or the new one is below it
@@ -137,10 +147,14 @@ IsForward s last m = (s.now ≡ last) × (last ≤ m)
 -- why a tick ended early, and what it left
 abbrev pub IsTickFault : Keeping × Place → ℕ → ℕ → TickFault → Keeping × Place → Type 0
 IsTickFault t last m ClockBack u = IsClockBack t.0.core.state last m × (u ≡ t)
-IsTickFault t last m HistoryFull u = IsForward t.0.core.state last m × IsCutShort t (tick_events m (plan_of t.0) t.0.core.state) HistoryFull u
-IsTickFault t last m OutOfMemory u = IsForward t.0.core.state last m × IsCutShort t (tick_events m (plan_of t.0) t.0.core.state) OutOfMemory u
+IsTickFault t last m HistoryFull u = IsForward t.0.core.state last m
+    × IsCutShort t (tick_events m (plan_of t.0) t.0.core.state) HistoryFull u
+IsTickFault t last m OutOfMemory u = IsForward t.0.core.state last m
+    × IsCutShort t (tick_events m (plan_of t.0) t.0.core.state) OutOfMemory u
 
 -- a tick made the events of its minute, or says why not
-abbrev pub Ticks : Keeping × Place → ℕ → ℕ → Result (Unit {0}) TickFault → Keeping × Place → Type 0
-Ticks t last m (Ok v) u = IsForward t.0.core.state last m × (u ≡ stepped_by t (tick_events m (plan_of t.0) t.0.core.state))
+abbrev pub Ticks : Keeping × Place → ℕ → ℕ → Result (Unit {0}) TickFault → Keeping × Place
+    → Type 0
+Ticks t last m (Ok v) u = IsForward t.0.core.state last m
+    × (u ≡ stepped_by t (tick_events m (plan_of t.0) t.0.core.state))
 Ticks t last m (Err f) u = IsTickFault t last m f u

@@ -24,7 +24,8 @@ impl<L: Ledger> Model for Seat<L> {
 
     ghost view = { λ a. record { parts = a.parts; share = a.mark.amount; seen = a.seen } };
 
-    ghost invariant = { λ a. (a.mark.parts ≡ a.parts) × (0 < a.parts) × (a.share ≡ saturated a.mark.amount) };
+    ghost invariant = { λ a. (a.mark.parts ≡ a.parts) × (0 < a.parts)
+        × (a.share ≡ saturated a.mark.amount) };
 }
 
 impl<L: Ledger> Seat<L> {

@@ -1,0 +1,44 @@
+//! Clocks, by what they answer.
+ghost use Rattle.std.specs.Prelude.{◌≡◌, ℕ, ◌+◌, ◌<◌, ◌≤◌, Option, Some};
+
+use cs_civil::Minute;
+
+/// What a clock answers.
+#[derive(Clone, Copy, Debug, PartialEq, Eq)]
+pub enum Tick {
+    /// It is this minute.
+    At(Minute),
+    /// The daemon is to end.
+    Stop,
+    /// The clock can't be read.
+    Failed,
+}
+
+/// A clock in whole minutes, by what it has answered so far.
+pub trait Clock {
+    ghost use Rattle.cs_device.specs.declared.clock.Tick.{Tick};
+    ghost use Rattle.cs_device.specs.declared.clock.Tick.TheVariants.{Failed};
+    ghost use Rattle.cs_device.specs.Rise.{risen_by, top_by};
+
+    /// The last answer, if there is one.
+    ghost last: { Self → Option Tick };
+
+    /// How often it could not be read.
+    ghost failures: { Self → ℕ };
+
+    /// The greatest minute so far, 0 before the first.
+    ghost top: { Self → ℕ };
+
+    /// How many answers were a minute above all before.
+    ghost risen: { Self → ℕ };
+
+    /// The next answer. `now` is the last minute that it gave, and none before the first: a clock
+    /// answers the first call at once and waits before each other, so that a loop over its answers
+    /// isn't a busy one.
+    fn tick(&mut self, now: Option<Minute>) -> Tick
+        ensures last { last self.new ≡ Some result }
+        ensures failures { failures self.old ≤ failures self.new }
+        ensures failed { result ≡ Failed → failures self.old < failures self.new }
+        ensures top { top self.new ≡ top_by (top self.old) result }
+        ensures risen { risen self.new ≡ risen self.old + risen_by (top self.old) result };
+}

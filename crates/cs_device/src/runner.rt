@@ -1,0 +1,29 @@
+//! Runs of commands, by what comes of them.
+ghost use Rattle.std.specs.Prelude.{◌≡◌, ℕ, ◌<◌, ◌≤◌};
+
+use cs_civil::Bytes;
+
+/// How a run ended.
+#[derive(Clone, Copy, Debug, PartialEq, Eq)]
+pub enum Outcome {
+    /// It exited with this status, from 0 to 255 on this machine.
+    Exited(i32),
+    /// It ended without a status, as by a signal.
+    Ended,
+    /// It could not be started.
+    NotStarted,
+}
+
+/// Runs commands.
+pub trait Runner {
+    ghost use Rattle.cs_device.specs.declared.runner.Outcome.TheVariants.{NotStarted};
+
+    /// How often a command could not be started.
+    ghost failures: { Self → ℕ };
+
+    /// Runs a command with this standard input, an empty one where there is none, and these
+    /// settings, each a name and its value, in its environment. Comes back when it has ended.
+    fn run(&mut self, command: &[u8], input: Option<&[u8]>, env: &[(Bytes, Bytes)]) -> Outcome
+        ensures failures { failures self.old ≤ failures self.new }
+        ensures failed { result ≡ NotStarted → failures self.old < failures self.new };
+}

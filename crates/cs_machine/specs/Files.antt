@@ -1,0 +1,22 @@
+-- The files of a folder of stamps.
+use Rattle.std.specs.Prelude.{◌≡◌, ◌≢◌, ℕ, List, [], ◌++◌, Bool, false, ◌||◌, ◌==◌, codes}
+use Rattle.std.specs.List.{list_any}
+
+-- a slash, a space or a tab
+abbrev pub is_kept_out : ℕ → Bool
+is_kept_out b = b == 47 || b == 32 || b == 9
+
+-- what can be a file's name, and has no blank, as each identifier
+pub record IsFileName (name : List ℕ) : Type 0 where
+  pub some : name ≢ []
+  pub no_dot : name ≢ codes "."
+  pub no_dots : name ≢ codes ".."
+  pub clean : list_any is_kept_out name ≡ false
+
+-- the path of a stamp's file
+abbrev pub file_of : List ℕ → List ℕ → List ℕ
+file_of folder identifier = folder ++ codes "/" ++ identifier
+
+-- where it is written first
+abbrev pub new_file_of : List ℕ → List ℕ → List ℕ
+new_file_of folder identifier = file_of folder identifier ++ codes " new"

@@ -1,0 +1,31 @@
+-- What the shell of a command is told (crontab(5)).
+use Rattle.std.specs.Prelude.{ℕ, List, [], ◌∷◌, Option, Some, None, codes, if◌then◌else◌}
+use Rattle.std.specs.List.{fold}
+use Rattle.std.specs.Str.{bytes_eq}
+
+-- a name and its value
+abbrev pub Variable : Type 0
+Variable = List ℕ × List ℕ
+
+abbrev pub shell_name : List ℕ
+shell_name = codes "SHELL"
+
+-- the shell where no setting names one
+abbrev pub usual_shell : List ℕ
+usual_shell = codes "/bin/sh"
+
+-- SHELL is the usual shell above all settings
+abbrev pub with_shell : List Variable → List Variable
+with_shell env = (shell_name, usual_shell) ∷ env
+
+-- one setting more: its value where it has the name, else the value so far
+abbrev pub value_with : List ℕ → Option (List ℕ) → Variable → Option (List ℕ)
+value_with name before setting = if bytes_eq setting.0 name then Some setting.1 else before
+
+-- the value that settings, one after the other, give to a name
+abbrev pub value_of : List Variable → List ℕ → Option (List ℕ)
+value_of env name = fold (value_with name) None env
+
+-- the words behind the shell's name
+abbrev pub shell_words : List ℕ → List (List ℕ)
+shell_words command = codes "-c" ∷ command ∷ []

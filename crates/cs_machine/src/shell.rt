@@ -1,0 +1,71 @@
+//! The command line of a job.
+ghost use Rattle.std.specs.Prelude.{◌≡◌, ℕ, List, Some, None, IfSome, IsSome, option_map, false};
+ghost use Rattle.std.specs.Prelude.{if◌then◌else◌};
+ghost use Rattle.std.specs.Str.{bytes_eq};
+ghost use Rattle.std.specs.Process.{command_program, command_args, command_var, command_dir};
+ghost use Rattle.std.specs.Process.{clears_env, SameProgramAndArgs, SameDir};
+ghost use Rattle.cs_machine.specs.Shell.{with_shell, value_of, shell_name, shell_words};
+
+use cs_civil::Bytes;
+use std::alloc::Global;
+use std::process::Command;
+use std::str;
+
+/// The setting that names the shell (crontab(5)).
+const SHELL: &str = "SHELL";
+
+/// The shell where no setting names one (crontab(5)).
+const USUAL_SHELL: &str = "/bin/sh";
+
+/// What the machine is asked for a command: the shell that its settings name in `SHELL`, by default
+/// `/bin/sh`, with `-c` and the command, and with these settings and `SHELL` in its environment
+/// (crontab(5)). All else of the environment, the folder and the streams are the daemon's own.
+///
+/// Settings are names with values; of one name the last counts. `None` where the command, a name or
+/// a value is no UTF-8 text (this profile), and for want of memory.
+pub fn shell_command(alloc: Global, command: &[u8], env: &[(Bytes, Bytes)]) -> Option<Command>
+    ensures program { IfSome result
+        (λ c. value_of (with_shell env.now) shell_name ≡ Some (command_program c)) }
+    ensures words { IfSome result (λ c. command_args c ≡ shell_words command.now) }
+    ensures variables { IfSome result (λ c. (name : List ℕ)
+        → command_var c name ≡ option_map Some (value_of (with_shell env.now) name)) }
+    ensures inherits { IfSome result (λ c. clears_env c ≡ false) }
+    ensures folder { IfSome result (λ c. command_dir c ≡ None) }
+{
+    let command = str::from_utf8(command).ok()?;
+    let mut shell = Command::new(alloc, shell_of(env)?).ok()?;
+    shell.arg("-c").ok()?;
+    shell.arg(command).ok()?;
+    set(&mut shell, SHELL.as_bytes(), USUAL_SHELL.as_bytes())?;
+    for (name, value) in env {
+        set(&mut shell, name.as_slice(), value.as_slice())?;
+    }
+    Some(shell)
+}
+
+/// Sets a variable of a command's environment, where name and value are UTF-8.
+fn set(shell: &mut Command, name: &[u8], value: &[u8]) -> Option<()>
+    ensures variables { IsSome result → (k : List ℕ) → command_var shell.new k
+        ≡ (if bytes_eq name.now k then Some (Some value.now) else command_var shell.old k) }
+    ensures words { IsSome result → SameProgramAndArgs shell.old shell.new }
+    ensures clears { IsSome result → clears_env shell.new ≡ clears_env shell.old }
+    ensures folder { IsSome result → SameDir shell.old shell.new }
+{
+    let name = str::from_utf8(name).ok()?;
+    let value = str::from_utf8(value).ok()?;
+    shell.env(name, value).ok()?;
+    Some(())
+}
+
+/// The shell that settings name, where it is UTF-8.
+fn shell_of(env: &[(Bytes, Bytes)]) -> Option<&str>
+    ensures { IfSome result (λ shell. value_of (with_shell env.now) shell_name ≡ Some shell.now) }
+{
+    let mut shell = USUAL_SHELL.as_bytes();
+    for (name, value) in env {
+        if name.as_slice() == SHELL.as_bytes() {
+            shell = value.as_slice();
+        }
+    }
+    str::from_utf8(shell).ok()
+}

@@ -1,0 +1,167 @@
+//! Stamps in a folder, one file for each (anacron(8)).
+ghost use Rattle.std.specs.Prelude.{◌≡◌, ◌≢◌, ◌↔◌, ◌≤◌, ℕ, [], IsTrue, IfOk, IsErr, MatchOption};
+ghost use Rattle.std.specs.Prelude.{string_bytes};
+ghost use Rattle.std.specs.List.{list_any};
+ghost use Rattle.cs_anacrontab.specs.Stamp.{IsStampText};
+ghost use Rattle.cs_civil.specs.Calendar.{last_day};
+ghost use Rattle.cs_machine.specs.Files.{IsFileName, is_kept_out, file_of, new_file_of};
+
+use cs_anacrontab::{read_stamp, stamp_text};
+use cs_civil::Day;
+use cs_device::{Failures, Stamp, StampStore};
+use std::alloc::Global;
+use std::fs::OpenFile;
+use std::io::{ErrorKind, Read, Write};
+use std::rt::Files;
+use std::{fs, io, str};
+
+/// A path that names no folder, or one that can't be looked at.
+#[derive(Clone, Copy, Debug, PartialEq, Eq)]
+pub struct NoFolder;
+
+/// A folder of stamps: for each identifier a file of its name, which holds `YYYYMMDD` and a newline
+/// (anacron(8)).
+///
+/// A file that is empty, as anacron(8) makes them, is no stamp; one that holds anything else than a
+/// stamp can't be read (this profile). An identifier that can't be a file's name has no file: it
+/// can't be read or written. What a file holds no contract says.
+///
+/// Once 2^64 - 1 failures are counted, one more is told as no stamp, and as one that is written.
+#[derive(Drop)]
+pub struct StampsFolder<'r, 'f, R> {
+    rt: &'r R,
+    alloc: Global,
+    folder: &'f str,
+    failures: Failures,
+}
+
+/// Whether a text can be the name of a stamp's file, as each identifier of an anacrontab can.
+fn is_file_name(name: &str) -> bool
+    ensures { IsTrue result ↔ IsFileName name.now }
+{
+    !matches!(name, "" | "." | "..") && !has_kept_out(name.as_bytes())
+}
+
+/// Whether a slash or a blank is among these bytes.
+fn has_kept_out(bytes: &[u8]) -> bool
+    ensures { result ≡ list_any is_kept_out bytes.now }
+{
+    bytes
+        .iter()
+        .any(|byte| *byte == b'/' || *byte == b' ' || *byte == b'\t')
+}
+
+/// The longest text of a stamp and one byte more.
+const ENOUGH: u64 = 10;
+
+/// The day of a stamp file's text, and none where it is empty. An error where it is no stamp.
+fn day_in(text: &[u8]) -> io::Result<Option<Day>>
+    ensures said { IfOk result (λ found.
+        MatchOption found (text.now ≡ []) (IsStampText text.now)) }
+    ensures fault { IsErr result → text.now ≢ [] }
+    ensures no_stamp { IsErr result → (n : ℕ) → n ≤ last_day → ¬ IsStampText text.now n }
+{
+    if text.is_empty() {
+        return Ok(None);
+    }
+    match read_stamp(text) {
+        Some(day) => Ok(Some(day)),
+        None => Err(io::Error::from(ErrorKind::InvalidData)),
+    }
+}
+
+impl<'r, 'f, R: Files> StampsFolder<'r, 'f, R> {
+    /// The folder of that path, with no failure yet. [`NoFolder`] where the path names no folder.
+    pub fn open(
+        rt: &'r R,
+        alloc: Global,
+        folder: &'f str,
+    ) -> Result<StampsFolder<'r, 'f, R>, NoFolder>
+        ensures fresh { IfOk result (λ store. store.failures ≡ 0) }
+        ensures folder { IfOk result (λ store. store.folder.now ≡ folder.now) }
+    {
+        match fs::metadata(rt, folder) {
+            Ok(found) if found.is_dir() => Ok(StampsFolder {
+                rt,
+                alloc,
+                folder,
+                failures: Failures::none(),
+            }),
+            Ok(_) | Err(_) => Err(NoFolder),
+        }
+    }
+
+    /// The path of an identifier's file. An error too where it can't be the name of one.
+    fn file_of(&self, identifier: &[u8]) -> io::Result<String>
+        ensures { IfOk result
+            (λ path. IsFileName identifier.now
+            × (string_bytes path ≡ file_of self.now.folder.now identifier.now)) }
+    {
+        let Ok(name) = str::from_utf8(identifier) else {
+            return Err(io::Error::from(ErrorKind::InvalidInput));
+        };
+        if !is_file_name(name) {
+            return Err(io::Error::from(ErrorKind::InvalidInput));
+        }
+        let mut path = String::from_str(self.alloc, self.folder)?;
+        path.push_str("/")?;
+        path.push_str(name)?;
+        Ok(path)
+    }
+
+    /// The path at which it is written before it takes that file's place: with its blank it is no
+    /// identifier's file.
+    fn new_file_of(&self, identifier: &[u8]) -> io::Result<String>
+        ensures { IfOk result
+            (λ path. string_bytes path ≡ new_file_of self.now.folder.now identifier.now) }
+    {
+        let mut path = self.file_of(identifier)?;
+        path.push_str(" new")?;
+        Ok(path)
+    }
+
+    /// The day that an identifier's file holds, and none where it is empty or isn't there.
+    fn look(&self, identifier: &[u8]) -> io::Result<Option<Day>> {
+        let path = self.file_of(identifier)?;
+        let file = match fs::open(self.rt, path) {
+            Ok(file) => file,
+            Err(error) if error.kind() == ErrorKind::NotFound => return Ok(None),
+            Err(error) => return Err(error),
+        };
+        let mut text = Vec::new(self.alloc);
+        file.take(ENOUGH).read_to_end(&mut text)?;
+        day_in(text.as_slice())
+    }
+
+    /// Writes a stamp beside its file, sees that the disk has it, puts it in the file's place and
+    /// sees that the disk has that too. So a crash leaves the old stamp or the new one.
+    fn replace(&self, identifier: &[u8], day: Day) -> io::Result<()> {
+        let path = self.file_of(identifier)?;
+        let new_path = self.new_file_of(identifier)?;
+        let mut file = fs::create(self.rt, new_path.as_str())?;
+        file.write_all(&stamp_text(day))?;
+        file.sync_all()?;
+        fs::rename(self.rt, new_path, path)?;
+        fs::open(self.rt, self.folder)?.sync_all()
+    }
+}
+
+impl<'r, 'f, R: Files> StampStore for StampsFolder<'r, 'f, R> {
+    ghost failures = { λ s. s.failures };
+
+    fn read(&mut self, identifier: &[u8]) -> Stamp {
+        match self.look(identifier) {
+            Ok(Some(day)) => Stamp::On(day),
+            Ok(None) => Stamp::Absent,
+            Err(_) if self.failures.count() => Stamp::Failed,
+            Err(_) => Stamp::Absent,
+        }
+    }
+
+    fn write(&mut self, identifier: &[u8], day: Day) -> bool {
+        match self.replace(identifier, day) {
+            Ok(()) => true,
+            Err(_) => !self.failures.count(),
+        }
+    }
+}

@@ -1,0 +1,211 @@
+//! Stamps over a machine that ends in the middle of a write.
+use crate::scratch::{new_folder, path_in};
+use cs_civil::Day;
+use cs_device::{Stamp, StampStore};
+use cs_machine::StampsFolder;
+use std::alloc::Allocator;
+use std::cell::Cell;
+use std::fs::{Metadata, OpenFile, OpenOptions};
+use std::io::{ErrorKind, Read, Seek, SeekFrom, Write};
+use std::process::id;
+use std::rt::Files;
+use std::test::Fail;
+use std::{fs, io};
+
+/// How many calls are left until the machine ends, and a digit for each that was made.
+#[derive(Drop)]
+struct Life {
+    left: Cell<u64>,
+    calls: Cell<u64>,
+}
+
+impl Life {
+    /// Makes a call, or fails where the machine has ended.
+    fn call(&self, digit: u64) -> io::Result<()> {
+        match self.left.get().checked_sub(1) {
+            Some(left) => {
+                self.left.set(left);
+                let calls = self.calls.get().wrapping_mul(10).wrapping_add(digit);
+                self.calls.set(calls);
+                Ok(())
+            }
+            None => Err(io::Error::from(ErrorKind::Other)),
+        }
+    }
+}
+
+/// The machine's files, in which nothing more happens once it has ended.
+#[derive(Drop)]
+struct Mortal<'a, R> {
+    rt: &'a R,
+    life: &'a Life,
+}
+
+/// One of its files.
+#[derive(Drop)]
+struct MortalFile<'a, F> {
+    file: F,
+    life: &'a Life,
+}
+
+impl<'a, F: Read> Read for MortalFile<'a, F> {
+    fn read(&mut self, buf: &mut [u8]) -> io::Result<usize> {
+        self.file.read(buf)
+    }
+}
+
+impl<'a, F: Write> Write for MortalFile<'a, F> {
+    fn write(&mut self, buf: &[u8]) -> io::Result<usize> {
+        self.life.call(2)?;
+        self.file.write(buf)
+    }
+
+    fn flush(&mut self) -> io::Result<()> {
+        self.file.flush()
+    }
+}
+
+impl<'a, F: Seek> Seek for MortalFile<'a, F> {
+    fn seek(&mut self, to: SeekFrom) -> io::Result<u64> {
+        self.file.seek(to)
+    }
+}
+
+impl<'a, F: OpenFile> OpenFile for MortalFile<'a, F> {
+    fn metadata(&self) -> io::Result<Metadata> {
+        self.file.metadata()
+    }
+
+    fn set_len(&self, size: u64) -> io::Result<()> {
+        self.file.set_len(size)
+    }
+
+    fn sync_all(&self) -> io::Result<()> {
+        self.life.call(3)?;
+        self.file.sync_all()
+    }
+
+    fn sync_data(&self) -> io::Result<()> {
+        self.file.sync_data()
+    }
+}
+
+impl<'a, R: Files> Files for Mortal<'a, R> {
+    type File = MortalFile<'a, R::File>;
+
+    type Dir = R::Dir;
+
+    fn open_file(&self, how: &OpenOptions, path: &str) -> io::Result<MortalFile<'a, R::File>> {
+        self.life.call(1)?;
+        Ok(MortalFile {
+            file: self.rt.open_file(how, path)?,
+            life: self.life,
+        })
+    }
+
+    fn open_dir(&self, path: &str) -> io::Result<R::Dir> {
+        self.rt.open_dir(path)
+    }
+
+    fn metadata(&self, path: &str) -> io::Result<Metadata> {
+        self.rt.metadata(path)
+    }
+
+    fn symlink_metadata(&self, path: &str) -> io::Result<Metadata> {
+        self.rt.symlink_metadata(path)
+    }
+
+    fn copy(&self, from: &str, to: &str) -> io::Result<u64> {
+        self.rt.copy(from, to)
+    }
+
+    fn rename(&self, from: &str, to: &str) -> io::Result<()> {
+        self.life.call(4)?;
+        self.rt.rename(from, to)
+    }
+
+    fn remove_file(&self, path: &str) -> io::Result<()> {
+        self.rt.remove_file(path)
+    }
+
+    fn create_dir(&self, path: &str) -> io::Result<()> {
+        self.rt.create_dir(path)
+    }
+
+    fn remove_dir(&self, path: &str) -> io::Result<()> {
+        self.rt.remove_dir(path)
+    }
+
+    fn remove_dir_all<B: Allocator>(&self, alloc: B, path: &str) -> io::Result<()> {
+        self.rt.remove_dir_all(alloc, path)
+    }
+}
+
+/// Whether a write is told as done on a machine with this life.
+fn write_in<'x, R: Files + AllocGlobal>(
+    rt: &'x R,
+    life: &'x Life,
+    folder: &str,
+    day: Day,
+) -> Option<bool> {
+    let mortal = Mortal { rt, life };
+    match StampsFolder::open(&mortal, rt.alloc(), folder) {
+        Ok(mut store) => Some(store.write(b"job", day)),
+        Err(_) => None,
+    }
+}
+
+/// The same on a machine that ends after so many calls, and which calls it made.
+fn write_until<R: Files + AllocGlobal>(
+    rt: &R,
+    folder: &str,
+    day: Day,
+    calls: u64,
+) -> Option<(bool, u64)> {
+    let life = Life {
+        left: Cell::new(calls),
+        calls: Cell::new(0),
+    };
+    let is_written = write_in(rt, &life, folder, day)?;
+    Some((is_written, life.calls.get()))
+}
+
+/// Opened, written and synced beside, renamed, the folder opened and synced: before the renaming
+/// the old stamp stands, from then on the new one.
+#[test]
+fn ends_in_a_write(rt: HostRuntime) -> Result<(), Fail> {
+    let folder = new_folder(&rt, "crashes", id(rt.process()))?;
+    let folder = folder.as_str();
+    let old = Day::new(19_753).ok_or("a day")?;
+    let new = Day::new(19_754).ok_or("a day")?;
+    let rows = [
+        (0, (false, 0), old),
+        (1, (false, 1), old),
+        (2, (false, 12), old),
+        (3, (false, 123), old),
+        (4, (false, 1_234), new),
+        (5, (false, 12_341), new),
+        (6, (true, 123_413), new),
+        (7, (true, 123_413), new),
+    ];
+    for (calls, written, stamp) in rows {
+        let Ok(mut store) = StampsFolder::open(&rt, rt.alloc(), folder) else {
+            return Err(Fail::from("no folder"));
+        };
+        assert!(rt; store.write(b"job", old));
+        assert!(rt;
+            write_until(&rt, folder, new, calls) == Some(written),
+            "{calls}"
+        );
+        assert!(rt; store.read(b"job") == Stamp::On(stamp), "{calls}");
+    }
+    fs::write(&rt, path_in(&rt, folder, "job new")?, "2024013")?;
+    let Ok(mut store) = StampsFolder::open(&rt, rt.alloc(), folder) else {
+        return Err(Fail::from("no folder"));
+    };
+    assert!(rt; store.read(b"job") == Stamp::On(new));
+    assert!(rt; store.write(b"job", old));
+    assert!(rt; store.read(b"job") == Stamp::On(old));
+    fs::remove_dir_all(&rt, folder)?;
+    Ok(())
+}

@@ -1,11 +1,19 @@
 -- What the shell of a command is told (crontab(5)).
-use Rattle.std.specs.Prelude.{ℕ, List, [], ◌∷◌, Option, Some, None, codes, if◌then◌else◌}
-use Rattle.std.specs.List.{fold}
-use Rattle.std.specs.Str.{bytes_eq}
+use Rattle.std.specs.Prelude.{ℕ, List, [], ◌∷◌, Bool, ◌&&◌, Option, Some, None, codes, if◌then◌else◌}
+use Rattle.std.specs.List.{fold, list_all}
+use Rattle.std.specs.Str.{bytes_eq, is_utf8}
 
 -- a name and its value
 abbrev pub Variable : Type 0
 Variable = List ℕ × List ℕ
+
+-- whether a name and its value are UTF-8
+abbrev pub is_setting : Variable → Bool
+is_setting v = is_utf8 v.0 && is_utf8 v.1
+
+-- whether a command and its settings are UTF-8
+abbrev pub are_texts : List ℕ → List Variable → Bool
+are_texts command env = is_utf8 command && list_all is_setting env
 
 abbrev pub shell_name : List ℕ
 shell_name = codes "SHELL"

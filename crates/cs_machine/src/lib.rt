@@ -1,12 +1,14 @@
 //! The machine's own devices: its shell, its clock, a folder of stamps.
 #![tactic(auto)]
 
+mod fault;
 mod laws;
 mod machine_clock;
 mod shell;
 mod shell_runner;
 mod stamps_folder;
 
+pub use fault::CommandFault;
 pub use laws::files_differ;
 pub use machine_clock::MachineClock;
 pub use shell::shell_command;

@@ -1,11 +1,15 @@
 //! The command line of a job.
-ghost use Rattle.std.specs.Prelude.{◌≡◌, ℕ, List, Some, None, IfSome, IsSome, option_map, false};
+ghost use Rattle.std.specs.Prelude.{◌≡◌, ◌↔◌, ℕ, List, Some, None, IfSome, IsSome, option_map};
+ghost use Rattle.std.specs.Prelude.{true, false, IfOk, IfErr, OnOk};
 ghost use Rattle.std.specs.Prelude.{if◌then◌else◌};
-ghost use Rattle.std.specs.Str.{bytes_eq};
+ghost use Rattle.std.specs.List.{list_all};
+ghost use Rattle.std.specs.Str.{bytes_eq, is_utf8};
 ghost use Rattle.std.specs.Process.{command_program, command_args, command_var, command_dir};
 ghost use Rattle.std.specs.Process.{clears_env, SameProgramAndArgs, SameDir};
-ghost use Rattle.cs_machine.specs.Shell.{with_shell, value_of, shell_name, shell_words};
+ghost use Rattle.cs_machine.specs.Shell.{are_texts, is_setting, with_shell, value_of, shell_name, shell_words};
+ghost use Rattle.cs_machine.specs.declared.fault.CommandFault.TheVariants.{NotText as not_text};
 
+use crate::fault::CommandFault;
 use cs_civil::Bytes;
 use std::alloc::Global;
 use std::process::Command;
@@ -21,9 +25,59 @@ const USUAL_SHELL: &str = "/bin/sh";
 /// `/bin/sh`, with `-c` and the command, and with these settings and `SHELL` in its environment
 /// (crontab(5)). All else of the environment, the folder and the streams are the daemon's own.
 ///
-/// Settings are names with values; of one name the last counts. `None` where the command, a name or
-/// a value is no UTF-8 text (this profile), and for want of memory.
-pub fn shell_command(alloc: Global, command: &[u8], env: &[(Bytes, Bytes)]) -> Option<Command>
+/// Settings are names with values; of one name the last counts.
+/// [`NotText`](CommandFault::NotText) exactly where the command, a name or a value is no UTF-8 text
+/// (this profile).
+pub fn shell_command(
+    alloc: Global,
+    command: &[u8],
+    env: &[(Bytes, Bytes)],
+) -> Result<Command, CommandFault>
+    ensures program { IfOk result
+        (λ c. value_of (with_shell env.now) shell_name ≡ Some (command_program c)) }
+    ensures words { IfOk result (λ c. command_args c ≡ shell_words command.now) }
+    ensures variables { IfOk result (λ c. (name : List ℕ)
+        → command_var c name ≡ option_map Some (value_of (with_shell env.now) name)) }
+    ensures inherits { IfOk result (λ c. clears_env c ≡ false) }
+    ensures folder { IfOk result (λ c. command_dir c ≡ None) }
+    ensures texts { OnOk result (are_texts command.now env.now ≡ true) }
+    ensures not_text { IfErr result
+        (λ e. (e ≡ not_text) ↔ (are_texts command.now env.now ≡ false)) }
+{
+    if !are_texts(command, env) {
+        return Err(CommandFault::NotText);
+    }
+    match command_of(alloc, command, env) {
+        Some(command) => Ok(command),
+        None => Err(CommandFault::OutOfMemory),
+    }
+}
+
+fn is_text(bytes: &[u8]) -> bool
+    ensures { result ≡ is_utf8 bytes.now }
+{
+    str::from_utf8(bytes).is_ok()
+}
+
+fn are_texts(command: &[u8], env: &[(Bytes, Bytes)]) -> bool
+    ensures { result ≡ are_texts command.now env.now }
+{
+    is_text(command) && are_settings(env)
+}
+
+fn are_settings(env: &[(Bytes, Bytes)]) -> bool
+    ensures { result ≡ list_all is_setting env.now }
+{
+    for (name, value) in env {
+        if !is_text(name.as_slice()) || !is_text(value.as_slice()) {
+            return false;
+        }
+    }
+    true
+}
+
+/// What is asked for a command of texts. None for want of memory.
+fn command_of(alloc: Global, command: &[u8], env: &[(Bytes, Bytes)]) -> Option<Command>
     ensures program { IfSome result
         (λ c. value_of (with_shell env.now) shell_name ≡ Some (command_program c)) }
     ensures words { IfSome result (λ c. command_args c ≡ shell_words command.now) }

@@ -57,7 +57,7 @@ impl<'r, P: Processes> ShellRunner<'r, P> {
         has_input: bool,
         env: &[(Bytes, Bytes)],
     ) -> Option<Child<P::Started>> {
-        let mut shell = shell_command(self.alloc, command, env)?;
+        let mut shell = shell_command(self.alloc, command, env).ok()?;
         if has_input {
             shell.stdin(Stdio::piped());
         } else {

@@ -153,7 +153,9 @@ fn asked_commands(rt: HostRuntime) -> Result<(), Fail> {
         (b"SHELL", b"/bin/b"),
     ];
     let env = settings(rt.alloc(), rows.as_slice())?;
-    let asked = shell_command(rt.alloc(), b"echo a", env.as_slice()).ok_or("a command")?;
+    let Ok(asked) = shell_command(rt.alloc(), b"echo a", env.as_slice()) else {
+        return Err(Fail::from("no command"));
+    };
     assert!(rt; asked.get_program() == "/bin/b");
     let mut words = asked.get_args();
     assert!(rt; words.next() == Some("-c"));

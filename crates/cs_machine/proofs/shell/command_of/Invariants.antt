@@ -1,7 +1,7 @@
 use Rattle.std.proofs.Common.{◌≡◌, ℕ, List, take, Some, None, false, option_map}
 use Rattle.std.specs.Process.{command_program, command_args, command_var, command_dir, clears_env}
 use Rattle.cs_machine.specs.Shell.{with_shell, value_of}
-use Rattle.cs_machine.proofs.shell.shell_command.Given as goal
+use Rattle.cs_machine.proofs.shell.command_of.Given as goal
 
 abbrev pub invariant-loop-name : goal.invariant-loop-name
 invariant-loop-name l =

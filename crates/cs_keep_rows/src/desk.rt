@@ -1,5 +1,5 @@
-//! A keep and a seat in one hand, for tests that read what they leave. No call of it says anything,
-//! so that a test is proved call by call with little in hand.
+//! A keep and a seat in one hand, for tests that read what they leave. Its calls say little, so that a
+//! test is proved call by call with little in hand.
 ghost use Rattle.std.specs.Prelude.{◌≡◌, ◌<◌, IfSome};
 ghost use Rattle.cs_check.specs.Checked.{plan_in};
 
@@ -42,7 +42,9 @@ impl<L: Ledger> Desk<L> {
         }
     }
 
-    pub(crate) fn step(&mut self, event: Event) -> Result<Reply, Refusal> {
+    pub(crate) fn step(&mut self, event: Event) -> Result<Reply, Refusal>
+        ensures { self.new.keep.core.plan ≡ self.old.keep.core.plan }
+    {
         self.keep.step(&mut self.seat, event)
     }
 

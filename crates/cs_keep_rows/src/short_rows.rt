@@ -37,20 +37,29 @@ fn opens_new(alloc: Global, checked: &Checked) -> bool {
     opens::<Brand>(alloc, Blank::new(1), checked)
 }
 
+/// How often memory runs out for an opening.
+fn refused_by_opening<R: Abort>(
+    rt: &R,
+    alloc: Global,
+    checked: &Checked,
+    hoard: &mut Hoard,
+) -> u32 {
+    for refused in 0..MOST {
+        if opens_new(alloc, checked) {
+            return refused;
+        }
+        assert!(rt; hoard.give_back(STEP));
+    }
+    MOST
+}
+
 /// Memory for an opening runs out several times, and then doesn't.
 #[test]
 fn refused_openings(rt: HostRuntime) {
     let checked = checked(&rt, rt.alloc(), &HOURLY);
     let mut hoard = Hoard::new(rt.alloc(), 64).expect(&rt, "memory");
     hoard.take_rest();
-    let mut refused = 0;
-    for _ in 0..MOST {
-        if opens_new(rt.alloc(), &checked) {
-            break;
-        }
-        assert!(rt; hoard.give_back(STEP));
-        refused += 1;
-    }
+    let refused = refused_by_opening(&rt, rt.alloc(), &checked, &mut hoard);
     hoard.free_all();
     assert!(rt; 3 < refused && refused < MOST, "{refused}");
 }

@@ -1,5 +1,5 @@
 -- Events made one after another.
-use Rattle.std.proofs.Common.{◌≡◌, ℕ, ◌+◌, ◌≤◌, true, List, [], ◌∷◌, ◌++◌, refl, sym, ap, ◌∙◌, subst, append_assoc, Result, Ok, Err}
+use Rattle.std.proofs.Common.{◌≡◌, ℕ, ◌+◌, true, List, [], ◌∷◌, ◌++◌, refl, sym, ap, ◌∙◌, subst, append_assoc, Result, Ok, Err}
 use Rattle.std.proofs.lemmas.Bool.{eq-eqb}
 use Rattle.std.specs.Prelude.{None}
 use Rattle.cs_history.specs.Plan.{Plan, IsCivil}
@@ -11,7 +11,7 @@ use Rattle.cs_history.specs.Step.{State, refusal}
 use Rattle.cs_history.specs.declared.event.Event.{Event}
 use Rattle.cs_keep.specs.Keeping.{Keeping, plan_of}
 use Rattle.cs_keep.specs.Seat.{Place}
-use Rattle.cs_keep.specs.Tick.{after_all, choosing, then_from, stepped, stepped_by, IsFullAt, IsFault, IsCutShort, IsMade, Ticks, tick_events}
+use Rattle.cs_keep.specs.Tick.{after_all, choosing, then_from, stepped, stepped_by, IsFullAt, IsFault, IsCutShort, IsMade}
 use Rattle.cs_keep.specs.declared.tick.TickFault.{TickFault}
 use Rattle.cs_keep.specs.declared.tick.TickFault.TheVariants.{ClockBack, HistoryFull, OutOfMemory}
 
@@ -75,13 +75,6 @@ then_made next t v u es r e h =
 
 pub short_made : (next : Plan → State → List Event) (t u : Keeping × Place) (es : List Event) (f : TickFault) → IsCutShort t es f u → IsCutShort t (then_from (plan_of t.0) t.0.core.state es (next (plan_of t.0))) f u
 short_made next t u es f s = short_longer t u es (next (plan_of t.0) (after_all (plan_of t.0) t.0.core.state es)) f s
-
--- a tick by what it made
-pub ticked : (t u : Keeping × Place) (last m : ℕ) (r : Result (Unit {0}) TickFault) → t.0.core.state.now ≡ last → last ≤ m → IsMade t (tick_events m (plan_of t.0) t.0.core.state) r u → Ticks t last m r u
-ticked t u last m (Ok v) a b h = ((a, b), h)
-ticked t u last m (Err ClockBack) a b h = absurd h.why
-ticked t u last m (Err HistoryFull) a b h = ((a, b), h)
-ticked t u last m (Err OutOfMemory) a b h = ((a, b), h)
 
 -- the next minute may come once all has settled
 settled_minute : (p : Plan) (s : State) (m : ℕ) → s.up ≡ true → IsCivil m → m ≡ s.now + 1 → IsCivil s.now → refusal p (after_all p s (choosing Settling p s)) (Minute m) ≡ None

@@ -1,5 +1,5 @@
 -- Choices made one after another, by a loop.
-use Rattle.std.proofs.Common.{◌≡◌, List, [], ◌∷◌, ◌++◌, Some, None, refl, sym, ap, ◌∙◌, subst, append_assoc, append-nil}
+use Rattle.std.proofs.Common.{◌≡◌, List, [], ◌∷◌, ◌++◌, Some, sym, ap, ◌∙◌, subst, append_assoc}
 use Rattle.cs_history.specs.Step.{after}
 use Rattle.cs_history.specs.declared.event.Event.{Event}
 use Rattle.cs_keep.specs.Keeping.{Keeping, plan_of}
@@ -7,8 +7,7 @@ use Rattle.cs_keep.specs.Seat.{Place}
 use Rattle.cs_keep.specs.Tick.{next_of, choosing, stepped, stepped_by, IsCutShort}
 use Rattle.cs_keep.specs.declared.tick.Kind.{Kind}
 use Rattle.cs_keep.specs.declared.tick.TickFault.{TickFault}
-use Rattle.cs_keep.specs.declared.tick.TickFault.TheVariants.{OutOfMemory}
-use Rattle.cs_keep.proofs.Choosing.{chosen_none, chosen_some}
+use Rattle.cs_keep.proofs.Choosing.{chosen_some}
 use Rattle.cs_keep.proofs.Making.{by_append, short_longer, short_behind}
 
 -- the events that are chosen from a keep on
@@ -21,9 +20,6 @@ pub record IsUnderway (k : Kind) (t u : Keeping × Place) : Type 0 where
   pub whole : ahead k t ≡ made ++ ahead k u
   pub left : u ≡ stepped_by t made
 
-pub begun : (k : Kind) (t : Keeping × Place) → IsUnderway k t t
-begun k t = record { made = []; whole = refl; left = refl }
-
 module _ (k : Kind) (t u : Keeping × Place) (s : IsUnderway k t u) where
   pub one_more_made : (e : Event) (w : Keeping × Place) → next_of k (plan_of u.0) u.0.core.state ≡ Some e → w ≡ stepped_by u (e ∷ []) → IsUnderway k t w
   one_more_made e w next is = record {
@@ -33,14 +29,6 @@ module _ (k : Kind) (t u : Keeping × Place) (s : IsUnderway k t u) where
         ∙ ap (λ (x : Keeping × Place). (s.made ++ e ∷ []) ++ ahead k x) (sym is);
     left = is ∙ ap (λ (x : Keeping × Place). stepped x e) s.left ∙ sym (by_append t s.made (e ∷ []));
   }
-
-  pub all_made : next_of k (plan_of u.0) u.0.core.state ≡ None → u ≡ stepped_by t (ahead k t)
-  all_made none =
-      let e : ahead k t ≡ s.made = s.whole ∙ ap (λ (x : List Event). s.made ++ x) (chosen_none k (plan_of u.0) u.0.core.state none) ∙ append-nil s.made in
-      s.left ∙ ap (stepped_by t) (sym e)
-
-  pub no_memory : IsCutShort t (ahead k t) OutOfMemory u
-  no_memory = record { made = s.made; rest = ahead k u; whole = s.whole; left = s.left; why = tt }
 
   pub stopped_at : (e : Event) (f : TickFault) (w : Keeping × Place) → next_of k (plan_of u.0) u.0.core.state ≡ Some e → IsCutShort u (e ∷ []) f w → IsCutShort t (ahead k t) f w
   stopped_at e f w next short =

@@ -24,12 +24,12 @@ failed_by Failed = 1
 
 -- what is told with one answer more
 abbrev pub telling : Telling → Tick → Telling
-telling t tick = record
-  { last = Some tick
-  ; failures = t.failures + failed_by tick
-  ; top = top_by t.top tick
-  ; risen = t.risen + risen_by t.top tick
-  }
+telling t tick = record {
+  last = Some tick;
+  failures = t.failures + failed_by tick;
+  top = top_by t.top tick;
+  risen = t.risen + risen_by t.top tick;
+}
 
 -- a failure past the greatest count is told as the end
 abbrev pub said : Telling → Tick → Tick

@@ -29,9 +29,12 @@ plan_of k = as_plan k.core.plan
 
 -- a keep of this plan, just opened from this start
 abbrev pub opened : Declared → Start → Keeping
-opened d s = record
-    { base = s; journal = []; total = 0
-    ; core = record { plan = d; state = state_of (as_plan d) (From s) } }
+opened d s = record {
+  base = s;
+  journal = [];
+  total = 0;
+  core = record { plan = d; state = state_of (as_plan d) (From s) };
+}
 
 -- the journal is a legal history of the plan, with its replies, and the core is in the state that
 -- this history leaves
@@ -89,9 +92,11 @@ reply_in k e = reply (plan_of k) k.core.state e
 
 -- the core takes the event, which is added to the journal with its reply and to the total
 abbrev pub with_event : Keeping → Event → Keeping
-with_event k e = record k
-    { journal = k.journal ++ (e, reply_in k e) ∷ []; total = k.total + 1
-    ; core = record { plan = k.core.plan; state = after (plan_of k) k.core.state e } }
+with_event k e = record k {
+  journal = k.journal ++ (e, reply_in k e) ∷ [];
+  total = k.total + 1;
+  core = record { plan = k.core.plan; state = after (plan_of k) k.core.state e };
+}
 
 -- nothing is pending, waits or runs, and no pass is open
 pub record IsIdle (s : State) : Type 0 where

@@ -6,10 +6,11 @@ use Rattle.clap.specs.declared.error.kind.ErrorKind.TheVariants.{DisplayHelp, Di
 use Rattle.clap.specs.declared.error.kind.ErrorKind.TheVariants as kind
 use Rattle.cs_call.specs.CommandLine.{Asked, AskedCheck, AskedReplay, Asking, Asks, AsksHelp, AsksVersion, Check, Day, Help as HelpAsking, IsNoCall, Replay, asked_by, asked_in, check_in, help_in, replay_in}
 use Rattle.cs_call.specs.declared.request.CheckWords.{CheckWords}
-use Rattle.cs_call.specs.CommandLine.{AskedJudge, Judge, Make, judge_in}
+use Rattle.cs_call.specs.CommandLine.{AskedJudge, AskedRun, Judge, Make, Run, judge_in, run_in}
 use Rattle.cs_call.specs.declared.request.JudgeWords.{JudgeWords}
 use Rattle.cs_call.specs.declared.request.DayWords.{DayWords}
 use Rattle.cs_call.specs.declared.request.ReplayWords.{ReplayWords}
+use Rattle.cs_call.specs.declared.request.RunWords.{RunWords}
 use Rattle.cs_call.specs.declared.request.Request.{Request}
 use Rattle.cs_call.specs.declared.request.Request.TheVariants as request
 use Rattle.cs_call.specs.declared.request.UsageFault.{UsageFault}
@@ -30,6 +31,9 @@ asked_replay r = record {
 abbrev pub asked_check : CheckWords → AskedCheck
 asked_check c = record { table = c.table.now; declarations = c.declarations.now; certificate = c.certificate.now; anacrontab = option_map (λ path. path.now) c.anacrontab }
 
+abbrev pub asked_run : RunWords → AskedRun
+asked_run r = record { check = asked_check r.check; stamps = r.stamps.now; minutes = r.minutes }
+
 abbrev pub asked_judge : JudgeWords → AskedJudge
 asked_judge j = record {
   table = j.table.now;
@@ -41,6 +45,7 @@ abbrev pub asking : Request → Asking
 asking (request.Day d) = Day (asked d)
 asking (request.Replay r) = Replay (asked_replay r)
 asking (request.Check c) = Check (asked_check c)
+asking (request.Run r) = Run (asked_run r)
 asking (request.Judge j) = Judge (asked_judge j)
 asking (request.Make j) = Make (asked_judge j)
 
@@ -84,6 +89,22 @@ CheckAsked rows (Err (Help text)) = ⊥
 CheckAsked rows (Err Version) = ⊥
 CheckAsked rows (Err (NoCall text)) = check_in rows ≡ None
 CheckAsked rows (Err OutOfMemory) = ⊤
+
+-- the same of a number that may be left out
+abbrev pub MinutesAsked : Option (Option ℕ) → Result (Option ℕ) UsageFault → Type 0
+MinutesAsked written (Ok n) = written ≡ Some n
+MinutesAsked written (Err (Help text)) = ⊥
+MinutesAsked written (Err Version) = ⊥
+MinutesAsked written (Err (NoCall text)) = written ≡ None
+MinutesAsked written (Err OutOfMemory) = ⊤
+
+-- and of the entries that follow `run`
+abbrev pub RunAsked : List Row → Result RunWords UsageFault → Type 0
+RunAsked rows (Ok r) = run_in rows ≡ Some (asked_run r)
+RunAsked rows (Err (Help text)) = ⊥
+RunAsked rows (Err Version) = ⊥
+RunAsked rows (Err (NoCall text)) = run_in rows ≡ None
+RunAsked rows (Err OutOfMemory) = ⊤
 
 -- and of those that follow `judge` or `make`
 abbrev pub JudgeAsked : List Row → Result JudgeWords UsageFault → Type 0

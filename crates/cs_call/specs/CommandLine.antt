@@ -44,9 +44,22 @@ with_terms app = with_rule (with_rule (with_rule app (option_rule (codes "max"))
 abbrev pub replay_app : App
 replay_app = with_terms (with_rule (with_rule (new_app (codes "replay")) (required_rule (codes "TABLE"))) (required_rule (codes "SCRIPT")))
 
+-- `TABLE DECLS CERT`
+abbrev pub with_certificate : App → App
+with_certificate app =
+    with_rule (with_rule (with_rule app (required_rule (codes "TABLE")))
+    (required_rule (codes "DECLS"))) (required_rule (codes "CERT"))
+
 -- `check TABLE DECLS CERT [--anacrontab FILE]`
 abbrev pub check_app : App
-check_app = with_rule (with_rule (with_rule (with_rule (new_app (codes "check")) (required_rule (codes "TABLE"))) (required_rule (codes "DECLS"))) (required_rule (codes "CERT"))) (option_rule (codes "anacrontab"))
+check_app = with_rule (with_certificate (new_app (codes "check"))) (option_rule (codes "anacrontab"))
+
+-- `run TABLE DECLS CERT STAMPS [--anacrontab FILE] [--minutes N]`
+abbrev pub run_app : App
+run_app =
+    with_rule (with_rule (with_rule (with_certificate (new_app (codes "run")))
+    (required_rule (codes "STAMPS"))) (option_rule (codes "anacrontab")))
+    (option_rule (codes "minutes"))
 
 -- `NAME TABLE DECLS [--anacrontab FILE]`
 abbrev pub plan_app : Text → App
@@ -75,13 +88,17 @@ top_app = on_top (λ s. record s { disable_help_subcommand = true; subcommand_re
 abbrev pub judge_and_make_app : App
 judge_and_make_app = with_subcommand (with_subcommand top_app judge_app.top) make_app.top
 
--- and with `check` and `day`
-abbrev pub up_to_day_app : App
-up_to_day_app = with_subcommand (with_subcommand judge_and_make_app check_app.top) day_app.top
+-- and with `check` and `run`
+abbrev pub up_to_run_app : App
+up_to_run_app = with_subcommand (with_subcommand judge_and_make_app check_app.top) run_app.top
 
--- and with `replay` and `help`
+-- and with `day` and `replay`
+abbrev pub up_to_replay_app : App
+up_to_replay_app = with_subcommand (with_subcommand up_to_run_app day_app.top) replay_app.top
+
+-- and with `help`
 abbrev pub cronsafe_app : App
-cronsafe_app = with_subcommand (with_subcommand up_to_day_app replay_app.top) help_app.top
+cronsafe_app = with_subcommand up_to_replay_app help_app.top
 
 -- the number that digits write, where it is below 2 ^ 64
 abbrev pub number_of : Text → Option ℕ
@@ -116,6 +133,13 @@ pub record AskedCheck : Type 0 where
   pub certificate : Text
   pub anacrontab : Option Text
 
+-- what `run` is asked: what `check` is, the path of a folder of stamps, and after how many minutes the
+-- clock stops, if it does
+pub record AskedRun : Type 0 where
+  pub check : AskedCheck
+  pub stamps : Text
+  pub minutes : Option ℕ
+
 -- what `judge` and `make` are asked: the paths of a table, of declarations and of an anacrontab
 pub record AskedJudge : Type 0 where
   pub table : Text
@@ -127,6 +151,7 @@ pub data Asking : Type 0 where
   Day : Asked → Asking
   Replay : AskedReplay → Asking
   Check : AskedCheck → Asking
+  Run : AskedRun → Asking
   Judge : AskedJudge → Asking
   Make : AskedJudge → Asking
   Help : Asking
@@ -193,6 +218,20 @@ check_in rows =
     if are_dashes table declarations anacrontab (Some certificate) then None
     else Some (record { table = table; declarations = declarations; certificate = certificate; anacrontab = anacrontab })
 
+-- the number of an option that may be left out
+abbrev pub minutes_of : Option Text → Option (Option ℕ)
+minutes_of None = Some None
+minutes_of (Some text) = option_map Some (number_of text)
+
+-- what the entries of `run` ask: `--minutes` has to be a number where it is given, and standard input is
+-- named once at most among the paths of `check`
+abbrev pub run_in : List Row → Option AskedRun
+run_in rows =
+    let stamps = value_or [] (codes "STAMPS") rows in
+    option_and_then (λ minutes. option_map
+    (λ check. record { check = check; stamps = stamps; minutes = minutes }) (check_in rows))
+    (minutes_of (first_of (codes "minutes") rows))
+
 -- what the entries of `judge` and of `make` ask: standard input is named once at most
 abbrev pub judge_in : List Row → Option AskedJudge
 judge_in rows =
@@ -206,8 +245,9 @@ judge_in rows =
 abbrev pub is_subcommand : Text → Bool
 is_subcommand name =
     bytes_eq name (codes "day") || (bytes_eq name (codes "replay")
-    || (bytes_eq name (codes "check") || (bytes_eq name (codes "judge")
-    || (bytes_eq name (codes "make") || bytes_eq name (codes "help")))))
+    || (bytes_eq name (codes "check") || (bytes_eq name (codes "run")
+    || (bytes_eq name (codes "judge")
+    || (bytes_eq name (codes "make") || bytes_eq name (codes "help"))))))
 
 -- what the entries of `help` ask: help, but of no other subcommand
 abbrev pub help_in : List Row → Option Asking
@@ -218,6 +258,7 @@ abbrev pub asked_by : Text → List Row → Option Asking
 asked_by name rows =
     if bytes_eq name (codes "replay") then option_map Replay (replay_in rows)
     else if bytes_eq name (codes "check") then option_map Check (check_in rows)
+    else if bytes_eq name (codes "run") then option_map Run (run_in rows)
     else if bytes_eq name (codes "judge") then option_map Judge (judge_in rows)
     else if bytes_eq name (codes "make") then option_map Make (judge_in rows)
     else if bytes_eq name (codes "help") then help_in rows

@@ -3,12 +3,14 @@ ghost use Rattle.std.specs.Prelude.{◌≡◌, map, option_map};
 ghost use Rattle.std.specs.Char.{is_ascii_digit};
 ghost use Rattle.std.specs.List.{list_all};
 ghost use Rattle.clap.specs.Words.{first_of, found_of, rows_of};
-ghost use Rattle.cs_call.specs.CommandLine.{are_dashes, is_dash_in, is_twice_standard, number_of, value_or};
+ghost use Rattle.cs_call.specs.CommandLine.{are_dashes, is_dash_in, is_twice_standard, minutes_of, number_of, value_or};
 ghost use Rattle.cs_call.specs.Asked.{CheckAsked, DayAsked, FaultOf, HelpAsked, NumberAsked, Parses, ReplayAsked, RequestAsked};
-ghost use Rattle.cs_call.specs.Asked.{JudgeAsked};
+ghost use Rattle.cs_call.specs.Asked.{JudgeAsked, MinutesAsked, RunAsked};
 
 use crate::commands::{Subcommand, command};
-use crate::request::{CheckWords, DayWords, JudgeWords, ReplayWords, Request, UsageFault};
+use crate::request::{
+    CheckWords, DayWords, JudgeWords, ReplayWords, Request, RunWords, UsageFault,
+};
 use clap::error::ErrorKind;
 use clap::{ArgMatches, Error};
 use std::alloc::{AllocError, Global};
@@ -191,8 +193,12 @@ fn replay_words<'a>(alloc: Global, given: &ArgMatches<'a>) -> Result<ReplayWords
     })
 }
 
-/// What the entries of `check` ask.
-fn check_words<'a>(alloc: Global, given: &ArgMatches<'a>) -> Result<CheckWords<'a>, UsageFault>
+/// What the entries of `check` ask, and of `run` the same of them.
+fn check_words<'a>(
+    alloc: Global,
+    subcommand: Subcommand,
+    given: &ArgMatches<'a>,
+) -> Result<CheckWords<'a>, UsageFault>
     ensures { CheckAsked (rows_of (found_of given.now)) result }
 {
     let table = text_of(given, "TABLE", "");
@@ -200,13 +206,36 @@ fn check_words<'a>(alloc: Global, given: &ArgMatches<'a>) -> Result<CheckWords<'
     let certificate = text_of(given, "CERT", "");
     let anacrontab = value_of(given, "anacrontab");
     if are_dashes(table, declarations, anacrontab, Some(certificate)) {
-        return Err(UsageFault::NoCall(twice_standard(alloc, Subcommand::Check)?));
+        return Err(UsageFault::NoCall(twice_standard(alloc, subcommand)?));
     }
     Ok(CheckWords {
         table,
         declarations,
         certificate,
         anacrontab,
+    })
+}
+
+/// The number of minutes after which a run is to end, if one is given.
+fn minutes(alloc: Global, text: Option<&str>) -> Result<Option<u64>, UsageFault>
+    ensures { MinutesAsked (minutes_of (option_map (λ text. text.now) text.entry)) result }
+{
+    match text {
+        Some(text) => Ok(Some(number(alloc, Subcommand::Run, "--minutes", text)?)),
+        None => Ok(None),
+    }
+}
+
+/// What the entries of `run` ask.
+fn run_words<'a>(alloc: Global, given: &ArgMatches<'a>) -> Result<RunWords<'a>, UsageFault>
+    ensures { RunAsked (rows_of (found_of given.now)) result }
+{
+    let minutes = minutes(alloc, value_of(given, "minutes"))?;
+    let check = check_words(alloc, Subcommand::Run, given)?;
+    Ok(RunWords {
+        check,
+        stamps: text_of(given, "STAMPS", ""),
+        minutes,
     })
 }
 
@@ -259,7 +288,10 @@ fn asked_by<'a>(
         return Ok(Request::Replay(replay_words(alloc, given)?));
     }
     if name == "check" {
-        return Ok(Request::Check(check_words(alloc, given)?));
+        return Ok(Request::Check(check_words(alloc, Subcommand::Check, given)?));
+    }
+    if name == "run" {
+        return Ok(Request::Run(run_words(alloc, given)?));
     }
     if name == "judge" {
         return Ok(Request::Judge(judge_words(alloc, Subcommand::Judge, given)?));

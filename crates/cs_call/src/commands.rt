@@ -2,14 +2,15 @@
 ghost use Rattle.std.specs.Prelude.{◌≡◌, IfOk, false, is_some};
 ghost use Rattle.clap.specs.Words.{app_of, rule_of, with_rule};
 ghost use Rattle.cs_call.specs.CommandLine.{IsLocal, check_app, cronsafe_app, day_app, help_app, judge_and_make_app};
-ghost use Rattle.cs_call.specs.CommandLine.{judge_app, make_app, plan_app, replay_app, up_to_day_app};
+ghost use Rattle.cs_call.specs.CommandLine.{judge_app, make_app, plan_app, replay_app, run_app};
+ghost use Rattle.cs_call.specs.CommandLine.{up_to_replay_app, up_to_run_app, with_certificate};
 ghost use Rattle.cs_call.specs.CommandLine.{is_subcommand, option_rule, required_rule, with_hours, with_terms, with_words};
 
 use crate::texts::{
     ABOUT, ANACRONTAB_HELP, CERTIFICATE_HELP, CHECK_ABOUT, CHECK_EXAMPLE, COMMAND_HELP, DATE_HELP,
     DAY_ABOUT, DAY_EXAMPLE, DECLARATIONS_HELP, EXAMPLE, FROM_HELP, HELP_ABOUT, JUDGE_ABOUT,
-    JUDGE_EXAMPLE, MAKE_ABOUT, MAKE_EXAMPLE, MAX_HELP, REPLAY_ABOUT, REPLAY_EXAMPLE,
-    REPLAY_MAX_HELP, SCRIPT_HELP, TABLE_HELP, TO_HELP,
+    JUDGE_EXAMPLE, MAKE_ABOUT, MAKE_EXAMPLE, MAX_HELP, MINUTES_HELP, REPLAY_ABOUT, REPLAY_EXAMPLE,
+    REPLAY_MAX_HELP, RUN_ABOUT, RUN_EXAMPLE, SCRIPT_HELP, STAMPS_HELP, TABLE_HELP, TO_HELP,
 };
 use crate::version::version_text;
 use clap::error::ErrorKind;
@@ -105,6 +106,17 @@ fn replay_command<'a>(alloc: Global) -> Result<Command<'a>, AllocError>
     with_terms(alloc, command)
 }
 
+/// A command with `TABLE DECLS CERT`.
+fn with_certificate<'a>(alloc: Global, command: Command<'a>) -> Result<Command<'a>, AllocError>
+    ensures app { IfOk result (λ c. app_of c ≡ with_certificate (app_of command.entry)) }
+    ensures local { IsLocal command.entry → IfOk result IsLocal }
+{
+    command
+        .arg(required_arg(alloc, "TABLE", TABLE_HELP))?
+        .arg(required_arg(alloc, "DECLS", DECLARATIONS_HELP))?
+        .arg(required_arg(alloc, "CERT", CERTIFICATE_HELP))
+}
+
 /// `check TABLE DECLS CERT [--anacrontab FILE]`.
 fn check_command<'a>(alloc: Global) -> Result<Command<'a>, AllocError>
     ensures app { IfOk result (λ c. app_of c ≡ check_app) }
@@ -112,11 +124,26 @@ fn check_command<'a>(alloc: Global) -> Result<Command<'a>, AllocError>
 {
     let command = Command::new(alloc, "check")
         .about(CHECK_ABOUT)
-        .after_help(CHECK_EXAMPLE)
-        .arg(required_arg(alloc, "TABLE", TABLE_HELP))?
-        .arg(required_arg(alloc, "DECLS", DECLARATIONS_HELP))?
-        .arg(required_arg(alloc, "CERT", CERTIFICATE_HELP))?;
+        .after_help(CHECK_EXAMPLE);
+    let command = with_certificate(alloc, command)?;
     with_option(alloc, command, "anacrontab", "FILE", ANACRONTAB_HELP)
+}
+
+/// `run TABLE DECLS CERT STAMPS [--anacrontab FILE] [--minutes N]`.
+fn run_command<'a>(alloc: Global) -> Result<Command<'a>, AllocError>
+    ensures app { IfOk result (λ c. app_of c ≡ run_app) }
+    ensures local { IfOk result IsLocal }
+{
+    let command = Command::new(alloc, "run")
+        .about(RUN_ABOUT)
+        .after_help(RUN_EXAMPLE);
+    let command = with_certificate(alloc, command)?.arg(required_arg(
+        alloc,
+        "STAMPS",
+        STAMPS_HELP,
+    ))?;
+    let command = with_option(alloc, command, "anacrontab", "FILE", ANACRONTAB_HELP)?;
+    with_option(alloc, command, "minutes", "N", MINUTES_HELP)
 }
 
 /// `NAME TABLE DECLS [--anacrontab FILE]`.
@@ -178,22 +205,29 @@ fn judge_and_make<'a>(alloc: Global) -> Result<Command<'a>, AllocError>
         .subcommand(make_command(alloc)?)
 }
 
-/// And with `check` and `day`.
-fn up_to_day<'a>(alloc: Global) -> Result<Command<'a>, AllocError>
-    ensures { IfOk result (λ c. app_of c ≡ up_to_day_app) }
+/// And with `check` and `run`.
+fn up_to_run<'a>(alloc: Global) -> Result<Command<'a>, AllocError>
+    ensures { IfOk result (λ c. app_of c ≡ up_to_run_app) }
 {
     judge_and_make(alloc)?
         .subcommand(check_command(alloc)?)?
-        .subcommand(day_command(alloc)?)
+        .subcommand(run_command(alloc)?)
+}
+
+/// And with `day` and `replay`.
+fn up_to_replay<'a>(alloc: Global) -> Result<Command<'a>, AllocError>
+    ensures { IfOk result (λ c. app_of c ≡ up_to_replay_app) }
+{
+    up_to_run(alloc)?
+        .subcommand(day_command(alloc)?)?
+        .subcommand(replay_command(alloc)?)
 }
 
 /// The command line of the program.
 pub(crate) fn command<'a>(alloc: Global) -> Result<Command<'a>, AllocError>
     ensures { IfOk result (λ c. app_of c ≡ cronsafe_app) }
 {
-    up_to_day(alloc)?
-        .subcommand(replay_command(alloc)?)?
-        .subcommand(help_command(alloc)?)
+    up_to_replay(alloc)?.subcommand(help_command(alloc)?)
 }
 
 /// A subcommand by its name.
@@ -202,6 +236,7 @@ pub(crate) enum Subcommand {
     Day,
     Replay,
     Check,
+    Run,
     Judge,
     Make,
     Help,
@@ -216,6 +251,7 @@ impl Subcommand {
             "day" => Some(Subcommand::Day),
             "replay" => Some(Subcommand::Replay),
             "check" => Some(Subcommand::Check),
+            "run" => Some(Subcommand::Run),
             "judge" => Some(Subcommand::Judge),
             "make" => Some(Subcommand::Make),
             "help" => Some(Subcommand::Help),
@@ -229,6 +265,7 @@ impl Subcommand {
             Subcommand::Day => day_command(alloc)?.bin_name("cronsafe day"),
             Subcommand::Replay => replay_command(alloc)?.bin_name("cronsafe replay"),
             Subcommand::Check => check_command(alloc)?.bin_name("cronsafe check"),
+            Subcommand::Run => run_command(alloc)?.bin_name("cronsafe run"),
             Subcommand::Judge => judge_command(alloc)?.bin_name("cronsafe judge"),
             Subcommand::Make => make_command(alloc)?.bin_name("cronsafe make"),
             Subcommand::Help => help_command(alloc)?.bin_name("cronsafe help"),

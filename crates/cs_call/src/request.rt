@@ -49,6 +49,17 @@ pub struct CheckWords<'a> {
     pub anacrontab: Option<&'a str>,
 }
 
+/// What `run` is asked.
+#[derive(Clone, Copy, Debug)]
+pub struct RunWords<'a> {
+    /// The paths that `check` is asked with.
+    pub check: CheckWords<'a>,
+    /// The path of a folder of stamps.
+    pub stamps: &'a str,
+    /// After how many minutes the clock stops; never where there is no number.
+    pub minutes: Option<u64>,
+}
+
 /// What `judge` and `make` are asked.
 #[derive(Clone, Copy, Debug)]
 pub struct JudgeWords<'a> {
@@ -69,6 +80,8 @@ pub enum Request<'a> {
     Replay(ReplayWords<'a>),
     /// The check of a certificate.
     Check(CheckWords<'a>),
+    /// A run of checked tables on the machine's clock.
+    Run(RunWords<'a>),
     /// Whether a plan is safe, or a history that breaks it.
     Judge(JudgeWords<'a>),
     /// A certificate of a plan, or a history that breaks it.

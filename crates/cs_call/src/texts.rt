@@ -2,7 +2,7 @@
 
 pub(crate) const ABOUT: &str =
     "Tells whether the jobs of crontab(5) and anacrontab(5) tables keep out of each other's way whatever
-happens, shows when they may run, and what became of them.";
+happens, runs them so, shows when they may run, and what became of them.";
 
 pub(crate) const EXAMPLE: &str =
     "Example, a table that is to go live, with its jobs' longest times, weights and groups declared:
@@ -10,8 +10,8 @@ pub(crate) const EXAMPLE: &str =
 
 'cronsafe judge --help', or another subcommand's, tells of each word.
 Status: 0 done or safe; 1 unsafe, or an event of a script or a certificate was refused; 2 unknown;
-3 bad input; 4 no call; 5 no memory; 6 a file that can't be read or standard output that can't be
-written.";
+3 bad input; 4 no call; 5 no memory; 6 a file that can't be read, standard output that can't be
+written, or a clock that can't be followed.";
 
 pub(crate) const DAY_ABOUT: &str =
     "Shows when the jobs of a crontab are due on a date, and which minutes each may occupy.";
@@ -53,6 +53,23 @@ once (two that both hold the lock shared excepted), lets running jobs weigh more
 or lets a due minute of a skip job be skipped. Refused means that this certificate doesn't prove it.
 The status is 1 where the certificate is refused.";
 
+pub(crate) const RUN_ABOUT: &str =
+    "Runs the declared jobs on the machine's clock, where a certificate proves that it is safe.";
+
+pub(crate) const RUN_EXAMPLE: &str =
+    "Example, with the stamps of the anacron jobs in a folder that is there:
+  cronsafe run night.cron night.json night.cert /var/lib/cronsafe --anacrontab weekly
+
+It checks the certificate as 'cronsafe check' does, and where that is refused it prints why and runs
+nothing. Else it runs until it is killed: it starts each job at its due minute by the job's shell
+(what is due in the minute in which it comes up isn't started), makes those wait that wait for a
+lock, catches up anacron jobs, and prints a line for each thing that happens: 'started', 'waiting',
+'skipped', 'ended' with the status, 'not started', 'overrun', 'outage', 'stamp not written' and
+'stamp not read'. A job that runs when it is killed goes on by itself.
+The status is 0 where --minutes have passed or the last minute of 9999 has; 1 where the certificate
+is refused or the history is full; 6 where STAMPS is no folder, or the clock goes back or can't be
+read.";
+
 pub(crate) const JUDGE_ABOUT: &str =
     "Tells whether declared jobs keep out of each other's way, or shows how they may not.";
 
@@ -93,6 +110,12 @@ pub(crate) const REPLAY_MAX_HELP: &str =
 pub(crate) const DECLARATIONS_HELP: &str = "Path of declarations, or - for standard input";
 
 pub(crate) const CERTIFICATE_HELP: &str = "Path of a certificate, or - for standard input";
+
+pub(crate) const STAMPS_HELP: &str =
+    "Path of a folder, with a file for each anacron job that has run, as anacron(8) keeps them";
+
+pub(crate) const MINUTES_HELP: &str =
+    "Ends so many minutes after the first one [default: goes on until it is killed]";
 
 pub(crate) const FROM_HELP: &str =
     "First minute of the day at which an anacron job may be started [default: 0]";

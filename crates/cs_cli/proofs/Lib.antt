@@ -1,3 +1,4 @@
 pub mod TextLemmas
 pub mod ReplayLemmas
 pub mod TroubleLemmas
+pub mod CheckLemmas

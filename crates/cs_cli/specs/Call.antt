@@ -1,13 +1,16 @@
 -- What is answered to the words of a call.
 use Rattle.std.specs.Prelude.{◌≡◌, ◌⊎◌, ℕ, Bool, List, [], Option}
 use Rattle.clap.specs.Words.{Text}
-use Rattle.cs_call.specs.CommandLine.{Asking, Check, Day, Help, Judge, Make, Replay, Asks, AsksHelp, AsksVersion, IsNoCall}
+use Rattle.cs_call.specs.CommandLine.{Asking, Check, Day, Help, Judge, Make, Replay, Run, Asks}
+use Rattle.cs_call.specs.CommandLine.{AsksHelp, AsksVersion, IsNoCall}
 use Rattle.cs_call.specs.Version.{version_text}
+use Rattle.cs_cli.specs.Answer.{AnswersRun, EndsAs}
 use Rattle.cs_cli.specs.DayAnswer.{AnswersDay}
 use Rattle.cs_cli.specs.Response.{Ending, done}
 use Rattle.cs_cli.specs.Replayed.{AnswersReplay}
 use Rattle.cs_cli.specs.Check.{AnswersCheck}
 use Rattle.cs_cli.specs.Judge.{AnswersJudge}
+use Rattle.cs_cli.specs.declared.answer.Answer.{Answer}
 use Rattle.cs_judge.specs.declared.answers.Wanted.TheVariants.{Certificate, Verdict}
 
 -- help is shown, on standard output alone
@@ -15,18 +18,27 @@ abbrev pub ShowsHelp : Bool → Bool → Ending → Type 0
 ShowsHelp before failed ending = (failed ≡ before) × (ending.status ≡ 0) × (ending.err ≡ [])
 
 -- what is answered to a subcommand
-abbrev pub AnswersAsked : Asking → (List ℕ → Option (List ℕ)) → Bool → Bool → Ending → Type 0
-AnswersAsked (Day a) files before failed ending = AnswersDay a files before failed ending
-AnswersAsked (Replay a) files before failed ending = AnswersReplay a files before failed ending
-AnswersAsked (Check a) files before failed ending = AnswersCheck a files before failed ending
-AnswersAsked (Judge a) files before failed ending = AnswersJudge Verdict a files before failed ending
-AnswersAsked (Make a) files before failed ending = AnswersJudge Certificate a files before failed ending
-AnswersAsked Help files before failed ending = ShowsHelp before failed ending
+abbrev pub AnswersAsked : Asking → (List ℕ → Option (List ℕ)) → Bool → Bool → Answer → Type 0
+AnswersAsked (Day a) files before failed = EndsAs (AnswersDay a files before failed)
+AnswersAsked (Replay a) files before failed = EndsAs (AnswersReplay a files before failed)
+AnswersAsked (Check a) files before failed = EndsAs (AnswersCheck a files before failed)
+AnswersAsked (Run a) files before failed = AnswersRun a files before failed
+AnswersAsked (Judge a) files before failed = EndsAs (AnswersJudge Verdict a files before failed)
+AnswersAsked (Make a) files before failed = EndsAs (AnswersJudge Certificate a files before failed)
+AnswersAsked Help files before failed = EndsAs (ShowsHelp before failed)
+
+-- the version is shown
+abbrev pub ShowsVersion : Bool → Bool → Ending → Type 0
+ShowsVersion before failed ending = (failed ≡ before) × (ending ≡ done version_text [])
+
+-- that the words are no call is told on standard error
+abbrev pub IsRejected : Bool → Bool → Ending → Type 0
+IsRejected before failed ending = (failed ≡ before) × (ending.status ≡ 4) × (ending.out ≡ [])
 
 -- what is answered to words: what they ask, help, the version, or that they are no call
-abbrev pub Answers : List Text → (List ℕ → Option (List ℕ)) → Bool → Bool → Ending → Type 0
-Answers words files before failed ending =
-    ((a : Asking) × Asks words a × AnswersAsked a files before failed ending)
-    ⊎ ((AsksHelp words × ShowsHelp before failed ending)
-    ⊎ ((AsksVersion words × (failed ≡ before) × (ending ≡ done version_text []))
-    ⊎ (IsNoCall words × (failed ≡ before) × (ending.status ≡ 4) × (ending.out ≡ []))))
+abbrev pub Answers : List Text → (List ℕ → Option (List ℕ)) → Bool → Bool → Answer → Type 0
+Answers words files before failed answer =
+    ((a : Asking) × Asks words a × AnswersAsked a files before failed answer)
+    ⊎ ((AsksHelp words × EndsAs (ShowsHelp before failed) answer)
+    ⊎ ((AsksVersion words × EndsAs (ShowsVersion before failed) answer)
+    ⊎ (IsNoCall words × EndsAs (IsRejected before failed) answer)))

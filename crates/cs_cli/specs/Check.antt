@@ -1,6 +1,6 @@
 -- What is answered to `check`: whether a certificate is accepted for the tables as they are
 -- declared, or the first rule that isn't met.
-use Rattle.std.specs.Prelude.{◌≡◌, ℕ, Bool, List, ◌∷◌, ◌++◌, [], Option, Some, None, Result, Ok}
+use Rattle.std.specs.Prelude.{◌≡◌, ◌≢◌, ℕ, Bool, List, ◌∷◌, ◌++◌, [], Option, Some, None, Result, Ok}
 use Rattle.std.specs.Prelude.{codes}
 use Rattle.std.specs.Result.{result_map_both}
 use Rattle.clap.specs.Words.{Text}
@@ -13,6 +13,8 @@ use Rattle.cs_cert.specs.Content.{Content}
 use Rattle.cs_cert.specs.Denoted.{certificate_by}
 use Rattle.cs_cert.specs.declared.certificate.Certificate.{Certificate}
 use Rattle.cs_check.specs.Case.{fault_of}
+use Rattle.cs_check.specs.Checked.{certificate_in, plan_in}
+use Rattle.cs_check.specs.declared.checked.Checked.{Checked}
 use Rattle.cs_refused.specs.Refused.{fault_text}
 use Rattle.cs_call.specs.CommandLine.{AskedCheck}
 use Rattle.cs_cli.specs.Response.{Ending, done}
@@ -23,9 +25,13 @@ use Rattle.cs_cli.specs.Trouble.{InCertificate, Trouble}
 abbrev pub said : {E : Type 0} → Result Certificate E → Result Content E
 said read = result_map_both content (λ e. e) read
 
+-- that no rule is broken
+unfoldable pub safe_text : List ℕ
+safe_text = codes "safe\n"
+
 -- `safe`, or the line of the first rule that isn't met
 unfoldable pub verdict_text : Declared → Option Fault → List ℕ
-verdict_text plan None = codes "safe\n"
+verdict_text plan None = safe_text
 verdict_text plan (Some fault) = fault_text plan fault ++ 10 ∷ []
 
 -- what is answered of a certificate by its first fault: 0 where it is safe, 1 where it is refused
@@ -44,6 +50,28 @@ abbrev pub Judges : (List ℕ → Option (List ℕ)) → AskedCheck → Table ×
 Judges files a tables = AndThen (ReadsDeclared files tables a.declarations) (λ plan.
     AndThen (ReadsCertificate files a.certificate) (λ c.
     Gives (Ok (verdict plan (fault_of plan c)))))
+
+-- the answer alone, without the plan and the certificate that were accepted
+abbrev pub answer_of : {E : Type 0} → Result (Ending × Option Checked) E → Result Ending E
+answer_of judged = result_map_both (λ r. r.0) (λ e. e) judged
+
+-- `safe` is answered exactly where a plan with its certificate is handed on
+abbrev pub IsSafeWith : Ending → Option Checked → Type 0
+IsSafeWith ending (Some checked) = ending ≡ done safe_text ending.err
+IsSafeWith ending None = ending.status ≢ 0
+
+-- the declarations and the certificate are read, and denote what was accepted
+pub record AreRead (files : List ℕ → Option (List ℕ)) (a : AskedCheck) (tables : Table × JobTable)
+    (failed : Bool) (checked : Checked) : Type 0 where
+  pub plan : ReadsDeclared files tables a.declarations failed failed (Ok (plan_in checked))
+  pub certificate : ReadsCertificate files a.certificate failed failed (Ok (certificate_in checked))
+
+-- the files, each read in its own turn, denote the plan and the certificate that were accepted
+pub record IsProofOf (files : List ℕ → Option (List ℕ)) (a : AskedCheck) (failed : Bool)
+    (checked : Checked) : Type 0 where
+  pub tables : Table × JobTable
+  pub read : ReadsTables files a.table a.anacrontab failed failed (Ok tables)
+  pub rest : AreRead files a tables failed checked
 
 -- what is answered to `check`: the verdict, or the first fault of a file, and no file is read
 -- before its own turn

@@ -6,6 +6,6 @@ pub mod Reads
 pub mod DayAnswer
 pub mod Replayed
 pub mod Check
+pub mod Answer
 pub mod Judge
 pub mod Call
-pub mod Run

@@ -1,12 +1,15 @@
 //! The subcommand `check`.
-ghost use Rattle.std.specs.Prelude.{◌≡◌, ◌≢◌, IfErr, IfOk, None, OnOk, Some, false, true};
+ghost use Rattle.std.specs.Prelude.{◌≡◌, ◌≢◌, [], IfErr, IfOk, IfSome, None, OnOk, Some, false, true};
+ghost use Rattle.cs_check.specs.Checked.{certificate_in, plan_in};
 ghost use Rattle.cs_cert.specs.Certificate.{content};
 ghost use Rattle.cs_check.specs.Case.{fault_of};
 ghost use Rattle.cs_refused.specs.Told.{told};
 ghost use Rattle.cs_decl.specs.Plan.{Declared};
 ghost use Rattle.cs_call.specs.Asked.{asked_check};
 ghost use Rattle.cs_io.specs.Files.{IsFresh};
-ghost use Rattle.cs_cli.specs.Check.{AnswersCheck, Judges, ReadsCertificate, said, verdict};
+ghost use Rattle.cs_cli.specs.Check.{AnswersCheck, AreRead, IsProofOf, IsSafeWith, Judges};
+ghost use Rattle.cs_cli.specs.Check.{ReadsCertificate, answer_of, safe_text, said, verdict};
+ghost use Rattle.cs_cli.specs.Response.{done};
 ghost use Rattle.cs_cli.specs.Reads.{MeansIt};
 ghost use Rattle.cs_cli.specs.Trouble.{CameTo, InCertificate, IsHonestOf};
 ghost use Rattle.cs_cert.specs.Denoted.{certificate_by};
@@ -17,7 +20,7 @@ use crate::response::Response;
 use cs_anacrontab::Anacrontab;
 use cs_call::CheckWords;
 use cs_cert::{Certificate, MAX_CERTIFICATE, read_certificate};
-use cs_check::{CheckError, CheckFault, check_parallel};
+use cs_check::{CheckError, CheckFault, Checked, check_parallel};
 use cs_civil::Bytes;
 use cs_crontab::Crontab;
 use cs_decl::Plan;
@@ -56,9 +59,10 @@ fn certificate_from<'a, I: Inputs>(
 }
 
 /// What is answered where no rule is broken.
-#[tactic(auto, unfolding(crate::specs::Check::verdict_text))]
+#[tactic(auto, unfolding(crate::specs::Check::verdict_text, crate::specs::Check::safe_text))]
 fn acceptance(alloc: Global) -> Result<Response, AllocError>
-    ensures { IfOk result (λ answer. (plan : Declared) → answer ≡ verdict plan None) }
+    ensures verdict { IfOk result (λ answer. (plan : Declared) → answer ≡ verdict plan None) }
+    ensures safe { IfOk result (λ answer. answer ≡ done safe_text []) }
 {
     let text = Vec::from_slice(alloc, b"safe\n".as_slice())?;
     Ok(Response::done(text, Bytes::new(alloc)))
@@ -74,18 +78,24 @@ fn refusal(alloc: Global, plan: &Plan, fault: &CheckFault) -> Result<Response, A
     Ok(Response::refused(text, Bytes::new(alloc)))
 }
 
-/// What the checker says of a certificate, by as many threads as the machine has processors.
+/// What the checker says of a certificate, by as many threads as the machine has processors, and the
+/// two where it has accepted them.
+#[tactic(auto, using(crate::proofs::CheckLemmas::is_safe))]
 fn judge<R: Threads + Sync>(
     rt: &R,
     alloc: Global,
     plan: Plan,
     certificate: Certificate,
-) -> Result<Response, AllocError>
-    ensures { IfOk result (λ answer. answer ≡ verdict plan (fault_of plan (content certificate))) }
+) -> Result<(Response, Option<Checked>), AllocError>
+    ensures answer { IfOk result
+        (λ r. r.0 ≡ verdict plan (fault_of plan (content certificate))) }
+    ensures same { IfOk result (λ r. IfSome r.1
+        (λ checked. (plan_in checked ≡ plan) × (certificate_in checked ≡ content certificate))) }
+    ensures safe { IfOk result (λ r. IsSafeWith r.0 r.1) }
 {
     match check_parallel(rt, alloc, &plan, certificate) {
-        Ok(_) => acceptance(alloc),
-        Err(CheckError::Fault(fault)) => refusal(alloc, &plan, &fault),
+        Ok(checked) => Ok((acceptance(alloc)?, Some(checked))),
+        Err(CheckError::Fault(fault)) => Ok((refusal(alloc, &plan, &fault)?, None)),
         Err(CheckError::OutOfMemory) => Err(AllocError),
     }
 }
@@ -98,16 +108,49 @@ fn judged<'a, R: Threads + Sync, I: Inputs>(
     request: &CheckWords<'a>,
     table: Crontab,
     jobs: Anacrontab,
-) -> Result<Response, Fault<'a>>
+) -> Result<(Response, Option<Checked>), Fault<'a>>
     ensures step { IsFresh (I.whole inputs.old) (I.left inputs.old)
         → CameTo (Judges (I.whole inputs.old) (asked_check request.now) (table, jobs)
-        (I.failed inputs.old) (I.failed inputs.new)) result }
+        (I.failed inputs.old) (I.failed inputs.new)) (answer_of result) }
+    ensures read { IsFresh (I.whole inputs.old) (I.left inputs.old)
+        → IfOk result (λ r. IfSome r.1 (AreRead (I.whole inputs.old) (asked_check request.now)
+        (table, jobs) (I.failed inputs.old))) }
+    ensures safe { IfOk result (λ r. IsSafeWith r.0 r.1) }
     ensures status { IfErr result (IsHonestOf (I.failed inputs.new)) }
-    ensures done { IfOk result (λ r. r.status ≢ 6) }
+    ensures done { IfOk result (λ r. r.0.status ≢ 6) }
 {
     let plan = declared_plan_from(alloc, inputs, request.declarations, table, jobs)?;
     let certificate = certificate_from(alloc, inputs, request.certificate)?;
     Ok(judge(rt, alloc, plan, certificate)?)
+}
+
+/// The answer to `check TABLE DECLS CERT [--anacrontab FILE]`, and the plan with its certificate
+/// where it is `safe`.
+#[tactic(auto, using(crate::proofs::CheckLemmas::safe_behind, crate::proofs::CheckLemmas::fault_fails))]
+pub(crate) fn checked_answer<R: Threads + Sync, I: Inputs>(
+    rt: &R,
+    alloc: Global,
+    request: &CheckWords<'_>,
+    inputs: &mut I,
+) -> Result<(Response, Option<Checked>), AllocError>
+    ensures value { IsFresh (I.whole inputs.old) (I.left inputs.old)
+        → IfOk result (λ r. AnswersCheck (asked_check request.now) (I.whole inputs.old)
+        (I.failed inputs.old) (I.failed inputs.new) r.0) }
+    ensures proof { IsFresh (I.whole inputs.old) (I.left inputs.old)
+        → IfOk result (λ r. IfSome r.1
+        (IsProofOf (I.whole inputs.old) (asked_check request.now) (I.failed inputs.old))) }
+    ensures safe { IfOk result (λ r. IsSafeWith r.0 r.1) }
+    ensures status { IfOk result (λ r. r.0.status ≡ 6 → I.failed inputs.new ≡ true) }
+{
+    let (table, jobs) = match read_tables(alloc, inputs, request.table, request.anacrontab) {
+        Ok(tables) => tables,
+        Err(fault) => return Ok((fault.response(alloc, b"".as_slice())?, None)),
+    };
+    let warnings = warnings(alloc, &table, &jobs)?;
+    match judged(rt, alloc, inputs, request, table, jobs) {
+        Ok((answer, checked)) => Ok((answer.behind(warnings), checked)),
+        Err(fault) => Ok((fault.response(alloc, warnings.as_slice())?, None)),
+    }
 }
 
 /// The answer to `check TABLE DECLS CERT [--anacrontab FILE]`.
@@ -122,13 +165,6 @@ pub(crate) fn check_certificate<R: Threads + Sync, I: Inputs>(
         (I.failed inputs.old) (I.failed inputs.new)) }
     ensures status { IfOk result (λ r. r.status ≡ 6 → I.failed inputs.new ≡ true) }
 {
-    let (table, jobs) = match read_tables(alloc, inputs, request.table, request.anacrontab) {
-        Ok(tables) => tables,
-        Err(fault) => return fault.response(alloc, b"".as_slice()),
-    };
-    let warnings = warnings(alloc, &table, &jobs)?;
-    match judged(rt, alloc, inputs, request, table, jobs) {
-        Ok(answer) => Ok(answer.behind(warnings)),
-        Err(fault) => fault.response(alloc, warnings.as_slice()),
-    }
+    let (answer, _checked) = checked_answer(rt, alloc, request, inputs)?;
+    Ok(answer)
 }

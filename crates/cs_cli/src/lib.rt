@@ -1,18 +1,19 @@
-//! The program `cronsafe`, as a function of its words, its inputs and two outputs.
+//! What is answered to the words of a call of `cronsafe`, from its inputs.
 #![tactic(auto)]
 
+mod answer;
 mod check;
 mod day;
 mod day_text;
 mod fault;
 mod judge;
-mod program;
+mod order;
 mod reads;
 mod replay;
 mod replay_text;
+mod responding;
 mod response;
-mod run;
 
-pub use program::run_program;
+pub use answer::{Answer, Order};
+pub use responding::respond;
 pub use response::{Response, Status};
-pub use run::{respond, run_words};

@@ -80,6 +80,13 @@ impl Response {
         self.told.as_slice()
     }
 
+    /// What is written to standard error, alone.
+    pub(crate) fn into_err(self) -> Bytes
+        ensures { result ≡ self.err }
+    {
+        self.told
+    }
+
     /// What is asked was done, and this is to be warned of.
     pub(crate) fn done(text: Vec<u8>, warnings: Bytes) -> Response
         ensures { result ≡ done text.items warnings }

@@ -2,6 +2,7 @@
 ghost use Rattle.std.specs.Prelude.{◌≡◌, ℕ, List, Option, None, Bool, true, false, OnErr, OnOk};
 ghost use Rattle.std.specs.Io.KnownBytes.{Appends};
 
+use std::io;
 use std::io::Write;
 
 /// An output that did not take all of a text.
@@ -63,5 +64,23 @@ impl<W: Write> Output for Printer<W> {
                 Err(CannotWrite)
             }
         }
+    }
+}
+
+/// Each whole text is flushed, so that a log's lines can be read as they come.
+impl<W: Write> Write for Printer<W> {
+    ghost contents = { λ printer. W.contents printer.writer };
+
+    fn write(&mut self, buf: &[u8]) -> io::Result<usize> {
+        self.writer.write(buf)
+    }
+
+    fn flush(&mut self) -> io::Result<()> {
+        self.writer.flush()
+    }
+
+    fn write_all(&mut self, buf: &[u8]) -> io::Result<()> {
+        self.writer.write_all(buf)?;
+        self.writer.flush()
     }
 }

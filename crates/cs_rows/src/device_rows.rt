@@ -1,9 +1,11 @@
 //! Files and outputs that fail.
 use crate::files::{File, Files, readable};
-use crate::runs::{run, run_on};
-use cs_cli::run_words;
+use crate::runs::{NoRunner, run, run_on};
 use cs_io::Printer;
+use cs_program::run_words;
 use std::io::Cursor;
+use std::rt::{Clock, Files as HostFiles};
+use std::sync::Wait;
 use std::test::Fail;
 use std::thread::Threads;
 
@@ -83,7 +85,7 @@ fn no_words(rt: HostRuntime) {
 
 /// Runs `cronsafe day jobs 2024-09-13 60` with room for so many bytes on the two outputs, and
 /// gives the status, and how much each took.
-fn run_with_room<R: Threads + Sync + AllocGlobal>(
+fn run_with_room<R: Threads + Wait + Sync + HostFiles + Clock + AllocGlobal>(
     rt: &R,
     table: &[u8],
     out_room: usize,
@@ -102,6 +104,7 @@ fn run_with_room<R: Threads + Sync + AllocGlobal>(
         &mut inputs,
         &mut out,
         &mut err,
+        || NoRunner,
     );
     (
         status,

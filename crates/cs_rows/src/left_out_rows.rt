@@ -1,11 +1,13 @@
 //! Certificates of which one part after the other is left out.
 use crate::files::readable;
 use crate::runs::{Ran, run};
+use std::rt::{Clock, Files as HostFiles};
+use std::sync::Wait;
 use std::test::Fail;
 use std::thread::Threads;
 
 /// Runs `cronsafe check table terms cert` on a crontab, declarations and a certificate.
-fn checked<R: Threads + Sync + AllocGlobal>(
+fn checked<R: Threads + Wait + Sync + HostFiles + Clock + AllocGlobal>(
     rt: &R,
     table: &[u8],
     terms: &str,

@@ -1,10 +1,13 @@
 //! Refused growths of memory.
 use crate::files::{Files, readable};
-use cs_cli::run_words;
+use crate::runs::NoRunner;
 use cs_io::Printer;
+use cs_program::run_words;
 use short_memory::Hoard;
 use std::io::Cursor;
 use std::process::Abort;
+use std::rt::{Clock, Files as HostFiles};
+use std::sync::Wait;
 use std::test::Fail;
 use std::thread::Threads;
 
@@ -17,7 +20,7 @@ const CERTIFICATE: &str =
     \"pairs\":[{\"of\":[0,0],\"tree\":{\"list\":[[0,0,0],[1,0,0]]}}],\"reach\":[],\"version\":1}";
 
 /// The status of a call, and how much it wrote to the two outputs.
-fn run_in<R: Threads + Sync + AllocGlobal>(
+fn run_in<R: Threads + Wait + Sync + HostFiles + Clock + AllocGlobal>(
     rt: &R,
     words: &[&str],
     out: &mut [u8],
@@ -41,7 +44,16 @@ fn run_in<R: Threads + Sync + AllocGlobal>(
     let mut inputs = Files::new(files.as_slice(), 4_096);
     let mut out = Printer::new(Cursor::new(out));
     let mut err = Printer::new(Cursor::new(err));
-    let status = run_words(rt, rt.alloc(), words, &mut inputs, &mut out, &mut err);
+    let alloc = rt.alloc();
+    let status = run_words(
+        rt,
+        alloc,
+        words,
+        &mut inputs,
+        &mut out,
+        &mut err,
+        || NoRunner,
+    );
     (
         status,
         out.into_writer().position(),
@@ -66,7 +78,7 @@ fn is_unknown(words: &[&str], shown: u64, told: u64, out: &[u8]) -> bool {
 /// Runs a call again and again, with hardly any memory at first and `step` bytes more each time.
 /// Each run has to say that memory ran out and nothing else, until one has another answer: this
 /// one, and how often memory ran out before.
-fn run_starved<R: Abort + AllocGlobal + Threads + Sync>(
+fn run_starved<R: Abort + Threads + Wait + Sync + HostFiles + Clock + AllocGlobal>(
     rt: &R,
     words: &[&str],
     step: usize,
@@ -184,8 +196,8 @@ fn refused_growths_of_help(rt: HostRuntime) -> Result<(), Fail> {
 }
 
 /// A call, how many bytes more it has each time, and the answer: a safe plan, a refused one, a
-/// certificate with a fault, and a script.
-const STEPPED: [(&str, usize, u8, &[u8], &[u8]); 4] = [
+/// certificate with a fault, a run without a folder, and a script.
+const STEPPED: [(&str, usize, u8, &[u8], &[u8]); 5] = [
     ("cronsafe check nightly terms cert", 64, 0, b"safe\n", b""),
     (
         "cronsafe check nightly tight cert",
@@ -200,6 +212,13 @@ const STEPPED: [(&str, usize, u8, &[u8], &[u8]); 4] = [
         3,
         b"",
         b"cronsafe: certificate: 2 NotJson\n",
+    ),
+    (
+        "cronsafe run nightly terms cert /absent/folder",
+        64,
+        6,
+        b"",
+        b"cronsafe: no folder /absent/folder\n",
     ),
     (
         "cronsafe replay nightly script --declarations terms",

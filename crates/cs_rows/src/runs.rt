@@ -1,9 +1,27 @@
 //! A call of the program, and what it gave.
 use crate::files::{File, Files, readable};
-use cs_cli::run_words;
+use cs_civil::Bytes;
+use cs_device::{Outcome, Runner};
 use cs_io::{Inputs, Printer};
+use cs_program::run_words;
+use std::rt::{Clock, Files as HostFiles};
+use std::sync::Wait;
 use std::test::Fail;
 use std::thread::Threads;
+
+/// Runs nothing: no call of these tests comes to a command.
+#[derive(Drop)]
+pub(crate) struct NoRunner;
+
+impl Runner for NoRunner {
+    ghost use Rattle.std.specs.Prelude.{zero};
+
+    ghost failures = { λ r. zero };
+
+    fn run(&mut self, _command: &[u8], _input: Option<&[u8]>, _env: &[(Bytes, Bytes)]) -> Outcome {
+        Outcome::Ended
+    }
+}
 
 /// The status that a call ended with, and what it wrote.
 #[derive(Drop)]
@@ -21,7 +39,7 @@ impl Ran {
 }
 
 /// Runs the program on words.
-pub(crate) fn run_on<R: Threads + Sync + AllocGlobal, I: Inputs>(
+pub(crate) fn run_on<R: Threads + Wait + Sync + HostFiles + Clock + AllocGlobal, I: Inputs>(
     rt: &R,
     words: &[&str],
     inputs: &mut I,
@@ -29,7 +47,7 @@ pub(crate) fn run_on<R: Threads + Sync + AllocGlobal, I: Inputs>(
     let alloc = rt.alloc();
     let mut out = Printer::new(Vec::new(alloc));
     let mut err = Printer::new(Vec::new(alloc));
-    let status = run_words(rt, alloc, words, inputs, &mut out, &mut err);
+    let status = run_words(rt, alloc, words, inputs, &mut out, &mut err, || NoRunner);
     Ran {
         status,
         out: out.into_writer(),
@@ -38,7 +56,7 @@ pub(crate) fn run_on<R: Threads + Sync + AllocGlobal, I: Inputs>(
 }
 
 /// Runs the program on the words of a command line, parted by single blanks, over files.
-pub(crate) fn run<R: Threads + Sync + AllocGlobal>(
+pub(crate) fn run<R: Threads + Wait + Sync + HostFiles + Clock + AllocGlobal>(
     rt: &R,
     line: &str,
     files: &[File],
@@ -49,7 +67,7 @@ pub(crate) fn run<R: Threads + Sync + AllocGlobal>(
 }
 
 /// Runs `cronsafe day - DATE MAX` on the text of a crontab.
-pub(crate) fn run_day<R: Threads + Sync + AllocGlobal>(
+pub(crate) fn run_day<R: Threads + Wait + Sync + HostFiles + Clock + AllocGlobal>(
     rt: &R,
     table: &[u8],
     date: &str,

@@ -8,6 +8,7 @@ use Rattle.cs_cli.specs.Reads.{ReadsDeclared}
 use Rattle.cs_call.specs.Asked.{asked_check}
 use Rattle.cs_cli.specs.Reads.{AndThen, Gives}
 use Rattle.cs_cli.specs.Trouble.{CameTo}
+use Rattle.cs_cli.proofs.CheckLemmas.{are_read}
 use Rattle.cs_cli.proofs.TroubleLemmas.{goes_on, moved, stops}
 use Rattle.cs_cli.proofs.check.judged.Goals as goal
 
@@ -36,4 +37,18 @@ returns-clause-step g c = λ fresh.
     let one = subst (λ (f : Bool). ReadsDeclared files (c.args.table, c.args.jobs) a.declarations before f (Ok plan)) c.in_ok-plan.ensures.works (c.in_ok-plan.ensures.step fresh) in
     let two = moved (λ w f. ReadsCertificate w a.certificate f after (Ok x)) (g.I.Inputs.whole c.declared_plan_from.new.inputs) files (g.I.Inputs.failed c.declared_plan_from.new.inputs) before c.declared_plan_from.ensures.whole c.in_ok-plan.ensures.works (c.in_ok-certificate.ensures.step (c.in_ok-plan.ensures.fresh fresh)) in
     let same : after ≡ before = c.in_ok-certificate.ensures.works ∙ c.in_ok-plan.ensures.works in
-    inr (plan, one, inr (x, subst (λ (f : Bool). ReadsCertificate files a.certificate before f (Ok x)) same two, (same, ap Ok c.in_ok-judge.ensures)))
+    inr (plan, one, inr (x, subst (λ (f : Bool). ReadsCertificate files a.certificate before f (Ok x)) same two, (same, ap Ok c.in_ok-judge.ensures.answer)))
+
+pub returns-clause-read : goal.returns-clause-read
+returns-clause-read g c = λ fresh.
+    let files = g.I.Inputs.whole c.args.inputs.now in
+    let before = g.I.Inputs.failed c.args.inputs.now in
+    let after = g.I.Inputs.failed c.certificate_from.new.inputs in
+    let a = asked_check c.args.request.now in
+    let plan = c.in_ok-plan.plan in
+    let x = content c.in_ok-certificate.certificate in
+    let one = subst (λ (f : Bool). ReadsDeclared files (c.args.table, c.args.jobs) a.declarations before f (Ok plan)) c.in_ok-plan.ensures.works (c.in_ok-plan.ensures.step fresh) in
+    let two = moved (λ w f. ReadsCertificate w a.certificate f after (Ok x)) (g.I.Inputs.whole c.declared_plan_from.new.inputs) files (g.I.Inputs.failed c.declared_plan_from.new.inputs) before c.declared_plan_from.ensures.whole c.in_ok-plan.ensures.works (c.in_ok-certificate.ensures.step (c.in_ok-plan.ensures.fresh fresh)) in
+    let same : after ≡ before = c.in_ok-certificate.ensures.works ∙ c.in_ok-plan.ensures.works in
+    are_read files a (c.args.table, c.args.jobs) before plan x c.in_ok-judge.field-0.1 one
+    (subst (λ (f : Bool). ReadsCertificate files a.certificate before f (Ok x)) same two) c.in_ok-judge.ensures.same

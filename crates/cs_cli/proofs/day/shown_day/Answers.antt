@@ -1,4 +1,4 @@
-use Rattle.std.proofs.Common.{◌≡◌, Bool, Ok, ap, inr, refl, subst}
+use Rattle.std.proofs.Common.{Bool, Ok, ap, inr, refl, subst}
 use Rattle.cs_crontab.specs.Crontab.{Table}
 use Rattle.cs_anacrontab.specs.Anacrontab.{Table as JobTable}
 use Rattle.cs_call.specs.Asked.{asked}

@@ -1,4 +1,4 @@
-use Rattle.std.proofs.Common.{◌≡◌, Bool, Ok, inr, refl, subst}
+use Rattle.std.proofs.Common.{Bool, Ok, inr, refl, subst}
 use Rattle.cs_call.specs.Asked.{asked_judge}
 use Rattle.cs_cli.specs.Reads.{ReadsDeclared}
 use Rattle.cs_cli.proofs.judge.told.Goals as goal

@@ -1,0 +1,72 @@
+//! The answer to the words of a call.
+ghost use Rattle.std.specs.Prelude.{◌≡◌, [], true, IfOk, map};
+ghost use Rattle.cs_io.specs.Files.{IsFresh};
+ghost use Rattle.cs_cli.specs.Answer.{IfEnds};
+ghost use Rattle.cs_cli.specs.Call.{Answers};
+ghost use Rattle.cs_call.specs.Version.{version_text};
+ghost use Rattle.cs_cli.specs.Response.{done};
+
+use crate::answer::Answer;
+use crate::check::check_certificate;
+use crate::day::day;
+use crate::judge::judge_plan;
+use crate::order::order;
+use crate::replay::replay;
+use crate::response::Response;
+use cs_call::{Request, UsageFault, parse_words, version_text};
+use cs_civil::Bytes;
+use cs_io::Inputs;
+use cs_judge::Wanted;
+use std::alloc::{AllocError, Global};
+use std::convert::AsStr;
+use std::thread::Threads;
+
+/// The answer to the words of a call, of which the first is the program's name. A certificate is
+/// checked by the threads of `rt`. The only error is want of memory.
+pub fn respond<'a, R: Threads + Sync, S: AsStr, I: Inputs>(
+    rt: &R,
+    alloc: Global,
+    words: &'a [S],
+    inputs: &mut I,
+) -> Result<Answer<'a>, AllocError>
+    // Where each path of known bytes stands at its front.
+    ensures value { IsFresh (I.whole inputs.old) (I.left inputs.old)
+        → IfOk result (Answers (map S.text words.now) (I.whole inputs.old)
+        (I.failed inputs.old) (I.failed inputs.new)) }
+    ensures status { IfOk result
+        (IfEnds (λ ending. ending.status ≡ 6 → I.failed inputs.new ≡ true)) }
+{
+    match parse_words(alloc, words) {
+        Ok(Request::Day(request)) => Ok(Answer::Ends(day(alloc, &request, inputs)?)),
+        Ok(Request::Replay(request)) => Ok(Answer::Ends(replay(alloc, &request, inputs)?)),
+        Ok(Request::Check(request)) => {
+            Ok(Answer::Ends(check_certificate(rt, alloc, &request, inputs)?))
+        }
+        Ok(Request::Run(request)) => order(rt, alloc, &request, inputs),
+        Ok(Request::Judge(request)) => {
+            let wanted = Wanted::Verdict;
+            Ok(Answer::Ends(judge_plan(rt, alloc, &request, wanted, inputs)?))
+        }
+        Ok(Request::Make(request)) => {
+            let wanted = Wanted::Certificate;
+            Ok(Answer::Ends(judge_plan(rt, alloc, &request, wanted, inputs)?))
+        }
+        Err(UsageFault::Help(text)) => {
+            let shown = Response::done(text.into_bytes(), Bytes::new(alloc));
+            Ok(Answer::Ends(shown))
+        }
+        Err(UsageFault::Version) => Ok(Answer::Ends(show_version(alloc)?)),
+        Err(UsageFault::NoCall(text)) => {
+            Ok(Answer::Ends(Response::no_call(alloc, text.into_bytes())))
+        }
+        Err(UsageFault::OutOfMemory) => Err(AllocError),
+    }
+}
+
+/// What is answered where the version is asked for.
+fn show_version(alloc: Global) -> Result<Response, AllocError>
+    ensures { IfOk result (λ r. r ≡ done version_text []) }
+{
+    let text = Vec::from_slice(alloc, version_text().as_bytes())?;
+    Ok(Response::done(text, Bytes::new(alloc)))
+}

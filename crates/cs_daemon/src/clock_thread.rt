@@ -1,0 +1,155 @@
+//! The thread of the clock, which makes every event but the ends of runs.
+ghost use Rattle.std.specs.Prelude.{◌≡◌, ◌+◌, ◌<◌, ◌≤◌, ◌^◌, IfErr, IfSome, IsOk, OnOk, Some};
+ghost use Rattle.cs_daemon.specs.Causes.{IsFromTick};
+ghost use Rattle.cs_daemon.specs.declared.end.Cause.TheVariants.{Stopped, ClockFailed};
+ghost use Rattle.cs_device.specs.declared.clock.Tick.TheVariants.{Stop};
+
+use crate::dispatch::Round;
+use crate::end::Cause;
+use crate::lines::Line;
+use crate::notices::Notices;
+use crate::plan_ledger::PlanLedger;
+use crate::shared::Shared;
+use crate::stamps::Stored;
+use cs_civil::Minute;
+use cs_device::{Clock, StampStore, Tick};
+use cs_history::Event;
+use cs_keep::{Seat, TickFault};
+use std::io;
+use std::sync::Wait;
+
+/// What the clock's thread hands back.
+#[derive(Drop)]
+pub(crate) struct ClockEnd<J: PlanLedger> {
+    pub(crate) cause: Cause,
+    pub(crate) seat: Seat<J>,
+    pub(crate) ghost fits: { seat.share < 2 ^ 64 },
+}
+
+impl<'w, J: PlanLedger, R: Wait, G, O: io::Write> Shared<'w, J, R, G, O> {
+    /// Goes by the clock from its first minute to the end, goes down, and lets the workers end. With
+    /// no first minute it makes no event.
+    pub(crate) fn lead<C: Clock, S: StampStore>(
+        &self,
+        clock: &mut C,
+        store: &mut S,
+        stored: &mut Stored,
+        seat: Seat<J>,
+        first: Option<Minute>,
+    ) -> ClockEnd<J>
+        requires top { IfSome first (λ m. m ≤ C.top clock.old) }
+        requires fresh { seat.share ≡ 0 }
+        ensures stopped { result.cause ≡ Stopped → C.last clock.new ≡ Some Stop }
+        ensures rises { result.cause ≡ Stopped
+            → C.risen clock.new ≤ C.risen clock.old + result.seat.share }
+        ensures failures { C.failures clock.old ≤ C.failures clock.new }
+        ensures failed { result.cause ≡ ClockFailed → C.failures clock.old < C.failures clock.new }
+        ensures parts { result.seat.parts ≡ seat.parts }
+        ensures faults { stored.new.faults + S.failures store.old
+            ≤ stored.old.faults + S.failures store.new }
+    {
+        let mut seat = seat;
+        let cause = match first {
+            Some(first) => self.keep_time(clock, store, stored, &mut seat, first),
+            None => Cause::NoMemory,
+        };
+        self.make(&mut seat, Event::Down);
+        self.close();
+        self.audit(&mut seat);
+        ClockEnd { cause, seat }
+    }
+
+    /// Goes on to each minute that the clock answers, until there is a cause to end.
+    fn keep_time<C: Clock, S: StampStore>(
+        &self,
+        clock: &mut C,
+        store: &mut S,
+        stored: &mut Stored,
+        seat: &mut Seat<J>,
+        first: Minute,
+    ) -> Cause
+        requires top { first ≤ C.top clock.old }
+        ensures stopped { result ≡ Stopped → C.last clock.new ≡ Some Stop }
+        ensures rises { result ≡ Stopped
+            → C.risen clock.new + seat.old.share ≤ C.risen clock.old + seat.new.share }
+        ensures failures { C.failures clock.old ≤ C.failures clock.new }
+        ensures failed { result ≡ ClockFailed → C.failures clock.old < C.failures clock.new }
+        ensures parts { seat.new.parts ≡ seat.old.parts }
+        ensures grows { seat.old.share ≤ seat.new.share }
+        ensures faults { stored.new.faults + S.failures store.old
+            ≤ stored.old.faults + S.failures store.new }
+    {
+        let mut last = first;
+        if let Err(cause) = self.go_on(store, stored, seat, last, last) {
+            return cause;
+        }
+        for _ in self.rt.forever() {
+            let minute = match clock.tick(Some(last)) {
+                Tick::At(minute) => minute,
+                Tick::Stop => return Cause::Stopped,
+                Tick::Failed => return Cause::ClockFailed,
+            };
+            if let Err(cause) = self.go_on(store, stored, seat, last, minute) {
+                return cause;
+            }
+            last = minute;
+        }
+        unreachable!()
+    }
+
+    /// Goes on to the minute under the lock, then logs what there is to tell and writes new stamps.
+    fn go_on<S: StampStore>(
+        &self,
+        store: &mut S,
+        stored: &mut Stored,
+        seat: &mut Seat<J>,
+        last: Minute,
+        minute: Minute,
+    ) -> Result<(), Cause>
+        ensures rises { OnOk result (last < minute → seat.old.share < seat.new.share) }
+        ensures grows { seat.old.share ≤ seat.new.share }
+        ensures parts { seat.new.parts ≡ seat.old.parts }
+        ensures cause { IfErr result IsFromTick }
+        ensures faults { stored.new.faults + S.failures store.old
+            ≤ stored.old.faults + S.failures store.new }
+    {
+        let round = self
+            .dispatch
+            .lock(self.rt)
+            .round(self.alloc, seat, last, minute);
+        self.bell.notify_all();
+        let Round {
+            ticked,
+            notices,
+            stamps,
+        } = round;
+        self.tell(&notices, last, minute);
+        let failed = stored.write(self.plan, store, &stamps);
+        self.log.lock(self.rt).write_unwritten(failed.as_slice());
+        cause_to_end(ticked, minute)
+    }
+
+    /// Logs an outage, and what the tick has to tell.
+    fn tell(&self, notices: &Notices, last: Minute, minute: Minute) {
+        let mut log = self.log.lock(self.rt);
+        if minute.number() > last.number() + 1 {
+            log.write(Line::Outage(last, minute));
+        }
+        log.write_all(notices.lines());
+        log.lose(notices.lost());
+    }
+}
+
+/// Whether the daemon ends behind a tick to the minute, and why.
+fn cause_to_end(ticked: Result<(), TickFault>, minute: Minute) -> Result<(), Cause>
+    ensures ticked { OnOk result (IsOk ticked) }
+    ensures cause { IfErr result IsFromTick }
+{
+    match ticked {
+        Ok(()) if Minute::new(minute.number() + 1).is_none() => Err(Cause::LastMinute),
+        Ok(()) => Ok(()),
+        Err(TickFault::ClockBack) => Err(Cause::ClockBack),
+        Err(TickFault::HistoryFull) => Err(Cause::HistoryFull),
+        Err(TickFault::OutOfMemory) => Err(Cause::NoMemory),
+    }
+}

@@ -1,0 +1,141 @@
+//! The end of a daemon.
+ghost use Rattle.std.specs.Prelude.{◌≡◌, ◌≢◌, ◌+◌, ◌≤◌, IfSome, None, Some, sum};
+ghost use Rattle.arrayvec.specs.ArrayVec.{array_vec_len};
+ghost use Rattle.cs_check.specs.Checked.{plan_in};
+ghost use Rattle.cs_keep.specs.Closed.{checked_in, keeping_in};
+ghost use Rattle.cs_keep.specs.Keeping.{IsKept};
+
+use crate::dispatch::Dispatch;
+use crate::end::{Cause, DaemonEnd};
+use crate::log::Log;
+use crate::plan_ledger::PlanLedger;
+use crate::stamps::{Stored, copy_stamps};
+use crate::threads::Gathered;
+use arrayvec::ArrayVec;
+use cs_check::Checked;
+use cs_decl::Plan;
+use cs_device::StampStore;
+use cs_keep::{Keep, Kept, Seat};
+use std::io;
+
+/// Zeros for the clock's thread and each worker.
+fn no_shares(workers: usize) -> ArrayVec<u64, 65>
+    requires { workers ≤ 64 }
+    ensures len { array_vec_len result ≡ workers + 1 }
+    ensures sum { sum result.items ≡ 0 }
+{
+    let mut shares: ArrayVec<u64, 65> = ArrayVec::new();
+    shares.push(0);
+    for _ in 0..workers {
+        shares.push(0);
+    }
+    shares
+}
+
+/// The end of a daemon that has opened no keep.
+pub(crate) fn no_keep(cause: Cause, workers: usize, stamp_faults: u64, log_faults: u64) -> DaemonEnd
+    requires { workers ≤ 64 }
+    ensures cause { result.cause ≡ cause }
+    ensures total { result.total ≡ 0 }
+    ensures len { array_vec_len result.shares ≡ workers + 1 }
+    ensures sum { sum result.shares.items ≡ 0 }
+    ensures keep { result.keep ≡ None }
+    ensures faults { result.stamp_faults ≡ stamp_faults }
+{
+    DaemonEnd {
+        cause,
+        total: 0,
+        shares: no_shares(workers),
+        keep: None,
+        not_started: 0,
+        overruns: 0,
+        stamp_faults,
+        log_faults,
+    }
+}
+
+/// Closes a keep by the seat that has every part.
+fn close<J: PlanLedger>(keep: Keep<J>, seat: Seat<J>, checked: Checked) -> Kept
+    requires plan { plan_in checked ≡ keep.core.plan }
+    requires parts { seat.parts ≡ J.parts }
+    ensures checked { checked_in result ≡ checked }
+    ensures kept { IsKept (keeping_in result) }
+    ensures total { seat.share ≡ (keeping_in result).total }
+{
+    let mut keep = keep;
+    let mut seat = seat;
+    keep.audit(&mut seat);
+    let kept = keep.close(checked);
+    let _core = kept.core();
+    kept
+}
+
+/// What is left when the threads have ended.
+#[derive(Drop)]
+pub(crate) struct Left<J: PlanLedger> {
+    keep: Keep<J>,
+    overruns: u64,
+    pub(crate) stamp_faults: u64,
+    log_faults: u64,
+    ghost plan: { keep.core.plan ≡ J.plan },
+}
+
+impl<J: PlanLedger> Left<J> {
+    /// Tries once more to write each stamp that the store doesn't hold, and takes the counts.
+    pub(crate) fn behind<S: StampStore, O: io::Write>(
+        plan: &Plan,
+        dispatch: Dispatch<J>,
+        log: Log<'_, O>,
+        store: &mut S,
+        stored: Stored,
+    ) -> Left<J>
+        ensures { result.stamp_faults + S.failures store.old
+            ≤ stored.faults + S.failures store.new }
+    {
+        let mut log = log;
+        let mut stored = stored;
+        let overruns = dispatch.overruns();
+        let keep = dispatch.into_keep();
+        let stamps = copy_stamps(keep.core().stamps());
+        let failed = stored.write(plan, store, &stamps);
+        log.write_unwritten(failed.as_slice());
+        Left {
+            keep,
+            overruns,
+            stamp_faults: stored.faults,
+            log_faults: log.faults(),
+        }
+    }
+
+    /// Closes the keep by the seat that has every part.
+    pub(crate) fn close(self, checked: Checked, gathered: Gathered<J>) -> DaemonEnd
+        requires plan { plan_in checked ≡ J.plan }
+        requires parts { gathered.seat.parts ≡ J.parts }
+        ensures cause { result.cause ≡ gathered.cause }
+        ensures shares { result.shares ≡ gathered.shares }
+        ensures sum { sum result.shares.items ≡ result.total }
+        ensures some { result.keep ≢ None }
+        ensures checked { IfSome result.keep (λ kept. checked_in kept ≡ checked) }
+        ensures kept { IfSome result.keep (λ kept. IsKept (keeping_in kept)) }
+        ensures total { IfSome result.keep (λ kept. (keeping_in kept).total ≡ result.total) }
+        ensures faults { result.stamp_faults ≡ self.stamp_faults }
+    {
+        let Gathered {
+            cause,
+            seat,
+            shares,
+            not_started,
+        } = gathered;
+        let kept = close(self.keep, seat, checked);
+        DaemonEnd {
+            cause,
+            total: kept.total(),
+            shares,
+            keep: Some(kept),
+            not_started,
+            overruns: self.overruns,
+            stamp_faults: self.stamp_faults,
+            log_faults: self.log_faults,
+        }
+    }
+}

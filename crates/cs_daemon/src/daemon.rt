@@ -1,0 +1,173 @@
+//! The daemon whole.
+ghost use Rattle.std.specs.Prelude.{◌≡◌, ◌+◌, ◌<◌, ◌≤◌, IfErr, IfOk, IfSome, None, Some, slice_index_or, sum, vec_len};
+ghost use Rattle.arrayvec.specs.ArrayVec.{array_vec_len};
+ghost use Rattle.cs_check.specs.Checked.{plan_in};
+ghost use Rattle.cs_daemon.specs.declared.end.Cause.TheVariants.{Stopped, ClockFailed};
+ghost use Rattle.cs_device.specs.declared.clock.Tick.TheVariants.{Stop};
+ghost use Rattle.cs_history.specs.Plan.{first_start};
+ghost use Rattle.cs_keep.specs.Closed.{checked_in, keeping_in};
+ghost use Rattle.cs_keep.specs.Keeping.{IsKept};
+
+use crate::closing::{Left, no_keep};
+use crate::dispatch::Dispatch;
+use crate::end::{Cause, DaemonEnd};
+use crate::log::Log;
+use crate::plan_ledger::PlanLedger;
+use crate::shared::Shared;
+use crate::stamps::Stored;
+use crate::threads::run_threads;
+use cs_check::Checked;
+use cs_civil::Minute;
+use cs_device::{Clock, Gate, Runner, StampStore, Tick};
+use cs_history::Start;
+use cs_keep::Keep;
+use std::alloc::Global;
+use std::io;
+use std::marker::Brand;
+use std::sync::ledger::Blank;
+use std::sync::{Condvar, Mutex, Wait};
+use std::thread::Threads;
+
+/// 1970-01-04 00:00, the first minute at which a keep may open.
+const FIRST_START: u64 = 4_320;
+
+/// The clock's first minute, or why the daemon ends without one.
+fn first_minute<C: Clock>(clock: &mut C) -> Result<Minute, Cause>
+    ensures start { IfOk result (λ m. first_start ≤ m) }
+    ensures top { IfOk result (λ m. m ≤ C.top clock.new) }
+    ensures stopped { IfErr result (λ c. c ≡ Stopped → C.last clock.new ≡ Some Stop) }
+    ensures risen { C.risen clock.new ≤ C.risen clock.old + 1 }
+    ensures failures { C.failures clock.old ≤ C.failures clock.new }
+    ensures failed { IfErr result (λ c. c ≡ ClockFailed
+        → C.failures clock.old < C.failures clock.new) }
+{
+    match clock.tick(None) {
+        Tick::At(minute) => {
+            if minute.number() < FIRST_START {
+                return Err(Cause::ClockBack);
+            }
+            Ok(minute)
+        }
+        Tick::Stop => Err(Cause::Stopped),
+        Tick::Failed => Err(Cause::ClockFailed),
+    }
+}
+
+fn run_on<
+    J: PlanLedger + Send + Sync,
+    R: Threads + Wait + Sync,
+    C: Clock,
+    W: Runner + Send + Drop,
+    G: Gate + Sync,
+    S: StampStore,
+    O: io::Write + Send,
+>(
+    rt: &R,
+    alloc: Global,
+    blank: Blank,
+    checked: Checked,
+    clock: &mut C,
+    runners: Vec<W>,
+    gate: &G,
+    store: &mut S,
+    out: &mut O,
+) -> DaemonEnd
+    requires as_many { vec_len runners ≡ (plan_in checked).capacity }
+    requires few { (plan_in checked).capacity ≤ 64 }
+    requires blank { (blank.name ≡ J.name) × (blank.parts ≡ J.parts) }
+    requires parts { blank.parts ≡ (plan_in checked).capacity + 1 }
+    requires plan { J.plan ≡ plan_in checked }
+    ensures shares { array_vec_len result.shares ≡ (plan_in checked).capacity + 1 }
+    ensures sum { sum result.shares.items ≡ result.total }
+    ensures none { result.keep ≡ None → result.total ≡ 0 }
+    ensures checked { IfSome result.keep (λ kept. checked_in kept ≡ checked) }
+    ensures kept { IfSome result.keep (λ kept. IsKept (keeping_in kept)) }
+    ensures total { IfSome result.keep (λ kept. (keeping_in kept).total ≡ result.total) }
+    ensures stopped { result.cause ≡ Stopped → C.last clock.new ≡ Some Stop }
+    ensures rises { result.cause ≡ Stopped
+        → C.risen clock.new ≤ C.risen clock.old + slice_index_or result.shares.items 0 0 + 1 }
+    ensures failed { result.cause ≡ ClockFailed → C.failures clock.old < C.failures clock.new }
+    ensures faults { result.stamp_faults + S.failures store.old ≤ S.failures store.new }
+{
+    let workers = runners.len();
+    let first = match first_minute(clock) {
+        Ok(minute) => minute,
+        Err(cause) => return no_keep(cause, workers, 0, 0),
+    };
+    let mut log = Log::new(alloc, checked.plan(), out);
+    let (stored, failed) = Stored::read(checked.plan(), store);
+    log.write_unread(failed.as_slice());
+    let start = Start::new(first, false, stored.stamps());
+    let parts = u64::from(checked.plan().capacity()) + 1;
+    let Ok((keep, seat)) = Keep::<J>::open(alloc, blank, parts, &checked, start) else {
+        return no_keep(Cause::NoMemory, workers, stored.faults, log.faults());
+    };
+    let shared = Shared {
+        rt,
+        alloc,
+        plan: checked.plan(),
+        gate,
+        dispatch: Mutex::new(Dispatch::new(keep)),
+        bell: Condvar::new(),
+        log: Mutex::new(log),
+    };
+    let (stored, gathered) = run_threads(&shared, runners, clock, store, stored, seat, first);
+    let (dispatch, log) = shared.into_parts();
+    let left = Left::behind(checked.plan(), dispatch, log, store, stored);
+    left.close(checked, gathered)
+}
+
+/// Runs a checked plan by the clock until it stops or can't go on: each run by one of the runners,
+/// of which there are as many as the plan's capacity, each in a thread of its own. What happens is
+/// logged.
+///
+/// The clock is asked first. A keep is opened in its first minute, down, with the stamps that the
+/// store holds; each answer of the clock is then one tick of the keep. In the end the keep goes
+/// down, the workers end, and stamps that are not written are tried once more.
+pub fn run_daemon<
+    R: Threads + Wait + Sync,
+    C: Clock,
+    W: Runner + Send + Drop,
+    G: Gate + Sync,
+    S: StampStore,
+    O: io::Write + Send,
+>(
+    rt: &R,
+    alloc: Global,
+    checked: Checked,
+    clock: &mut C,
+    runners: Vec<W>,
+    gate: &G,
+    store: &mut S,
+    out: &mut O,
+) -> DaemonEnd
+    requires { vec_len runners ≡ (plan_in checked).capacity }
+    ensures shares { array_vec_len result.shares ≡ (plan_in checked).capacity + 1 }
+    // No event of any thread is missing or made up.
+    ensures sum { sum result.shares.items ≡ result.total }
+    ensures none { result.keep ≡ None → result.total ≡ 0 }
+    // The keep is of the very value that was handed in, and its journal is a legal history of that
+    // plan and leaves the core's state.
+    ensures checked { IfSome result.keep (λ kept. checked_in kept ≡ checked) }
+    ensures kept { IfSome result.keep (λ kept. IsKept (keeping_in kept)) }
+    ensures total { IfSome result.keep (λ kept. (keeping_in kept).total ≡ result.total) }
+    ensures stopped { result.cause ≡ Stopped → C.last clock.new ≡ Some Stop }
+    // The clock's thread made an event at least for each minute that was above all before, but one.
+    ensures rises { result.cause ≡ Stopped
+        → C.risen clock.new ≤ C.risen clock.old + slice_index_or result.shares.items 0 0 + 1 }
+    ensures failed { result.cause ≡ ClockFailed → C.failures clock.old < C.failures clock.new }
+    ensures faults { result.stamp_faults + S.failures store.old ≤ S.failures store.new }
+{
+    let parts = u64::from(checked.plan().capacity()) + 1;
+    run_on::<Brand, R, C, W, G, S, O>(
+        rt,
+        alloc,
+        Blank::new(parts),
+        checked,
+        clock,
+        runners,
+        gate,
+        store,
+        out,
+    )
+}

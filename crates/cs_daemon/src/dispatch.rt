@@ -1,0 +1,190 @@
+//! What lies under the lock: the keep, and the starts in its journal that workers take.
+ghost use Rattle.std.specs.Prelude.{◌≡◌, ◌+◌, ◌<◌, ◌≤◌, ◌^◌, OnOk};
+
+use crate::lines::Line;
+use crate::notices::Notices;
+use crate::plan_ledger::PlanLedger;
+use crate::stamps::{Stamps, copy_stamps};
+use cs_civil::Minute;
+use cs_core::Core;
+use cs_history::{Event, Reply, Run};
+use cs_keep::{Keep, Seat, TickFault};
+use std::alloc::Global;
+
+/// The keep, the place in its journal from which starts are still to be taken, how many runs were
+/// found late, and whether no more starts will come.
+#[derive(Drop)]
+pub(crate) struct Dispatch<J: PlanLedger> {
+    keep: Keep<J>,
+    next: usize,
+    overruns: u64,
+    over: bool,
+    ghost plan: { keep.core.plan ≡ J.plan },
+}
+
+/// What a tick leaves to be done outside the lock.
+#[derive(Drop)]
+pub(crate) struct Round {
+    /// Why the tick ended early, if it did.
+    pub(crate) ticked: Result<(), TickFault>,
+    /// What is to be logged.
+    pub(crate) notices: Notices,
+    /// The stamps behind the tick.
+    pub(crate) stamps: Stamps,
+}
+
+impl<J: PlanLedger> Dispatch<J> {
+    /// A keep that has handed out no start yet.
+    pub(crate) fn new(keep: Keep<J>) -> Dispatch<J>
+        requires { keep.core.plan ≡ J.plan }
+    {
+        Dispatch {
+            keep,
+            next: 0,
+            overruns: 0,
+            over: false,
+        }
+    }
+
+    /// Whether there is no start now, and one may come.
+    pub(crate) fn is_waiting(&self) -> bool {
+        !self.over && self.next >= self.keep.journal().len()
+    }
+
+    /// Takes the next start.
+    pub(crate) fn take(&mut self) -> Option<Run> {
+        for _ in 0..self.keep.journal().len() {
+            let journal = self.keep.journal();
+            if self.next >= journal.len() {
+                return None;
+            }
+            let (_, reply) = journal[self.next];
+            self.next += 1;
+            if let Reply::Started(run) = reply {
+                return Some(run);
+            }
+        }
+        None
+    }
+
+    /// Makes the event; a refusal is passed over.
+    pub(crate) fn make(&mut self, seat: &mut Seat<J>, event: Event)
+        ensures grows { seat.old.share ≤ seat.new.share }
+        ensures parts { seat.new.parts ≡ seat.old.parts }
+    {
+        let _ = self.keep.step(seat, event);
+    }
+
+    /// Goes on to the minute, notes what is to be told of it, and begins the journal anew where it
+    /// may.
+    pub(crate) fn round(
+        &mut self,
+        alloc: Global,
+        seat: &mut Seat<J>,
+        last: Minute,
+        minute: Minute,
+    ) -> Round
+        ensures rises { OnOk result.ticked (last < minute → seat.old.share < seat.new.share) }
+        ensures grows { seat.old.share ≤ seat.new.share }
+        ensures parts { seat.new.parts ≡ seat.old.parts }
+    {
+        let from = self.keep.journal().len();
+        let ticked = self.tick(alloc, seat, last, minute);
+        let mut notices = Notices::none(alloc);
+        self.note_replies(&mut notices, from, last);
+        self.note_overruns(&mut notices, last, minute);
+        let stamps = copy_stamps(self.keep.core().stamps());
+        self.cut();
+        Round {
+            ticked,
+            notices,
+            stamps,
+        }
+    }
+
+    fn tick(
+        &mut self,
+        alloc: Global,
+        seat: &mut Seat<J>,
+        last: Minute,
+        minute: Minute,
+    ) -> Result<(), TickFault>
+        ensures rises { OnOk result (last < minute → seat.old.share < seat.new.share) }
+        ensures grows { seat.old.share ≤ seat.new.share }
+        ensures parts { seat.new.parts ≡ seat.old.parts }
+    {
+        self.keep.tick(alloc, seat, last, minute)
+    }
+
+    /// Which runs wait or are left out, by the entries from a place on. `last` is the minute there.
+    fn note_replies(&self, notices: &mut Notices, from: usize, last: Minute) {
+        let mut at = last.number();
+        for (event, reply) in self.keep.journal().iter().skip(from) {
+            match (*event, *reply) {
+                (Event::Minute(minute), _) => at = minute,
+                (Event::Up(minute), _) => at = minute,
+                (Event::Begin(job), Reply::Waiting) => notices.add(Line::Waiting(Run { job, at })),
+                (Event::Begin(job), Reply::Skipped) => notices.add(Line::Skipped(Run { job, at })),
+                _ => {}
+            }
+        }
+    }
+
+    /// Which runs that run are late at the minute, and were not at the last one.
+    fn note_overruns(&mut self, notices: &mut Notices, last: Minute, minute: Minute) {
+        let core = self.keep.core();
+        for going in core.running() {
+            let deadline = deadline(core, going.run.job, going.since);
+            if last.number() < deadline && deadline <= minute.number() {
+                notices.add(Line::Overrun(going.run));
+                self.overruns = self.overruns.saturating_add(1);
+            }
+        }
+    }
+
+    /// Begins the journal anew where it may, so that it doesn't fill up. Then each start was taken.
+    fn cut(&mut self) {
+        if self.keep.cut() {
+            self.next = 0;
+        }
+    }
+
+    /// How the seat's share stands to the total.
+    pub(crate) fn audit(&mut self, seat: &mut Seat<J>)
+        ensures seat { seat.new ≡ seat.old }
+        ensures fits { seat.old.share < 2 ^ 64 }
+    {
+        self.keep.audit(seat)
+    }
+
+    /// From here on no start comes, but those that stand may be taken.
+    pub(crate) fn close(&mut self) {
+        self.over = true;
+    }
+
+    /// How many runs were found late.
+    pub(crate) fn overruns(&self) -> u64 {
+        self.overruns
+    }
+
+    /// The keep alone.
+    pub(crate) fn into_keep(self) -> Keep<J>
+        ensures { result.core.plan ≡ J.plan }
+    {
+        let Dispatch {
+            keep,
+            next: _,
+            overruns: _,
+            over: _,
+        } = self;
+        keep
+    }
+}
+
+/// The minute at which a run of this job is late, where it started at that one.
+fn deadline(core: &Core, job: u16, since: u64) -> u64 {
+    match core.plan().jobs().get(usize::from(job)) {
+        Some(job) => since.saturating_add(u64::from(job.max())),
+        None => u64::MAX,
+    }
+}

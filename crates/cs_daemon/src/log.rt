@@ -1,0 +1,72 @@
+//! The log that all threads write to.
+
+use crate::lines::{Line, write_line};
+use cs_decl::Plan;
+use std::alloc::Global;
+use std::io;
+
+/// A log of a plan's runs. Each line is made in memory first and then written by one write; one
+/// that can't be made or written is lost, and counted.
+#[derive(Drop)]
+pub(crate) struct Log<'w, O> {
+    plan: &'w Plan,
+    out: &'w mut O,
+    line: Vec<u8>,
+    faults: u64,
+}
+
+impl<'w, O: io::Write> Log<'w, O> {
+    /// No line yet.
+    pub(crate) fn new(alloc: Global, plan: &'w Plan, out: &'w mut O) -> Log<'w, O> {
+        Log {
+            plan,
+            out,
+            line: Vec::new(alloc),
+            faults: 0,
+        }
+    }
+
+    /// How many lines are lost.
+    pub(crate) fn faults(&self) -> u64 {
+        self.faults
+    }
+
+    /// Counts so many lines as lost.
+    pub(crate) fn lose(&mut self, lines: u64) {
+        self.faults = self.faults.saturating_add(lines);
+    }
+
+    /// Writes the line.
+    pub(crate) fn write(&mut self, line: Line) {
+        if self.try_write(line).is_err() {
+            self.lose(1);
+        }
+    }
+
+    /// Writes the lines.
+    pub(crate) fn write_all(&mut self, lines: &[Line]) {
+        for line in lines {
+            self.write(*line);
+        }
+    }
+
+    /// Writes that these anacron jobs' stamps couldn't be read.
+    pub(crate) fn write_unread(&mut self, jobs: &[usize]) {
+        for job in jobs {
+            self.write(Line::StampNotRead(*job));
+        }
+    }
+
+    /// Writes that these anacron jobs' stamps couldn't be written.
+    pub(crate) fn write_unwritten(&mut self, jobs: &[usize]) {
+        for job in jobs {
+            self.write(Line::StampNotWritten(*job));
+        }
+    }
+
+    fn try_write(&mut self, line: Line) -> io::Result<()> {
+        self.line.clear();
+        write_line(&mut self.line, self.plan, line)?;
+        self.out.write_all(self.line.as_slice())
+    }
+}

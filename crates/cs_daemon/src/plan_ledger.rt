@@ -1,0 +1,16 @@
+//! The ledger of a daemon's keep.
+ghost use Rattle.cs_daemon.specs.NoPlan.{no_plan};
+
+use std::marker::Brand;
+use std::sync::ledger::Ledger;
+
+/// The ledger of one daemon's keep, with the plan that the daemon runs.
+pub(crate) trait PlanLedger: Ledger {
+    ghost use Rattle.cs_decl.specs.Plan.{Declared};
+
+    ghost plan: { Declared };
+}
+
+impl PlanLedger for Brand {
+    ghost plan = { no_plan };
+}

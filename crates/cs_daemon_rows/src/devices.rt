@@ -1,0 +1,192 @@
+//! Devices that are made up, and what they tell each other.
+ghost use Rattle.std.specs.Prelude.{◌≡◌};
+
+use cs_civil::{Bytes, Day, Minute};
+use cs_device::{Clock, Failures, Gate, Outcome, Point, Runner, Stamp, StampStore, Tick, Told};
+use cs_history::Run;
+use std::sync::atomic::{AtomicU64, Ordering};
+use std::time::Duration;
+use std::{thread, time};
+
+/// What the devices of one daemon have seen.
+#[derive(Drop)]
+pub(crate) struct Seen {
+    /// The last minute that the clock told.
+    pub(crate) minute: AtomicU64,
+    /// How many runs of other jobs than the first have passed the gate's second point.
+    pub(crate) others: AtomicU64,
+    /// How often a stamp was to be written.
+    pub(crate) writes: AtomicU64,
+    /// How often a device has waited in vain.
+    pub(crate) missed: AtomicU64,
+}
+
+impl Seen {
+    pub(crate) fn nothing() -> Seen {
+        Seen {
+            minute: AtomicU64::new(0),
+            others: AtomicU64::new(0),
+            writes: AtomicU64::new(0),
+            missed: AtomicU64::new(0),
+        }
+    }
+}
+
+/// Tells the minutes in turn, the last one again until so many writes of stamps were tried, and
+/// then stops.
+#[derive(Drop)]
+pub(crate) struct ListClock<'a, R> {
+    pub(crate) rt: &'a R,
+    pub(crate) seen: &'a Seen,
+    pub(crate) minutes: &'a [u64],
+    pub(crate) writes: u64,
+    pub(crate) at: usize,
+    pub(crate) repeats: u64,
+    pub(crate) told: Told,
+}
+
+impl<'a, R: time::Clock> ListClock<'a, R> {
+    /// The next answer.
+    fn next(&mut self) -> Tick
+        ensures { self.new.told ≡ self.old.told }
+    {
+        if let Some(minute) = self.minutes.get(self.at) {
+            self.at += 1;
+            return self.show(*minute);
+        }
+        if self.repeats == 0 || self.seen.writes.load(Ordering::SeqCst) >= self.writes {
+            return Tick::Stop;
+        }
+        self.repeats -= 1;
+        thread::sleep(self.rt, Duration::from_millis(1));
+        match self.minutes.last() {
+            Some(minute) => self.show(*minute),
+            None => Tick::Stop,
+        }
+    }
+
+    fn show(&self, minute: u64) -> Tick {
+        match Minute::new(minute) {
+            Some(minute) => {
+                self.seen.minute.store(minute.number(), Ordering::SeqCst);
+                Tick::At(minute)
+            }
+            None => Tick::Failed,
+        }
+    }
+}
+
+impl<'a, R: time::Clock> Clock for ListClock<'a, R> {
+    ghost last = { λ c. c.told.last };
+
+    ghost failures = { λ c. c.told.failures };
+
+    ghost top = { λ c. c.told.top };
+
+    ghost risen = { λ c. c.told.risen };
+
+    fn tick(&mut self, _now: Option<Minute>) -> Tick {
+        let tick = self.next();
+        self.told.tell(tick)
+    }
+}
+
+/// Answers the same to each command.
+#[derive(Drop)]
+pub(crate) struct FixedRunner {
+    pub(crate) outcome: Outcome,
+    pub(crate) failures: Failures,
+}
+
+impl Runner for FixedRunner {
+    ghost failures = { λ r. r.failures };
+
+    fn run(&mut self, _command: &[u8], _input: Option<&[u8]>, _env: &[(Bytes, Bytes)]) -> Outcome {
+        if self.outcome == Outcome::NotStarted && !self.failures.count() {
+            return Outcome::Ended;
+        }
+        self.outcome
+    }
+}
+
+/// What runs of the first job are held for, before they begin.
+#[derive(Clone, Copy)]
+pub(crate) enum Hold {
+    /// Nothing.
+    Never,
+    /// Until the clock has told this minute.
+    Until(u64),
+    /// Until a run of another job has ended.
+    ForOthers,
+}
+
+/// Holds runs of the first job, at most so many milliseconds.
+#[derive(Drop)]
+pub(crate) struct HoldingGate<'a, R> {
+    pub(crate) rt: &'a R,
+    pub(crate) seen: &'a Seen,
+    pub(crate) hold: Hold,
+    pub(crate) most: u64,
+}
+
+impl<'a, R: time::Clock> HoldingGate<'a, R> {
+    /// Whether what the runs are held for has come.
+    fn is_awaited(&self) -> bool {
+        match self.hold {
+            Hold::Never => true,
+            Hold::Until(minute) => self.seen.minute.load(Ordering::SeqCst) >= minute,
+            Hold::ForOthers => self.seen.others.load(Ordering::SeqCst) > 0,
+        }
+    }
+
+    fn wait(&self) -> bool {
+        for _ in 0..self.most {
+            if self.is_awaited() {
+                return true;
+            }
+            thread::sleep(self.rt, Duration::from_millis(1));
+        }
+        false
+    }
+}
+
+impl<'a, R: time::Clock> Gate for HoldingGate<'a, R> {
+    fn pass(&self, run: Run, point: Point) {
+        match point {
+            Point::Before if run.job == 0 => {
+                if !self.wait() {
+                    self.seen.missed.fetch_add(1, Ordering::SeqCst);
+                }
+            }
+            Point::After if run.job != 0 => {
+                self.seen.others.fetch_add(1, Ordering::SeqCst);
+            }
+            _ => {}
+        }
+    }
+}
+
+/// Holds no stamp at first. The first writes fail, so many of them.
+#[derive(Drop)]
+pub(crate) struct FailingStore<'a> {
+    pub(crate) seen: &'a Seen,
+    pub(crate) left: u64,
+    pub(crate) failures: Failures,
+}
+
+impl<'a> StampStore for FailingStore<'a> {
+    ghost failures = { λ s. s.failures };
+
+    fn read(&mut self, _identifier: &[u8]) -> Stamp {
+        Stamp::Absent
+    }
+
+    fn write(&mut self, _identifier: &[u8], _day: Day) -> bool {
+        self.seen.writes.fetch_add(1, Ordering::SeqCst);
+        if self.left == 0 {
+            return true;
+        }
+        self.left -= 1;
+        !self.failures.count()
+    }
+}

@@ -1,0 +1,104 @@
+//! Clocks, commands, stores and runs that fail.
+
+use crate::devices::Hold;
+use crate::plans::{DAILY, HOURLY, SHORT};
+use crate::play::{MIDNIGHT, Played, Script, play};
+use cs_daemon::Cause;
+use cs_device::Outcome;
+use std::alloc::Global;
+
+/// A clock that moves on by more than one minute is an outage: a going down and a coming up.
+#[test]
+fn outage(rt: HostRuntime) {
+    let alloc: Global = rt.alloc();
+    let minutes = [MIDNIGHT + 59, MIDNIGHT + 60, MIDNIGHT + 63];
+    let played = play(&rt, alloc, &Script::plain(&HOURLY, &minutes));
+    assert!(&rt; played.end.cause == Cause::Stopped && played.end.total == 7);
+    assert!(&rt; played.count("outage 2024-01-01 01:00 to 2024-01-01 01:03\n") == 1);
+    assert!(&rt; played.count("outage") == 1);
+}
+
+/// A clock that goes back ends the daemon, and its run ends.
+#[test]
+fn clock_goes_back(rt: HostRuntime) {
+    let alloc: Global = rt.alloc();
+    let minutes = [MIDNIGHT + 59, MIDNIGHT + 60, MIDNIGHT + 59];
+    let played = play(&rt, alloc, &Script::plain(&HOURLY, &minutes));
+    assert!(&rt; played.end.cause == Cause::ClockBack && played.end.total == 5);
+    assert!(&rt; played.count("ended line 1 due 2024-01-01 01:00 status 3\n") == 1);
+}
+
+/// No keep is opened before 1970-01-04 00:00.
+#[test]
+fn too_early(rt: HostRuntime) {
+    let alloc: Global = rt.alloc();
+    let played = play(&rt, alloc, &Script::plain(&HOURLY, &[4_319]));
+    assert!(&rt; played.end.cause == Cause::ClockBack && played.end.total == 0);
+    assert!(&rt; played.end.keep.is_none() && played.end.shares.as_slice() == [0, 0].as_slice());
+}
+
+/// A clock that can't be read ends the daemon, at its first answer or later.
+#[test]
+fn clock_fails(rt: HostRuntime) {
+    let alloc: Global = rt.alloc();
+    let minutes = [MIDNIGHT + 59, u64::MAX];
+    let played = play(&rt, alloc, &Script::plain(&HOURLY, &minutes));
+    assert!(&rt; played.end.cause == Cause::ClockFailed && played.end.total == 2);
+    let played = play(&rt, alloc, &Script::plain(&HOURLY, &[u64::MAX]));
+    assert!(&rt; played.end.cause == Cause::ClockFailed && played.end.keep.is_none());
+}
+
+/// A run that can't be started is started and ended in the journal, and the log names it.
+#[test]
+fn run_that_is_not_started(rt: HostRuntime) {
+    let alloc: Global = rt.alloc();
+    let minutes = [MIDNIGHT + 59, MIDNIGHT + 60];
+    let mut script = Script::plain(&HOURLY, &minutes);
+    script.outcome = Outcome::NotStarted;
+    let played = play(&rt, alloc, &script);
+    assert!(&rt; played.end.not_started == 1 && played.end.total == 5);
+    assert!(&rt;
+        played.logs(
+            "started line 1 due 2024-01-01 01:00\n\
+            not started line 1 due 2024-01-01 01:00\n"
+        )
+    );
+}
+
+/// A run of at most five minutes that goes on until 01:06 is found late at 01:05, and not again.
+#[test]
+fn overrun(rt: HostRuntime) {
+    let alloc: Global = rt.alloc();
+    let mut minutes = [MIDNIGHT; 8];
+    for place in 0..8 {
+        minutes[place] = MIDNIGHT + 59 + place as u64;
+    }
+    let mut script = Script::plain(&SHORT, &minutes);
+    script.hold = Hold::Until(MIDNIGHT + 66);
+    let played = play(&rt, alloc, &script);
+    assert!(&rt; played.end.overruns == 1 && played.end.total == 11 && played.missed == 0);
+    assert!(&rt; played.count("overrun line 1 due 2024-01-01 01:00\n") == 1);
+}
+
+/// Whether the keep has a stamp.
+fn is_stamped(played: &Played) -> bool {
+    match played.end.keep {
+        Some(keep) => keep.is_stamped,
+        None => false,
+    }
+}
+
+/// A stamp that can't be written twice is tried in each tick, logged each time, and then written.
+#[test]
+fn stamp_not_written(rt: HostRuntime) {
+    let alloc: Global = rt.alloc();
+    let minutes = [MIDNIGHT + 59, MIDNIGHT + 60];
+    let mut script = Script::plain(&DAILY, &minutes);
+    script.writes = 3;
+    script.failing = 2;
+    let played = play(&rt, alloc, &script);
+    assert!(&rt; played.end.cause == Cause::Stopped && played.end.stamp_faults == 2);
+    assert!(&rt; played.count("stamp not written cron.daily\n") == 2);
+    assert!(&rt; played.count("ended job cron.daily at 2024-01-01 01:00 status 3\n") == 1);
+    assert!(&rt; is_stamped(&played));
+}

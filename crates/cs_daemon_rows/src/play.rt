@@ -1,0 +1,204 @@
+//! A daemon over devices that are made up, from its plan to its end.
+ghost use Rattle.std.specs.Prelude.{◌≡◌, IfOk, vec_len};
+ghost use Rattle.cs_check.specs.Checked.{plan_in};
+
+use crate::devices::{FailingStore, FixedRunner, Hold, HoldingGate, ListClock, Seen};
+use crate::plans::{Texts, checked};
+use arrayvec::ArrayVec;
+use cs_check::Checked;
+use cs_daemon::{Cause, DaemonEnd, run_daemon};
+use cs_device::{Failures, Outcome, Told};
+use cs_keep::Kept;
+use std::alloc::{AllocError, Global};
+use std::process::Abort;
+use std::sync::Wait;
+use std::sync::atomic::Ordering;
+use std::thread::Threads;
+use std::time;
+
+/// 2024-01-01 00:00.
+pub(crate) const MIDNIGHT: u64 = 28_401_120;
+
+/// What the devices do.
+#[derive(Drop)]
+pub(crate) struct Script<'a> {
+    pub(crate) texts: &'a Texts,
+    /// The minutes that the clock tells.
+    pub(crate) minutes: &'a [u64],
+    pub(crate) outcome: Outcome,
+    pub(crate) hold: Hold,
+    /// For how many milliseconds a run is held at most.
+    pub(crate) most: u64,
+    /// How many writes of stamps are awaited.
+    pub(crate) writes: u64,
+    /// How many of them fail.
+    pub(crate) failing: u64,
+}
+
+impl<'a> Script<'a> {
+    /// Commands exit with 3, and nothing is held or fails.
+    pub(crate) fn plain(texts: &'a Texts, minutes: &'a [u64]) -> Script<'a> {
+        Script {
+            texts,
+            minutes,
+            outcome: Outcome::Exited(3),
+            hold: Hold::Never,
+            most: 10_000,
+            writes: 0,
+            failing: 0,
+        }
+    }
+}
+
+/// What stands in the keep that is handed back.
+#[derive(Clone, Copy, Debug, PartialEq, Eq)]
+pub(crate) struct InKeep {
+    pub(crate) total: u64,
+    /// The present minute.
+    pub(crate) minute: u64,
+    pub(crate) is_up: bool,
+    /// Whether the first anacron job has a stamp.
+    pub(crate) is_stamped: bool,
+}
+
+/// What is in the keep.
+fn in_keep(kept: &Kept) -> InKeep {
+    let core = kept.core();
+    InKeep {
+        total: kept.total(),
+        minute: core.now().number(),
+        is_up: core.is_up(),
+        is_stamped: matches!(core.stamps().first(), Some(Some(_))),
+    }
+}
+
+/// What came of a daemon.
+#[derive(Drop)]
+pub(crate) struct Ended {
+    pub(crate) cause: Cause,
+    pub(crate) total: u64,
+    pub(crate) shares: ArrayVec<u64, 65>,
+    pub(crate) keep: Option<InKeep>,
+    pub(crate) not_started: u64,
+    pub(crate) overruns: u64,
+    pub(crate) stamp_faults: u64,
+    pub(crate) log_faults: u64,
+}
+
+/// The same with a look into the keep in its place.
+fn look_into(end: DaemonEnd) -> Ended {
+    let keep = match &end.keep {
+        Some(kept) => Some(in_keep(kept)),
+        None => None,
+    };
+    Ended {
+        cause: end.cause,
+        total: end.total,
+        shares: end.shares,
+        keep,
+        not_started: end.not_started,
+        overruns: end.overruns,
+        stamp_faults: end.stamp_faults,
+        log_faults: end.log_faults,
+    }
+}
+
+/// What came of it, and what the devices have seen.
+#[derive(Drop)]
+pub(crate) struct Played {
+    pub(crate) end: Ended,
+    pub(crate) log: Vec<u8>,
+    pub(crate) missed: u64,
+}
+
+impl Played {
+    /// Whether the log is these lines.
+    pub(crate) fn logs(&self, lines: &str) -> bool {
+        self.log.as_slice() == lines.as_bytes()
+    }
+
+    /// How often this stands in the log.
+    pub(crate) fn count(&self, line: &str) -> usize {
+        let line = line.as_bytes();
+        let mut count: usize = 0;
+        for place in 0..self.log.len() {
+            if self.log.as_slice()[place..].starts_with(line) {
+                count = count.saturating_add(1);
+            }
+        }
+        count
+    }
+}
+
+/// A runner for each of the plan's places.
+fn runners<R: Abort>(
+    rt: &R,
+    alloc: Global,
+    checked: &Checked,
+    outcome: Outcome,
+) -> Result<Vec<FixedRunner>, AllocError>
+    ensures { IfOk result (λ runners. vec_len runners ≡ (plan_in checked.now).capacity) }
+{
+    let capacity = usize::from(checked.plan().capacity());
+    let mut runners = Vec::new(alloc);
+    for _ in 0..capacity {
+        let runner = FixedRunner {
+            outcome,
+            failures: Failures::none(),
+        };
+        runners.push(runner)?;
+    }
+    assert!(rt; runners.len() == capacity);
+    Ok(runners)
+}
+
+/// Runs the daemon over the devices that have seen this.
+fn run<R: Threads + Wait + Abort + time::Clock + Sync>(
+    rt: &R,
+    alloc: Global,
+    script: &Script<'_>,
+    seen: &Seen,
+    log: &mut Vec<u8>,
+) -> Ended {
+    let checked = checked(rt, alloc, script.texts);
+    let runners = runners(rt, alloc, &checked, script.outcome).expect(rt, "memory");
+    let mut clock = ListClock {
+        rt,
+        seen,
+        minutes: script.minutes,
+        writes: script.writes,
+        at: 0,
+        repeats: 10_000,
+        told: Told::nothing(),
+    };
+    let gate = HoldingGate {
+        rt,
+        seen,
+        hold: script.hold,
+        most: script.most,
+    };
+    let mut store = FailingStore {
+        seen,
+        left: script.failing,
+        failures: Failures::none(),
+    };
+    look_into(run_daemon(
+        rt, alloc, checked, &mut clock, runners, &gate, &mut store, log,
+    ))
+}
+
+/// Runs the daemon to its end.
+pub(crate) fn play<R: Threads + Wait + Abort + time::Clock + Sync>(
+    rt: &R,
+    alloc: Global,
+    script: &Script<'_>,
+) -> Played {
+    let seen = Seen::nothing();
+    let mut log = Vec::new(alloc);
+    let end = run(rt, alloc, script, &seen, &mut log);
+    Played {
+        end,
+        log,
+        missed: seen.missed.load(Ordering::SeqCst),
+    }
+}

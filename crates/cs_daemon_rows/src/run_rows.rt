@@ -1,0 +1,91 @@
+//! Runs, by several workers and over a day.
+
+use crate::devices::Hold;
+use crate::plans::{HOURLY, IN_TURN, TWO, WAITING};
+use crate::play::{InKeep, MIDNIGHT, Played, Script, play};
+use cs_daemon::Cause;
+use std::alloc::Global;
+
+/// The end of the line of a run that its runner has ended.
+const ENDED: &str = " status 3\n";
+
+/// Whether the daemon was stopped, with these shares.
+fn is_stopped(played: &Played, total: u64, shares: &[u64]) -> bool {
+    let end = &played.end;
+    end.cause == Cause::Stopped && end.total == total && end.shares.as_slice() == shares
+}
+
+/// A keep of this total, down at this minute, without stamps.
+fn down(total: u64, minute: u64) -> Option<InKeep> {
+    Some(InKeep {
+        total,
+        minute,
+        is_up: false,
+        is_stamped: false,
+    })
+}
+
+/// Up, a minute, a begin and a going down are the clock's, the end is the worker's.
+#[test]
+fn one_run(rt: HostRuntime) {
+    let alloc: Global = rt.alloc();
+    let minutes = [MIDNIGHT + 59, MIDNIGHT + 60];
+    let played = play(&rt, alloc, &Script::plain(&HOURLY, &minutes));
+    assert!(&rt; is_stopped(&played, 5, &[4, 1]) && played.end.keep == down(5, MIDNIGHT + 60));
+    assert!(&rt; played.end.log_faults == 0);
+    assert!(&rt;
+        played.logs(
+            "started line 1 due 2024-01-01 01:00\n\
+            ended line 1 due 2024-01-01 01:00 status 3\n"
+        )
+    );
+}
+
+/// The first job's run begins only when the second job's has ended: each has a worker.
+#[test]
+fn two_runs_at_once(rt: HostRuntime) {
+    let alloc: Global = rt.alloc();
+    let minutes = [MIDNIGHT + 59, MIDNIGHT + 60];
+    let mut script = Script::plain(&TWO, &minutes);
+    script.hold = Hold::ForOthers;
+    let played = play(&rt, alloc, &script);
+    assert!(&rt; is_stopped(&played, 7, &[5, 1, 1]));
+    assert!(&rt; played.count(ENDED) == 2 && played.missed == 0);
+}
+
+/// With one worker for both jobs the first waits in vain, and both are run all the same.
+#[test]
+fn one_worker_for_two_runs(rt: HostRuntime) {
+    let alloc: Global = rt.alloc();
+    let minutes = [MIDNIGHT + 59, MIDNIGHT + 60, MIDNIGHT + 79, MIDNIGHT + 80];
+    let mut script = Script::plain(&IN_TURN, &minutes);
+    script.hold = Hold::ForOthers;
+    script.most = 300;
+    let played = play(&rt, alloc, &script);
+    assert!(&rt; is_stopped(&played, 10, &[8, 2]));
+    assert!(&rt; played.count(ENDED) == 2 && played.missed == 1);
+}
+
+/// A run that waits for its group's lock is logged.
+#[test]
+fn waiting_run(rt: HostRuntime) {
+    let alloc: Global = rt.alloc();
+    let minutes = [MIDNIGHT + 59, MIDNIGHT + 60];
+    let played = play(&rt, alloc, &Script::plain(&WAITING, &minutes));
+    assert!(&rt; played.count("waiting line 2 due 2024-01-01 01:00\n") == 1);
+    assert!(&rt; played.count("waiting") == 1 && played.count(ENDED) == 1);
+}
+
+/// Each minute from 00:59 to 23:59: a coming up, 1,380 minutes, 23 begins and a going down are the
+/// clock's, 23 ends the worker's.
+#[test]
+fn a_day(rt: HostRuntime) {
+    let alloc: Global = rt.alloc();
+    let mut minutes = Vec::new(alloc);
+    for minute in MIDNIGHT + 59..MIDNIGHT + 1_440 {
+        minutes.push(minute).expect(&rt, "memory");
+    }
+    let played = play(&rt, alloc, &Script::plain(&HOURLY, minutes.as_slice()));
+    assert!(&rt; is_stopped(&played, 1_428, &[1_405, 23]) && played.count(ENDED) == 23);
+    assert!(&rt; played.end.keep == down(1_428, MIDNIGHT + 1_439));
+}

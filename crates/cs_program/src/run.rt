@@ -1,0 +1,50 @@
+//! The program, as a function of its words, its inputs and two outputs.
+ghost use Rattle.std.specs.Prelude.{map};
+ghost use Rattle.cs_io.specs.Files.{IsFresh};
+ghost use Rattle.cs_program.specs.Ending.{sink};
+ghost use Rattle.cs_program.specs.Run.{Runs};
+
+use crate::ending::{finish, run_out};
+use crate::serve::serve;
+use cs_cli::{Answer, respond};
+use cs_device::Runner;
+use cs_io::{Inputs, Output};
+use std::alloc::{AllocError, Global};
+use std::convert::AsStr;
+use std::io::Write;
+use std::rt::{Clock, Files};
+use std::sync::Wait;
+use std::thread::Threads;
+
+/// Runs the program on its words, of which the first is its name, and gives the status that the
+/// process ends with: 0 done, safe, help or the version, 1 unsafe, or an event or a certificate was
+/// refused, or the history of a run is full, 2 unknown, 3 a fault in the words or in a file, 4 no
+/// call, 5 want of memory, 6 a file that can't be read, standard output that can't be written, no
+/// folder of stamps, or a clock that can't be read or goes back.
+///
+/// The words of `run` come back when the run has ended, and its log is written to standard output. Its
+/// commands are run by runners that `new_runner` makes.
+pub fn run_words<
+    R: Threads + Wait + Sync + Files + Clock,
+    S: AsStr,
+    I: Inputs,
+    O: Output + Write + Send,
+    E: Output,
+    W: Runner + Send + Drop,
+    F: Fn() -> W + Drop,
+>(rt: &R, alloc: Global, words: &[S], inputs: &mut I, out: &mut O, err: &mut E, new_runner: F) -> u8
+    requires { F.IsAlwaysCallable new_runner }
+    // Where each path of known bytes stands at its front.
+    ensures { IsFresh (I.whole inputs.old) (I.left inputs.old)
+        → Runs (map S.text words.now) (I.whole inputs.old) (I.failed inputs.old) (I.failed inputs.new)
+        (sink (O.Output.contents out.old) (O.Output.failed out.old))
+        (sink (O.Output.contents out.new) (O.Output.failed out.new))
+        (sink (E.contents err.old) (E.failed err.old)) (sink (E.contents err.new) (E.failed err.new))
+        result }
+{
+    match respond(rt, alloc, words, inputs) {
+        Ok(Answer::Ends(response)) => finish(&response, out, err).code(),
+        Ok(Answer::Runs(order)) => serve(rt, alloc, order, out, err, new_runner).code(),
+        Err(AllocError) => run_out(err).code(),
+    }
+}

@@ -35,7 +35,7 @@ listed_kind k h =
     subst IsKind w.2 is
 
 -- what follows a kind is one
-next_kind : (k l : Kind) → IsKind k → Contains (kinds_after k) l → IsKind l
+pub next_kind : (k l : Kind) → IsKind k → Contains (kinds_after k) l → IsKind l
 next_kind k l h c = let r = All-contains (ComesWithin 10_227 k) (kinds_after k) l (next_come k h) c in subst IsKind r.4 (kind_possible (r.0 + 1))
 
 has_chain : (n : ℕ) (k : Kind) (ks : List Kind) → IsChain (k ∷ ks) → length ks ≡ n → Has (chains_from n k) (k ∷ ks)

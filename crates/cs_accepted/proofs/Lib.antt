@@ -12,3 +12,4 @@ pub mod Points
 pub mod Lengths
 pub mod ByKind
 pub mod Example
+pub mod Coming

@@ -9,13 +9,14 @@ ghost use Rattle.cs_history.specs.Calm.{Holds, IsCalm, IsBounded};
 ghost use Rattle.cs_windows.specs.declared.window.Window.{Window};
 ghost use Rattle.cs_accepted.specs.Windows.{holders};
 ghost use Rattle.cs_accepted.specs.Certificate.{Certificate};
-ghost use Rattle.cs_accepted.specs.Accepted.{IsAccepted, IsByKind, IsLength, reach_in, bound_on, windows_on_days, run_at, window_on, IsModest, IsChain, occupied, windows_of};
+ghost use Rattle.cs_accepted.specs.Accepted.{IsAccepted, IsByKind, IsLength, reach_in, bound_on, windows_on_days, run_at, window_on, IsModest, IsChain, IsUsed, occupied, windows_of};
+ghost use Rattle.cs_accepted.specs.Ending.{EndsOn};
 ghost use Rattle.cs_accepted.specs.Example.{at_midnight, nightly_certificate};
 ghost use Rattle.cs_safety.specs.Example.{nightly};
 ghost use Rattle.cs_civil.specs.Calendar.{IsKind};
 ghost use Rattle.cs_windows.specs.Windows.{windows_on};
 ghost use Rattle.cs_history.specs.Plan.{is_cron};
-ghost use Rattle.cs_accepted.specs.Faults.{first_fault, stretch_length};
+ghost use Rattle.cs_accepted.specs.Faults.{first_fault, last_of, stretch_length};
 
 /// The windows of the stretch that ends on day d, and hold minute m of it, are those that hold the civil minute.
 /// The call does nothing.
@@ -49,6 +50,14 @@ pub fn no_fault_is_accepted()
 /// The call does nothing.
 pub fn classes_have_the_windows_of_kinds()
     ensures { (p : Plan) (on : ℕ → Kind → ℕ → Bool) (a : Certificate) (ks : List Kind) → ((k : Kind) → IsKind k → (j m : ℕ) → is_cron p j ≡ true → m < 1440 → a.due (a.class_of k) j m ≡ on j k m) → IsChain ks → windows_on (occupied p on (reach_in p a)) ks ≡ windows_of p a (map a.class_of ks) }
+{}
+
+/// The day that the text of a fault names does end such days: each chain of up to four kinds comes within
+/// the first 28 years. The call does nothing.
+#[tactic(auto, using(crate::proofs::Coming::last_ends))]
+pub fn named_days_end_stretches()
+    ensures { (a : Certificate) (n : ℕ) (s : List ℕ) → 1 ≤ n → n ≤ 4 → IsUsed a n s
+        → EndsOn a n s (last_of a n s) }
 {}
 
 /// What is asked of a plan and a certificate can be met, here by a job that waits. The call does nothing.

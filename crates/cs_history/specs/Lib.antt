@@ -7,3 +7,4 @@ pub mod Journal
 pub mod Calm
 pub mod Printed
 pub mod Examples
+pub mod Boundaries

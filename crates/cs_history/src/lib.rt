@@ -1,6 +1,7 @@
 //! What happens to the jobs of a crontab and an anacrontab, event by event, and what a history of such events leaves.
 #![tactic(auto)]
 
+mod boundaries;
 mod event;
 mod laws;
 mod mode;
@@ -11,6 +12,10 @@ mod script;
 mod start;
 mod stories;
 
+pub use boundaries::{
+    first_and_last_start, last_minute_of_a_run, sharers_beside_others, unsafe_history,
+    waiters_may_be_passed,
+};
 pub use event::Event;
 pub use laws::{journals_grow, names_differ, states_follow_histories};
 pub use mode::Mode;

@@ -1,5 +1,5 @@
 ghost use Rattle.std.specs.Prelude.{◌≡◌, ◌^◌, ◌+◌, ◌-◌, ◌<◌, ◌≤◌, ◌↔◌, [], ◌∷◌, ℕ, List, IsTrue, slice_index, slice_set};
-ghost use Rattle.cs_wait.specs.Bounds.{StepsHoldWithin, at, at_days, none};
+ghost use Rattle.cs_wait.specs.Bounds.{StepsHold, StepsHoldWithin, at, at_days, none};
 
 use crate::backlog::{Backlog, MINUTES_OF_DAY};
 use std::marker::Model;
@@ -75,6 +75,16 @@ pub fn step_ok(before: &Backlog, arrivals: &Arrivals, day: &Backlog, minute: u16
 {
     let next = bound_over(before, day, minute + 1);
     follows(before.at(minute), arrivals.at(minute), next)
+}
+
+/// Whether the bound follows what arrives at each step of the first day, the one over midnight too:
+/// the bound after a step is at least the bound before it and what arrives, less one, not below 0.
+/// `before` and `arrivals` are of the first day, `day` is of the day after it.
+pub fn steps_ok(before: &Backlog, arrivals: &Arrivals, day: &Backlog) -> bool
+    ensures { IsTrue result
+        ↔ StepsHold (at before.now) (slice_index arrivals.now) (at day.now) }
+{
+    steps_within(before, arrivals) && step_ok(before, arrivals, day, MINUTES_OF_DAY - 1)
 }
 
 /// The bound at a minute counted from the start of the first of two successive days.

@@ -5,6 +5,6 @@ mod arrivals;
 mod backlog;
 mod stretch;
 
-pub use arrivals::{Arrivals, step_ok, steps_within};
+pub use arrivals::{Arrivals, step_ok, steps_ok, steps_within};
 pub use backlog::{Backlog, BadPiece, MAX_BACKLOG, MINUTES_OF_DAY, Piece};
 pub use stretch::clears_by;

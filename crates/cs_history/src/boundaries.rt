@@ -1,0 +1,68 @@
+//! Laws that hold the definitions from both sides, where they begin and where they end.
+ghost use Rattle.std.specs.Prelude.{◌≡◌, ◌≢◌, ◌+◌, ◌-◌, ◌≤◌, ℕ, Bool, [], ◌∷◌};
+ghost use Rattle.cs_history.specs.Boundaries.{RunTogether, RunsAlone, at_one_lock, both_unlocked};
+ghost use Rattle.cs_history.specs.Boundaries.{in_a_queue, last_first, newcomer, over_at, unlocked};
+ghost use Rattle.cs_history.specs.Calm.{IsCalm};
+ghost use Rattle.cs_history.specs.Examples.{at, start};
+ghost use Rattle.cs_history.specs.History.{History, IsInTime, IsLegal, IsSafe, IsSafeNow};
+ghost use Rattle.cs_history.specs.History.{going, run_of, running, waiting, ◌▸◌};
+ghost use Rattle.cs_history.specs.Plan.{IsPlan, Plan};
+ghost use Rattle.cs_history.specs.declared.event.Event.TheVariants.{Minute, Up};
+ghost use Rattle.cs_history.specs.declared.mode.Mode.TheVariants.{Shared};
+ghost use Rattle.cs_history.specs.declared.run.Going.{Going};
+
+/// A history may start at each minute from 1970-01-04 00:00 to 9999-12-31 23:59, up or down, and at
+/// no other. The call does nothing.
+pub fn first_and_last_start()
+    ensures first { (p : Plan) (up : Bool) → IsLegal p (start 4320 up []) }
+    ensures before { (p : Plan) (up : Bool) → IsLegal p (start 4319 up []) → ⊥ }
+    ensures last { (p : Plan) (up : Bool) → IsLegal p (start 4223371679 up []) }
+    ensures after { (p : Plan) (up : Bool) → IsLegal p (start 4223371680 up []) → ⊥ }
+{}
+
+/// A run of at most `max` minutes is in time in the minute `max - 1` after that of its start, and no
+/// more in the minute `max` after it: as the clock goes on, and as the daemon comes up. The call does
+/// nothing.
+pub fn last_minute_of_a_run()
+    ensures minute { (p : Plan) (h : History) (r : Going) → RunsAlone p h r
+        → IsInTime p (h ▸ Minute (over_at p r - 1)) }
+    ensures late { (p : Plan) (h : History) (r : Going) → RunsAlone p h r
+        → IsInTime p (h ▸ Minute (over_at p r)) → ⊥ }
+    ensures up { (p : Plan) (h : History) (r : Going) → RunsAlone p h r
+        → IsInTime p (h ▸ Up (over_at p r - 1)) }
+    ensures late_up { (p : Plan) (h : History) (r : Going) → RunsAlone p h r
+        → IsInTime p (h ▸ Up (over_at p r)) → ⊥ }
+{}
+
+/// A run that shares the lock of an exclusive group is unsafe beside one of another mode of that
+/// group, and two that share it aren't. The call does nothing.
+pub fn sharers_beside_others()
+    ensures first { (p : Plan) (h : History) (r q : Going) → RunTogether p h r q
+        → p.mode r.run.job ≡ Shared → p.mode q.run.job ≢ Shared → IsSafeNow p h → ⊥ }
+    ensures second { (p : Plan) (h : History) (r q : Going) → RunTogether p h r q
+        → p.mode r.run.job ≢ Shared → p.mode q.run.job ≡ Shared → IsSafeNow p h → ⊥ }
+    ensures both { (p : Plan) (h : History) (r q : Going) → RunTogether p h r q
+        → p.mode r.run.job ≡ Shared → p.mode q.run.job ≡ Shared
+        → p.weight r.run.job + p.weight q.run.job ≤ p.capacity → IsSafeNow p h }
+{}
+
+/// A whole history of a plan that isn't calm: it is legal and in time, and not safe. The call does
+/// nothing.
+pub fn unsafe_history()
+    ensures plan { IsPlan unlocked }
+    ensures legal { IsLegal unlocked both_unlocked }
+    ensures in_time { IsInTime unlocked both_unlocked }
+    ensures broken { IsSafe unlocked both_unlocked → ⊥ }
+    ensures not_calm { (c : ℕ → ℕ) → IsCalm unlocked c 4321 → ⊥ }
+{}
+
+/// No order is promised to those that wait (flock(1)): a newcomer may get the lock while another
+/// waits, and of two that wait the later one. The call does nothing.
+pub fn waiters_may_be_passed()
+    ensures newcomer { IsLegal at_one_lock newcomer }
+    ensures it_runs { running at_one_lock newcomer ≡ going 2 (at 60) (at 60) ∷ [] }
+    ensures other_waits { waiting at_one_lock newcomer ≡ run_of 1 (at 60) ∷ [] }
+    ensures later { IsLegal in_a_queue last_first }
+    ensures later_runs { running in_a_queue last_first ≡ going 2 (at 60) (at 60) ∷ [] }
+    ensures earlier_waits { waiting in_a_queue last_first ≡ run_of 1 (at 60) ∷ [] }
+{}

@@ -21,35 +21,54 @@ ghost use Rattle.cs_accepted.specs.Faults.{first_fault, last_of, stretch_length}
 /// The windows of the stretch that ends on day d, and hold minute m of it, are those that hold the civil minute.
 /// The call does nothing.
 pub fn windows_are_exact()
-    ensures all { (p : Plan) (on : ℕ → Kind → ℕ → Bool) (a : Certificate) (n d m first : ℕ) (r : Run) → IsPlan p → IsByKind p on → IsLength p on (reach_in p a) n → IsAccepted p on a n → m < 1440 → d + 1 ≡ first + n → Holds p (reach_in p a) (1440 * d + m) r → Contains (holders m (windows_on_days p a first n)) (window_on p (reach_in p a) d r) }
-    ensures only { (p : Plan) (on : ℕ → Kind → ℕ → Bool) (a : Certificate) (n d m first : ℕ) → (w : Window) → IsPlan p → IsByKind p on → IsLength p on (reach_in p a) n → IsAccepted p on a n → m < 1440 → d + 1 ≡ first + n → Contains (holders m (windows_on_days p a first n)) w → Holds p (reach_in p a) (1440 * d + m) (run_at d w) }
+    ensures all { (p : Plan) (on : ℕ → Kind → ℕ → Bool) (a : Certificate) (n d m first : ℕ)
+        (r : Run) → IsPlan p → IsByKind p on → IsLength p on (reach_in p a) n
+        → IsAccepted p on a n → m < 1440 → d + 1 ≡ first + n
+        → Holds p (reach_in p a) (1440 * d + m) r
+        → Contains (holders m (windows_on_days p a first n)) (window_on p (reach_in p a) d r) }
+    ensures only { (p : Plan) (on : ℕ → Kind → ℕ → Bool) (a : Certificate) (n d m first : ℕ)
+        → (w : Window) → IsPlan p → IsByKind p on → IsLength p on (reach_in p a) n
+        → IsAccepted p on a n → m < 1440 → d + 1 ≡ first + n
+        → Contains (holders m (windows_on_days p a first n)) w
+        → Holds p (reach_in p a) (1440 * d + m) (run_at d w) }
 {}
 
 /// Where a certificate is accepted, each minute that a history may reach is calm, and the work of each group with a job
 /// that waits is bounded. The call does nothing.
 pub fn accepted_is_calm()
-    ensures calm { (p : Plan) (on : ℕ → Kind → ℕ → Bool) (a : Certificate) (n : ℕ) → IsPlan p → IsByKind p on → IsLength p on (reach_in p a) n → IsAccepted p on a n → (t : ℕ) → IsReached t → IsCalm p (reach_in p a) t }
-    ensures bounded { (p : Plan) (on : ℕ → Kind → ℕ → Bool) (a : Certificate) (n : ℕ) → IsPlan p → IsByKind p on → IsLength p on (reach_in p a) n → IsAccepted p on a n → IsBounded p (reach_in p a) (bound_on a) }
+    ensures calm { (p : Plan) (on : ℕ → Kind → ℕ → Bool) (a : Certificate) (n : ℕ) → IsPlan p
+        → IsByKind p on → IsLength p on (reach_in p a) n → IsAccepted p on a n → (t : ℕ)
+        → IsReached t → IsCalm p (reach_in p a) t }
+    ensures bounded { (p : Plan) (on : ℕ → Kind → ℕ → Bool) (a : Certificate) (n : ℕ) → IsPlan p
+        → IsByKind p on → IsLength p on (reach_in p a) n → IsAccepted p on a n
+        → IsBounded p (reach_in p a) (bound_on a) }
 {}
 
 /// Where a certificate is accepted, every legal history in which each run ends within its declared time is safe: no two
 /// runs of an exclusive group run at once but such as both hold its lock shared, the weights are within the capacity, and
 /// no due minute of a skip job is skipped. The call does nothing.
 pub fn accepted_is_safe()
-    ensures { (p : Plan) (on : ℕ → Kind → ℕ → Bool) (a : Certificate) (n : ℕ) (h : History) → IsPlan p → IsByKind p on → IsLength p on (reach_in p a) n → IsAccepted p on a n → IsLegal p h → IsInTime p h → IsSafe p h }
+    ensures { (p : Plan) (on : ℕ → Kind → ℕ → Bool) (a : Certificate) (n : ℕ) (h : History)
+        → IsPlan p → IsByKind p on → IsLength p on (reach_in p a) n → IsAccepted p on a n
+        → IsLegal p h → IsInTime p h → IsSafe p h }
 {}
 
 /// No fault is found exactly where the certificate is accepted, and its stretches are as long as they have to be. The call
 /// does nothing.
 pub fn no_fault_is_accepted()
-    ensures faults { (p : Plan) (on : ℕ → Kind → ℕ → Bool) (a : Certificate) (n : ℕ) → IsPlan p → 1 ≤ n → (first_fault p on a n ≡ None) ↔ IsAccepted p on a n }
-    ensures length { (p : Plan) (on : ℕ → Kind → ℕ → Bool) (c : ℕ → ℕ) → IsPlan p → IsModest p c → IsLength p on c (stretch_length p on c) }
+    ensures faults { (p : Plan) (on : ℕ → Kind → ℕ → Bool) (a : Certificate) (n : ℕ) → IsPlan p
+        → 1 ≤ n → (first_fault p on a n ≡ None) ↔ IsAccepted p on a n }
+    ensures length { (p : Plan) (on : ℕ → Kind → ℕ → Bool) (c : ℕ → ℕ) → IsPlan p → IsModest p c
+        → IsLength p on c (stretch_length p on c) }
 {}
 
 /// Where each kind's class has the due minutes of that kind, the windows of successive kinds are those of their classes.
 /// The call does nothing.
 pub fn classes_have_the_windows_of_kinds()
-    ensures { (p : Plan) (on : ℕ → Kind → ℕ → Bool) (a : Certificate) (ks : List Kind) → ((k : Kind) → IsKind k → (j m : ℕ) → is_cron p j ≡ true → m < 1440 → a.due (a.class_of k) j m ≡ on j k m) → IsChain ks → windows_on (occupied p on (reach_in p a)) ks ≡ windows_of p a (map a.class_of ks) }
+    ensures { (p : Plan) (on : ℕ → Kind → ℕ → Bool) (a : Certificate) (ks : List Kind)
+        → ((k : Kind) → IsKind k → (j m : ℕ) → is_cron p j ≡ true → m < 1440
+        → a.due (a.class_of k) j m ≡ on j k m) → IsChain ks
+        → windows_on (occupied p on (reach_in p a)) ks ≡ windows_of p a (map a.class_of ks) }
 {}
 
 /// The day that the text of a fault names does end such days: each chain of up to four kinds comes within

@@ -61,6 +61,7 @@ impl<'w, J: PlanLedger, R: Wait, G, O: io::Write> Shared<'w, J, R, G, O> {
     {
         self.dispatch.lock(self.rt).audit(seat);
     }
+
     /// What lay under the locks.
     pub(crate) fn into_parts(self) -> (Dispatch<J>, Log<'w, O>) {
         let Shared {

@@ -71,7 +71,8 @@ fn follows(before: u32, arrives: u32, bound: u32) -> bool
 /// one, not below 0. `before` and `arrivals` are of the first day, `day` is of the day after it.
 pub fn step_ok(before: &Backlog, arrivals: &Arrivals, day: &Backlog, minute: u16) -> bool
     requires { minute < MINUTES_OF_DAY }
-    ensures { IsTrue result ↔ (at before.now minute + slice_index arrivals.now minute - 1 ≤ at_days (at before.now ∷ at day.now ∷ []) (minute + 1)) }
+    ensures { IsTrue result ↔ (at before.now minute + slice_index arrivals.now minute - 1
+        ≤ at_days (at before.now ∷ at day.now ∷ []) (minute + 1)) }
 {
     let next = bound_over(before, day, minute + 1);
     follows(before.at(minute), arrivals.at(minute), next)

@@ -2,11 +2,12 @@
 ghost use Rattle.std.specs.Prelude.{map};
 ghost use Rattle.cs_io.specs.Files.{IsFresh};
 ghost use Rattle.cs_program.specs.Ending.{sink};
-ghost use Rattle.cs_program.specs.Run.{Runs};
+ghost use Rattle.cs_cli.specs.Response.{status_of};
+ghost use Rattle.cs_program.specs.Run.{CarriesOut, Runs};
 
 use crate::ending::{finish, run_out};
 use crate::serve::serve;
-use cs_cli::{Answer, respond};
+use cs_cli::{Answer, Status, respond};
 use cs_device::Runner;
 use cs_io::{Inputs, Output};
 use std::alloc::{AllocError, Global};
@@ -15,6 +16,27 @@ use std::io::Write;
 use std::rt::{Clock, Files};
 use std::sync::Wait;
 use std::thread::Threads;
+
+/// Carries out an answer, and gives the status.
+fn carry_out<
+    R: Threads + Wait + Sync + Files + Clock,
+    O: Output + Write + Send,
+    E: Output,
+    W: Runner + Send + Drop,
+    F: Fn() -> W + Drop,
+>(rt: &R, alloc: Global, answer: Answer<'_>, out: &mut O, err: &mut E, new_runner: F) -> Status
+    requires { F.IsAlwaysCallable new_runner }
+    ensures { CarriesOut answer.entry
+        (sink (O.Output.contents out.old) (O.Output.failed out.old))
+        (sink (O.Output.contents out.new) (O.Output.failed out.new))
+        (sink (E.contents err.old) (E.failed err.old)) (sink (E.contents err.new) (E.failed err.new))
+        (status_of result) }
+{
+    match answer {
+        Answer::Ends(response) => finish(&response, out, err),
+        Answer::Runs(order) => serve(rt, alloc, order, out, err, new_runner),
+    }
+}
 
 /// Runs the program on its words, of which the first is its name, and gives the status that the
 /// process ends with: 0 done, safe, help or the version, 1 unsafe, or an event or a certificate was
@@ -43,8 +65,7 @@ pub fn run_words<
         result }
 {
     match respond(rt, alloc, words, inputs) {
-        Ok(Answer::Ends(response)) => finish(&response, out, err).code(),
-        Ok(Answer::Runs(order)) => serve(rt, alloc, order, out, err, new_runner).code(),
+        Ok(answer) => carry_out(rt, alloc, answer, out, err, new_runner).code(),
         Err(AllocError) => run_out(err).code(),
     }
 }

@@ -1,7 +1,7 @@
 -- What a call of a core does.
 use Rattle.std.specs.Prelude.{◌≡◌, Bool, true, false, Result, Ok, Err}
 use Rattle.cs_history.specs.Plan.{Plan}
-use Rattle.cs_history.specs.History.{Answer, Starts, Waits, Skips}
+use Rattle.cs_history.specs.History.{Answer, Starts, Waits, Skips, answer}
 use Rattle.cs_history.specs.Step.{State, after, reply}
 use Rattle.cs_history.specs.declared.event.Event.{Event}
 use Rattle.cs_history.specs.declared.event.Event.TheVariants.{Minute, Begin, Got, Catch, End, Down, Up}
@@ -9,15 +9,21 @@ use Rattle.cs_history.specs.declared.reply.Reply.{Reply}
 use Rattle.cs_history.specs.declared.refusal.Refusal.{Refusal}
 use Rattle.cs_history.specs.declared.refusal.Refusal.TheVariants.{OutOfMemory}
 
--- whether an event may add a run to a list
-abbrev pub needs_memory : Event → Bool
-needs_memory (Minute t) = false
-needs_memory (Begin j) = true
-needs_memory (Got j d) = true
-needs_memory (Catch j) = true
-needs_memory (End r) = false
-needs_memory Down = false
-needs_memory (Up t) = false
+-- whether the Begin of a job adds a run to those that run or wait
+abbrev pub adds_run : Answer → Bool
+adds_run Starts = true
+adds_run Waits = true
+adds_run Skips = false
+
+-- whether an event adds a run to a list: all else takes no memory
+abbrev pub needs_memory : Plan → State → Event → Bool
+needs_memory p s (Minute t) = false
+needs_memory p s (Begin j) = adds_run (answer p s.running j)
+needs_memory p s (Got j d) = true
+needs_memory p s (Catch j) = true
+needs_memory p s (End r) = false
+needs_memory p s Down = false
+needs_memory p s (Up t) = false
 
 -- what a call does that takes an event which is not refused: all of it, or for want of memory nothing
 abbrev pub Takes : Plan → State → Event → Result Reply Refusal → State → Type 0

@@ -81,8 +81,9 @@ impl Core {
         ensures steps { Steps (as_plan self.old.plan) self.old.state event result self.new.state }
         ensures history { (h : History) → self.old.state ≡ state_of (as_plan self.old.plan) h → Follows (as_plan self.old.plan) h event result self.new.state }
         ensures plan { self.new.plan ≡ self.old.plan }
-        // Minute, End, Down and Up take no memory.
-        ensures memory { IfErr result (λ f. f ≡ OutOfMemory → needs_memory event ≡ true) }
+        // Minute, End, Down and Up take no memory, nor does a Begin that comes to a skip.
+        ensures memory { IfErr result (λ f. f ≡ OutOfMemory
+            → needs_memory (as_plan self.old.plan) self.old.state event ≡ true) }
     {
         self.take_unless_refused(event)
     }

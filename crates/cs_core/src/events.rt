@@ -19,7 +19,8 @@ impl Core {
     pub(crate) fn take_unless_refused(&mut self, event: Event) -> Result<Reply, Refusal>
         ensures steps { Steps (as_plan self.old.plan) self.old.state event result self.new.state }
         ensures plan { self.new.plan ≡ self.old.plan }
-        ensures memory { IfErr result (λ f. f ≡ OutOfMemory → needs_memory event ≡ true) }
+        ensures memory { IfErr result (λ f. f ≡ OutOfMemory
+            → needs_memory (as_plan self.old.plan) self.old.state event ≡ true) }
     {
         match self.refusal(&event) {
             Some(refusal) => Err(refusal),
@@ -32,7 +33,8 @@ impl Core {
         requires { refusal (as_plan self.old.plan) self.old.state event ≡ None }
         ensures takes { Takes (as_plan self.old.plan) self.old.state event result self.new.state }
         ensures plan { self.new.plan ≡ self.old.plan }
-        ensures memory { OnErr result (needs_memory event ≡ true) }
+        ensures memory { OnErr result
+            (needs_memory (as_plan self.old.plan) self.old.state event ≡ true) }
     {
         match event {
             Event::Minute(minute) => Ok(self.take_minute(minute)),
@@ -81,6 +83,8 @@ impl Core {
         ensures state { OnOk result (self.new.state ≡ after (as_plan self.old.plan) self.old.state (event.Begin job)) }
         ensures same { OnErr result (self.new.state ≡ self.old.state) }
         ensures plan { self.new.plan ≡ self.old.plan }
+        ensures memory { OnErr result (needs_memory (as_plan self.old.plan) self.old.state
+            (event.Begin job) ≡ true) }
     {
         let run = Run {
             job,

@@ -1,5 +1,5 @@
 -- Where no fault is found, every legal history in time is safe.
-use Rattle.std.proofs.Common.{◌≡◌, ℕ, ◌+◌, ◌*◌, ◌/◌, ◌%◌, ◌<◌, ◌≤◌, List, [], ◌∷◌, length, None, refl, ap, ◌∙◌, arith}
+use Rattle.std.proofs.Common.{◌≡◌, ℕ, ◌+◌, ◌*◌, ◌/◌, ◌%◌, ◌<◌, ◌≤◌, List, [], ◌∷◌, length, Some, None, refl, sym, ap, ◌∙◌, arith}
 use Rattle.cs_civil.specs.Calendar.{kind}
 use Rattle.cs_history.specs.History.{History, From, ◌▸◌, IsSafe, IsSafeNow, running}
 use Rattle.cs_history.specs.Lists.{total}
@@ -20,7 +20,10 @@ use Rattle.cs_accepted.proofs.Bounded.{bounded}
 use Rattle.cs_accepted.proofs.Points.{says_all}
 use Rattle.cs_accepted.proofs.Lengths.{length_is}
 use Rattle.cs_check.specs.Case.{reach_for, length_for, fault_of, IsAcceptedWith, IsFit}
-use Rattle.cs_check.specs.Checked.{AreFew, IsHeadline, IsCalmThroughout, StayInWindows}
+use Rattle.cs_check.specs.Checked.{AreFew, IsBroken, IsHeadline, IsCalmThroughout, StayInWindows, Tells}
+use Rattle.cs_check.specs.declared.fault.CheckError.{CheckError}
+use Rattle.cs_check.specs.declared.fault.CheckError.TheVariants as errors
+use Rattle.cs_refused.specs.Told.{told}
 
 due_step : (w : When) (d m : ℕ) → m < 1440 → is_due w (1440 * d + m) ≡ is_due_on w (kind d) m
 due_step (At schedule) d m lt =
@@ -38,6 +41,15 @@ length_of d c fit = length_is (as_plan d) fit.plan (due_on d) (reach_for d c) fi
 pub accepted : (d : Declared) (c : Content) → IsFit d c → fault_of d c ≡ None → IsAcceptedWith d c
 unfolding fault_of
 accepted d c fit e = let l = length_of d c fit in (says_all (as_plan d) fit.plan (due_on d) (as_certificate c) (length_for d c) (omega (arith, l.range.0))).0 e
+
+pub broken : (d : Declared) (c : Content) (e : CheckError) → IsFit d c → Tells (fault_of d c) e → IsBroken d c e
+unfolding fault_of
+broken d c (errors.Fault f) fit is = λ ok.
+    let l = length_of d c fit in
+    let none = (says_all (as_plan d) fit.plan (due_on d) (as_certificate c) (length_for d c) (omega (arith, l.range.0))).1 ok in
+    let no : None ≡ Some (told f) = sym none ∙ is in
+    absurd cc
+broken d c errors.OutOfMemory fit is = tt
 
 pub headline : (d : Declared) (c : Content) → IsFit d c → fault_of d c ≡ None → IsHeadline (as_plan d)
 headline d c fit e =

@@ -1,14 +1,17 @@
 -- What is known of a plan that was checked.
 use Rattle.std.specs.Prelude.{◌≡◌, ℕ, ◌≤◌, Option, Some, ⊤, length}
 use Rattle.std.specs.List.{AllByRecursion}
-use Rattle.cs_decl.specs.Plan.{Declared}
+use Rattle.cs_decl.specs.Plan.{Declared, as_plan}
 use Rattle.cs_cert.specs.Content.{Content}
 use Rattle.cs_cert.specs.Certificate.{content}
 use Rattle.cs_check.specs.declared.checked.Checked.{Checked}
 use Rattle.cs_history.specs.Plan.{Plan, IsReached}
 use Rattle.cs_history.specs.Calm.{Holds, IsCalm, window_of}
 use Rattle.cs_history.specs.History.{History, now, running, IsLegal, IsInTime, IsSafe}
+use Rattle.cs_accepted.specs.Accepted.{IsLength}
 use Rattle.cs_accepted.specs.Faults.{Fault}
+use Rattle.cs_claim.specs.Planned.{due_on}
+use Rattle.cs_check.specs.Case.{IsAcceptedWith, reach_for}
 use Rattle.cs_refused.specs.Told.{told}
 use Rattle.cs_check.specs.declared.fault.CheckError.{CheckError}
 use Rattle.cs_check.specs.declared.fault.CheckError.TheVariants as errors
@@ -37,6 +40,15 @@ IsCalmThroughout p c = (t : ℕ) → IsReached t → IsCalm p c t
 abbrev pub Tells : Option Fault → CheckError → Type 0
 Tells o (errors.Fault f) = o ≡ Some (told f)
 Tells o errors.OutOfMemory = ⊤
+
+-- a fault is answered only where the eight rules don't all hold
+abbrev pub IsBroken : Declared → Content → CheckError → Type 0
+IsBroken d c (errors.Fault f) = IsAcceptedWith d c → ⊥
+IsBroken d c errors.OutOfMemory = ⊤
+
+-- the length of the stretches in use: the smallest of 2, 3, 4 days that no window outlasts
+abbrev pub IsLengthFor : Declared → Content → ℕ → Type 0
+IsLengthFor d c n = IsLength (as_plan d) (due_on d) (reach_for d c) n
 
 -- in every such history at most as many runs run at once as the capacity
 abbrev pub AreFew : Plan → Type 0

@@ -1,8 +1,9 @@
 //! The checker, by one thread and by several.
 ghost use Rattle.std.specs.Prelude.{◌≡◌, [], IfErr, IfOk, IsTrue, None, OnOk};
 ghost use Rattle.cs_cert.specs.Certificate.{content};
-ghost use Rattle.cs_check.specs.Case.{IsAcceptedWith, IsFit, fault_of, reach_for};
-ghost use Rattle.cs_check.specs.Checked.{IsCalmThroughout, IsHeadline, StayInWindows, Tells, certificate_in, plan_in};
+ghost use Rattle.cs_check.specs.Case.{IsAcceptedWith, IsFit, fault_of, length_for, reach_for};
+ghost use Rattle.cs_check.specs.Checked.{IsBroken, IsCalmThroughout, IsHeadline, IsLengthFor};
+ghost use Rattle.cs_check.specs.Checked.{StayInWindows, Tells, certificate_in, plan_in};
 ghost use Rattle.cs_check.specs.Stretches.{AreGood, AreStretches, IsCase};
 ghost use Rattle.cs_decl.specs.Plan.{as_plan};
 
@@ -19,6 +20,14 @@ use cs_decl::Plan;
 use cs_wait::Backlog;
 use std::alloc::Global;
 use std::thread::Threads;
+
+/// All numbers of a plan and a certificate are in range. The call does nothing.
+fn look_at(plan: &Plan, certificate: &Certificate)
+    ensures { IsFit plan.now (content certificate.now) }
+{
+    let _jobs = plan.jobs();
+    let _reach = certificate.reach();
+}
 
 /// Nothing where each stretch is good, else the first fault.
 fn answer(
@@ -85,22 +94,27 @@ fn judge_parallel<R: Threads + Sync>(
     answer(alloc, &case, stretches.as_slice(), good)
 }
 
-/// Accepts a plan with a certificate exactly where the eight rules of this profile hold, and answers the first fault
-/// otherwise: of the smallest number, then the first place of that rule. The other error is want of memory.
+/// Accepts a plan with a certificate exactly where the eight rules of this profile hold, for stretches
+/// of as few days as the windows allow, and answers the first fault otherwise: of the smallest number,
+/// then the first place of that rule. The other error is want of memory.
 ///
 /// What is accepted is safe: every legal history in which each run ends within its declared time never has two runs of an
 /// exclusive group running at once (two that both hold the lock shared excepted), never exceeds the declared capacity,
 /// and never skips a due minute of a skip job. Who made the certificate doesn't matter.
-#[tactic(auto, using(crate::proofs::Headline::headline, crate::proofs::Headline::calm_throughout, crate::proofs::Headline::stays, crate::proofs::Headline::accepted))]
+#[tactic(auto, using(crate::proofs::Headline::headline, crate::proofs::Headline::calm_throughout, crate::proofs::Headline::stays, crate::proofs::Headline::accepted, crate::proofs::Headline::broken, crate::proofs::Headline::length_of))]
 pub fn check(alloc: Global, plan: &Plan, certificate: Certificate) -> Result<Checked, CheckError>
     ensures value { IfOk result (λ checked. (plan_in checked ≡ plan.now) × (certificate_in checked ≡ content certificate)) }
     ensures ok { IfOk result (λ checked. fault_of plan.now (content certificate) ≡ None) }
     ensures fault { IfErr result (Tells (fault_of plan.now (content certificate))) }
     ensures rules { IfOk result (λ checked. IsAcceptedWith plan.now (content certificate)) }
+    ensures broken { IfErr result (IsBroken plan.now (content certificate)) }
+    ensures length { IsLengthFor plan.now (content certificate)
+        (length_for plan.now (content certificate)) }
     ensures calm { IfOk result (λ checked. IsCalmThroughout (as_plan plan.now) (reach_for plan.now (content certificate))) }
     ensures windows { IfOk result (λ checked. StayInWindows (as_plan plan.now) (reach_for plan.now (content certificate))) }
     ensures headline { IfOk result (λ checked. IsHeadline (as_plan plan.now)) }
 {
+    look_at(plan, &certificate);
     let none = Backlog::none(alloc);
     judge(alloc, plan, &certificate, &none)?;
     let plan = plan.copy(alloc)?;
@@ -108,7 +122,7 @@ pub fn check(alloc: Global, plan: &Plan, certificate: Certificate) -> Result<Che
 }
 
 /// The same answer as [`check`] for every plan and certificate, by as many threads as the machine has processors.
-#[tactic(auto, using(crate::proofs::Headline::headline, crate::proofs::Headline::calm_throughout, crate::proofs::Headline::stays, crate::proofs::Headline::accepted))]
+#[tactic(auto, using(crate::proofs::Headline::headline, crate::proofs::Headline::calm_throughout, crate::proofs::Headline::stays, crate::proofs::Headline::accepted, crate::proofs::Headline::broken, crate::proofs::Headline::length_of))]
 pub fn check_parallel<R: Threads + Sync>(
     rt: &R,
     alloc: Global,
@@ -119,10 +133,14 @@ pub fn check_parallel<R: Threads + Sync>(
     ensures ok { IfOk result (λ checked. fault_of plan.now (content certificate) ≡ None) }
     ensures fault { IfErr result (Tells (fault_of plan.now (content certificate))) }
     ensures rules { IfOk result (λ checked. IsAcceptedWith plan.now (content certificate)) }
+    ensures broken { IfErr result (IsBroken plan.now (content certificate)) }
+    ensures length { IsLengthFor plan.now (content certificate)
+        (length_for plan.now (content certificate)) }
     ensures calm { IfOk result (λ checked. IsCalmThroughout (as_plan plan.now) (reach_for plan.now (content certificate))) }
     ensures windows { IfOk result (λ checked. StayInWindows (as_plan plan.now) (reach_for plan.now (content certificate))) }
     ensures headline { IfOk result (λ checked. IsHeadline (as_plan plan.now)) }
 {
+    look_at(plan, &certificate);
     let none = Backlog::none(alloc);
     judge_parallel(rt, alloc, plan, &certificate, &none)?;
     let plan = plan.copy(alloc)?;

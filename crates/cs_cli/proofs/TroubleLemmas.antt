@@ -105,12 +105,12 @@ moved P w v f g same kept h = subst (λ (b : Bool). P v b) kept (subst (λ (o : 
 -- ---- behind what is to be warned of
 
 pub answered : (tables : Bool → Bool → Result (Table × JobTable) Trouble → Type 0) (next : Table × JobTable → Bool → Bool → Result Ending Trouble → Type 0) (before after : Bool) (both : Table × JobTable) (w : List ℕ) (answer ending : Ending)
-    → tables before before (Ok both) → w ≡ warnings_text both.0.settings both.1.settings → next both before after (Ok answer) → ending ≡ record answer { err = w } → Answered tables next before after ending
+    → tables before before (Ok both) → w ≡ warnings_text both.0 both.1 → next both before after (Ok answer) → ending ≡ record answer { err = w } → Answered tables next before after ending
 answered tables next before after both w answer ending one warned other is =
     inr (both, one, (Ok answer, other, is ∙ ap (λ v. record answer { err = v }) warned))
 
 pub answered_fault : (tables : Bool → Bool → Result (Table × JobTable) Trouble → Type 0) (next : Table × JobTable → Bool → Bool → Result Ending Trouble → Type 0) (before after : Bool) (both : Table × JobTable) (w : List ℕ) (fault : Fault) (ending : Ending)
-    → tables before before (Ok both) → w ≡ warnings_text both.0.settings both.1.settings → IfSome (trouble fault) (λ t. next both before after (Err t)) → option_map (ends w) (trouble fault) ≡ Some ending → Answered tables next before after ending
+    → tables before before (Ok both) → w ≡ warnings_text both.0 both.1 → IfSome (trouble fault) (λ t. next both before after (Err t)) → option_map (ends w) (trouble fault) ≡ Some ending → Answered tables next before after ending
 answered_fault tables next before after both w fault ending one warned other is = by_trouble (trouble fault) other is
   where
     some_ending : (a b : Ending) → Some a ≡ Some b → a ≡ b

@@ -1,5 +1,7 @@
 -- What a call comes to: an answer that ends it, or an order to run tables.
 use Rattle.std.specs.Prelude.{◌≡◌, ◌≢◌, ℕ, Bool, List, Option, ⊤}
+use Rattle.cs_decl.specs.Plan.{as_plan}
+use Rattle.cs_check.specs.Checked.{IsHeadline, plan_in}
 use Rattle.cs_call.specs.CommandLine.{AskedRun}
 use Rattle.cs_cli.specs.Check.{AnswersCheck, IsProofOf, safe_text}
 use Rattle.cs_cli.specs.Response.{Ending, done}
@@ -18,11 +20,13 @@ IfEnds P (Ends ending) = P ending
 IfEnds P (Runs order) = ⊤
 
 -- `check` would answer `safe` and the same warnings, and what is to be run is the plan and the
--- certificate that the files denote, with the stamps and the minutes that were asked
+-- certificate that the files denote, of which every legal history in time is safe, with the stamps
+-- and the minutes that were asked
 pub record IsOrder (a : AskedRun) (files : List ℕ → Option (List ℕ)) (before failed : Bool)
     (order : Order) : Type 0 where
   pub safe : AnswersCheck a.check files before failed (done safe_text order.warnings)
   pub proof : IsProofOf files a.check before order.checked
+  pub headline : IsHeadline (as_plan (plan_in order.checked))
   pub stamps : order.stamps.now ≡ a.stamps
   pub minutes : order.minutes ≡ a.minutes
 

@@ -2,13 +2,14 @@
 use Rattle.std.specs.Prelude.{◌≡◌, ◌⊎◌, ℕ, Bool, List, [], Option}
 use Rattle.clap.specs.Words.{Text}
 use Rattle.cs_call.specs.CommandLine.{Asking, Check, Day, Help, Judge, Make, Replay, Run, Asks}
-use Rattle.cs_call.specs.CommandLine.{AsksHelp, AsksVersion, IsNoCall}
+use Rattle.cs_call.specs.CommandLine.{AskedCheck, AsksHelp, AsksVersion, IsNoCall}
 use Rattle.cs_call.specs.Version.{version_text}
 use Rattle.cs_cli.specs.Answer.{AnswersRun, EndsAs}
 use Rattle.cs_cli.specs.DayAnswer.{AnswersDay}
 use Rattle.cs_cli.specs.Response.{Ending, done}
 use Rattle.cs_cli.specs.Replayed.{AnswersReplay}
 use Rattle.cs_cli.specs.Check.{AnswersCheck}
+use Rattle.cs_cli.specs.Safe.{AreSafe}
 use Rattle.cs_cli.specs.Judge.{AnswersJudge}
 use Rattle.cs_cli.specs.declared.answer.Answer.{Answer}
 use Rattle.cs_judge.specs.declared.answers.Wanted.TheVariants.{Certificate, Verdict}
@@ -17,11 +18,17 @@ use Rattle.cs_judge.specs.declared.answers.Wanted.TheVariants.{Certificate, Verd
 abbrev pub ShowsHelp : Bool → Bool → Ending → Type 0
 ShowsHelp before failed ending = (failed ≡ before) × (ending.status ≡ 0) × (ending.err ≡ [])
 
+-- what is answered to `check`, which is done only where the files denote a plan that is safe
+pub record IsChecked (a : AskedCheck) (files : List ℕ → Option (List ℕ)) (before failed : Bool)
+    (ending : Ending) : Type 0 where
+  pub answer : AnswersCheck a files before failed ending
+  pub safe : ending.status ≡ 0 → AreSafe files a before
+
 -- what is answered to a subcommand
 abbrev pub AnswersAsked : Asking → (List ℕ → Option (List ℕ)) → Bool → Bool → Answer → Type 0
 AnswersAsked (Day a) files before failed = EndsAs (AnswersDay a files before failed)
 AnswersAsked (Replay a) files before failed = EndsAs (AnswersReplay a files before failed)
-AnswersAsked (Check a) files before failed = EndsAs (AnswersCheck a files before failed)
+AnswersAsked (Check a) files before failed = EndsAs (IsChecked a files before failed)
 AnswersAsked (Run a) files before failed = AnswersRun a files before failed
 AnswersAsked (Judge a) files before failed = EndsAs (AnswersJudge Verdict a files before failed)
 AnswersAsked (Make a) files before failed = EndsAs (AnswersJudge Certificate a files before failed)

@@ -35,7 +35,7 @@ tables_text q lines jobs =
 -- what is answered of both tables
 abbrev pub shown : Question → Table → JobTable → Ending
 shown q table jobs =
-    done (tables_text q table.lines jobs.lines) (warnings_text table.settings jobs.settings)
+    done (tables_text q table.lines jobs.lines) (warnings_text table jobs)
 
 -- the words ask a question, or hold a fault: the first of DATE, MAX and the hours
 abbrev pub AsksIn : Asked → Bool → Bool → Result Question Trouble → Type 0

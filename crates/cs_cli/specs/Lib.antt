@@ -6,6 +6,7 @@ pub mod Reads
 pub mod DayAnswer
 pub mod Replayed
 pub mod Check
+pub mod Safe
 pub mod Answer
 pub mod Judge
 pub mod Call

@@ -82,7 +82,7 @@ Answered tables next before after ending =
     ((t : Trouble) × tables before after (Err t) × (ending ≡ ends [] t))
     ⊎ ((both : Table × JobTable) × tables before before (Ok both)
     × ((r : Result Ending Trouble) × next both before after r
-    × (ending ≡ behind (warnings_text both.0.settings both.1.settings) r)))
+    × (ending ≡ behind (warnings_text both.0 both.1) r)))
 
 -- bytes mean the value that is given, or have the fault that is told
 abbrev pub MeansIt : {M F : Type 0} → (List ℕ → Result M F → Type 0) → (F → Trouble) → List ℕ

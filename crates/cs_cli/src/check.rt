@@ -11,6 +11,7 @@ ghost use Rattle.cs_cli.specs.Check.{AnswersCheck, AreRead, IsProofOf, IsSafeWit
 ghost use Rattle.cs_cli.specs.Check.{ReadsCertificate, answer_of, safe_text, said, verdict};
 ghost use Rattle.cs_cli.specs.Response.{done};
 ghost use Rattle.cs_cli.specs.Reads.{MeansIt};
+ghost use Rattle.cs_cli.specs.Safe.{AreSafe, IsSafe};
 ghost use Rattle.cs_cli.specs.Trouble.{CameTo, InCertificate, IsHonestOf};
 ghost use Rattle.cs_cert.specs.Denoted.{certificate_by};
 
@@ -92,9 +93,13 @@ fn judge<R: Threads + Sync>(
     ensures same { IfOk result (λ r. IfSome r.1
         (λ checked. (plan_in checked ≡ plan) × (certificate_in checked ≡ content certificate))) }
     ensures safe { IfOk result (λ r. IsSafeWith r.0 r.1) }
+    ensures headline { IfOk result (λ r. IfSome r.1 IsSafe) }
 {
     match check_parallel(rt, alloc, &plan, certificate) {
-        Ok(checked) => Ok((acceptance(alloc)?, Some(checked))),
+        Ok(checked) => {
+            checked.is_safe();
+            Ok((acceptance(alloc)?, Some(checked)))
+        }
         Err(CheckError::Fault(fault)) => Ok((refusal(alloc, &plan, &fault)?, None)),
         Err(CheckError::OutOfMemory) => Err(AllocError),
     }
@@ -116,6 +121,7 @@ fn judged<'a, R: Threads + Sync, I: Inputs>(
         → IfOk result (λ r. IfSome r.1 (AreRead (I.whole inputs.old) (asked_check request.now)
         (table, jobs) (I.failed inputs.old))) }
     ensures safe { IfOk result (λ r. IsSafeWith r.0 r.1) }
+    ensures headline { IfOk result (λ r. IfSome r.1 IsSafe) }
     ensures status { IfErr result (IsHonestOf (I.failed inputs.new)) }
     ensures done { IfOk result (λ r. r.0.status ≢ 6) }
 {
@@ -140,6 +146,7 @@ pub(crate) fn checked_answer<R: Threads + Sync, I: Inputs>(
         → IfOk result (λ r. IfSome r.1
         (IsProofOf (I.whole inputs.old) (asked_check request.now) (I.failed inputs.old))) }
     ensures safe { IfOk result (λ r. IsSafeWith r.0 r.1) }
+    ensures headline { IfOk result (λ r. IfSome r.1 IsSafe) }
     ensures status { IfOk result (λ r. r.0.status ≡ 6 → I.failed inputs.new ≡ true) }
 {
     let (table, jobs) = match read_tables(alloc, inputs, request.table, request.anacrontab) {
@@ -163,8 +170,13 @@ pub(crate) fn check_certificate<R: Threads + Sync, I: Inputs>(
     ensures value { IsFresh (I.whole inputs.old) (I.left inputs.old)
         → IfOk result (AnswersCheck (asked_check request.now) (I.whole inputs.old)
         (I.failed inputs.old) (I.failed inputs.new)) }
+    ensures safe { IsFresh (I.whole inputs.old) (I.left inputs.old)
+        → IfOk result (λ r. r.status ≡ 0
+        → AreSafe (I.whole inputs.old) (asked_check request.now) (I.failed inputs.old)) }
     ensures status { IfOk result (λ r. r.status ≡ 6 → I.failed inputs.new ≡ true) }
 {
-    let (answer, _checked) = checked_answer(rt, alloc, request, inputs)?;
-    Ok(answer)
+    match checked_answer(rt, alloc, request, inputs)? {
+        (answer, Some(_checked)) => Ok(answer),
+        (answer, None) => Ok(answer),
+    }
 }

@@ -26,12 +26,15 @@ pub(crate) fn order<'a, R: Threads + Sync, I: Inputs>(
         (IfEnds (λ ending. ending.status ≡ 6 → I.failed inputs.new ≡ true)) }
 {
     match checked_answer(rt, alloc, &request.check, inputs)? {
-        (response, Some(checked)) => Ok(Answer::Runs(Order {
-            checked,
-            warnings: response.into_err(),
-            stamps: request.stamps,
-            minutes: request.minutes,
-        })),
+        (response, Some(checked)) => {
+            checked.is_safe();
+            Ok(Answer::Runs(Order {
+                checked,
+                warnings: response.into_err(),
+                stamps: request.stamps,
+                minutes: request.minutes,
+            }))
+        }
         (response, None) => Ok(Answer::Ends(response)),
     }
 }

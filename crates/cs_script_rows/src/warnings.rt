@@ -4,7 +4,7 @@ use cs_warning::warnings;
 use std::test::Fail;
 
 /// A crontab, an anacrontab, and their warnings.
-const ROWS: [(&[u8], &[u8], &[u8]); 4] = [
+const ROWS: [(&[u8], &[u8], &[u8]); 6] = [
     (b"A=b\n0 0 * * * CRON_TZ=UTC", b"SHELL=/bin/sh\n", b""),
     (
         b"CRON_TZ=UTC",
@@ -24,10 +24,23 @@ const ROWS: [(&[u8], &[u8], &[u8]); 4] = [
           warning: RANDOM_DELAY on line 1 of the anacrontab has no effect\n\
           warning: START_HOURS_RANGE on line 2 of the anacrontab has no effect\n",
     ),
+    (
+        b"* * * * * rootkit\n* * * * * /bin/root\n* * * * * 'root' a\n* * * * * a root\n",
+        b"1 0 a root b\n",
+        b"",
+    ),
+    (
+        b"RANDOM_DELAY=1\n0 0 * * * ROOT a\n@daily root\n* * * * * root\ta\n",
+        b"RANDOM_DELAY=2\n",
+        b"warning: RANDOM_DELAY on line 1 of the crontab has no effect\n\
+          warning: the command on line 3 of the crontab begins with root, as in a table with a \
+          user column\n\
+          warning: RANDOM_DELAY on line 1 of the anacrontab has no effect\n",
+    ),
 ];
 
 #[test]
-fn unheeded_settings(rt: HostRuntime) -> Result<(), Fail> {
+fn settings_without_effect_and_a_user_column(rt: HostRuntime) -> Result<(), Fail> {
     for (crontab, anacrontab, want) in &ROWS {
         let crontab = read_crontab(rt.alloc(), *crontab).expect(&rt, "a crontab");
         let anacrontab = read_anacrontab(rt.alloc(), *anacrontab).expect(&rt, "an anacrontab");

@@ -1,9 +1,11 @@
 -- The warnings that come with two tables.
-use Rattle.std.specs.Prelude.{ℕ, Bool, ◌||◌, List, ◌++◌, codes}
+use Rattle.std.specs.Prelude.{ℕ, Bool, ◌||◌, List, [], ◌++◌, Option, Some, None, codes}
 use Rattle.std.specs.Fmt.{decimal}
-use Rattle.std.specs.List.{filter, flat_map}
+use Rattle.std.specs.List.{filter, find, flat_map}
 use Rattle.std.specs.Str.{bytes_eq}
-use Rattle.cs_crontab.specs.Crontab.{SettingLine}
+use Rattle.cs_anacrontab.specs.Anacrontab.{Table as JobTable}
+use Rattle.cs_crontab.specs.Crontab.{CommandLine, SettingLine, Table}
+use Rattle.cs_crontab.specs.Text.{front, is_solid}
 
 -- Other daemons heed these settings of a crontab or an anacrontab.
 abbrev pub is_unheeded : SettingLine → Bool
@@ -18,6 +20,25 @@ warning table setting =
 unfoldable pub warnings_of : List ℕ → List SettingLine → List ℕ
 warnings_of table settings = flat_map (warning table) (filter is_unheeded settings)
 
--- those of the crontab, and then those of the anacrontab
-abbrev pub warnings : List SettingLine → List SettingLine → List ℕ
-warnings crontab anacrontab = warnings_of (codes "crontab") crontab ++ warnings_of (codes "anacrontab") anacrontab
+-- a command with `root` as its first word: in tables with a user column, as /etc/crontab and those of
+-- /etc/cron.d, a user stands before each command (crontab(5))
+abbrev pub is_as_root : CommandLine → Bool
+is_as_root line = bytes_eq (front is_solid line.command) (codes "root")
+
+-- `warning: the command on line N of the crontab begins with root, as in a table with a user column`
+-- and a newline
+abbrev pub user_warning : CommandLine → List ℕ
+user_warning line = codes "warning: the command on line " ++ (decimal line.number
+    ++ codes " of the crontab begins with root, as in a table with a user column\n")
+
+-- such a line for the first such command
+abbrev pub user_warning_of : Option CommandLine → List ℕ
+user_warning_of None = []
+user_warning_of (Some line) = user_warning line
+
+-- those of the crontab's settings, that of the first command that begins with `root`, and then those
+-- of the anacrontab's settings
+abbrev pub warnings : Table → JobTable → List ℕ
+warnings crontab anacrontab = warnings_of (codes "crontab") crontab.settings
+    ++ (user_warning_of (find is_as_root crontab.lines)
+    ++ warnings_of (codes "anacrontab") anacrontab.settings)

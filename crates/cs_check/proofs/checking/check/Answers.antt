@@ -1,5 +1,5 @@
 use Rattle.cs_cert.specs.Certificate.{content}
-use Rattle.cs_check.proofs.Headline.{accepted, calm_throughout}
+use Rattle.cs_check.proofs.Headline.{accepted, calm_throughout, length_of}
 use Rattle.cs_check.proofs.checking.check.Goals as goal
 
 pub returns-clause-rules : goal.returns-clause-rules
@@ -7,3 +7,12 @@ returns-clause-rules c = accepted c.args.plan.now (content c.args.certificate) c
 
 pub returns-clause-calm : goal.returns-clause-calm
 returns-clause-calm c = calm_throughout c.args.plan.now (content c.args.certificate) c.in_ok-judge.ensures.fit c.in_ok-judge.ensures.ok
+
+pub returns-in_err-judge-clause-length : goal.returns-in_err-judge-clause-length
+returns-in_err-judge-clause-length c = length_of c.args.plan.now (content c.args.certificate) c.look_at.ensures
+
+pub returns-in_err-plan-clause-length : goal.returns-in_err-plan-clause-length
+returns-in_err-plan-clause-length c = length_of c.args.plan.now (content c.args.certificate) c.look_at.ensures
+
+pub returns-clause-length : goal.returns-clause-length
+returns-clause-length c = length_of c.args.plan.now (content c.args.certificate) c.look_at.ensures

@@ -1,0 +1,21 @@
+-- What the word `safe` says of the files of a call.
+use Rattle.std.specs.Prelude.{ℕ, Bool, List, Option}
+use Rattle.cs_decl.specs.Plan.{as_plan}
+use Rattle.cs_check.specs.Case.{reach_for}
+use Rattle.cs_check.specs.Checked.{IsCalmThroughout, IsHeadline, certificate_in, plan_in}
+use Rattle.cs_check.specs.declared.checked.Checked.{Checked}
+use Rattle.cs_call.specs.CommandLine.{AskedCheck}
+use Rattle.cs_cli.specs.Check.{IsProofOf}
+
+-- every legal history of its plan in which each run ends within its declared time is safe, and each
+-- minute from 1970-01-04 on is calm
+pub record IsSafe (checked : Checked) : Type 0 where
+  pub headline : IsHeadline (as_plan (plan_in checked))
+  pub calm : IsCalmThroughout (as_plan (plan_in checked))
+      (reach_for (plan_in checked) (certificate_in checked))
+
+-- the files denote a plan and a certificate of which this holds
+pub record AreSafe (files : List ℕ → Option (List ℕ)) (a : AskedCheck) (failed : Bool) : Type 0 where
+  pub checked : Checked
+  pub proof : IsProofOf files a failed checked
+  pub safe : IsSafe checked

@@ -117,12 +117,15 @@ impl<'w, J: PlanLedger, R: Wait, G, O: io::Write> Shared<'w, J, R, G, O> {
             .dispatch
             .lock(self.rt)
             .round(self.alloc, seat, last, minute);
-        self.bell.notify_all();
         let Round {
             ticked,
+            has_start,
             notices,
             stamps,
         } = round;
+        if has_start {
+            self.bell.notify_all();
+        }
         self.tell(&notices, last, minute);
         let failed = stored.write(self.plan, store, &stamps);
         self.log.lock(self.rt).write_unwritten(failed.as_slice());

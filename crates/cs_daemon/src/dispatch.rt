@@ -27,6 +27,8 @@ pub(crate) struct Dispatch<J: PlanLedger> {
 pub(crate) struct Round {
     /// Why the tick ended early, if it did.
     pub(crate) ticked: Result<(), TickFault>,
+    /// Whether a worker has a run to start.
+    pub(crate) has_start: bool,
     /// What is to be logged.
     pub(crate) notices: Notices,
     /// The stamps behind the tick.
@@ -58,7 +60,7 @@ impl<J: PlanLedger> Dispatch<J> {
             if self.next >= journal.len() {
                 return None;
             }
-            let (_, reply) = journal[self.next];
+            let reply = journal[self.next].reply();
             self.next += 1;
             if let Reply::Started(run) = reply {
                 return Some(run);
@@ -93,10 +95,12 @@ impl<J: PlanLedger> Dispatch<J> {
         let mut notices = Notices::none(alloc);
         self.note_replies(&mut notices, from, last);
         self.note_overruns(&mut notices, last, minute);
+        let has_start = self.has_start(from);
         let stamps = copy_stamps(self.keep.core().stamps());
         self.cut();
         Round {
             ticked,
+            has_start,
             notices,
             stamps,
         }
@@ -116,11 +120,17 @@ impl<J: PlanLedger> Dispatch<J> {
         self.keep.tick(alloc, seat, last, minute)
     }
 
+    /// Whether a run started, by the entries from a place on.
+    fn has_start(&self, from: usize) -> bool {
+        let mut entries = self.keep.journal().iter().skip(from);
+        entries.any(|entry| matches!(entry.reply(), Reply::Started(_)))
+    }
+
     /// Which runs wait or are left out, by the entries from a place on. `last` is the minute there.
     fn note_replies(&self, notices: &mut Notices, from: usize, last: Minute) {
         let mut at = last.number();
-        for (event, reply) in self.keep.journal().iter().skip(from) {
-            match (*event, *reply) {
+        for entry in self.keep.journal().iter().skip(from) {
+            match (entry.event(), entry.reply()) {
                 (Event::Minute(minute), _) => at = minute,
                 (Event::Up(minute), _) => at = minute,
                 (Event::Begin(job), Reply::Waiting) => notices.add(Line::Waiting(Run { job, at })),

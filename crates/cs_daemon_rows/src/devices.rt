@@ -4,9 +4,10 @@ ghost use Rattle.std.specs.Prelude.{◌≡◌};
 use cs_civil::{Bytes, Day, Minute};
 use cs_device::{Clock, Failures, Gate, Outcome, Point, Runner, Stamp, StampStore, Tick, Told};
 use cs_history::Run;
+use std::io::ErrorKind;
 use std::sync::atomic::{AtomicU64, Ordering};
 use std::time::Duration;
-use std::{thread, time};
+use std::{io, thread, time};
 
 /// What the devices of one daemon have seen.
 #[derive(Drop)]
@@ -91,21 +92,48 @@ impl<'a, R: time::Clock> Clock for ListClock<'a, R> {
     }
 }
 
-/// Answers the same to each command.
+/// Answers that each command has exited with 3, but for one that isn't started.
 #[derive(Drop)]
-pub(crate) struct FixedRunner {
-    pub(crate) outcome: Outcome,
+pub(crate) struct FailingRunner {
+    pub(crate) runs: u64,
+    /// Which command it is, counted from 1; 0 where there is none.
+    pub(crate) fails: u64,
     pub(crate) failures: Failures,
 }
 
-impl Runner for FixedRunner {
+impl Runner for FailingRunner {
     ghost failures = { λ r. r.failures };
 
     fn run(&mut self, _command: &[u8], _input: Option<&[u8]>, _env: &[(Bytes, Bytes)]) -> Outcome {
-        if self.outcome == Outcome::NotStarted && !self.failures.count() {
-            return Outcome::Ended;
+        self.runs = self.runs.saturating_add(1);
+        if self.runs == self.fails && self.failures.count() {
+            return Outcome::NotStarted;
         }
-        self.outcome
+        Outcome::Exited(3)
+    }
+}
+
+/// Keeps what is written to it, but for one write that fails.
+#[derive(Drop)]
+pub(crate) struct FailingLog {
+    pub(crate) text: Vec<u8>,
+    pub(crate) writes: u64,
+    /// Which write it is, counted from 1; 0 where there is none.
+    pub(crate) fails: u64,
+}
+
+impl io::Write for FailingLog {
+    fn write(&mut self, buf: &[u8]) -> io::Result<usize> {
+        self.writes = self.writes.saturating_add(1);
+        if self.writes == self.fails {
+            return Err(io::Error::from(ErrorKind::StorageFull));
+        }
+        self.text.extend_from_slice(buf)?;
+        Ok(buf.len())
+    }
+
+    fn flush(&mut self) -> io::Result<()> {
+        Ok(())
     }
 }
 

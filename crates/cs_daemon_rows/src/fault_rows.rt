@@ -2,10 +2,9 @@
 
 use crate::devices::Hold;
 use crate::plans::{DAILY, HOURLY, SHORT};
-use crate::play::{MIDNIGHT, Played, Script, play};
+use crate::play::{MIDNIGHT, Played, Script, day, play};
 use cs_daemon::Cause;
-use cs_device::Outcome;
-use std::alloc::Global;
+use std::alloc::{AllocError, Global};
 
 /// A clock that moves on by more than one minute is an outage: a going down and a coming up.
 #[test]
@@ -37,15 +36,72 @@ fn too_early(rt: HostRuntime) {
     assert!(&rt; played.end.keep.is_none() && played.end.shares.as_slice() == [0, 0].as_slice());
 }
 
-/// A clock that can't be read ends the daemon, at its first answer or later.
+/// So many minutes from 00:59 on, and then none that can be read.
+fn minutes_before(alloc: Global, count: u16) -> Result<Vec<u64>, AllocError> {
+    let mut minutes = Vec::new(alloc);
+    for minute in MIDNIGHT + 59..MIDNIGHT + 59 + u64::from(count) {
+        minutes.push(minute)?;
+    }
+    minutes.push(u64::MAX)?;
+    Ok(minutes)
+}
+
+/// A clock that can't be read ends the daemon at its first answer, before a keep is there, and at
+/// each later one of two hours: a coming up and minutes, two events for each hour, a going down.
 #[test]
-fn clock_fails(rt: HostRuntime) {
+fn clock_fails_at_each_answer(rt: HostRuntime) {
     let alloc: Global = rt.alloc();
-    let minutes = [MIDNIGHT + 59, u64::MAX];
-    let played = play(&rt, alloc, &Script::plain(&HOURLY, &minutes));
-    assert!(&rt; played.end.cause == Cause::ClockFailed && played.end.total == 2);
     let played = play(&rt, alloc, &Script::plain(&HOURLY, &[u64::MAX]));
     assert!(&rt; played.end.cause == Cause::ClockFailed && played.end.keep.is_none());
+    for count in 1..122u16 {
+        let minutes = minutes_before(alloc, count).expect(&rt, "memory");
+        let played = play(&rt, alloc, &Script::plain(&HOURLY, minutes.as_slice()));
+        let hours = (count + 58) / 60;
+        assert!(&rt; played.end.cause == Cause::ClockFailed);
+        assert!(&rt;
+            played.end.total == u64::from(count + 1 + 2 * hours),
+            "{count}"
+        );
+    }
+}
+
+/// Each run of a day in turn can't be started: it is started and ended in the journal all the same.
+#[test]
+fn each_run_is_not_started(rt: HostRuntime) {
+    let alloc: Global = rt.alloc();
+    let minutes = day(alloc).expect(&rt, "memory");
+    for run in 1..24 {
+        let mut script = Script::plain(&HOURLY, minutes.as_slice());
+        script.run_fails = run;
+        let played = play(&rt, alloc, &script);
+        assert!(&rt;
+            played.end.not_started == 1 && played.end.total == 1_428,
+            "{run}"
+        );
+        assert!(&rt;
+            played.count("not started") == 1 && played.count("ended") == 22,
+            "{run}"
+        );
+    }
+}
+
+/// Each line of a day's log in turn can't be written: it is counted, and nothing else is lost. The
+/// worker may be slower than this clock: then overruns are told too.
+#[test]
+fn each_line_is_not_written(rt: HostRuntime) {
+    let alloc: Global = rt.alloc();
+    let minutes = day(alloc).expect(&rt, "memory");
+    for line in 1..47 {
+        let mut script = Script::plain(&HOURLY, minutes.as_slice());
+        script.line_fails = line;
+        let played = play(&rt, alloc, &script);
+        assert!(&rt;
+            played.end.log_faults == 1 && played.end.total == 1_428,
+            "{line}"
+        );
+        let told = played.end.overruns.saturating_add(45);
+        assert!(&rt; played.count("\n") as u64 == told, "{line}");
+    }
 }
 
 /// A run that can't be started is started and ended in the journal, and the log names it.
@@ -54,7 +110,7 @@ fn run_that_is_not_started(rt: HostRuntime) {
     let alloc: Global = rt.alloc();
     let minutes = [MIDNIGHT + 59, MIDNIGHT + 60];
     let mut script = Script::plain(&HOURLY, &minutes);
-    script.outcome = Outcome::NotStarted;
+    script.run_fails = 1;
     let played = play(&rt, alloc, &script);
     assert!(&rt; played.end.not_started == 1 && played.end.total == 5);
     assert!(&rt;

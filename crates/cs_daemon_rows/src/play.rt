@@ -2,12 +2,12 @@
 ghost use Rattle.std.specs.Prelude.{◌≡◌, IfOk, vec_len};
 ghost use Rattle.cs_check.specs.Checked.{plan_in};
 
-use crate::devices::{FailingStore, FixedRunner, Hold, HoldingGate, ListClock, Seen};
+use crate::devices::{FailingLog, FailingRunner, FailingStore, Hold, HoldingGate, ListClock, Seen};
 use crate::plans::{Texts, checked};
 use arrayvec::ArrayVec;
 use cs_check::Checked;
 use cs_daemon::{Cause, DaemonEnd, run_daemon};
-use cs_device::{Failures, Outcome, Told};
+use cs_device::{Failures, Told};
 use cs_keep::Kept;
 use std::alloc::{AllocError, Global};
 use std::process::Abort;
@@ -19,13 +19,25 @@ use std::time;
 /// 2024-01-01 00:00.
 pub(crate) const MIDNIGHT: u64 = 28_401_120;
 
+/// The minutes of a day from 00:59 on.
+pub(crate) fn day(alloc: Global) -> Result<Vec<u64>, AllocError> {
+    let mut minutes = Vec::new(alloc);
+    for minute in MIDNIGHT + 59..MIDNIGHT + 1_440 {
+        minutes.push(minute)?;
+    }
+    Ok(minutes)
+}
+
 /// What the devices do.
 #[derive(Drop)]
 pub(crate) struct Script<'a> {
     pub(crate) texts: &'a Texts,
     /// The minutes that the clock tells.
     pub(crate) minutes: &'a [u64],
-    pub(crate) outcome: Outcome,
+    /// Which run can't be started, counted from 1; 0 where there is none.
+    pub(crate) run_fails: u64,
+    /// Which line of the log can't be written, counted so too.
+    pub(crate) line_fails: u64,
     pub(crate) hold: Hold,
     /// For how many milliseconds a run is held at most.
     pub(crate) most: u64,
@@ -36,12 +48,13 @@ pub(crate) struct Script<'a> {
 }
 
 impl<'a> Script<'a> {
-    /// Commands exit with 3, and nothing is held or fails.
+    /// Nothing is held or fails.
     pub(crate) fn plain(texts: &'a Texts, minutes: &'a [u64]) -> Script<'a> {
         Script {
             texts,
             minutes,
-            outcome: Outcome::Exited(3),
+            run_fails: 0,
+            line_fails: 0,
             hold: Hold::Never,
             most: 10_000,
             writes: 0,
@@ -135,15 +148,16 @@ fn runners<R: Abort>(
     rt: &R,
     alloc: Global,
     checked: &Checked,
-    outcome: Outcome,
-) -> Result<Vec<FixedRunner>, AllocError>
+    fails: u64,
+) -> Result<Vec<FailingRunner>, AllocError>
     ensures { IfOk result (λ runners. vec_len runners ≡ (plan_in checked.now).capacity) }
 {
     let capacity = usize::from(checked.plan().capacity());
     let mut runners = Vec::new(alloc);
     for _ in 0..capacity {
-        let runner = FixedRunner {
-            outcome,
+        let runner = FailingRunner {
+            runs: 0,
+            fails,
             failures: Failures::none(),
         };
         runners.push(runner)?;
@@ -158,10 +172,10 @@ fn run<R: Threads + Wait + Abort + time::Clock + Sync>(
     alloc: Global,
     script: &Script<'_>,
     seen: &Seen,
-    log: &mut Vec<u8>,
+    log: &mut FailingLog,
 ) -> Ended {
     let checked = checked(rt, alloc, script.texts);
-    let runners = runners(rt, alloc, &checked, script.outcome).expect(rt, "memory");
+    let runners = runners(rt, alloc, &checked, script.run_fails).expect(rt, "memory");
     let mut clock = ListClock {
         rt,
         seen,
@@ -194,11 +208,15 @@ pub(crate) fn play<R: Threads + Wait + Abort + time::Clock + Sync>(
     script: &Script<'_>,
 ) -> Played {
     let seen = Seen::nothing();
-    let mut log = Vec::new(alloc);
+    let mut log = FailingLog {
+        text: Vec::new(alloc),
+        writes: 0,
+        fails: script.line_fails,
+    };
     let end = run(rt, alloc, script, &seen, &mut log);
     Played {
         end,
-        log,
+        log: log.text,
         missed: seen.missed.load(Ordering::SeqCst),
     }
 }

@@ -2,7 +2,7 @@
 
 use crate::devices::Hold;
 use crate::plans::{HOURLY, IN_TURN, TWO, WAITING};
-use crate::play::{InKeep, MIDNIGHT, Played, Script, play};
+use crate::play::{InKeep, MIDNIGHT, Played, Script, day, play};
 use cs_daemon::Cause;
 use std::alloc::Global;
 
@@ -81,10 +81,7 @@ fn waiting_run(rt: HostRuntime) {
 #[test]
 fn a_day(rt: HostRuntime) {
     let alloc: Global = rt.alloc();
-    let mut minutes = Vec::new(alloc);
-    for minute in MIDNIGHT + 59..MIDNIGHT + 1_440 {
-        minutes.push(minute).expect(&rt, "memory");
-    }
+    let minutes = day(alloc).expect(&rt, "memory");
     let played = play(&rt, alloc, &Script::plain(&HOURLY, minutes.as_slice()));
     assert!(&rt; is_stopped(&played, 1_428, &[1_405, 23]) && played.count(ENDED) == 23);
     assert!(&rt; played.end.keep == down(1_428, MIDNIGHT + 1_439));

@@ -1,4 +1,5 @@
 pub mod Closed
+pub mod Entry
 pub mod Invariant
 pub mod Keeping
 pub mod Seat

@@ -4,6 +4,7 @@ ghost use Rattle.cs_check.specs.Checked.{plan_in};
 ghost use Rattle.cs_history.specs.Plan.{first_start};
 ghost use Rattle.cs_keep.specs.Keeping.{IsFewInTime, IsIdle, IsKept, IsRefused, IsSafeInTime, cut_here, opened, refusal_in, reply_in, with_event};
 
+use crate::entry::Entry;
 use crate::limits::MAX_ENTRIES;
 use crate::starts::{copy_stamps, copy_start};
 use cs_check::Checked;
@@ -17,7 +18,7 @@ use std::marker::Model;
 #[derive(Drop)]
 pub(crate) struct JournaledCore {
     core: Core,
-    journal: Vec<(Event, Reply)>,
+    journal: Vec<Entry>,
     base: Start,
     total: u64,
 }
@@ -56,7 +57,7 @@ impl JournaledCore {
     }
 
     /// The events since the base with their replies, the latest last.
-    pub(crate) fn journal(&self) -> &[(Event, Reply)]
+    pub(crate) fn journal(&self) -> &[Entry]
         ensures value { result.now ≡ self.now.journal }
         ensures kept { IsKept self.now }
     {
@@ -105,7 +106,7 @@ impl JournaledCore {
             return Err(Refusal::OutOfMemory);
         }
         let reply = self.core.step(event)?;
-        let _ = self.journal.push((event, reply));
+        let _ = self.journal.push(Entry::new(event, reply));
         self.total += 1;
         Ok(reply)
     }

@@ -6,6 +6,7 @@ ghost use Rattle.cs_keep.specs.Closed.{checked_in, keeping_in};
 ghost use Rattle.cs_keep.specs.Keeping.{IsFewInTime, IsIdle, IsKept, IsRefused, IsSafeInTime, cut_here, opened, refusal_in, reply_in, with_event};
 ghost use Rattle.cs_keep.specs.Seat.{all_parts, counted};
 
+use crate::entry::Entry;
 use crate::journaled_core::JournaledCore;
 use crate::kept::Kept;
 use crate::seat::Seat;
@@ -125,7 +126,7 @@ impl<L: Ledger> Keep<L> {
     }
 
     /// The events since the base with their replies, the latest last.
-    pub fn journal(&self) -> &[(Event, Reply)]
+    pub fn journal(&self) -> &[Entry]
         ensures value { result.now ≡ self.now.journal }
         // It is a legal history of the core's plan, and leaves the core's state.
         ensures kept { IsKept self.now }

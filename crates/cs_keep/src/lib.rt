@@ -1,6 +1,7 @@
 //! The keep: an event core beside the journal of its events, and seats that share the count of them.
 #![tactic(auto)]
 
+mod entry;
 mod journaled_core;
 mod keep;
 mod kept;
@@ -11,6 +12,7 @@ mod seat;
 mod starts;
 mod tick;
 
+pub use entry::Entry;
 pub use keep::Keep;
 pub use kept::Kept;
 pub use laws::choices_run_out;

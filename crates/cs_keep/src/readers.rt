@@ -4,14 +4,15 @@ ghost use Rattle.cs_check.specs.Checked.{plan_in};
 ghost use Rattle.cs_keep.specs.Closed.{checked_in, keeping_in};
 ghost use Rattle.cs_keep.specs.Keeping.{IsFewInTime, IsKept, IsSafeInTime};
 
+use crate::entry::Entry;
 use crate::kept::Kept;
 use cs_check::Checked;
 use cs_core::Core;
-use cs_history::{Event, Reply, Start};
+use cs_history::Start;
 
 impl Kept {
     /// The events since the base with their replies, the latest last.
-    pub fn journal(&self) -> &[(Event, Reply)]
+    pub fn journal(&self) -> &[Entry]
         ensures value { result.now ≡ (keeping_in self.now).journal }
         // It is a legal history of what was checked, and leaves the core's state.
         ensures kept { IsKept (keeping_in self.now) }

@@ -81,7 +81,9 @@ impl<L: Ledger> Desk<L> {
             return false;
         }
         let entries = journal.iter().skip(from);
-        entries.zip(events).all(|(entry, event)| entry.0 == *event)
+        entries
+            .zip(events)
+            .all(|(entry, event)| entry.event() == *event)
     }
 
     /// Gives one part to a second seat.

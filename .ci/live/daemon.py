@@ -57,9 +57,12 @@ def daily(minute):
 
 
 class Daemon:
-    """A call of `run` that goes on; what it prints is in files of the room."""
+    """A call of `run` that goes on; what it prints is in files of the room.
 
-    def __init__(self, room, words, output=None, given=INPUT):
+    It has the environment of this process, with OUTSIDE in it and what `more` says.
+    """
+
+    def __init__(self, room, words, output=None, given=INPUT, more=None):
         self.printed_to, self.said_to = room.folder / "printed", room.folder / "said"
         room.write("given", given)
         with (
@@ -73,7 +76,7 @@ class Daemon:
                 stdin=given,
                 stdout=printed if output is None else output,
                 stderr=said,
-                env={**os.environ, "OUTSIDE": "inherited"},
+                env={**os.environ, "OUTSIDE": "inherited", **(more or {})},
                 start_new_session=True,
             )
 

@@ -1,7 +1,9 @@
+pub mod HolderLemmas
 pub mod KeptWindows
 pub mod MostWeights
 pub mod PlanRoles
 pub mod QuietLemmas
 pub mod RoleLemmas
 pub mod RolesSay
+pub mod SumLemmas
 pub mod Weights

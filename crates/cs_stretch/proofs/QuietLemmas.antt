@@ -128,7 +128,7 @@ light_at p m ws f = all_from m (IsLightWith (weight_of p) p.capacity) (λ held. 
 
 -- ---- the three rules
 
-not_true : (b : Bool) → not b ≡ true → b ≡ false
+pub not_true : (b : Bool) → not b ≡ true → b ≡ false
 not_true true e = cc
 not_true false e = refl
 
@@ -138,7 +138,7 @@ apart p ws f m lt = pairs_map (λ w. holds_at m w ≡ holds_at m w) (λ v w. are
 pub within : (p : Plan) (n : ℕ) (ws : List Window) → MeetLight p ws → AreWithin p n ws
 within p n ws f m lt = omega (arith, load_jobs p (run_in n) (run_in 2) (holders m ws) (λ w. refl), light_at p m ws f)
 
-same_itself : (v w : Window) → v ≡ w → same_window v w ≡ true
+pub same_itself : (v w : Window) → v ≡ w → same_window v w ≡ true
 same_itself v w e = subst (λ (u : Window). same_window v u ≡ true) e (and_from (v.job == v.job) ((v.day_back == v.day_back) && (v.from == v.from)) (eq-eqb v.job v.job refl) (and_from (v.day_back == v.day_back) (v.from == v.from) (eq-eqb v.day_back v.day_back refl) (eq-eqb v.from v.from refl)))
 
 -- what blocks a skip job at its minute bars it

@@ -1,12 +1,14 @@
 -- What the roles of jobs say is what the plan says.
 use Rattle.std.proofs.Common.{ℕ, ◌≡◌, Bool, true, false, not, ◌&&◌, ◌||◌, List, [], ◌∷◌, ◌++◌, Option, None, Some, refl, sym, ap, ◌∙◌, arith}
 use Rattle.cs_history.specs.Plan.{Plan, is_cron, takes_lock, takes, same_group, in_group_of, belongs, is_group, exclusive_group}
-use Rattle.cs_history.proofs.Lists.{all_map}
+use Rattle.cs_history.proofs.Lists.{all_map, all_any, pairs_map}
 use Rattle.cs_windows.specs.declared.window.Window.{Window}
-use Rattle.cs_accepted.specs.Accepted.{clash, is_skip, blocks, run_in}
+use Rattle.cs_accepted.specs.Accepted.{AreApart, AreFree, AreWithin, clash, is_skip, blocks, run_in}
 use Rattle.cs_stretch.specs.declared.role.Role.{Role}
 use Rattle.cs_stretch.specs.Roles.{role_at, role_of, AreRoles, share_group, roles_clash, load_by}
 use Rattle.cs_stretch.specs.Quietness.{is_open_at, bars, are_apart, are_free, weight_of, met, EachWithMet, PassesWith, IsLightWith, MeetApart, MeetFree, MeetLight, apart_by, role_bars, free_by, MeetApartBy, MeetFreeBy, MeetLightBy}
+use Rattle.cs_stretch.specs.Sums.{AreApartBy, AreFreeBy, AreWithinBy}
+use Rattle.std.specs.List.{AllByRecursion}
 use Rattle.cs_stretch.specs.Found.{collision_by, overload_by, role_blocks, blocked_by}
 use Rattle.cs_stretch.proofs.Weights.{load_is, load_jobs_same}
 use Rattle.cs_accepted.specs.Windows.{holders, same_window}
@@ -31,10 +33,11 @@ bars_is p roles v w e f =
     ∙ (ap (λ (r : Role). (is_skip (p.mode v.job) && is_open_at v w) && (takes r.mode && share_group (role_of p v.job) r)) f
     ∙ ap (λ (b : Bool). (is_skip (p.mode v.job) && is_open_at v w) && (takes_lock p w.job && b)) (share_is p v.job w.job))
 
+clash_by : (p : Plan) (roles : List Role) (v w : Window) → role_at roles v.job ≡ role_of p v.job → role_at roles w.job ≡ role_of p w.job → roles_clash (role_at roles v.job) (role_at roles w.job) ≡ clash p v.job w.job
+clash_by p roles v w e f = ap (λ (r : Role). roles_clash r (role_at roles w.job)) e ∙ (ap (λ (r : Role). roles_clash (role_of p v.job) r) f ∙ clash_is p v.job w.job)
+
 apart_is : (p : Plan) (roles : List Role) (v w : Window) → role_at roles v.job ≡ role_of p v.job → role_at roles w.job ≡ role_of p w.job → apart_by roles v w ≡ are_apart p v w
-apart_is p roles v w e f =
-    let c : roles_clash (role_at roles v.job) (role_at roles w.job) ≡ clash p v.job w.job = ap (λ (r : Role). roles_clash r (role_at roles w.job)) e ∙ (ap (λ (r : Role). roles_clash (role_of p v.job) r) f ∙ clash_is p v.job w.job) in
-    ap (λ (b : Bool). not b) c
+apart_is p roles v w e f = ap (λ (b : Bool). not b) (clash_by p roles v w e f)
 
 free_is : (p : Plan) (roles : List Role) (v w : Window) → role_at roles v.job ≡ role_of p v.job → role_at roles w.job ≡ role_of p w.job → free_by roles v w ≡ are_free p v w
 free_is p roles v w e f =
@@ -77,3 +80,15 @@ module _ (p : Plan) (roles : List Role) (are : AreRoles p roles) where
 
   pub blocked_is : (ws : List Window) → blocked_by roles ws ≡ blocked_in p ws
   blocked_is ws = ap (λ (t : ℕ → Window → Window → Bool). first_of (λ m. first_of (λ v. option_map (λ (w : Window). (m, v, w)) (find (t m v) (holders m ws))) (holders m ws)) day_minutes) (λ i m v w. blocks_is m v w i)
+
+  -- ---- the sums
+
+  pub apart_from_sums : (ws : List Window) → AreApartBy roles ws → AreApart p ws
+  apart_from_sums ws by m lt = pairs_map (λ w. w ≡ w) (λ v w. roles_clash (role_at roles v.job) (role_at roles w.job) ≡ false) (λ v w. clash p v.job w.job ≡ false) (holders m ws) (λ v w a b e. sym (clash_by p roles v w (are v.job) (are w.job)) ∙ e) (all_any (λ w. w ≡ w) (holders m ws) (λ w. refl)) (by m lt)
+
+  pub within_from_sums : (n : ℕ) (ws : List Window) → AreWithinBy roles p.groups p.capacity ws → AreWithin p n ws
+  within_from_sums n ws by m lt = omega (arith, load_is p roles (holders m ws) are, load_jobs_same p (run_in n) (run_in 2) (holders m ws) (λ w. refl), by m lt)
+
+  pub free_from_sums : (ws : List Window) → AreFreeBy roles ws → AreFree p ws
+  free_from_sums ws by m lt = all_map (λ v. AllByRecursion (λ w. role_blocks roles m v w ≡ false) (holders m ws)) (λ v. AllByRecursion (λ w. blocks p m v w ≡ false) (holders m ws)) (holders m ws)
+      (λ v all. all_map (λ w. role_blocks roles m v w ≡ false) (λ w. blocks p m v w ≡ false) (holders m ws) (λ w e. sym (blocks_is m v w) ∙ e) all) (by m lt)

@@ -1,3 +1,4 @@
 pub mod Found
 pub mod Quietness
 pub mod Roles
+pub mod Sums

@@ -7,6 +7,8 @@ mod load;
 mod quiet;
 mod role;
 mod roles;
+mod sums;
+mod table;
 
 pub use found::missing;
 pub use laws::quiet_windows_are_calm;

@@ -29,7 +29,7 @@ impl Quiet {
 }
 
 /// The minute at which the day looked at begins, counted from the start of the day on which the window begins.
-fn day_start(window: &Window) -> u32
+pub(crate) fn day_start(window: &Window) -> u32
     ensures value { result ≡ 1440 * window.now.day_back }
     ensures small { result ≤ 367200 }
 {

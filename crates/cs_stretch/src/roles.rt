@@ -1,18 +1,23 @@
-ghost use Rattle.std.specs.Prelude.{◌≡◌, ◌≤◌, ℕ, IfOk, IsTrue, Some, slice_get};
+ghost use Rattle.std.specs.Prelude.{◌≡◌, ◌≤◌, ℕ, IfOk, IsTrue, Some, length, slice_get};
 ghost use Rattle.cs_accepted.specs.Accepted.{AreApart, AreFree, AreWithin};
 ghost use Rattle.cs_accepted.specs.Faults.{blocked_in, collision_in, overload_in};
 ghost use Rattle.cs_decl.specs.Plan.{as_plan};
 ghost use Rattle.cs_history.specs.Plan.{Plan as TheoryPlan, exclusive_group};
 ghost use Rattle.cs_stretch.specs.Roles.{AreRoles, IsOf, role_of};
+ghost use Rattle.cs_stretch.specs.Sums.{AreGrouped};
 ghost use Rattle.cs_windows.specs.Window.{IsRising};
 
 use crate::quiet::Quiet;
 use crate::role::Role;
-use crate::{found, quiet};
+use crate::{found, quiet, sums};
 use cs_decl::{Job, Plan};
 use cs_windows::Window;
 use std::alloc::{AllocError, Global};
 use std::marker::Model;
+
+/// From so many windows on a stretch is tested by sums, which take as long for each window; the other test
+/// looks at each with all that are open then.
+const MANY_WINDOWS: usize = 512;
 
 /// What the jobs of a plan are to the rules about windows: read off the plan once, for all stretches.
 #[derive(Debug, Drop)]
@@ -25,12 +30,13 @@ pub struct Roles {
 impl Model for Roles {
     ghost use Rattle.std.specs.Prelude.{◌≤◌};
     ghost use Rattle.cs_stretch.specs.Roles.{PlanRoles};
+    ghost use Rattle.cs_stretch.specs.Sums.{AreGrouped};
 
     ghost Value = { PlanRoles };
 
     ghost view = { λ a. record { jobs = a.jobs.items; groups = a.groups; capacity = a.capacity } };
 
-    ghost invariant = { λ a. a.groups ≤ 64 };
+    ghost invariant = { λ a. (a.groups ≤ 64) × AreGrouped a.jobs.items a.groups };
 }
 
 /// Whether this group of the plan is exclusive.
@@ -63,7 +69,8 @@ fn role_of(plan: &Plan, number: usize, job: Job) -> Role
 
 /// The roles of all jobs, by number.
 fn jobs_of(alloc: Global, plan: &Plan) -> Result<Vec<Role>, AllocError>
-    ensures { IfOk result (λ jobs. AreRoles (as_plan plan.now) jobs.items) }
+    ensures roles { IfOk result (λ jobs. AreRoles (as_plan plan.now) jobs.items) }
+    ensures grouped { IfOk result (λ jobs. AreGrouped jobs.items (length plan.now.groups)) }
 {
     let mut jobs = Vec::new(alloc);
     for (number, job) in plan.jobs().iter().enumerate() {
@@ -85,7 +92,8 @@ impl Roles {
     }
 
     fn jobs(&self) -> &[Role]
-        ensures { result.now ≡ self.now.jobs }
+        ensures value { result.now ≡ self.now.jobs }
+        ensures grouped { AreGrouped self.now.jobs self.now.groups }
     {
         self.jobs.as_slice()
     }
@@ -112,7 +120,11 @@ impl Roles {
         ensures within { IfOk result (λ quiet. IsTrue quiet.is_within → (p : TheoryPlan) (n : ℕ) → IsOf p self.now → AreWithin p n windows.now) }
         ensures free { IfOk result (λ quiet. IsTrue quiet.is_free → (p : TheoryPlan) → IsOf p self.now → AreFree p windows.now) }
     {
-        quiet::quiet_by_rule(alloc, self.jobs(), self.groups(), self.capacity(), windows)
+        if windows.len() < MANY_WINDOWS {
+            quiet::quiet_by_rule(alloc, self.jobs(), self.groups(), self.capacity(), windows)
+        } else {
+            sums::quiet_by_sums(alloc, self.jobs(), self.groups(), self.capacity(), windows)
+        }
     }
 
     /// The first minute of the last day of a stretch, and the first two windows of one exclusive group there that may not

@@ -13,4 +13,4 @@ pub returns : goal.returns
 returns c =
     IfOk-weaker c.blocked.result (λ found. found ≡ blocked_by c.jobs.result.now c.args.windows.now)
     (λ found. (p : Plan) → IsOf p c.args.self.now → found ≡ blocked_in p c.args.windows.now)
-    (λ found e p is. e ∙ (ap (λ (roles : List Role). blocked_by roles c.args.windows.now) c.jobs.ensures ∙ blocked_rules p c.args.self.now c.args.windows.now is)) c.blocked.ensures
+    (λ found e p is. e ∙ (ap (λ (roles : List Role). blocked_by roles c.args.windows.now) c.jobs.ensures.value ∙ blocked_rules p c.args.self.now c.args.windows.now is)) c.blocked.ensures

@@ -13,4 +13,4 @@ pub returns : goal.returns
 returns c =
     IfOk-weaker c.collision.result (λ found. found ≡ collision_by c.jobs.result.now c.groups.result c.args.windows.now)
     (λ found. (p : Plan) → IsOf p c.args.self.now → found ≡ collision_in p c.args.windows.now)
-    (λ found e p is. e ∙ (ap (λ (k : ℕ). collision_by c.jobs.result.now k c.args.windows.now) c.groups.ensures.value ∙ ap (λ (roles : List Role). collision_by roles c.args.self.now.groups c.args.windows.now) c.jobs.ensures ∙ collision_rules p c.args.self.now c.args.windows.now is)) c.collision.ensures
+    (λ found e p is. e ∙ (ap (λ (k : ℕ). collision_by c.jobs.result.now k c.args.windows.now) c.groups.ensures.value ∙ ap (λ (roles : List Role). collision_by roles c.args.self.now.groups c.args.windows.now) c.jobs.ensures.value ∙ collision_rules p c.args.self.now c.args.windows.now is)) c.collision.ensures

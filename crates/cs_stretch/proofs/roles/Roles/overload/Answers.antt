@@ -13,4 +13,4 @@ pub returns : goal.returns
 returns c =
     IfOk-weaker c.overload.result (λ found. found ≡ overload_by c.jobs.result.now c.groups.result c.capacity.result c.args.windows.now)
     (λ found. (p : Plan) (n : ℕ) → IsOf p c.args.self.now → found ≡ overload_in p n c.args.windows.now)
-    (λ found e p n is. e ∙ (ap (λ (k : ℕ). overload_by c.jobs.result.now k c.capacity.result c.args.windows.now) c.groups.ensures.value ∙ ap (λ (k : ℕ). overload_by c.jobs.result.now c.args.self.now.groups k c.args.windows.now) c.capacity.ensures ∙ ap (λ (roles : List Role). overload_by roles c.args.self.now.groups c.args.self.now.capacity c.args.windows.now) c.jobs.ensures ∙ overload_rules p n c.args.self.now c.args.windows.now is)) c.overload.ensures
+    (λ found e p n is. e ∙ (ap (λ (k : ℕ). overload_by c.jobs.result.now k c.capacity.result c.args.windows.now) c.groups.ensures.value ∙ ap (λ (k : ℕ). overload_by c.jobs.result.now c.args.self.now.groups k c.args.windows.now) c.capacity.ensures ∙ ap (λ (roles : List Role). overload_by roles c.args.self.now.groups c.args.self.now.capacity c.args.windows.now) c.jobs.ensures.value ∙ overload_rules p n c.args.self.now c.args.windows.now is)) c.overload.ensures

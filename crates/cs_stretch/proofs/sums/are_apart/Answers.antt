@@ -1,0 +1,10 @@
+use Rattle.cs_stretch.proofs.SumLemmas.{apart_day, apart_none}
+use Rattle.cs_stretch.proofs.sums.are_apart.Goals as goal
+
+pub returns-then-not-any_exclusive : goal.returns-then-not-any_exclusive
+returns-then-not-any_exclusive c = λ t. apart_none c.args.roles.now c.args.windows.now (c.any_exclusive.ensures c.if-not-any_exclusive.true)
+
+pub returns : goal.returns
+returns c = λ t.
+    apart_day c.args.roles.now c.args.windows.now c.sums-runs.result c.sums-plain.result c.sums-cron.result
+    c.sums-runs.ensures.each c.sums-plain.ensures.each c.sums-cron.ensures.each (c.none_clash.ensures t)

@@ -8,7 +8,9 @@ use Rattle.cs_decl.specs.Join.{joined}
 use Rattle.cs_decl.specs.Meaning.{declared_by}
 use Rattle.cs_decl.specs.Plan.{Declared}
 use Rattle.cs_decl.specs.declared.entries.Entries.{Entries}
-use Rattle.cs_script.specs.Script.{Fault as ScriptFault, Numbered, numbered_script_of}
+use Rattle.cs_script.specs.Faults.{Means as MeansScript}
+use Rattle.cs_script.specs.Grammar.{Numbered}
+use Rattle.cs_script.specs.Script.{Fault as ScriptFault}
 use Rattle.cs_script.specs.declared.script.TheConstants.{MAX_SCRIPT}
 use Rattle.cs_cert.specs.Content.{Content}
 use Rattle.cs_cert.specs.Denoted.{certificate_by}
@@ -62,13 +64,12 @@ came_read limit means told files left path bytes before after (Err e) same works
     by_trouble (Some t) (fault, is, stands) = inr (works, (fault, is, meant limit means (Err fault) bytes (same (Err fault)) (files path) (left path) (fresh path) read stands))
 
 -- scripts that are too long have one fault
-pub same_script : (d : Declared) (bytes : List ℕ) (m : Result Numbered ScriptFault) (text : List ℕ) → IsUpTo MAX_SCRIPT text bytes → numbered_script_of d bytes ≡ m → numbered_script_of d text ≡ m
-unfolding numbered_script_of
-same_script d bytes m text (inl e) is = ap (numbered_script_of d) (sym e) ∙ is
-same_script d bytes m text (inr long) is =
-    let a : nat_lt MAX_SCRIPT (length bytes) ≡ true = lt-ltb MAX_SCRIPT (length bytes) long.0 in
-    let b : nat_lt MAX_SCRIPT (length text) ≡ true = lt-ltb MAX_SCRIPT (length text) long.1 in
-    rw b (rw a at is)
+pub same_script : (d : Declared) (bytes : List ℕ) (m : Result Numbered ScriptFault) (text : List ℕ) → IsUpTo MAX_SCRIPT text bytes → MeansScript d bytes m → MeansScript d text m
+same_script d bytes m text (inl e) means = subst (λ (b : List ℕ). MeansScript d b m) e means
+same_script d bytes (Ok script) text (inr long) means = absurd (let l = long.0 in omega (arith, means.short, l))
+same_script d bytes (Err fault) text (inr long) (inl (past, none, is)) = inl (long.1, none, is)
+same_script d bytes (Err fault) text (inr long) (inr (inl (empty, none, is))) = absurd (let l = long.0 in omega (arith, empty.short, l))
+same_script d bytes (Err fault) text (inr long) (inr (inr first)) = absurd (let l = long.0 in omega (arith, first.short, l))
 
 -- and so have certificates
 pub same_certificate : (bytes : List ℕ) (m : Result Content CertFault) (text : List ℕ) → IsUpTo MAX_CERTIFICATE text bytes → certificate_by bytes ≡ m → certificate_by text ≡ m

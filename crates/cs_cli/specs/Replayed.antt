@@ -5,7 +5,8 @@ use Rattle.cs_crontab.specs.Crontab.{Table}
 use Rattle.cs_anacrontab.specs.Anacrontab.{Table as JobTable}
 use Rattle.cs_decl.specs.Plain.{plain_of}
 use Rattle.cs_decl.specs.Plan.{Declared}
-use Rattle.cs_script.specs.Script.{Numbered, numbered_script_of}
+use Rattle.cs_script.specs.Faults.{Means as MeansScript}
+use Rattle.cs_script.specs.Grammar.{Numbered}
 use Rattle.cs_call.specs.CommandLine.{AskedReplay}
 use Rattle.cs_cli.specs.Reads.{AndThen, Answered, Gives, ReadsAs, ReadsDeclared, ReadsTables}
 use Rattle.cs_cli.specs.Reads.{planned}
@@ -23,7 +24,7 @@ ReadsPlan files tables max (Some path) = ReadsDeclared files tables path
 abbrev pub ReadsScript : (List ℕ → Option (List ℕ)) → Declared → Text → Bool → Bool
     → Result Numbered Trouble → Type 0
 ReadsScript files plan path =
-    ReadsAs files path (λ bytes s. numbered_script_of plan bytes ≡ s) InScript
+    ReadsAs files path (MeansScript plan) InScript
 
 -- the status is 1 where an event was refused
 abbrev pub replayed : Declared → Numbered → Ending

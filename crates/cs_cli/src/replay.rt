@@ -1,6 +1,6 @@
 //! The subcommand `replay`.
 ghost use Rattle.std.specs.Prelude.{◌≡◌, ◌≢◌, IfErr, IfOk, OnOk, false, true};
-ghost use Rattle.cs_script.specs.Script.{numbered_script_of};
+ghost use Rattle.cs_script.specs.Faults.{Means as MeansScript};
 ghost use Rattle.cs_call.specs.Asked.{asked_replay};
 ghost use Rattle.cs_io.specs.Files.{IsFresh};
 ghost use Rattle.cs_cli.specs.Reads.{MeansIt};
@@ -47,8 +47,7 @@ fn plan_from<'a, I: Inputs>(
 
 /// The script that the bytes denote under the plan.
 fn script_in<'a>(alloc: Global, plan: &Plan, bytes: &[u8]) -> Result<NumberedScript, Fault<'a>>
-    ensures value { MeansIt (λ bytes s. numbered_script_of plan.now bytes ≡ s) InScript
-        bytes.now result }
+    ensures value { MeansIt (MeansScript plan.now) InScript bytes.now result }
     ensures status { IfErr result (IsHonestOf false) }
 {
     match read_numbered_script(alloc, plan, bytes) {

@@ -3,8 +3,8 @@ use Rattle.std.specs.Prelude.{◌≡◌, true, Some, None, ⊤}
 use Rattle.cs_history.specs.declared.script.Script.{Script}
 use Rattle.cs_decl.specs.Plan.{Declared, as_plan}
 use Rattle.cs_cert.specs.Content.{Content}
-use Rattle.cs_check.specs.Case.{fault_of}
-use Rattle.cs_check.specs.Checked.{IsHeadline, certificate_in, plan_in}
+use Rattle.cs_check.specs.Case.{fault_of, reach_for}
+use Rattle.cs_check.specs.Checked.{IsCalmThroughout, IsHeadline, certificate_in, plan_in}
 use Rattle.cs_check.specs.declared.checked.Checked.{Checked}
 use Rattle.cs_refused.specs.Told.{told}
 use Rattle.cs_refused.specs.declared.fault.CheckFault.{CheckFault}
@@ -38,6 +38,11 @@ pub record IsCheckedFor (plan : Declared) (checked : Checked) : Type 0 where
   pub same : plan_in checked ≡ plan
   pub accepted : fault_of plan (certificate_in checked) ≡ None
 
+-- each minute from 1970-01-04 on is calm
+abbrev pub IsCalmBy : Declared → Checked → Type 0
+IsCalmBy plan checked =
+    IsCalmThroughout (as_plan plan) (reach_for plan (certificate_in checked))
+
 -- the script can be written, and shows that the plan is unsafe: each of its events may come when it
 -- comes, each run ends within its declared time, and this is broken first, of which can be told
 pub record Shows (plan : Declared) (script : Script) (shown : Shown) : Type 0 where
@@ -49,10 +54,11 @@ pub record Shows (plan : Declared) (script : Script) (shown : Shown) : Type 0 wh
 abbrev pub IsRefusal : Declared → CheckFault → Type 0
 IsRefusal plan fault = (c : Content) × (fault_of plan c ≡ Some (told fault))
 
--- what is known of a plan is so: where it is called safe, the checker has accepted it and every legal
--- history in time is safe; where it is called unsafe, the script shows it; and a refusal is the checker's
+-- what is known of a plan is so: where it is called safe, the checker has accepted it, every legal
+-- history in time is safe and each minute is calm; where it is called unsafe, the script shows it; and a refusal is the checker's
 pub record IsJudgement (plan : Declared) (judged : Judged) : Type 0 where
   pub safe : IfSafe judged (IsCheckedFor plan)
   pub headline : IfSafe judged (λ checked. IsHeadline (as_plan plan))
+  pub calm : IfSafe judged (IsCalmBy plan)
   pub shown : IfUnsafe judged (Shows plan)
   pub refused : IfRefused judged (IsRefusal plan)

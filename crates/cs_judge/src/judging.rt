@@ -1,6 +1,7 @@
 ghost use Rattle.cs_check.specs.Checked.{IsHeadline};
 ghost use Rattle.cs_decl.specs.Plan.{as_plan};
-ghost use Rattle.cs_judge.specs.Judged.{IfRefused, IfSafe, IfUnsafe, IsCheckedFor, IsRefusal, Shows};
+ghost use Rattle.cs_judge.specs.Judged.{IfRefused, IfSafe, IfUnsafe, IsCalmBy, IsCheckedFor};
+ghost use Rattle.cs_judge.specs.Judged.{IsRefusal, Shows};
 
 use crate::judged::Judged;
 use cs_cert::Certificate;
@@ -23,6 +24,7 @@ fn confirm<R: Threads + Sync>(
 ) -> Judged
     ensures safe { IfSafe result (IsCheckedFor plan.now) }
     ensures headline { IfSafe result (λ checked. IsHeadline (as_plan plan.now)) }
+    ensures calm { IfSafe result (IsCalmBy plan.now) }
     ensures shown { IfUnsafe result (Shows plan.now) }
     ensures refused { IfRefused result (IsRefusal plan.now) }
 {
@@ -37,6 +39,7 @@ fn confirm<R: Threads + Sync>(
 fn show(alloc: Global, plan: &Plan, script: Script) -> Judged
     ensures safe { IfSafe result (IsCheckedFor plan.now) }
     ensures headline { IfSafe result (λ checked. IsHeadline (as_plan plan.now)) }
+    ensures calm { IfSafe result (IsCalmBy plan.now) }
     ensures shown { IfUnsafe result (Shows plan.now) }
     ensures refused { IfRefused result (IsRefusal plan.now) }
 {
@@ -57,9 +60,11 @@ fn show(alloc: Global, plan: &Plan, script: Script) -> Judged
 /// isn't. `Unknown` has the maker's reason, `NotChecked` where what it gave wasn't confirmed, and `NoMemory` where memory ran
 /// out.
 pub fn judge<R: Threads + Sync>(rt: &R, alloc: Global, plan: &Plan) -> Judged
-    // what is called safe was accepted by the checker, and every legal history in time is safe
+    // what is called safe was accepted by the checker, every legal history in time is safe, and each
+    // minute from 1970-01-04 on is calm
     ensures safe { IfSafe result (IsCheckedFor plan.now) }
     ensures headline { IfSafe result (λ checked. IsHeadline (as_plan plan.now)) }
+    ensures calm { IfSafe result (IsCalmBy plan.now) }
 
     // what is called unsafe is shown by a script that can be written
     ensures shown { IfUnsafe result (Shows plan.now) }

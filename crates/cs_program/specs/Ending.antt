@@ -21,13 +21,13 @@ pub record Writes (text : List ℕ) (old new : Sink) : Type 0 where
 abbrev pub Tries : List ℕ → Sink → Sink → Type 0
 Tries text old new = (new.failed ≡ true) ⊎ Writes text old new
 
--- an ending is carried out: its status is answered where its text was written to standard output,
--- else that of a failed device; what goes to standard error is written if it can be
+-- an ending is carried out: what goes to standard error is written if it can be, and the status is
+-- answered where its text was written to standard output, else that of a failed device
 abbrev pub Ends : Ending → Sink → Sink → Sink → Sink → ℕ → Type 0
 Ends ending out-old out-new err-old err-new status =
-    ((out-new.failed ≡ true) × (status ≡ 6) × (err-new ≡ err-old))
-    ⊎ (Writes ending.out out-old out-new × (status ≡ ending.status)
-    × Tries ending.err err-old err-new)
+    Tries ending.err err-old err-new
+    × (((out-new.failed ≡ true) × (status ≡ 6))
+    ⊎ (Writes ending.out out-old out-new × (status ≡ ending.status)))
 
 -- memory ran out: nothing is written to standard output
 abbrev pub RunsOut : Sink → Sink → Sink → Sink → ℕ → Type 0

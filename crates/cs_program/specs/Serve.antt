@@ -49,19 +49,19 @@ farewell ClockFailed = codes "cronsafe: can't read the clock\n"
 farewell HistoryFull = codes "cronsafe: the history is full\n"
 farewell NoMemory = codes "cronsafe: out of memory\n"
 
--- the warnings are told, the daemon is run until it ends, and why it ended is told and is the status;
--- of what it writes to standard output nothing is said
+-- the daemon is run until it ends, and why it ended is told and is the status; of what it writes to
+-- standard output nothing is said
 pub record IsServed (order : Order) (err-old err-new : Sink) (status : ℕ) : Type 0 where
   pub end : DaemonEnd
   pub run : HasRun order.checked end
-  pub err-running : Sink
-  pub warned : Tries order.warnings err-old err-running
-  pub told : Tries (farewell end.cause) err-running err-new
+  pub told : Tries (farewell end.cause) err-old err-new
   pub by_cause : status ≡ cause_status end.cause
 
--- there is no folder of stamps, and nothing is run; or memory ran out, and nothing is; or it was run
+-- there is no folder of stamps, which is told behind the warnings; or the warnings are told, and then
+-- memory ran out, and nothing is run, or it was run
 abbrev pub Serves : Order → Sink → Sink → Sink → Sink → ℕ → Type 0
 Serves order out-old out-new err-old err-new status =
     Ends (without_folder order) out-old out-new err-old err-new status
-    ⊎ (RunsOut out-old out-new err-old err-new status
-    ⊎ IsServed order err-old err-new status)
+    ⊎ ((warned : Sink) × Tries order.warnings err-old warned
+    × (RunsOut out-old out-new warned err-new status
+    ⊎ IsServed order warned err-new status))

@@ -17,18 +17,18 @@ pub(crate) fn tell<E: Output>(err: &mut E, text: &[u8])
     }
 }
 
-/// Writes an answer, and gives the status: that of a failed device where standard output does not
-/// take its text. What standard error does not take is lost.
+/// Writes an answer, what goes to standard error first, and gives the status: that of a failed device
+/// where standard output does not take its text. What standard error does not take is lost.
 pub(crate) fn finish<O: Output, E: Output>(response: &Response, out: &mut O, err: &mut E) -> Status
     ensures { Ends response.now
         (sink (O.contents out.old) (O.failed out.old)) (sink (O.contents out.new) (O.failed out.new))
         (sink (E.contents err.old) (E.failed err.old)) (sink (E.contents err.new) (E.failed err.new))
         (status_of result) }
 {
+    tell(err, response.err());
     if out.print(response.out()).is_err() {
         return Status::DeviceFailed;
     }
-    tell(err, response.err());
     response.status()
 }
 

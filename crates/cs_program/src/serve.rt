@@ -89,15 +89,18 @@ pub(crate) fn serve<
     let Ok(mut stamps) = StampsFolder::open(rt, alloc, order.stamps) else {
         return match order.without_folder(alloc) {
             Ok(response) => finish(&response, out, err),
-            Err(AllocError) => run_out(err),
+            Err(AllocError) => {
+                tell(err, order.warnings.as_slice());
+                run_out(err)
+            }
         };
     };
+    tell(err, order.warnings.as_slice());
     let plan = order.checked.plan();
     let mut clock = MachineClock::new(rt, plan.offset(), order.minutes);
     let Ok(runners) = runners_by(alloc, plan.capacity(), new_runner) else {
         return run_out(err);
     };
-    tell(err, order.warnings.as_slice());
     let gate = OpenGate;
     let end = run_daemon(
         rt,

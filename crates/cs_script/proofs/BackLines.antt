@@ -1,5 +1,5 @@
 -- The lines of events are read back as these events.
-use Rattle.std.proofs.Common.{◌≡◌, ℕ, ◌+◌, ◌-◌, ◌/◌, ◌%◌, Bool, true, false, not, ◌&&◌, ◌||◌, ◌==◌, nat_le, nat_lt, cond, List, [], ◌∷◌, ◌++◌, length, map, Some, Ok, refl, sym, ap, ◌∙◌, arith}
+use Rattle.std.proofs.Common.{◌≡◌, ℕ, ◌+◌, ◌-◌, ◌/◌, ◌%◌, Bool, true, false, not, ◌||◌, ◌==◌, nat_le, nat_lt, cond, List, [], ◌∷◌, ◌++◌, length, map, Option, Ok, refl, sym, ap, ◌∙◌, arith}
 use Rattle.std.specs.Prelude.{codes, flat_map}
 use Rattle.std.specs.Fmt.{decimal as numeral}
 use Rattle.std.specs.List.{list_all, list_any}
@@ -8,14 +8,15 @@ use Rattle.std.proofs.lemmas.List.{append_assoc, append-nil}
 use Rattle.std.proofs.lemmas.List.Folds.{list_all-append}
 use Rattle.cs_civil.specs.Calendar.{date_of}
 use Rattle.cs_civil.specs.Text.{two_digits, date_bytes}
-use Rattle.cs_crontab.specs.Text.{lines_of, is_solid}
+use Rattle.cs_crontab.specs.Text.{lines_of}
 use Rattle.cs_crontab.proofs.Lines.{lines_of_nothing}
 use Rattle.cs_history.specs.Step.{is_civil}
 use Rattle.cs_history.specs.declared.event.Event.{Event}
 use Rattle.cs_history.specs.declared.event.Event.TheVariants.{Minute, Begin, Got, Catch, End, Down, Up}
 use Rattle.cs_decl.specs.Plan.{Declared, crons, command_of}
-use Rattle.cs_script.specs.Script.{Draft, is_ignored, taken, added, with_event, lines_from, numbered}
-use Rattle.cs_script.specs.ScriptLine.{Happens, is_word}
+use Rattle.cs_script.specs.Script.{taken, lines_from, numbered}
+use Rattle.cs_script.specs.Grammar.{Happens, is_word_byte}
+use Rattle.cs_script.specs.Reading.{is_word}
 use Rattle.cs_decl.specs.JobNames.{command_name, identifier_of}
 use Rattle.cs_script.specs.ScriptText.{job_name, at_minute, event_text, event_line, is_name, is_cron_name, is_anacron_name, is_job_name, is_nameable_event}
 use Rattle.cs_script.proofs.NamedJobs.{and_left, and_right, anacron_else}
@@ -24,14 +25,16 @@ use Rattle.cs_script.proofs.BackWords.{both, line_of, is_inside, is_date_byte, d
 use Rattle.cs_script.proofs.BackNames.{numeral_is}
 use Rattle.cs_script.specs.ReadBack.{AreNames}
 use Rattle.cs_script.proofs.BackEvents.{says}
+use Rattle.cs_script.proofs.Taking.{behind, behind_again}
+use Rattle.cs_script.proofs.Told.{event_placed}
 
 -- ---- no newline in a line
 
 pub inside : (text : List ℕ) → list_all is_date_byte text ≡ true → list_all is_inside text ≡ true
 inside [] h = refl
 inside (b ∷ bs) h =
-    let p = and_right (is_solid b) (not (b == 13) && not (b == 10)) (and_left (is_date_byte b) (list_all is_date_byte bs) h) in
-    both _ _ (and_right (not (b == 13)) (not (b == 10)) p) (inside bs (and_right (is_date_byte b) (list_all is_date_byte bs) h))
+    let p = and_left (is_date_byte b) (list_all is_date_byte bs) h in
+    both _ _ (and_right (is_word_byte b) (not (b == 10)) p) (inside bs (and_right (is_date_byte b) (list_all is_date_byte bs) h))
 
 pub joined : (xs ys : List ℕ) → list_all is_inside xs ≡ true → list_all is_inside ys ≡ true → list_all is_inside (xs ++ ys) ≡ true
 joined xs ys h k = list_all-append is_inside xs ys ∙ both _ _ h k
@@ -59,35 +62,21 @@ abbrev pub numbered_from : ℕ → List Event → List (ℕ × Event)
 numbered_from n [] = []
 numbered_from n (e ∷ es) = (n, e) ∷ numbered_from (n + 1) es
 
-abbrev pub with_events : Draft → ℕ → List Event → Draft
-with_events draft n es = record draft { events = draft.events ++ numbered_from n es }
-
-heeded : (d : Declared) (e : Event) → is_ignored (event_text d e) ≡ false
-heeded d (Minute t) = refl
-heeded d (Begin j) = refl
-heeded d (Got j t) = refl
-heeded d (Catch j) = refl
-heeded d (End r) = refl
-heeded d Down = refl
-heeded d (Up t) = refl
-
-added_event : (d : Declared) (n : ℕ) (draft : Draft) (o : ℕ × Bool) (e : Event) → draft.opening ≡ Some o → added d n draft (Happens e) ≡ Ok (with_event draft n e)
-unfolding added
-added_event d n draft o e is = rw is refl
-
 module _ (d : Declared) (names : AreNames d) where
-  taken_event : (n : ℕ) (draft : Draft) (o : ℕ × Bool) (e : Event) → draft.opening ≡ Some o → is_nameable_event d e ≡ true → taken d n draft (event_text d e) ≡ Ok (with_event draft n e)
-  unfolding taken
-  taken_event n draft o e is h = rw (heeded d e, says d names e h) (added_event d n draft o e is)
+  taken_event : (n : ℕ) (o : ℕ × Bool) (days : List (Option ℕ)) (before : List (ℕ × Event)) (e : Event) → is_nameable_event d e ≡ true
+      → taken d n (behind o days before) (event_text d e) ≡ Ok (behind o days (before ++ (n, e) ∷ []))
+  taken_event n o days before e h =
+      let s = says d names e h in
+      behind_again d o days before n (event_text d e) s.0 (Happens e) s.1 s.2 (event_placed d o days before s.0 e s.2)
 
   -- the lines of events are read one after the other
-  pub events_read : (n : ℕ) (draft : Draft) (o : ℕ × Bool) (es : List Event) → draft.opening ≡ Some o → list_all (is_nameable_event d) es ≡ true
-      → lines_from d n draft (map (event_text d) es) ≡ Ok (with_events draft n es)
-  events_read n draft o [] is h = is_done d n draft ∙ ap (λ (es : List (ℕ × Event)). Ok (record draft { events = es })) (sym (append-nil draft.events))
-  events_read n draft o (e ∷ es) is h =
-      sym (goes_on d n draft (with_event draft n e) (event_text d e) (map (event_text d) es) (ap (numbered n) (taken_event n draft o e is (and_left (is_nameable_event d e) _ h))))
-      ∙ events_read (n + 1) (with_event draft n e) o es is (and_right (is_nameable_event d e) _ h)
-      ∙ ap (λ (es : List (ℕ × Event)). Ok (record draft { events = es })) (append_assoc draft.events ((n, e) ∷ []) (numbered_from (n + 1) es))
+  pub events_read : (n : ℕ) (o : ℕ × Bool) (days : List (Option ℕ)) (before : List (ℕ × Event)) (es : List Event) → list_all (is_nameable_event d) es ≡ true
+      → lines_from d n (behind o days before) (map (event_text d) es) ≡ Ok (behind o days (before ++ numbered_from n es))
+  events_read n o days before [] h = is_done d n (behind o days before) ∙ ap (λ (es : List (ℕ × Event)). Ok (behind o days es)) (sym (append-nil before))
+  events_read n o days before (e ∷ es) h =
+      sym (goes_on d n (behind o days before) (behind o days (before ++ (n, e) ∷ [])) (event_text d e) (map (event_text d) es) (ap (numbered n) (taken_event n o days before e (and_left (is_nameable_event d e) _ h))))
+      ∙ events_read (n + 1) o days (before ++ (n, e) ∷ []) es (and_right (is_nameable_event d e) _ h)
+      ∙ ap (λ (es : List (ℕ × Event)). Ok (behind o days es)) (append_assoc before ((n, e) ∷ []) (numbered_from (n + 1) es))
 
   number_inside : (j : ℕ) → is_cron_name d j ≡ true → list_all is_inside (numeral (command_of d j).number) ≡ true
   number_inside j h = inside (numeral (command_of d j).number) (numeral_is (command_of d j).number (omega (arith, names.small j (ltb-true j (crons d) h)))).bytes

@@ -12,7 +12,8 @@ use Rattle.cs_crontab.proofs.Fronts.{decimal_next, decimal_end}
 use Rattle.cs_decl.specs.Plan.{Declared, crons, command_of, no_command, no_line}
 use Rattle.std.specs.Str.{bytes_eq}
 use Rattle.std.proofs.lemmas.Slice.Eq.{bytes_eq-Decides}
-use Rattle.cs_script.specs.ScriptLine.{job_on, place_of, is_nothing}
+use Rattle.cs_script.specs.Names.{job_on, place_of}
+use Rattle.cs_script.specs.Reading.{is_nothing}
 use Rattle.cs_script.proofs.BackWords.{both, digit_byte, is_date_byte}
 
 -- ---- numbers

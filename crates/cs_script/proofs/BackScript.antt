@@ -13,16 +13,19 @@ use Rattle.cs_history.specs.declared.event.Event.{Event}
 use Rattle.cs_history.specs.declared.script.Script.{Script}
 use Rattle.cs_decl.specs.Plan.{Declared}
 use Rattle.cs_script.specs.declared.script.TheConstants.{MAX_SCRIPT}
-use Rattle.cs_script.specs.Script.{lines_from, nothing, with_opening, numbered, script_of, numbered_script_of}
-use Rattle.cs_script.specs.ScriptLine.{is_word}
+use Rattle.cs_script.specs.Script.{lines_from, nothing, numbered, script_of, numbered_script_of}
+use Rattle.cs_script.specs.Faults.{MeansPlain}
+use Rattle.cs_script.specs.Reading.{is_word}
 use Rattle.cs_script.specs.ScriptText.{are_nameable_stamps, event_line, event_text, is_name, is_nameable, is_nameable_event, on_day, script_text, stamp_lines}
 use Rattle.cs_script.proofs.NamedJobs.{and_left, and_right}
 use Rattle.cs_script.proofs.Loop.{goes_on}
 use Rattle.cs_script.proofs.BackWords.{line_of, is_inside, date_solid}
 use Rattle.cs_script.specs.ReadBack.{AreNames, IsWritable, fits}
-use Rattle.cs_script.proofs.BackLines.{joined, inside, none_inside, numbered_from, with_events, events_read, event_lines}
+use Rattle.cs_script.proofs.BackLines.{joined, inside, none_inside, numbered_from, events_read, event_lines}
+use Rattle.cs_script.proofs.Taking.{behind}
+use Rattle.cs_script.proofs.Opened.{started, plain_means}
 use Rattle.cs_script.proofs.BackStart.{start_text, taken_start, start_first}
-use Rattle.cs_script.proofs.BackStamps.{reading, stamp_text}
+use Rattle.cs_script.proofs.BackStamps.{stamp_text}
 use Rattle.cs_script.proofs.BackStampLines.{stamp_texts, stamps_read}
 
 stamp_shape : (id y z rest : List ℕ) → ((id ++ (y ++ 10 ∷ [])) ++ z) ++ rest ≡ (id ++ y) ++ 10 ∷ (z ++ rest)
@@ -74,16 +77,16 @@ module _ (d : Declared) (names : AreNames d) (s : Script) (h : is_nameable d s �
   abbrev first_event : ℕ
   first_event = 2 + length (stamp_texts d.anacrontab.lines s.start.stamps)
 
-  rows_read : lines_from d 1 (nothing d) rows ≡ Ok (with_events (reading (s.start.now, s.start.up) s.start.stamps) first_event s.events)
+  rows_read : lines_from d 1 (nothing d) rows ≡ Ok (behind (s.start.now, s.start.up) s.start.stamps (numbered_from first_event s.events))
   rows_read =
-      sym (goes_on d 1 (nothing d) (with_opening (nothing d) s.start.now s.start.up) (start_text s.start.now s.start.up) (stamp_texts d.anacrontab.lines s.start.stamps ++ map (event_text d) s.events) (ap (numbered 1) (taken_start d 1 s.start.now s.start.up parts.0 late)))
+      sym (goes_on d 1 (nothing d) (started d s.start.now s.start.up) (start_text s.start.now s.start.up) (stamp_texts d.anacrontab.lines s.start.stamps ++ map (event_text d) s.events) (ap (numbered 1) (taken_start d 1 s.start.now s.start.up parts.0 late)))
       ∙ stamps_read d names (s.start.now, s.start.up) d.anacrontab.lines 2 [] [] s.start.stamps (map (event_text d) s.events) refl refl parts.1 days
-      ∙ events_read d names first_event (reading (s.start.now, s.start.up) s.start.stamps) (s.start.now, s.start.up) s.events refl parts.2
+      ∙ events_read d names first_event (s.start.now, s.start.up) s.start.stamps [] s.events parts.2
 
   -- the law
   pub script_back : length (script_text d s) ≤ MAX_SCRIPT → script_of d (script_text d s) ≡ Ok s
   unfolding script_of numbered_script_of
   script_back short = rw (le-ltb MAX_SCRIPT (length (script_text d s)) short, text_rows, rows_read, unnumbered first_event s.events) refl
 
-pub reads_back : (d : Declared) (s : Script) → IsWritable d s → script_of d (script_text d s) ≡ Ok s
-reads_back d s is = script_back d is.names s is.nameable is.start is.stamps is.short
+pub reads_back : (d : Declared) (s : Script) → IsWritable d s → MeansPlain d (script_text d s) (Ok s)
+reads_back d s is = plain_means d (script_text d s) (Ok s) (script_back d is.names s is.nameable is.start is.stamps is.short)

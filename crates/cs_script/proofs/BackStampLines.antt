@@ -7,9 +7,12 @@ use Rattle.cs_civil.specs.Calendar.{last_day}
 use Rattle.cs_anacrontab.specs.Anacrontab.{JobLine}
 use Rattle.cs_decl.specs.Plan.{Declared, no_line}
 use Rattle.cs_script.specs.Script.{lines_from, numbered}
-use Rattle.cs_script.specs.ScriptLine.{is_word, place_of}
+use Rattle.cs_script.specs.Reading.{is_word}
+use Rattle.cs_script.specs.Names.{place_of}
 use Rattle.cs_script.specs.ScriptText.{is_name, are_nameable_stamps}
 use Rattle.cs_script.proofs.NamedJobs.{and_left, and_right}
+use Rattle.cs_script.specs.Grammar.{IsWord}
+use Rattle.cs_script.proofs.Forms.{is_word_takes}
 use Rattle.cs_script.proofs.Loop.{goes_on}
 use Rattle.cs_script.proofs.BackNames.{place_back}
 use Rattle.cs_script.specs.ReadBack.{AreNames, fits}
@@ -26,9 +29,9 @@ here : (before lines : List JobLine) (line : JobLine) → get_or (before ++ line
 here [] lines line = refl
 here (l ∷ before) lines line = here before lines line
 
-named_word : (text : List ℕ) → is_name text ≡ true → is_word text ≡ true
+named_word : (text : List ℕ) → is_name text ≡ true → IsWord text
 unfolding is_name
-named_word text h = and_left (is_word text) _ h
+named_word text h = is_word_takes text (and_left (is_word text) _ h)
 
 module _ (d : Declared) (names : AreNames d) (o : ℕ × Bool) where
   place_here : (before lines : List JobLine) (line : JobLine) → d.anacrontab.lines ≡ before ++ line ∷ lines → place_of d line.identifier ≡ Some (length before)
@@ -51,7 +54,7 @@ module _ (d : Declared) (names : AreNames d) (o : ℕ × Bool) where
       ∙ ap (λ (ss : List (Option ℕ)). lines_from d (n + length (stamp_texts lines stamps)) (reading o ss) rest) (append_assoc done (None ∷ []) stamps)
   stamps_read (line ∷ lines) n before done (Some day ∷ stamps) rest e same h k =
       let nameable = and_left (nat_le 1 day && is_name line.identifier) (are_nameable_stamps lines stamps) h in
-      let word : is_word line.identifier ≡ true = named_word line.identifier (and_right (nat_le 1 day) (is_name line.identifier) nameable) in
+      let word : IsWord line.identifier = named_word line.identifier (and_right (nat_le 1 day) (is_name line.identifier) nameable) in
       let from : 1 ≤ day = leb-true 1 day (and_left (nat_le 1 day) (is_name line.identifier) nameable) in
       let to : day ≤ last_day = leb-true day last_day (and_left (nat_le day last_day) (list_all fits stamps) k) in
       let place : place_of d line.identifier ≡ Some (length done) = place_here before lines line e ∙ ap (λ (m : ℕ). Some m) same in

@@ -4,7 +4,13 @@ pub mod Lines
 pub mod Stamps
 pub mod Loop
 pub mod NamedJobs
+pub mod FirstWord
 pub mod BackWords
+pub mod Forms
+pub mod Entries
+pub mod Taking
+pub mod Told
+pub mod Opened
 pub mod BackNames
 pub mod BackMoments
 pub mod BackEvents

@@ -2,7 +2,7 @@
 use Rattle.std.proofs.Common.{◌≡◌, ℕ, ◌<◌, ◌≤◌, ◌==◌, Option, None, min, position, refl, ap, ◌∙◌, arith}
 use Rattle.std.proofs.lemmas.Bool.{lt-ltb, le-ltb}
 use Rattle.cs_decl.specs.Plan.{Declared}
-use Rattle.cs_script.specs.ScriptLine.{job_on}
+use Rattle.cs_script.specs.Names.{job_on}
 
 pub job_there : (d : Declared) (n v : ℕ) (o : Option ℕ) → v ≡ min 4_294_967_296 n → v < 4_294_967_296 → o ≡ position (λ line. line.number == v) d.crontab.lines → o ≡ job_on d n
 unfolding job_on

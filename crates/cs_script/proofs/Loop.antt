@@ -1,6 +1,7 @@
 -- Reading lines one after the other, as the loop does.
-use Rattle.std.proofs.Common.{◌≡◌, ℕ, ◌+◌, List, ◌∷◌, [], Ok, refl}
+use Rattle.std.proofs.Common.{◌≡◌, ℕ, ◌+◌, List, ◌∷◌, [], Ok, Err, refl}
 use Rattle.cs_decl.specs.Plan.{Declared}
+use Rattle.cs_script.specs.declared.fault.ScriptFault.{ScriptFault}
 use Rattle.cs_script.specs.declared.fault.ScriptError.{ScriptError}
 use Rattle.cs_script.specs.declared.fault.ScriptError.TheVariants.{At, OutOfMemory}
 use Rattle.cs_script.specs.Script.{Draft, Fails, numbered, taken, lines_from}
@@ -13,6 +14,10 @@ pub ends : (fault : ScriptError) (d : Declared) (number : ℕ) (draft : Draft) (
 unfolding lines_from
 ends OutOfMemory d number draft line lines fails = tt
 ends (At n fault) d number draft line lines fails = rw fails refl
+
+pub stops_at : (d : Declared) (number : ℕ) (draft : Draft) (line : List ℕ) (lines : List (List ℕ)) (fault : ScriptFault) → taken d number draft line ≡ Err fault → lines_from d number draft (line ∷ lines) ≡ Err (number, fault)
+unfolding lines_from
+stops_at d number draft line lines fault is = rw is refl
 
 pub is_done : (d : Declared) (number : ℕ) (draft : Draft) → lines_from d number draft [] ≡ Ok draft
 unfolding lines_from

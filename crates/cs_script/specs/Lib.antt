@@ -1,8 +1,12 @@
 pub mod Printed
 pub mod Dates
-pub mod ScriptLine
-pub mod Seen
+pub mod Names
+pub mod Grammar
+pub mod Faults
+pub mod Reading
+pub mod Entries
 pub mod Script
+pub mod Seen
 pub mod ScriptText
 pub mod Reply
 pub mod ReadBack

@@ -1,5 +1,6 @@
 -- What a script has to be within to be read back from its text.
-use Rattle.std.specs.Prelude.{◌≡◌, ◌≢◌, ℕ, ◌<◌, ◌≤◌, Bool, true, nat_le, AllPairs, length, Option, None, Some}
+use Rattle.std.specs.Prelude.{◌≡◌, ◌≢◌, ℕ, ◌<◌, ◌≤◌, Bool, true, nat_le, AllPairs, length, Option}
+use Rattle.std.specs.Prelude.{None, Some}
 use Rattle.std.specs.List.{list_all}
 use Rattle.cs_civil.specs.Calendar.{last_day, last_minute}
 use Rattle.cs_decl.specs.Plan.{Declared, command_of, crons}
@@ -18,7 +19,8 @@ abbrev pub fits : Option ℕ → Bool
 fits None = true
 fits (Some day) = nat_le day last_day
 
--- the script can be named, by names that differ, its days are days of the calendar, and its text is no longer than a script may be
+-- the script can be named, by names that differ, its days are days of the calendar, and its text is
+-- no longer than a script may be
 pub record IsWritable (d : Declared) (s : Script) : Type 0 where
   pub names : AreNames d
   pub nameable : is_nameable d s ≡ true

@@ -2,9 +2,14 @@
 use Rattle.std.specs.Prelude.{ℕ, Bool, true, false, List, ◌++◌, codes, Result, Ok, Err}
 use Rattle.cs_history.specs.Printed.{refusal_text}
 use Rattle.cs_history.specs.declared.reply.Reply.{Reply}
-use Rattle.cs_history.specs.declared.reply.Reply.TheVariants.{Clock, Started, Waiting, Skipped, Ended, Went, Came}
+use Rattle.cs_history.specs.declared.reply.Reply.TheVariants.{Clock, Started, Waiting, Skipped}
+use Rattle.cs_history.specs.declared.reply.Reply.TheVariants.{Ended, Went, Came}
 use Rattle.cs_history.specs.declared.refusal.Refusal.{Refusal}
-use Rattle.cs_history.specs.declared.refusal.Refusal.TheVariants.{NotUp, AlreadyUp, WrongMinute, NotSettled, NotDue, LockHeld, NotWaiting, NotRunning, NotCatchable, OutOfRange, HistoryFull, OutOfMemory}
+use Rattle.cs_history.specs.declared.refusal.Refusal.TheVariants.{NotUp, AlreadyUp, WrongMinute}
+use Rattle.cs_history.specs.declared.refusal.Refusal.TheVariants.{NotSettled, NotDue, LockHeld}
+use Rattle.cs_history.specs.declared.refusal.Refusal.TheVariants.{NotWaiting, NotRunning}
+use Rattle.cs_history.specs.declared.refusal.Refusal.TheVariants.{NotCatchable, OutOfRange}
+use Rattle.cs_history.specs.declared.refusal.Refusal.TheVariants.{HistoryFull, OutOfMemory}
 
 -- whether a run ended within its declared time
 abbrev pub ended_text : Bool → List ℕ

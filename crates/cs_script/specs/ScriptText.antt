@@ -1,17 +1,20 @@
 -- The text of a script, and which scripts have one.
-use Rattle.std.specs.Prelude.{ℕ, ◌-◌, Bool, true, false, not, ◌&&◌, ◌==◌, nat_le, nat_lt, if◌then◌else◌, List, [], ◌∷◌, ◌++◌, length, codes, flat_map, Option, Some, None}
+use Rattle.std.specs.Prelude.{ℕ, ◌-◌, Bool, true, false, not, ◌&&◌, ◌==◌, nat_le, nat_lt}
+use Rattle.std.specs.Prelude.{if◌then◌else◌, List, [], ◌∷◌, ◌++◌, length, codes, flat_map, Option}
+use Rattle.std.specs.Prelude.{Some, None}
 use Rattle.std.specs.List.{list_all, list_any}
 use Rattle.cs_civil.specs.Text.{minute_text, day_text}
 use Rattle.cs_history.specs.History.{Start as Opening}
 use Rattle.cs_history.specs.Plan.{first_start}
 use Rattle.cs_history.specs.Step.{is_civil}
 use Rattle.cs_history.specs.declared.event.Event.{Event}
-use Rattle.cs_history.specs.declared.event.Event.TheVariants.{Minute, Begin, Got, Catch, End, Down, Up}
+use Rattle.cs_history.specs.declared.event.Event.TheVariants.{Minute, Begin, Got, Catch, End, Down}
+use Rattle.cs_history.specs.declared.event.Event.TheVariants.{Up}
 use Rattle.cs_history.specs.declared.script.Script.{Script}
 use Rattle.cs_anacrontab.specs.Anacrontab.{JobLine}
 use Rattle.cs_decl.specs.JobNames.{command_name, identifier_of}
 use Rattle.cs_decl.specs.Plan.{Declared, crons}
-use Rattle.cs_script.specs.ScriptLine.{is_word}
+use Rattle.cs_script.specs.Reading.{is_word}
 
 -- ---- texts
 

@@ -1,14 +1,14 @@
 //! The lines of a script that were read so far.
-ghost use Rattle.std.specs.Prelude.{◌≡◌, ◌≤◌, IfOk, OnOk, length, replicate, None};
-ghost use Rattle.cs_script.specs.ScriptLine.{Gives};
-ghost use Rattle.cs_script.specs.Seen.{said_seen};
-ghost use Rattle.cs_script.specs.Script.{Denotes, added, first, further, is_too_late, nothing, numbered, stamp_at, stamped, start_minute, taken, with_event, with_opening, with_stamp};
-ghost use Rattle.cs_history.specs.Plan.{first_start};
+ghost use Rattle.std.specs.Prelude.{◌≡◌, ◌≤◌, IfOk, length, replicate, set, None, Some};
+ghost use Rattle.cs_script.specs.Entries.{Gives, IsLateEnough};
+ghost use Rattle.cs_script.specs.Script.{Denotes, is_misplaced, is_too_late, nothing, numbered};
+ghost use Rattle.cs_script.specs.Script.{said_behind, taken, with_entry};
+ghost use Rattle.cs_script.specs.Seen.{entry_seen, form_seen};
 
-use crate::dates::{day_of, minute_of};
+use crate::entry::{Entry, entry_of};
 use crate::fault::{ScriptError, ScriptFault};
+use crate::form::{Form, form_of};
 use crate::names::place_of;
-use crate::script_line::{Said, said_of};
 use arrayvec::ArrayVec;
 use cs_civil::{Day, Minute, Sequence};
 use cs_decl::Plan;
@@ -16,10 +16,8 @@ use cs_history::Event;
 use std::alloc::{AllocError, Global};
 use std::marker::Model;
 
-/// The first minute at which a history may start, 1970-01-04 00:00.
-pub(crate) const FIRST_START: u64 = 4_320;
-
-/// The start, once it was read, the stamps by anacron job, and the events with the numbers of their lines.
+/// The start, once it was read, the stamps by anacron job, and the events with the numbers of their
+/// lines.
 #[derive(Drop)]
 pub(crate) struct Draft {
     pub(crate) start: Option<(Minute, bool)>,
@@ -38,29 +36,6 @@ impl Model for Draft {
     ghost use Rattle.std.specs.Prelude.{IfSome, ◌≤◌};
 
     ghost invariant = { λ a. IfSome a.start (λ opening. first_start ≤ opening.0) };
-}
-
-/// The minute of a start.
-#[tactic(auto, unfolding(crate::specs::Script::start_minute))]
-fn start_minute(text: &[u8]) -> Result<Minute, ScriptFault>
-    ensures value { Gives (λ t. t) result (start_minute text.now) }
-    ensures late { IfOk result (λ t. first_start ≤ t) }
-{
-    let minute = minute_of(text).ok_or(ScriptFault::BadDate)?;
-    if minute.number() < FIRST_START {
-        return Err(ScriptFault::BadDate);
-    }
-    Ok(minute)
-}
-
-/// The place of a stamp's job, and its day.
-#[tactic(auto, unfolding(crate::specs::Script::stamp_at))]
-fn stamp_at(plan: &Plan, identifier: &[u8], date: &[u8]) -> Result<(usize, Day), ScriptFault>
-    ensures { Gives (λ stamp. stamp) result (stamp_at plan.now identifier.now date.now) }
-{
-    let day = day_of(date).ok_or(ScriptFault::BadDate)?;
-    let place = place_of(plan, identifier).ok_or(ScriptFault::UnknownName)?;
-    Ok((place, day))
 }
 
 /// No stamp for any of so many jobs.
@@ -105,86 +80,74 @@ impl Draft {
     }
 
     fn set_stamp(&mut self, place: usize, day: Day)
-        ensures { self.new ≡ with_stamp self.old (place, day) }
+        ensures { self.new ≡ record self.old { stamps = set self.old.stamps place (Some day) } }
     {
         if place < self.days.len() {
             self.days.as_mut_slice()[place] = Some(day);
         }
     }
 
-    /// Adds what the first line that counts says.
-    fn add_first(&mut self, plan: &Plan, said: Said<'_>) -> Result<(), ScriptFault>
-        ensures { Gives (λ _. self.new) result (first plan.now self.old (said_seen said.entry)) }
+    /// Whether a form may not stand behind those before it.
+    fn is_misplaced(&self, plan: &Plan, form: &Form<'_>) -> bool
+        ensures { result ≡ is_misplaced plan.now self.now (form_seen form.now) }
     {
-        match said {
-            Said::Start(moment, up) => {
-                self.start = Some((start_minute(moment)?, up));
-                Ok(())
-            }
-            Said::Stamp(identifier, date) => {
-                let _stamp = stamp_at(plan, identifier, date)?;
-                Err(ScriptFault::NoStart)
-            }
-            Said::Event(_) => Err(ScriptFault::NoStart),
+        match form {
+            Form::Start(_, _) => self.start.is_some(),
+            Form::Stamp(identifier, _) => self.is_too_late(plan, identifier),
+            Form::Minute(_)
+            | Form::Up(_)
+            | Form::Down
+            | Form::Begin(_)
+            | Form::Got(_, _)
+            | Form::Catch(_)
+            | Form::EndLine(_, _)
+            | Form::EndJob(_, _) => false,
         }
     }
 
-    fn add_stamp(&mut self, plan: &Plan, identifier: &[u8], date: &[u8]) -> Result<(), ScriptFault>
-        ensures { Gives (λ _. self.new) result (stamped plan.now self.old identifier.now date.now) }
+    /// What a line says behind those before it.
+    #[tactic(auto, unfolding(crate::specs::Script::said_behind))]
+    fn said(&self, plan: &Plan, line: &[u8]) -> Result<Entry, ScriptFault>
+        ensures value { Gives entry_seen result (said_behind plan.now self.now line.now) }
+        ensures late { IfOk result (λ x. IsLateEnough (entry_seen x)) }
     {
-        if self.is_too_late(plan, identifier) {
+        let form = form_of(line).ok_or(ScriptFault::BadLine)?;
+        if self.is_misplaced(plan, &form) {
             return Err(ScriptFault::BadLine);
         }
-        let (place, day) = stamp_at(plan, identifier, date)?;
-        self.set_stamp(place, day);
+        let entry = entry_of(plan, form)?;
+        if self.start.is_none() && !entry.is_start() {
+            return Err(ScriptFault::NoStart);
+        }
+        Ok(entry)
+    }
+
+    fn add(&mut self, number: u32, entry: Entry) -> Result<(), AllocError>
+        requires { IsLateEnough (entry_seen entry) }
+        ensures { IfOk result (λ _. self.new ≡ with_entry number (entry_seen entry) self.old) }
+    {
+        match entry {
+            Entry::Start(minute, up) => self.start = Some((minute, up)),
+            Entry::Stamp(place, day) => self.set_stamp(place, day),
+            Entry::Event(event) => self.list.push((number, event))?,
+        }
         Ok(())
-    }
-
-    /// Adds what a line behind the start says.
-    fn add_further(&mut self, plan: &Plan, number: u32, said: Said<'_>) -> Result<(), ScriptError>
-        ensures { Denotes (λ _. self.new) (numbered number (further plan.now number self.old (said_seen said.entry))) result }
-    {
-        let answer = match said {
-            Said::Start(_, _) => Err(ScriptFault::BadLine),
-            Said::Stamp(identifier, date) => self.add_stamp(plan, identifier, date),
-            Said::Event(event) => {
-                self.list.push((number, event))?;
-                Ok(())
-            }
-        };
-        answer.map_err(|fault| ScriptError::At {
-            line: number,
-            fault,
-        })
-    }
-
-    /// Adds a line that counts.
-    #[tactic(auto, unfolding(crate::specs::Script::added))]
-    fn add(&mut self, plan: &Plan, number: u32, said: Said<'_>) -> Result<(), ScriptError>
-        ensures { Denotes (λ _. self.new) (numbered number (added plan.now number self.old (said_seen said.entry))) result }
-    {
-        if self.start.is_some() {
-            return self.add_further(plan, number, said);
-        }
-        match self.add_first(plan, said) {
-            Ok(()) => Ok(()),
-            Err(fault) => Err(ScriptError::At {
-                line: number,
-                fault,
-            }),
-        }
     }
 
     /// Takes the line with that number.
     #[tactic(auto, unfolding(crate::specs::Script::taken))]
     pub(crate) fn take(&mut self, plan: &Plan, number: u32, line: &[u8]) -> Result<(), ScriptError>
-        ensures { Denotes (λ _. self.new) (numbered number (taken plan.now number self.old line.now)) result }
+        ensures { Denotes (λ _. self.new)
+            (numbered number (taken plan.now number self.old line.now)) result }
     {
         if let [] | [b'#', ..] = line {
             return Ok(());
         }
-        match said_of(plan, line) {
-            Ok(said) => self.add(plan, number, said),
+        match self.said(plan, line) {
+            Ok(entry) => {
+                self.add(number, entry)?;
+                Ok(())
+            }
             Err(fault) => Err(ScriptError::At {
                 line: number,
                 fault,

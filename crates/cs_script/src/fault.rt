@@ -5,7 +5,8 @@ ghost use Rattle.cs_script.specs.declared.fault.ScriptError.TheVariants.{OutOfMe
 use std::alloc::{AllocError, AllocFailed};
 use thiserror::Error;
 
-/// What is wrong with a script, or with a line of one. It is printed as its number and its name, `3 BadDate`.
+/// What is wrong with a script, or with a line of one. It is printed as its number and its name,
+/// `3 BadDate`.
 #[derive(Clone, Copy, Debug, PartialEq, Eq, Error)]
 #[error("{}", self.text())]
 pub enum ScriptFault {
@@ -39,8 +40,8 @@ impl ScriptFault {
 /// Why a script could not be read.
 #[derive(Clone, Copy, Debug, PartialEq, Eq, Error)]
 pub enum ScriptError {
-    /// The first line with a fault, counted from 1, and its fault. The script's own length, and the absence of a start, have
-    /// line 0.
+    /// The first line with a fault, counted from 1, and its fault. The script's own length, and the
+    /// absence of a start, have line 0.
     #[error("line {line}: {fault}")]
     At { line: u32, fault: ScriptFault },
     /// Memory ran out.

@@ -3,13 +3,14 @@
 
 mod dates;
 mod draft;
+mod entry;
 mod fault;
+mod form;
 mod laws;
 mod nameable;
 mod names;
 mod reply;
 mod script;
-mod script_line;
 mod words;
 mod writing;
 

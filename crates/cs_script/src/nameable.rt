@@ -5,9 +5,11 @@ ghost use Rattle.cs_civil.specs.Calendar.{last_day};
 ghost use Rattle.cs_decl.specs.JobNames.{identifier_of};
 ghost use Rattle.cs_decl.specs.Plan.{crons};
 ghost use Rattle.cs_history.specs.Step.{is_civil};
-ghost use Rattle.cs_script.specs.ScriptText.{are_nameable_stamps, is_anacron_name, is_cron_name, is_job_name, is_name, is_nameable, is_nameable_event, is_nameable_stamp};
+ghost use Rattle.cs_script.specs.ScriptText.{are_nameable_stamps, is_anacron_name, is_cron_name};
+ghost use Rattle.cs_script.specs.ScriptText.{is_job_name, is_name, is_nameable, is_nameable_event};
+ghost use Rattle.cs_script.specs.ScriptText.{is_nameable_stamp};
 
-use crate::draft::FIRST_START;
+use crate::entry::FIRST_START;
 use crate::words::is_word;
 use cs_anacrontab::Job;
 use cs_civil::{Day, Minute};
@@ -123,10 +125,11 @@ fn are_nameable_events(plan: &Plan, events: &[Event]) -> bool
     events.iter().all(|event| is_nameable_event(plan, *event))
 }
 
-/// Whether the script has a text: its start is from 1970-01-04 00:00 on; it has one place for a stamp for each job of the
-/// anacrontab, and each stamp is from 1970-01-02 on; [`Begin`](Event::Begin) and [`Got`](Event::Got) name jobs of the crontab,
-/// [`Catch`](Event::Catch) of the anacrontab, [`End`](Event::End) of either; and each minute is from 1970-01-02 00:00 to
-/// 9999-12-31 23:59.
+/// Whether the script has a text: its start is from 1970-01-04 00:00 on; it has one place for a
+/// stamp for each job of the anacrontab, and each stamp is from 1970-01-02 on;
+/// [`Begin`](Event::Begin) and [`Got`](Event::Got) name jobs of the crontab,
+/// [`Catch`](Event::Catch) of the anacrontab, [`End`](Event::End) of either; and each minute is
+/// from 1970-01-02 00:00 to 9999-12-31 23:59.
 #[tactic(auto, unfolding(crate::specs::ScriptText::is_nameable))]
 pub fn is_nameable(plan: &Plan, script: &Script) -> bool
     ensures { result ≡ is_nameable plan.now script.now }

@@ -1,7 +1,7 @@
 //! The jobs that a script names.
 ghost use Rattle.std.specs.Prelude.{◌≡◌, ◌==◌, ◌<◌, IfSome, position};
 ghost use Rattle.cs_crontab.specs.Text.{decimal};
-ghost use Rattle.cs_script.specs.ScriptLine.{job_on, job_named, place_of};
+ghost use Rattle.cs_script.specs.Names.{job_on, job_named, place_of};
 
 use crate::words::number;
 use cs_decl::Plan;
@@ -33,7 +33,7 @@ pub(crate) fn job_on(plan: &Plan, digits: &[u8]) -> Option<u16>
 }
 
 /// The place of the identifier among the jobs of the anacrontab.
-#[tactic(auto, unfolding(crate::specs::ScriptLine::place_of))]
+#[tactic(auto, unfolding(crate::specs::Names::place_of))]
 pub(crate) fn place_of(plan: &Plan, identifier: &[u8]) -> Option<usize>
     ensures place { result ≡ place_of plan.now identifier.now }
     ensures few { IfSome result (λ place. place < 64) }
@@ -45,7 +45,7 @@ pub(crate) fn place_of(plan: &Plan, identifier: &[u8]) -> Option<usize>
 }
 
 /// The job with the identifier.
-#[tactic(auto, unfolding(crate::specs::ScriptLine::job_named))]
+#[tactic(auto, unfolding(crate::specs::Names::job_named))]
 pub(crate) fn job_named(plan: &Plan, identifier: &[u8]) -> Option<u16>
     ensures { result ≡ job_named plan.now identifier.now }
 {

@@ -55,9 +55,10 @@ pub fn push_reply(text: &mut Vec<u8>, answer: Result<Reply, Refusal>) -> Result<
     }
 }
 
-/// What is told of an event's answer: `clock`, `started`, `waiting`, `skipped`, `ended in time`, `ended late`, `went` or `came`,
-/// and of a refusal `refused` with its number and its name, as `refused 4 NotSettled`; of want of memory `out of memory`.
-/// There is no newline at its end. The only error is want of memory.
+/// What is told of an event's answer: `clock`, `started`, `waiting`, `skipped`, `ended in time`,
+/// `ended late`, `went` or `came`, and of a refusal `refused` with its number and its name, as
+/// `refused 4 NotSettled`; of want of memory `out of memory`. There is no newline at its end. The
+/// only error is want of memory.
 pub fn reply_text(alloc: Global, answer: Result<Reply, Refusal>) -> Result<Bytes, AllocError>
     ensures { IfOk result (λ text. text ≡ reply_text answer) }
 {

@@ -1,8 +1,11 @@
 //! Scripts: a start, and the events that are tried from there on.
-ghost use Rattle.std.specs.Prelude.{◌≡◌, ◌≤◌, ◌++◌, length, map, IfOk};
+ghost use Rattle.std.specs.Prelude.{◌≡◌, ◌≤◌, ◌++◌, length, map, IfErr, IfOk, Ok};
 ghost use Rattle.cs_crontab.specs.Text.{lines_of};
 ghost use Rattle.cs_script.specs.declared.script.TheConstants.{MAX_SCRIPT};
-ghost use Rattle.cs_script.specs.Script.{Denotes, lines_from, nothing, numbered_script_of, script_of};
+ghost use Rattle.cs_script.specs.Faults.{IsFaultOf, Meaning, Means, MeansPlain, PlainMeaning};
+ghost use Rattle.cs_script.specs.Grammar.{IsScript};
+ghost use Rattle.cs_script.specs.Script.{Denotes, lines_from, nothing, numbered_script_of};
+ghost use Rattle.cs_script.specs.Script.{script_of};
 
 use crate::draft::Draft;
 use crate::fault::{ScriptError, ScriptFault};
@@ -46,7 +49,8 @@ impl NumberedScript {
         &self.opening
     }
 
-    /// The start, and the events, each with the number of its line. The start is from 1970-01-04 00:00 on.
+    /// The start, and the events, each with the number of its line. The start is from 1970-01-04
+    /// 00:00 on.
     pub fn into_parts(self) -> (Start, Sequence<(u32, Event)>)
         ensures start { result.0 ≡ self.start }
         ensures late { first_start ≤ result.0.now }
@@ -66,7 +70,8 @@ impl NumberedScript {
 
 fn read_lines(alloc: Global, plan: &Plan, bytes: &[u8]) -> Result<Draft, ScriptError>
     requires { length bytes.now ≤ MAX_SCRIPT }
-    ensures { Denotes (λ draft. draft) (lines_from plan.now 1 (nothing plan.now) (lines_of bytes.now)) result }
+    ensures { Denotes (λ draft. draft)
+        (lines_from plan.now 1 (nothing plan.now) (lines_of bytes.now)) result }
 {
     let mut draft = Draft::new(alloc, plan);
     let mut number = 0u32;
@@ -80,14 +85,8 @@ fn read_lines(alloc: Global, plan: &Plan, bytes: &[u8]) -> Result<Draft, ScriptE
     Ok(draft)
 }
 
-/// The script that the bytes denote under the plan, with the number of the line of each event, or its first fault, as
-/// [`read_script`] answers it.
 #[tactic(auto, unfolding(crate::specs::Script::numbered_script_of))]
-pub fn read_numbered_script(
-    alloc: Global,
-    plan: &Plan,
-    bytes: &[u8],
-) -> Result<NumberedScript, ScriptError>
+fn read_numbered(alloc: Global, plan: &Plan, bytes: &[u8]) -> Result<NumberedScript, ScriptError>
     ensures { Denotes (λ script. script) (numbered_script_of plan.now bytes.now) result }
 {
     if bytes.len() > MAX_SCRIPT {
@@ -109,6 +108,24 @@ pub fn read_numbered_script(
     }
 }
 
+/// The script that the bytes denote under the plan, with the number of the line of each event, or
+/// its first fault, as [`read_script`] answers it.
+pub fn read_numbered_script(
+    alloc: Global,
+    plan: &Plan,
+    bytes: &[u8],
+) -> Result<NumberedScript, ScriptError>
+    // What is read is written so.
+    ensures script { IfOk result (IsScript plan.now bytes.now) }
+    // A fault stands there, and is the first; nothing is said of want of memory.
+    ensures fault { IfErr result (IsFaultOf plan.now bytes.now) }
+    // The bytes mean nothing else, and what they mean is answered unless memory runs out.
+    ensures only { (meaning : Meaning) → Means plan.now bytes.now meaning
+        → Denotes (λ script. script) meaning result }
+{
+    read_numbered(alloc, plan, bytes)
+}
+
 fn events_of(alloc: Global, numbered: &[(u32, Event)]) -> Result<Sequence<Event>, AllocError>
     ensures { IfOk result (λ events. events ≡ map (λ e. e.1) numbered.now) }
 {
@@ -119,23 +136,37 @@ fn events_of(alloc: Global, numbered: &[(u32, Event)]) -> Result<Sequence<Event>
     Ok(events)
 }
 
-/// The script that the bytes denote under the plan, or its first fault.
-///
-/// Empty lines and lines that begin with `#` count for nothing. The first other line is `start DT up` or `start DT down`, DT being
-/// `YYYY-MM-DD HH:MM` from 1970-01-04 00:00 on. `stamp ID YYYY-MM-DD` comes before any event, each identifier once. The events are
-/// `minute DT`, `up DT`, `down`, `begin line N`, `got line N DT`, `catch ID`, `end line N DT` and `end job ID DT`, where N is the
-/// number of a command's line in the crontab and ID an identifier of the anacrontab. Words are parted by one space.
-///
-/// In a line the faults come in the order of [`ScriptFault`]'s numbers. A line without fault that should be the start is
-/// [`NoStart`](ScriptFault::NoStart).
 #[tactic(auto, unfolding(crate::specs::Script::script_of))]
-pub fn read_script(alloc: Global, plan: &Plan, bytes: &[u8]) -> Result<Script, ScriptError>
+fn read_plain(alloc: Global, plan: &Plan, bytes: &[u8]) -> Result<Script, ScriptError>
     ensures { Denotes (λ script. script) (script_of plan.now bytes.now) result }
 {
-    let numbered = read_numbered_script(alloc, plan, bytes)?;
+    let numbered = read_numbered(alloc, plan, bytes)?;
     let NumberedScript { opening, list } = numbered;
     Ok(Script {
         start: opening,
         events: events_of(alloc, list.as_slice())?,
     })
+}
+
+/// The script that the bytes denote under the plan, or its first fault.
+///
+/// Empty lines and lines that begin with `#` count for nothing. The first other line is
+/// `start DT up` or `start DT down`, DT being `YYYY-MM-DD HH:MM` from 1970-01-04 00:00 on.
+/// `stamp ID YYYY-MM-DD` comes before any event, each identifier once. The events are `minute DT`,
+/// `up DT`, `down`, `begin line N`, `got line N DT`, `catch ID`, `end line N DT` and
+/// `end job ID DT`, where N is the number of a command's line in the crontab and ID an identifier
+/// of the anacrontab. Words are parted by one space and by nothing else.
+///
+/// In a line the faults come in the order of [`ScriptFault`]'s numbers. A line without fault that
+/// should be the start is [`NoStart`](ScriptFault::NoStart).
+pub fn read_script(alloc: Global, plan: &Plan, bytes: &[u8]) -> Result<Script, ScriptError>
+    // What is read is written so.
+    ensures script { IfOk result (λ script. MeansPlain plan.now bytes.now (Ok script)) }
+    // A fault stands there, and is the first; nothing is said of want of memory.
+    ensures fault { IfErr result (IsFaultOf plan.now bytes.now) }
+    // The bytes mean nothing else, and what they mean is answered unless memory runs out.
+    ensures only { (meaning : PlainMeaning) → MeansPlain plan.now bytes.now meaning
+        → Denotes (λ script. script) meaning result }
+{
+    read_plain(alloc, plan, bytes)
 }

@@ -1,39 +1,42 @@
 //! The words of a script's line.
-ghost use Rattle.std.specs.Prelude.{◌≡◌, ◌≤◌, ◌==◌, length, min, option_map};
-ghost use Rattle.std.specs.List.{list_all, list_any};
-ghost use Rattle.cs_crontab.specs.Text.{decimal, is_digit, is_solid};
-ghost use Rattle.cs_script.specs.ScriptLine.{first_word, has_return, is_date, is_moment, is_number, is_word};
+ghost use Rattle.std.specs.Prelude.{◌≡◌, ◌≤◌, ◌==◌, length, min, option_map, position};
+ghost use Rattle.std.specs.List.{list_all};
+ghost use Rattle.cs_crontab.specs.Text.{decimal, is_digit};
+ghost use Rattle.cs_script.specs.Grammar.{is_word_byte};
+ghost use Rattle.cs_script.specs.Reading.{first_word, is_moment, is_number, is_word};
 
-use cs_crontab::text::{is_blank, word};
+fn first_space(text: &[u8]) -> Option<usize>
+    ensures { result ≡ position (λ b. b == 32) text.now }
+{
+    text.iter().position(|byte| *byte == b' ')
+}
 
 /// The first word, and the text behind the one space after it.
-#[tactic(auto, unfolding(crate::specs::ScriptLine::first_word))]
+#[tactic(auto, using(crate::proofs::FirstWord::no_space, crate::proofs::FirstWord::space_in_front, crate::proofs::FirstWord::space_behind))]
 pub(crate) fn first_word(text: &[u8]) -> Option<(&[u8], &[u8])>
     ensures { option_map (λ parts. (parts.0.now, parts.1.now)) result ≡ first_word text.now }
 {
-    let (word, rest) = word(text);
-    match rest {
-        [b' ', rest @ ..] if !word.is_empty() => Some((word, rest)),
-        [] | [_, ..] => None,
+    match first_space(text) {
+        Some(at) if at != 0 => Some((&text[..at], &text[at + 1..])),
+        Some(_) | None => None,
     }
 }
 
-/// Whether no byte is a blank.
-fn is_solid(text: &[u8]) -> bool
-    ensures { result ≡ list_all is_solid text.now }
+fn has_no_space(text: &[u8]) -> bool
+    ensures { result ≡ list_all is_word_byte text.now }
 {
-    text.iter().all(|byte| !is_blank(*byte))
+    text.iter().all(|byte| *byte != b' ')
 }
 
 /// Whether the text is one word.
-#[tactic(auto, unfolding(crate::specs::ScriptLine::is_word))]
+#[tactic(auto, unfolding(crate::specs::Reading::is_word))]
 pub(crate) fn is_word(text: &[u8]) -> bool
     ensures { result ≡ is_word text.now }
 {
     if text.is_empty() {
         return false;
     }
-    is_solid(text)
+    has_no_space(text)
 }
 
 fn is_digit(byte: u8) -> bool
@@ -49,7 +52,7 @@ fn has_only_digits(text: &[u8]) -> bool
 }
 
 /// Whether the text is one digit or more.
-#[tactic(auto, unfolding(crate::specs::ScriptLine::is_number))]
+#[tactic(auto, unfolding(crate::specs::Reading::is_number))]
 pub(crate) fn is_number(text: &[u8]) -> bool
     ensures { result ≡ is_number text.now }
 {
@@ -59,27 +62,13 @@ pub(crate) fn is_number(text: &[u8]) -> bool
     has_only_digits(text)
 }
 
-fn has_return(text: &[u8]) -> bool
-    ensures { result ≡ has_return text.now }
-{
-    text.iter().any(|byte| *byte == b'\r')
-}
-
-/// Whether the text is a word without a carriage return, as a date is.
-#[tactic(auto, unfolding(crate::specs::ScriptLine::is_date))]
-pub(crate) fn is_date(text: &[u8]) -> bool
-    ensures { result ≡ is_date text.now }
-{
-    is_word(text) && !has_return(text)
-}
-
-/// Whether the text is two words without a carriage return, as a date and a time of the day are.
-#[tactic(auto, unfolding(crate::specs::ScriptLine::is_moment))]
+/// Whether the text is two words, as a date and a time of the day are.
+#[tactic(auto, unfolding(crate::specs::Reading::is_moment))]
 pub(crate) fn is_moment(text: &[u8]) -> bool
     ensures { result ≡ is_moment text.now }
 {
     match first_word(text) {
-        Some((_, rest)) => is_date(rest) && !has_return(text),
+        Some((_, rest)) => is_word(rest),
         None => false,
     }
 }

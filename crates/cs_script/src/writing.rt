@@ -3,7 +3,11 @@ ghost use Rattle.std.specs.Prelude.{◌≡◌, ◌++◌, true, flat_map, IfOk, O
 ghost use Rattle.std.specs.List.{list_all};
 ghost use Rattle.cs_decl.specs.JobNames.{command_name, identifier_of};
 ghost use Rattle.cs_history.specs.Step.{is_civil};
-ghost use Rattle.cs_script.specs.ScriptText.{are_nameable_stamps, at_minute, event_line, event_text, is_anacron_name, is_cron_name, is_job_name, is_nameable, is_nameable_event, is_nameable_stamp, job_name, on_day, script_text, stamp_line, stamp_lines, start_line};
+ghost use Rattle.cs_script.specs.ScriptText.{are_nameable_stamps, at_minute, event_line};
+ghost use Rattle.cs_script.specs.ScriptText.{event_text, is_anacron_name, is_cron_name};
+ghost use Rattle.cs_script.specs.ScriptText.{is_job_name, is_nameable, is_nameable_event};
+ghost use Rattle.cs_script.specs.ScriptText.{is_nameable_stamp, job_name, on_day, script_text};
+ghost use Rattle.cs_script.specs.ScriptText.{stamp_line, stamp_lines, start_line};
 
 use crate::nameable::{identifier_of, is_cron};
 use cs_anacrontab::Job;
@@ -165,7 +169,8 @@ fn push_start(text: &mut Vec<u8>, start: &Start) -> Result<(), AllocError>
     }
 }
 
-/// The text of a script that can be named: the start, its stamps and the events, a line each. The only error is want of memory.
+/// The text of a script that can be named: the start, its stamps and the events, a line each. The
+/// only error is want of memory.
 #[tactic(auto, unfolding(crate::specs::ScriptText::script_text), using(crate::proofs::NamedJobs::events_nameable))]
 pub fn script_text(alloc: Global, plan: &Plan, script: &Script) -> Result<Bytes, AllocError>
     requires { is_nameable plan.now script.now ≡ true }

@@ -1,6 +1,6 @@
 use Rattle.std.proofs.Common.{◌≡◌, ◌∙◌, Bool, Ok, Err, ap, inr, subst}
 use Rattle.std.proofs.lemmas.Result.{err_from_is_err_and}
-use Rattle.cs_script.specs.Script.{Numbered}
+use Rattle.cs_script.specs.Grammar.{Numbered}
 use Rattle.cs_cli.specs.Replayed.{ReadsPlan, ReadsScript, replayed}
 use Rattle.cs_call.specs.Asked.{asked_replay}
 use Rattle.cs_cli.specs.Reads.{AndThen, Gives}

@@ -1,9 +1,8 @@
 -- The lines of events are read back as these events.
 use Rattle.std.proofs.Common.{◌≡◌, ℕ, ◌+◌, ◌-◌, ◌/◌, ◌%◌, Bool, true, false, not, ◌||◌, ◌==◌, nat_le, nat_lt, cond, List, [], ◌∷◌, ◌++◌, length, map, Option, Ok, refl, sym, ap, ◌∙◌, arith}
-use Rattle.std.specs.Prelude.{codes, flat_map}
+use Rattle.std.specs.Prelude.{AllPairs, ◌≢◌, codes, flat_map}
 use Rattle.std.specs.Fmt.{decimal as numeral}
 use Rattle.std.specs.List.{list_all, list_any}
-use Rattle.std.proofs.lemmas.Bool.{ltb-true}
 use Rattle.std.proofs.lemmas.List.{append_assoc, append-nil}
 use Rattle.std.proofs.lemmas.List.Folds.{list_all-append}
 use Rattle.cs_civil.specs.Calendar.{date_of}
@@ -18,12 +17,12 @@ use Rattle.cs_script.specs.Script.{taken, lines_from, numbered}
 use Rattle.cs_script.specs.Grammar.{Happens, is_word_byte}
 use Rattle.cs_script.specs.Reading.{is_word}
 use Rattle.cs_decl.specs.JobNames.{command_name, identifier_of}
-use Rattle.cs_script.specs.ScriptText.{job_name, at_minute, event_text, event_line, is_name, is_cron_name, is_anacron_name, is_job_name, is_nameable_event}
+use Rattle.cs_script.specs.ScriptText.{job_name, at_minute, event_text, event_line, is_name, is_anacron_name, is_job_name, is_nameable_event}
 use Rattle.cs_script.proofs.NamedJobs.{and_left, and_right, anacron_else}
 use Rattle.cs_script.proofs.Loop.{goes_on, is_done}
 use Rattle.cs_script.proofs.BackWords.{both, line_of, is_inside, is_date_byte, date_solid, clock_solid}
-use Rattle.cs_script.proofs.BackNames.{numeral_is}
-use Rattle.cs_script.specs.ReadBack.{AreNames}
+use Rattle.cs_script.proofs.BackNames.{numeral_is, told_small}
+use Rattle.cs_script.specs.ReadBack.{tells_command, tells_job, tells_event}
 use Rattle.cs_script.proofs.BackEvents.{says}
 use Rattle.cs_script.proofs.Taking.{behind, behind_again}
 use Rattle.cs_script.proofs.Told.{event_placed}
@@ -62,26 +61,29 @@ abbrev pub numbered_from : ℕ → List Event → List (ℕ × Event)
 numbered_from n [] = []
 numbered_from n (e ∷ es) = (n, e) ∷ numbered_from (n + 1) es
 
-module _ (d : Declared) (names : AreNames d) where
-  taken_event : (n : ℕ) (o : ℕ × Bool) (days : List (Option ℕ)) (before : List (ℕ × Event)) (e : Event) → is_nameable_event d e ≡ true
+module _ (d : Declared) (distinct : AllPairs (λ x y. x.identifier ≢ y.identifier) d.anacrontab.lines) where
+  taken_event : (n : ℕ) (o : ℕ × Bool) (days : List (Option ℕ)) (before : List (ℕ × Event)) (e : Event) → is_nameable_event d e ≡ true → tells_event d e ≡ true
       → taken d n (behind o days before) (event_text d e) ≡ Ok (behind o days (before ++ (n, e) ∷ []))
-  taken_event n o days before e h =
-      let s = says d names e h in
+  taken_event n o days before e h told =
+      let s = says d distinct e h told in
       behind_again d o days before n (event_text d e) s.0 (Happens e) s.1 s.2 (event_placed d o days before s.0 e s.2)
 
   -- the lines of events are read one after the other
-  pub events_read : (n : ℕ) (o : ℕ × Bool) (days : List (Option ℕ)) (before : List (ℕ × Event)) (es : List Event) → list_all (is_nameable_event d) es ≡ true
+  pub events_read : (n : ℕ) (o : ℕ × Bool) (days : List (Option ℕ)) (before : List (ℕ × Event)) (es : List Event) → list_all (is_nameable_event d) es ≡ true → list_all (tells_event d) es ≡ true
       → lines_from d n (behind o days before) (map (event_text d) es) ≡ Ok (behind o days (before ++ numbered_from n es))
-  events_read n o days before [] h = is_done d n (behind o days before) ∙ ap (λ (es : List (ℕ × Event)). Ok (behind o days es)) (sym (append-nil before))
-  events_read n o days before (e ∷ es) h =
-      sym (goes_on d n (behind o days before) (behind o days (before ++ (n, e) ∷ [])) (event_text d e) (map (event_text d) es) (ap (numbered n) (taken_event n o days before e (and_left (is_nameable_event d e) _ h))))
-      ∙ events_read (n + 1) o days (before ++ (n, e) ∷ []) es (and_right (is_nameable_event d e) _ h)
+  events_read n o days before [] h told = is_done d n (behind o days before) ∙ ap (λ (es : List (ℕ × Event)). Ok (behind o days es)) (sym (append-nil before))
+  events_read n o days before (e ∷ es) h told =
+      sym
+      (goes_on d n (behind o days before) (behind o days (before ++ (n, e) ∷ [])) (event_text d e) (map (event_text d) es)
+      (ap (numbered n) (taken_event n o days before e (and_left (is_nameable_event d e) _ h) (and_left (tells_event d e) _ told))))
+      ∙ events_read (n + 1) o days (before ++ (n, e) ∷ []) es (and_right (is_nameable_event d e) _ h) (and_right (tells_event d e) _ told)
       ∙ ap (λ (es : List (ℕ × Event)). Ok (behind o days es)) (append_assoc before ((n, e) ∷ []) (numbered_from (n + 1) es))
 
-  number_inside : (j : ℕ) → is_cron_name d j ≡ true → list_all is_inside (numeral (command_of d j).number) ≡ true
-  number_inside j h = inside (numeral (command_of d j).number) (numeral_is (command_of d j).number (omega (arith, names.small j (ltb-true j (crons d) h)))).bytes
+module _ (d : Declared) where
+  number_inside : (j : ℕ) → tells_command d j ≡ true → list_all is_inside (numeral (command_of d j).number) ≡ true
+  number_inside j h = inside (numeral (command_of d j).number) (numeral_is (command_of d j).number (omega (arith, told_small d j h))).bytes
 
-  command_inside : (j : ℕ) → is_cron_name d j ≡ true → list_all is_inside (command_name d j) ≡ true
+  command_inside : (j : ℕ) → tells_command d j ≡ true → list_all is_inside (command_name d j) ≡ true
   unfolding command_name
   command_inside j h = number_inside j h
 
@@ -90,27 +92,27 @@ module _ (d : Declared) (names : AreNames d) where
   identifier_inside j h =
       none_inside (identifier_of d j) (and_right (is_word (identifier_of d j)) _ (and_right (nat_lt (j - crons d) (length d.anacrontab.lines)) _ (and_right (nat_le (crons d) j) _ h)))
 
-  job_inside : (j : ℕ) → is_job_name d j ≡ true → list_all is_inside (job_name d j) ≡ true
+  job_inside : (j : ℕ) → is_job_name d j ≡ true → tells_job d j ≡ true → list_all is_inside (job_name d j) ≡ true
   unfolding job_name
-  job_inside j h = by_kind (nat_lt j (crons d)) refl
+  job_inside j h told = by_kind (nat_lt j (crons d)) refl told
     where
-      by_kind : (b : Bool) → nat_lt j (crons d) ≡ b → list_all is_inside (cond b (command_name d j) (codes "job " ++ identifier_of d j)) ≡ true
-      by_kind true e = command_inside j e
-      by_kind false e = identifier_inside j (anacron_else d j h e)
+      by_kind : (b : Bool) → nat_lt j (crons d) ≡ b → cond b (tells_command d j) true ≡ true → list_all is_inside (cond b (command_name d j) (codes "job " ++ identifier_of d j)) ≡ true
+      by_kind true e told = command_inside j told
+      by_kind false e told = identifier_inside j (anacron_else d j h e)
 
-  pub event_inside : (e : Event) → is_nameable_event d e ≡ true → list_all is_inside (event_text d e) ≡ true
-  event_inside (Minute t) h = moment_inside t
-  event_inside (Begin j) h = command_inside j h
-  event_inside (Got j t) h = joined (command_name d j) (at_minute t) (command_inside j (and_left (is_cron_name d j) (is_civil t) h)) (moment_inside t)
-  event_inside (Catch j) h = identifier_inside j h
-  event_inside (End r) h = joined (job_name d r.job) (at_minute r.at) (job_inside r.job (and_left (is_job_name d r.job) (is_civil r.at) h)) (moment_inside r.at)
-  event_inside Down h = refl
-  event_inside (Up t) h = moment_inside t
+  pub event_inside : (e : Event) → is_nameable_event d e ≡ true → tells_event d e ≡ true → list_all is_inside (event_text d e) ≡ true
+  event_inside (Minute t) h told = moment_inside t
+  event_inside (Begin j) h told = command_inside j told
+  event_inside (Got j t) h told = joined (command_name d j) (at_minute t) (command_inside j told) (moment_inside t)
+  event_inside (Catch j) h told = identifier_inside j h
+  event_inside (End r) h told = joined (job_name d r.job) (at_minute r.at) (job_inside r.job (and_left (is_job_name d r.job) (is_civil r.at) h) told) (moment_inside r.at)
+  event_inside Down h told = refl
+  event_inside (Up t) h told = moment_inside t
 
   -- the text of events falls into their lines
-  pub event_lines : (es : List Event) → list_all (is_nameable_event d) es ≡ true → lines_of (flat_map (event_line d) es) ≡ map (event_text d) es
-  event_lines [] h = lines_of_nothing
-  event_lines (e ∷ es) h =
+  pub event_lines : (es : List Event) → list_all (is_nameable_event d) es ≡ true → list_all (tells_event d) es ≡ true → lines_of (flat_map (event_line d) es) ≡ map (event_text d) es
+  event_lines [] h told = lines_of_nothing
+  event_lines (e ∷ es) h told =
       ap lines_of (append_assoc (event_text d e) (10 ∷ []) (flat_map (event_line d) es))
-      ∙ line_of (event_text d e) (flat_map (event_line d) es) (event_inside e (and_left (is_nameable_event d e) _ h))
-      ∙ ap (λ (ls : List (List ℕ)). event_text d e ∷ ls) (event_lines es (and_right (is_nameable_event d e) _ h))
+      ∙ line_of (event_text d e) (flat_map (event_line d) es) (event_inside e (and_left (is_nameable_event d e) _ h) (and_left (tells_event d e) _ told))
+      ∙ ap (λ (ls : List (List ℕ)). event_text d e ∷ ls) (event_lines es (and_right (is_nameable_event d e) _ h) (and_right (tells_event d e) _ told))

@@ -1,18 +1,21 @@
 -- Numbers and names that are written are read back.
-use Rattle.std.proofs.Common.{◌≡◌, ℕ, suc, ◌+◌, ◌-◌, ◌*◌, ◌/◌, ◌%◌, ◌<◌, ◌≤◌, ◌^◌, Bool, true, false, not, ◌==◌, List, [], ◌∷◌, ◌++◌, length, get_or, position, Some, refl, sym, ap, ◌∙◌, arith}
+use Rattle.std.proofs.Common.{◌≡◌, ℕ, suc, ◌+◌, ◌-◌, ◌*◌, ◌/◌, ◌%◌, ◌<◌, ◌≤◌, ◌^◌, Bool, true, false, not, ◌==◌, List, [], ◌∷◌, ◌++◌, length, get_or, position, Option, Some, None, nat_lt, cond, refl, sym, ap, ◌∙◌, arith}
 use Rattle.std.specs.Prelude.{AllPairs, ◌≢◌}
 use Rattle.std.specs.Fmt.{decimal as numeral}
 use Rattle.std.specs.List.{list_all, position_or_len}
-use Rattle.std.proofs.lemmas.Bool.{lt-ltb, le-leb, ne_eqb, eq-eqb}
+use Rattle.std.proofs.lemmas.Bool.{lt-ltb, le-leb, ne_eqb, eq-eqb, eqb-true, ltb-true}
 use Rattle.std.proofs.lemmas.Fmt.{decimal_by_steps}
+use Rattle.std.proofs.lemmas.List.{get_or_read}
 use Rattle.std.proofs.lemmas.List.Folds.{list_all-append}
 use Rattle.std.proofs.lemmas.List.Sums.{position_or_len_is}
+use Rattle.cs_crontab.specs.Crontab.{CommandLine}
 use Rattle.cs_crontab.specs.Text.{decimal_from, is_digit}
 use Rattle.cs_crontab.proofs.Fronts.{decimal_next, decimal_end}
 use Rattle.cs_decl.specs.Plan.{Declared, crons, command_of, no_command, no_line}
 use Rattle.std.specs.Str.{bytes_eq}
 use Rattle.std.proofs.lemmas.Slice.Eq.{bytes_eq-Decides}
 use Rattle.cs_script.specs.Names.{job_on, place_of}
+use Rattle.cs_script.specs.ReadBack.{is_job, tells_command}
 use Rattle.cs_script.specs.Reading.{is_nothing}
 use Rattle.cs_script.proofs.BackWords.{both, digit_byte, is_date_byte}
 
@@ -71,6 +74,33 @@ unfolding job_on
 job_back d j rising below small =
     rw (lt-ltb (command_of d j).number 4_294_967_296 small)
     (position_is (λ line. line.number == (command_of d j).number) d.crontab.lines j no_command below (eq-eqb _ _ refl) (λ k l. ne_eqb _ _ (λ e. omega (arith, e, rising k j no_command l below))))
+
+-- the number of a command's line tells it
+pub command_told : (d : Declared) (j : ℕ) (line : CommandLine) → AllPairs (λ x y. x.number < y.number) d.crontab.lines → nat_lt j (crons d) ≡ true → line ≡ get_or d.crontab.lines j line → line.number < 4_294_967_296 → tells_command d j ≡ true
+unfolding tells_command
+command_told d j line rising is at small =
+    let below : j < crons d = ltb-true j (crons d) is in
+    let same : line ≡ command_of d j = get_or_read d.crontab.lines j line below at no_command in
+    let fits : (command_of d j).number < 4_294_967_296 = omega (arith, ap (λ (l : CommandLine). l.number) same, small) in
+    rw (job_back d j rising below fits) (eq-eqb j j refl)
+
+-- it names that job
+pub told_back : (d : Declared) (j : ℕ) → tells_command d j ≡ true → job_on d (command_of d j).number ≡ Some j
+unfolding tells_command
+told_back d j = found (job_on d (command_of d j).number)
+  where
+    found : (o : Option ℕ) → is_job j o ≡ true → o ≡ Some j
+    found None is = absurd cc
+    found (Some i) is = ap (λ (n : ℕ). Some n) (eqb-true i j is)
+
+-- and it fits 32 bits
+pub told_small : (d : Declared) (j : ℕ) → tells_command d j ≡ true → (command_of d j).number < 4_294_967_296
+unfolding tells_command job_on
+told_small d j = by_size (nat_lt (command_of d j).number 4_294_967_296) refl
+  where
+    by_size : (b : Bool) → nat_lt (command_of d j).number 4_294_967_296 ≡ b → is_job j (cond b (position (λ line. line.number == (command_of d j).number) d.crontab.lines) None) ≡ true → (command_of d j).number < 4_294_967_296
+    by_size true e is = ltb-true (command_of d j).number 4_294_967_296 e
+    by_size false e is = absurd cc
 
 not_same : (xs ys : List ℕ) → xs ≢ ys → bytes_eq xs ys ≡ false
 not_same xs ys h = by_test (bytes_eq xs ys) refl

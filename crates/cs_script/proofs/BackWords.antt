@@ -1,39 +1,19 @@
 -- Words and lines that are put together come apart again.
-use Rattle.std.proofs.Common.{◌≡◌, ℕ, ◌+◌, ◌/◌, ◌%◌, Bool, true, false, not, ◌&&◌, ◌==◌, List, [], ◌∷◌, ◌++◌, Some, refl, arith}
+use Rattle.std.proofs.Common.{◌≡◌, ℕ, ◌+◌, ◌/◌, ◌%◌, Bool, true, false, not, ◌&&◌, ◌==◌, List, [], ◌∷◌, ◌++◌, refl, arith}
 use Rattle.std.specs.List.{list_all}
 use Rattle.std.proofs.lemmas.Bool.{ne_eqb}
 use Rattle.cs_civil.specs.Calendar.{CivilDate}
 use Rattle.cs_civil.specs.Text.{two_digits, date_bytes}
-use Rattle.cs_crontab.specs.Text.{lines_of, front, after}
-use Rattle.cs_script.specs.Reading.{first_word, is_nothing, is_word}
+use Rattle.cs_crontab.specs.Text.{lines_of}
 use Rattle.cs_script.specs.Grammar.{is_word_byte}
 use Rattle.cs_script.proofs.NamedJobs.{and_left, and_right}
 
 pub both : (a b : Bool) → a ≡ true → b ≡ true → (a && b) ≡ true
 both a b h k = rw (h, k) refl
 
--- ---- words
-
 pub not_true : (t : Bool) → not t ≡ true → t ≡ false
 not_true true e = absurd cc
 not_true false e = refl
-
-front_word : (w rest : List ℕ) → list_all is_word_byte w ≡ true → front is_word_byte (w ++ 32 ∷ rest) ≡ w
-unfolding front
-front_word [] rest h = refl
-front_word (b ∷ bs) rest h = rw (and_left (is_word_byte b) (list_all is_word_byte bs) h, front_word bs rest (and_right (is_word_byte b) (list_all is_word_byte bs) h)) refl
-
-after_word : (w rest : List ℕ) → list_all is_word_byte w ≡ true → after is_word_byte (w ++ 32 ∷ rest) ≡ 32 ∷ rest
-unfolding after
-after_word [] rest h = refl
-after_word (b ∷ bs) rest h = rw (and_left (is_word_byte b) (list_all is_word_byte bs) h) (after_word bs rest (and_right (is_word_byte b) (list_all is_word_byte bs) h))
-
--- the first word of a word, a space and a text
-pub first_of : (w rest : List ℕ) → is_word w ≡ true → first_word (w ++ 32 ∷ rest) ≡ Some (w, rest)
-unfolding first_word is_word
-first_of w rest h =
-    let whole : list_all is_word_byte w ≡ true = and_right (not (is_nothing w)) (list_all is_word_byte w) h in
-    rw (front_word w rest whole, after_word w rest whole, not_true (is_nothing w) (and_left (not (is_nothing w)) (list_all is_word_byte w) h)) refl
 
 -- ---- lines
 

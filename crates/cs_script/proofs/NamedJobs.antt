@@ -3,6 +3,7 @@ use Rattle.std.proofs.Common.{◌≡◌, ◌<◌, ◌≤◌, ◌-◌, ℕ, Bool,
 use Rattle.std.specs.List.{list_all}
 use Rattle.std.proofs.lemmas.Bool.{ltb-true, leb-true}
 use Rattle.std.proofs.lemmas.List.Folds.{list_all_at}
+use Rattle.cs_civil.specs.Calendar.{last_minute}
 use Rattle.cs_history.specs.Plan.{first_start}
 use Rattle.cs_history.specs.declared.event.Event.{Event}
 use Rattle.cs_history.specs.declared.script.Script.{Script}
@@ -38,4 +39,5 @@ event_nameable d events i e below all = by_test (is_nameable_event d (get_or eve
 
 pub events_nameable : (d : Declared) (script : Script) → is_nameable d script ≡ true → list_all (is_nameable_event d) script.events ≡ true
 unfolding is_nameable
-events_nameable d script is = and_right (are_nameable_stamps d.anacrontab.lines script.start.stamps) _ (and_right (nat_le first_start script.start.now) _ is)
+events_nameable d script is =
+    and_right (are_nameable_stamps d.anacrontab.lines script.start.stamps) _ (and_right (nat_le script.start.now last_minute) _ (and_right (nat_le first_start script.start.now) _ is))

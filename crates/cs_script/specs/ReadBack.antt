@@ -1,29 +1,29 @@
--- What a script has to be within to be read back from its text.
-use Rattle.std.specs.Prelude.{◌≡◌, ◌≢◌, ℕ, ◌<◌, ◌≤◌, Bool, true, nat_le, AllPairs, length, Option}
-use Rattle.std.specs.Prelude.{None, Some}
-use Rattle.std.specs.List.{list_all}
-use Rattle.cs_civil.specs.Calendar.{last_day, last_minute}
+-- Which jobs the text of a script tells apart by the numbers of their lines.
+use Rattle.std.specs.Prelude.{ℕ, Bool, true, false, ◌==◌, nat_lt, if◌then◌else◌, Option, Some, None}
 use Rattle.cs_decl.specs.Plan.{Declared, command_of, crons}
-use Rattle.cs_history.specs.declared.script.Script.{Script}
-use Rattle.cs_script.specs.ScriptText.{is_nameable, script_text}
-use Rattle.cs_script.specs.declared.script.TheConstants.{MAX_SCRIPT}
+use Rattle.cs_history.specs.declared.event.Event.{Event}
+use Rattle.cs_history.specs.declared.event.Event.TheVariants.{Minute, Begin, Got, Catch, End, Down}
+use Rattle.cs_history.specs.declared.event.Event.TheVariants.{Up}
+use Rattle.cs_script.specs.Names.{job_on}
 
--- no two names of the tables are one, and a line's number fits 32 bits
-pub record AreNames (d : Declared) : Type 0 where
-  pub rising : AllPairs (λ x y. x.number < y.number) d.crontab.lines
-  pub distinct : AllPairs (λ x y. x.identifier ≢ y.identifier) d.anacrontab.lines
-  pub small : (j : ℕ) → j < crons d → (command_of d j).number < 4_294_967_296
+abbrev pub is_job : ℕ → Option ℕ → Bool
+is_job j None = false
+is_job j (Some found) = found == j
 
--- a stamp is no later than the last day
-abbrev pub fits : Option ℕ → Bool
-fits None = true
-fits (Some day) = nat_le day last_day
+-- the number of the job's line names that job
+unfoldable pub tells_command : Declared → ℕ → Bool
+tells_command d j = is_job j (job_on d (command_of d j).number)
 
--- the script can be named, by names that differ, its days are days of the calendar, and its text is
--- no longer than a script may be
-pub record IsWritable (d : Declared) (s : Script) : Type 0 where
-  pub names : AreNames d
-  pub nameable : is_nameable d s ≡ true
-  pub start : s.start.now ≤ last_minute
-  pub stamps : list_all fits s.start.stamps ≡ true
-  pub short : length (script_text d s) ≤ MAX_SCRIPT
+-- so it does, where the job is one of the crontab
+abbrev pub tells_job : Declared → ℕ → Bool
+tells_job d j = if nat_lt j (crons d) then tells_command d j else true
+
+-- so do those of the jobs of an event
+abbrev pub tells_event : Declared → Event → Bool
+tells_event d (Minute t) = true
+tells_event d (Begin j) = tells_command d j
+tells_event d (Got j t) = tells_command d j
+tells_event d (Catch j) = true
+tells_event d (End r) = tells_job d r.job
+tells_event d Down = true
+tells_event d (Up t) = true

@@ -3,6 +3,7 @@ use Rattle.std.specs.Prelude.{ℕ, ◌-◌, Bool, true, false, not, ◌&&◌, �
 use Rattle.std.specs.Prelude.{if◌then◌else◌, List, [], ◌∷◌, ◌++◌, length, codes, flat_map, Option}
 use Rattle.std.specs.Prelude.{Some, None}
 use Rattle.std.specs.List.{list_all, list_any}
+use Rattle.cs_civil.specs.Calendar.{last_day, last_minute}
 use Rattle.cs_civil.specs.Text.{minute_text, day_text}
 use Rattle.cs_history.specs.History.{Start as Opening}
 use Rattle.cs_history.specs.Plan.{first_start}
@@ -95,10 +96,10 @@ is_nameable_event d (End r) = is_job_name d r.job && is_civil r.at
 is_nameable_event d Down = true
 is_nameable_event d (Up t) = is_civil t
 
--- no stamp, or one from 1970-01-02 on of a job whose identifier is a word
+-- no stamp, or one from 1970-01-02 to the last day of a job whose identifier is a word
 abbrev pub is_nameable_stamp : JobLine → Option ℕ → Bool
 is_nameable_stamp line None = true
-is_nameable_stamp line (Some day) = nat_le 1 day && is_name line.identifier
+is_nameable_stamp line (Some day) = nat_le 1 day && (nat_le day last_day && is_name line.identifier)
 
 -- one place for each anacron job
 unfoldable pub are_nameable_stamps : List JobLine → List (Option ℕ) → Bool
@@ -107,7 +108,8 @@ are_nameable_stamps [] (stamp ∷ stamps) = false
 are_nameable_stamps (line ∷ lines) [] = false
 are_nameable_stamps (line ∷ lines) (stamp ∷ stamps) = is_nameable_stamp line stamp && are_nameable_stamps lines stamps
 
--- the start is from 1970-01-04 on, its stamps can be named, and so can each event
+-- the start is from 1970-01-04 to the last minute, its stamps can be named, and so can each event
 unfoldable pub is_nameable : Declared → Script → Bool
 is_nameable d script =
-    nat_le first_start script.start.now && (are_nameable_stamps d.anacrontab.lines script.start.stamps && list_all (is_nameable_event d) script.events)
+    nat_le first_start script.start.now
+    && (nat_le script.start.now last_minute && (are_nameable_stamps d.anacrontab.lines script.start.stamps && list_all (is_nameable_event d) script.events))

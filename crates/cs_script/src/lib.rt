@@ -6,7 +6,6 @@ mod draft;
 mod entry;
 mod fault;
 mod form;
-mod laws;
 mod nameable;
 mod names;
 mod reply;
@@ -15,7 +14,6 @@ mod words;
 mod writing;
 
 pub use fault::{ScriptError, ScriptFault};
-pub use laws::scripts_are_read_back;
 pub use nameable::is_nameable;
 pub use reply::{push_reply, reply_text};
 pub use script::{MAX_SCRIPT, NumberedScript, read_numbered_script, read_script};

@@ -1,8 +1,10 @@
 //! The texts of scripts.
-ghost use Rattle.std.specs.Prelude.{◌≡◌, ◌++◌, true, flat_map, IfOk, OnOk};
+ghost use Rattle.std.specs.Prelude.{◌≡◌, ◌≤◌, ◌++◌, true, flat_map, length, IfOk, Ok, OnOk};
 ghost use Rattle.std.specs.List.{list_all};
 ghost use Rattle.cs_decl.specs.JobNames.{command_name, identifier_of};
 ghost use Rattle.cs_history.specs.Step.{is_civil};
+ghost use Rattle.cs_script.specs.Faults.{MeansPlain};
+ghost use Rattle.cs_script.specs.ReadBack.{tells_command, tells_event, tells_job};
 ghost use Rattle.cs_script.specs.ScriptText.{are_nameable_stamps, at_minute, event_line};
 ghost use Rattle.cs_script.specs.ScriptText.{event_text, is_anacron_name, is_cron_name};
 ghost use Rattle.cs_script.specs.ScriptText.{is_job_name, is_nameable, is_nameable_event};
@@ -10,6 +12,7 @@ ghost use Rattle.cs_script.specs.ScriptText.{is_nameable_stamp, job_name, on_day
 ghost use Rattle.cs_script.specs.ScriptText.{stamp_line, stamp_lines, start_line};
 
 use crate::nameable::{identifier_of, is_cron};
+use crate::script::MAX_SCRIPT;
 use cs_anacrontab::Job;
 use cs_civil::{Bytes, Day, Minute, date_text, day_text};
 use cs_decl::Plan;
@@ -30,7 +33,8 @@ fn push_minute(text: &mut Vec<u8>, at: u64) -> Result<(), AllocError>
 #[tactic(auto, unfolding(cs_decl::specs::JobNames::command_name))]
 fn push_command(alloc: Global, text: &mut Vec<u8>, plan: &Plan, job: u16) -> Result<(), AllocError>
     requires { is_cron_name plan.now job ≡ true }
-    ensures { OnOk result (text.new.items ≡ text.old.items ++ command_name plan.now job) }
+    ensures value { OnOk result (text.new.items ≡ text.old.items ++ command_name plan.now job) }
+    ensures tells { OnOk result (tells_command plan.now job ≡ true) }
 {
     let number = plan.crontab().lines()[usize::from(job)].number();
     text.extend_from_slice(b"line ")?;
@@ -50,7 +54,8 @@ fn push_identifier(text: &mut Vec<u8>, plan: &Plan, job: u16) -> Result<(), Allo
 #[tactic(auto, unfolding(crate::specs::ScriptText::job_name), using(crate::proofs::NamedJobs::anacron_else))]
 fn push_job(alloc: Global, text: &mut Vec<u8>, plan: &Plan, job: u16) -> Result<(), AllocError>
     requires { is_job_name plan.now job ≡ true }
-    ensures { OnOk result (text.new.items ≡ text.old.items ++ job_name plan.now job) }
+    ensures value { OnOk result (text.new.items ≡ text.old.items ++ job_name plan.now job) }
+    ensures tells { OnOk result (tells_job plan.now job ≡ true) }
 {
     if is_cron(plan, job) {
         return push_command(alloc, text, plan, job);
@@ -67,7 +72,8 @@ fn push_event(
     event: Event,
 ) -> Result<(), AllocError>
     requires { is_nameable_event plan.now event ≡ true }
-    ensures { OnOk result (text.new.items ≡ text.old.items ++ event_text plan.now event) }
+    ensures value { OnOk result (text.new.items ≡ text.old.items ++ event_text plan.now event) }
+    ensures tells { OnOk result (tells_event plan.now event ≡ true) }
 {
     match event {
         Event::Minute(at) => {
@@ -108,7 +114,9 @@ fn push_events(
     events: &[Event],
 ) -> Result<(), AllocError>
     requires { list_all (is_nameable_event plan.now) events.now ≡ true }
-    ensures { OnOk result (text.new.items ≡ text.old.items ++ flat_map (event_line plan.now) events.now) }
+    ensures value { OnOk result
+        (text.new.items ≡ text.old.items ++ flat_map (event_line plan.now) events.now) }
+    ensures tells { OnOk result (list_all (tells_event plan.now) events.now ≡ true) }
 {
     for event in events {
         push_event(alloc, text, plan, *event)?;
@@ -169,12 +177,15 @@ fn push_start(text: &mut Vec<u8>, start: &Start) -> Result<(), AllocError>
     }
 }
 
-/// The text of a script that can be named: the start, its stamps and the events, a line each. The
-/// only error is want of memory.
-#[tactic(auto, unfolding(crate::specs::ScriptText::script_text), using(crate::proofs::NamedJobs::events_nameable))]
+/// The text of a script that can be named: the start, its stamps and the events, a line each.
+/// [`read_script`](crate::read_script) answers the script again, where the text is no longer than a
+/// script may be. The only error is want of memory.
+#[tactic(auto, unfolding(crate::specs::ScriptText::script_text), using(crate::proofs::NamedJobs::events_nameable, crate::proofs::BackScript::reads_back))]
 pub fn script_text(alloc: Global, plan: &Plan, script: &Script) -> Result<Bytes, AllocError>
     requires { is_nameable plan.now script.now ≡ true }
-    ensures { IfOk result (λ text. text ≡ script_text plan.now script.now) }
+    ensures value { IfOk result (λ text. text ≡ script_text plan.now script.now) }
+    ensures means { IfOk result (λ text.
+        length text ≤ MAX_SCRIPT → MeansPlain plan.now text (Ok script.now)) }
 {
     let mut text = Vec::new(alloc);
     push_start(&mut text, &script.start)?;

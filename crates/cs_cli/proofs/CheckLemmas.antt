@@ -1,5 +1,5 @@
 -- What was accepted, and the files that denote it.
-use Rattle.std.proofs.Common.{◌≡◌, ◌≢◌, ◌∙◌, ℕ, Bool, List, Option, Some, None, IfSome, Ok, ap, option_map, subst, sym}
+use Rattle.std.proofs.Common.{◌≡◌, ◌≢◌, ◌∙◌, ℕ, List, Option, Some, None, IfSome, Ok, ap, option_map, subst, sym}
 use Rattle.cs_crontab.specs.Crontab.{Table}
 use Rattle.cs_anacrontab.specs.Anacrontab.{Table as JobTable}
 use Rattle.cs_decl.specs.Plan.{Declared}
@@ -11,10 +11,11 @@ use Rattle.cs_cli.specs.Check.{AreRead, IsProofOf, ReadsCertificate, safe_text}
 use Rattle.cs_cli.specs.Reads.{ReadsDeclared, ReadsTables}
 use Rattle.cs_cli.specs.Response.{Ending, done}
 use Rattle.cs_cli.specs.Trouble.{Trouble, ends, trouble_status}
+use Rattle.cs_io.specs.Files.{Failed}
 use Rattle.cs_cli.specs.Trouble.{InAnacrontab, InCertificate, InCrontab, InDeclarations, InScript, InWords, Unread}
 
 -- what was accepted is what was read
-pub are_read : (files : List ℕ → Option (List ℕ)) (a : AskedCheck) (tables : Table × JobTable) (before : Bool) (plan : Declared) (x : Content) (o : Option Checked)
+pub are_read : (files : List ℕ → Option (List ℕ)) (a : AskedCheck) (tables : Table × JobTable) (before : Failed) (plan : Declared) (x : Content) (o : Option Checked)
     → ReadsDeclared files tables a.declarations before before (Ok plan) → ReadsCertificate files a.certificate before before (Ok x)
     → IfSome o (λ checked. (plan_in checked ≡ plan) × (certificate_in checked ≡ x)) → IfSome o (AreRead files a tables before)
 are_read files a tables before plan x None one two same = same
@@ -24,7 +25,7 @@ are_read files a tables before plan x (Some checked) one two same = record {
 }
 
 -- and where the tables were read before, that is all of it
-pub is_proof : (files : List ℕ → Option (List ℕ)) (a : AskedCheck) (tables : Table × JobTable) (before : Bool) (o : Option Checked)
+pub is_proof : (files : List ℕ → Option (List ℕ)) (a : AskedCheck) (tables : Table × JobTable) (before : Failed) (o : Option Checked)
     → ReadsTables files a.table a.anacrontab before before (Ok tables) → IfSome o (AreRead files a tables before) → IfSome o (IsProofOf files a before)
 is_proof files a tables before None one rest = rest
 is_proof files a tables before (Some checked) one rest = record { tables = tables; read = one; rest = rest }

@@ -2,3 +2,5 @@ pub mod TextLemmas
 pub mod ReplayLemmas
 pub mod TroubleLemmas
 pub mod CheckLemmas
+pub mod TurnLemmas
+pub mod DayLemmas

@@ -1,5 +1,5 @@
 -- What is answered of a fault.
-use Rattle.std.proofs.Common.{◌≡◌, ◌≤◌, ◌∙◌, ℕ, Bool, true, List, [], ◌++◌, Option, Some, None, IfSome, Result, Ok, Err, length, nat_lt, option_map, inl, inr, refl, sym, ap, subst, arith}
+use Rattle.std.proofs.Common.{◌≡◌, ◌≢◌, ◌≤◌, ◌⊎◌, ◌∙◌, ℕ, true, List, [], ◌++◌, Option, Some, None, IfSome, Result, Ok, Err, length, nat_lt, option_map, inl, inr, refl, sym, ap, subst, arith}
 use Rattle.std.proofs.lemmas.Bool.{lt-ltb}
 use Rattle.clap.specs.Words.{Text}
 use Rattle.cs_crontab.specs.Crontab.{Table}
@@ -17,10 +17,11 @@ use Rattle.cs_cert.specs.Denoted.{certificate_by}
 use Rattle.cs_cert.specs.declared.fault.CertFault.{CertFault}
 use Rattle.cs_cert.specs.declared.limits.TheConstants.{MAX_CERTIFICATE}
 use Rattle.cs_warning.specs.Warning.{warnings as warnings_text}
-use Rattle.cs_io.specs.Files.{IsFresh, IsUpTo}
-use Rattle.cs_cli.specs.Reads.{AndThen, Answered, IsRead, MeansIt, ReadsAs, ReadsDeclared}
+use Rattle.cs_io.specs.Files.{Failed, IsFresh, IsReadOut, IsTooLong, IsUpTo, Reads}
+use Rattle.cs_io.specs.declared.inputs.TheConstants.{MOST_READS}
+use Rattle.cs_cli.specs.Reads.{AndThen, Answered, IsRead, IsUnreadWhole, MeansIt, ReadsAs, ReadsDeclared}
 use Rattle.cs_cli.specs.Response.{Ending, complaint}
-use Rattle.cs_cli.specs.Trouble.{CameTo, Trouble, ends, trouble, trouble_status, trouble_text}
+use Rattle.cs_cli.specs.Trouble.{CameTo, IsHonest, IsHonestOf, IsUnread, Trouble, Unread, ends, trouble, trouble_status, trouble_text}
 use Rattle.cs_cli.specs.declared.fault.Fault.{Fault}
 
 some_text : (a b : List ℕ) → Some a ≡ Some b → a ≡ b
@@ -40,19 +41,37 @@ meant : {M F : Type 0} (limit : ℕ) (means : List ℕ → Result M F → Type 0
 meant limit means m bytes same None left fresh read is = fresh
 meant limit means m bytes same (Some text) left fresh read is = same text (subst (λ o. IfSome o (λ t. IsUpTo limit t bytes)) fresh read) is
 
--- declarations that are held whole, and the plan that they make
-pub plan_read : (limit : ℕ) (files left : List ℕ → Option (List ℕ)) (path : Text) (bytes : List ℕ) (tables : Table × JobTable) (d : Entries) (plan : Declared) (before after : Bool)
-    → after ≡ before → IsFresh files left → IsRead limit path left bytes → length bytes ≤ limit → declared_by bytes ≡ Ok d → joined tables.0 tables.1 d ≡ Ok plan
+-- where all of it was read
+meant_whole : {M F : Type 0} (means : List ℕ → Result M F → Type 0) (m : Result M F) (bytes : List ℕ) (whole left : Option (List ℕ)) → IfSome whole (λ text. left ≡ Some text) → IfSome left (λ text. bytes ≡ text) → means bytes m → IfSome whole (λ text. means text m)
+meant_whole means m bytes None left fresh read is = fresh
+meant_whole means m bytes (Some text) left fresh read is =
+    let e : bytes ≡ text = subst (λ o. IfSome o (λ t. bytes ≡ t)) fresh read in
+    subst (λ b. means b m) e is
+
+-- declarations, and the plan that they make
+pub plan_read : (files left : List ℕ → Option (List ℕ)) (path : Text) (bytes : List ℕ) (tables : Table × JobTable) (d : Entries) (plan : Declared) (before after : Failed)
+    → after ≡ before → IsFresh files left → IfSome (left path) (λ text. bytes ≡ text) → declared_by bytes ≡ Ok d → joined tables.0 tables.1 d ≡ Ok plan
     → ReadsDeclared files tables path before after (Ok plan)
-plan_read limit files left path bytes tables d plan before after works fresh read short is joins =
-    inr (d, (refl, meant limit (λ b r. declared_by b ≡ r) (Ok d) bytes same (files path) (left path) (fresh path) read is), (works, rw joins refl))
+plan_read files left path bytes tables d plan before after works fresh read is joins =
+    inr (d, inl (refl, meant_whole (λ b r. declared_by b ≡ r) (Ok d) bytes (files path) (left path) (fresh path) read is), (works, rw joins refl))
+
+-- declarations that could not be read, or not to their end
+pub plan_unread : (files left : List ℕ → Option (List ℕ)) (path : Text) (tables : Table × JobTable) (before after : Failed) (old new : Reads) (e : Fault)
+    → IsFresh files left → IsUnreadWhole path left before after old new e → IfSome (trouble e) (λ t. ReadsDeclared files tables path before after (Err t))
+plan_unread files left path tables before after old new e fresh = by_trouble (trouble e)
   where
-    same : (text : List ℕ) → IsUpTo limit text bytes → declared_by bytes ≡ Ok d → declared_by text ≡ Ok d
-    same text (inl e) is = ap declared_by (sym e) ∙ is
-    same text (inr long) is = absurd (let l = long.0 in omega (arith, short, l))
+    too_long : (whole rest : Option (List ℕ)) → IfSome whole (λ text. rest ≡ Some text) → IfSome rest (λ text. MOST_READS ≤ length text) → IfSome whole (λ text. MOST_READS ≤ length text)
+    too_long None rest same long = same
+    too_long (Some text) rest same long = subst (λ o. IfSome o (λ t. MOST_READS ≤ length t)) same long
+
+    by_trouble : (o : Option Trouble) → IfSome o (λ t. (t ≡ Unread path) × ((after path ≡ true) ⊎ ((after ≡ before) × IsReadOut path old new × IsTooLong path left)))
+        → IfSome o (λ t. ReadsDeclared files tables path before after (Err t))
+    by_trouble None h = h
+    by_trouble (Some t) (is, inl failed) = inl (t, inl (inl (failed, is)), refl)
+    by_trouble (Some t) (is, inr (same, out, long)) = inl (t, inr (same, too_long (files path) (left path) (fresh path) long, ap Err is), refl)
 
 -- a file of which the bytes that were read mean this, or have that fault
-pub came_read : {M F : Type 0} (limit : ℕ) (means : List ℕ → Result M F → Type 0) (told : F → Trouble) (files left : List ℕ → Option (List ℕ)) (path : Text) (bytes : List ℕ) (before after : Bool) (result : Result M Fault)
+pub came_read : {M F : Type 0} (limit : ℕ) (means : List ℕ → Result M F → Type 0) (told : F → Trouble) (files left : List ℕ → Option (List ℕ)) (path : Text) (bytes : List ℕ) (before after : Failed) (result : Result M Fault)
     → ((m : Result M F) (text : List ℕ) → IsUpTo limit text bytes → means bytes m → means text m)
     → after ≡ before → IsFresh files left → IsRead limit path left bytes → MeansIt means told bytes result → CameTo (ReadsAs files path means told before after) result
 came_read limit means told files left path bytes before after (Ok m) same works fresh read tells =
@@ -82,7 +101,7 @@ same_certificate bytes m text (inr long) is =
 
 -- ---- one step after the other
 
-pub goes_on : {X Y : Type 0} (first : Bool → Bool → Result X Trouble → Type 0) (next : X → Bool → Bool → Result Y Trouble → Type 0) (before after : Bool) (x : X) (result : Result Y Fault)
+pub goes_on : {X Y : Type 0} (first : Failed → Failed → Result X Trouble → Type 0) (next : X → Failed → Failed → Result Y Trouble → Type 0) (before after : Failed) (x : X) (result : Result Y Fault)
     → first before before (Ok x) → CameTo (next x before after) result → CameTo (AndThen first next before after) result
 goes_on first next before after x (Ok y) one other = inr (x, one, other)
 goes_on first next before after x (Err e) one other = by_trouble (trouble e) other
@@ -91,7 +110,7 @@ goes_on first next before after x (Err e) one other = by_trouble (trouble e) oth
     by_trouble None h = h
     by_trouble (Some t) h = inr (x, one, h)
 
-pub stops : {X Y : Type 0} (first : Bool → Bool → Result X Trouble → Type 0) (next : X → Bool → Bool → Result Y Trouble → Type 0) (before after : Bool) (e : Fault)
+pub stops : {X Y : Type 0} (first : Failed → Failed → Result X Trouble → Type 0) (next : X → Failed → Failed → Result Y Trouble → Type 0) (before after : Failed) (e : Fault)
     → IfSome (trouble e) (λ t. first before after (Err t)) → IfSome (trouble e) (λ t. AndThen first next before after (Err t))
 stops first next before after e = by_trouble (trouble e)
   where
@@ -100,17 +119,17 @@ stops first next before after e = by_trouble (trouble e)
     by_trouble (Some t) h = inl (t, h, refl)
 
 -- where whole and failed are as they were
-pub moved : (P : (List ℕ → Option (List ℕ)) → Bool → Type 0) (w v : List ℕ → Option (List ℕ)) (f g : Bool) → w ≡ v → f ≡ g → P w f → P v g
-moved P w v f g same kept h = subst (λ (b : Bool). P v b) kept (subst (λ (o : List ℕ → Option (List ℕ)). P o f) same h)
+pub moved : (P : (List ℕ → Option (List ℕ)) → Failed → Type 0) (w v : List ℕ → Option (List ℕ)) (f g : Failed) → w ≡ v → f ≡ g → P w f → P v g
+moved P w v f g same kept h = subst (λ (b : Failed). P v b) kept (subst (λ (o : List ℕ → Option (List ℕ)). P o f) same h)
 
 -- ---- behind what is to be warned of
 
-pub answered : (tables : Bool → Bool → Result (Table × JobTable) Trouble → Type 0) (next : Table × JobTable → Bool → Bool → Result Ending Trouble → Type 0) (before after : Bool) (both : Table × JobTable) (w : List ℕ) (answer ending : Ending)
+pub answered : (tables : Failed → Failed → Result (Table × JobTable) Trouble → Type 0) (next : Table × JobTable → Failed → Failed → Result Ending Trouble → Type 0) (before after : Failed) (both : Table × JobTable) (w : List ℕ) (answer ending : Ending)
     → tables before before (Ok both) → w ≡ warnings_text both.0 both.1 → next both before after (Ok answer) → ending ≡ record answer { err = w } → Answered tables next before after ending
 answered tables next before after both w answer ending one warned other is =
     inr (both, one, (Ok answer, other, is ∙ ap (λ v. record answer { err = v }) warned))
 
-pub answered_fault : (tables : Bool → Bool → Result (Table × JobTable) Trouble → Type 0) (next : Table × JobTable → Bool → Bool → Result Ending Trouble → Type 0) (before after : Bool) (both : Table × JobTable) (w : List ℕ) (fault : Fault) (ending : Ending)
+pub answered_fault : (tables : Failed → Failed → Result (Table × JobTable) Trouble → Type 0) (next : Table × JobTable → Failed → Failed → Result Ending Trouble → Type 0) (before after : Failed) (both : Table × JobTable) (w : List ℕ) (fault : Fault) (ending : Ending)
     → tables before before (Ok both) → w ≡ warnings_text both.0 both.1 → IfSome (trouble fault) (λ t. next both before after (Err t)) → option_map (ends w) (trouble fault) ≡ Some ending → Answered tables next before after ending
 answered_fault tables next before after both w fault ending one warned other is = by_trouble (trouble fault) other is
   where
@@ -120,3 +139,35 @@ answered_fault tables next before after both w fault ending one warned other is 
     by_trouble : (o : Option Trouble) → IfSome o (λ t. next both before after (Err t)) → option_map (ends w) o ≡ Some ending → Answered tables next before after ending
     by_trouble None h e = absurd (cc)
     by_trouble (Some t) h e = inr (both, one, (Err t, h, sym (some_ending (ends w t) ending e) ∙ ap (λ v. ends v t) warned))
+
+-- both tables were not read
+pub answered_stop : (tables : Failed → Failed → Result (Table × JobTable) Trouble → Type 0) (next : Table × JobTable → Failed → Failed → Result Ending Trouble → Type 0) (before after : Failed) (fault : Fault) (ending : Ending)
+    → IfSome (trouble fault) (λ t. tables before after (Err t)) → option_map (ends []) (trouble fault) ≡ Some ending → Answered tables next before after ending
+answered_stop tables next before after fault ending = by_trouble (trouble fault)
+  where
+    some_ending : (a b : Ending) → Some a ≡ Some b → a ≡ b
+    some_ending a b e = cc
+
+    by_trouble : (o : Option Trouble) → IfSome o (λ t. tables before after (Err t)) → option_map (ends []) o ≡ Some ending → Answered tables next before after ending
+    by_trouble None h e = absurd (cc)
+    by_trouble (Some t) h e = inl (t, h, sym (some_ending (ends [] t) ending e))
+
+-- ---- the status of a failed device
+
+-- a fault that is told
+pub honest_fault : (failed : Failed) (reads : Reads) (w : List ℕ) (e : Fault) (r : Ending) → IsHonestOf failed reads e → option_map (ends w) (trouble e) ≡ Some r → IsHonest failed reads r
+honest_fault failed reads w e r = by_trouble (trouble e)
+  where
+    some_ending : (a b : Ending) → Some a ≡ Some b → a ≡ b
+    some_ending a b e = cc
+
+    by_trouble : (o : Option Trouble) → IfSome o (λ t. trouble_status t ≡ 6 → (path : Text) × IsUnread path failed reads × (t ≡ Unread path)) → option_map (ends w) o ≡ Some r → IsHonest failed reads r
+    by_trouble None h is = absurd (cc)
+    by_trouble (Some t) h is = λ six.
+        let same : ends w t ≡ r = some_ending (ends w t) r is in
+        let (path, unread, told) = h (ap (λ (x : Ending). x.status) same ∙ six) in
+        record { path = path; unread = unread; warnings = w; told = sym same ∙ ap (ends w) told }
+
+-- and an answer that has another one
+pub honest_answer : (failed : Failed) (reads : Reads) (r s : Ending) (w : List ℕ) → r.status ≢ 6 → s ≡ record r { err = w } → IsHonest failed reads s
+honest_answer failed reads r s w other is = λ six. absurd (other (sym (ap (λ (x : Ending). x.status) is) ∙ six))

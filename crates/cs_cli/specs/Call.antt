@@ -1,9 +1,10 @@
 -- What is answered to the words of a call.
-use Rattle.std.specs.Prelude.{◌≡◌, ◌⊎◌, ℕ, Bool, List, [], Option}
+use Rattle.std.specs.Prelude.{◌≡◌, ◌⊎◌, ℕ, List, [], Option}
 use Rattle.clap.specs.Words.{Text}
 use Rattle.cs_call.specs.CommandLine.{Asking, Check, Day, Help, Judge, Make, Replay, Run, Asks}
 use Rattle.cs_call.specs.CommandLine.{AskedCheck, AsksHelp, AsksVersion, IsNoCall}
 use Rattle.cs_call.specs.Version.{version_text}
+use Rattle.cs_io.specs.Files.{Failed}
 use Rattle.cs_cli.specs.Answer.{AnswersRun, EndsAs}
 use Rattle.cs_cli.specs.DayAnswer.{AnswersDay}
 use Rattle.cs_cli.specs.Response.{Ending, done}
@@ -15,17 +16,17 @@ use Rattle.cs_cli.specs.declared.answer.Answer.{Answer}
 use Rattle.cs_judge.specs.declared.answers.Wanted.TheVariants.{Certificate, Verdict}
 
 -- help is shown, on standard output alone
-abbrev pub ShowsHelp : Bool → Bool → Ending → Type 0
+abbrev pub ShowsHelp : Failed → Failed → Ending → Type 0
 ShowsHelp before failed ending = (failed ≡ before) × (ending.status ≡ 0) × (ending.err ≡ [])
 
 -- what is answered to `check`, which is done only where the files denote a plan that is safe
-pub record IsChecked (a : AskedCheck) (files : List ℕ → Option (List ℕ)) (before failed : Bool)
+pub record IsChecked (a : AskedCheck) (files : List ℕ → Option (List ℕ)) (before failed : Failed)
     (ending : Ending) : Type 0 where
   pub answer : AnswersCheck a files before failed ending
   pub safe : ending.status ≡ 0 → AreSafe files a before
 
 -- what is answered to a subcommand
-abbrev pub AnswersAsked : Asking → (List ℕ → Option (List ℕ)) → Bool → Bool → Answer → Type 0
+abbrev pub AnswersAsked : Asking → (List ℕ → Option (List ℕ)) → Failed → Failed → Answer → Type 0
 AnswersAsked (Day a) files before failed = EndsAs (AnswersDay a files before failed)
 AnswersAsked (Replay a) files before failed = EndsAs (AnswersReplay a files before failed)
 AnswersAsked (Check a) files before failed = EndsAs (IsChecked a files before failed)
@@ -35,15 +36,15 @@ AnswersAsked (Make a) files before failed = EndsAs (AnswersJudge Certificate a f
 AnswersAsked Help files before failed = EndsAs (ShowsHelp before failed)
 
 -- the version is shown
-abbrev pub ShowsVersion : Bool → Bool → Ending → Type 0
+abbrev pub ShowsVersion : Failed → Failed → Ending → Type 0
 ShowsVersion before failed ending = (failed ≡ before) × (ending ≡ done version_text [])
 
 -- that the words are no call is told on standard error
-abbrev pub IsRejected : Bool → Bool → Ending → Type 0
+abbrev pub IsRejected : Failed → Failed → Ending → Type 0
 IsRejected before failed ending = (failed ≡ before) × (ending.status ≡ 4) × (ending.out ≡ [])
 
 -- what is answered to words: what they ask, help, the version, or that they are no call
-abbrev pub Answers : List Text → (List ℕ → Option (List ℕ)) → Bool → Bool → Answer → Type 0
+abbrev pub Answers : List Text → (List ℕ → Option (List ℕ)) → Failed → Failed → Answer → Type 0
 Answers words files before failed answer =
     ((a : Asking) × Asks words a × AnswersAsked a files before failed answer)
     ⊎ ((AsksHelp words × EndsAs (ShowsHelp before failed) answer)

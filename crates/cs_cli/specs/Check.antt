@@ -1,6 +1,6 @@
 -- What is answered to `check`: whether a certificate is accepted for the tables as they are
 -- declared, or the first rule that isn't met.
-use Rattle.std.specs.Prelude.{◌≡◌, ◌≢◌, ℕ, Bool, List, ◌∷◌, ◌++◌, [], Option, Some, None, Result, Ok}
+use Rattle.std.specs.Prelude.{◌≡◌, ◌≢◌, ℕ, List, ◌∷◌, ◌++◌, [], Option, Some, None, Result, Ok}
 use Rattle.std.specs.Prelude.{codes}
 use Rattle.std.specs.Result.{result_map_both}
 use Rattle.clap.specs.Words.{Text}
@@ -17,6 +17,7 @@ use Rattle.cs_check.specs.Checked.{certificate_in, plan_in}
 use Rattle.cs_check.specs.declared.checked.Checked.{Checked}
 use Rattle.cs_refused.specs.Refused.{fault_text}
 use Rattle.cs_call.specs.CommandLine.{AskedCheck}
+use Rattle.cs_io.specs.Files.{Failed}
 use Rattle.cs_cli.specs.Response.{Ending, done}
 use Rattle.cs_cli.specs.Reads.{AndThen, Answered, Gives, ReadsAs, ReadsDeclared, ReadsTables}
 use Rattle.cs_cli.specs.Trouble.{InCertificate, Trouble}
@@ -40,12 +41,12 @@ verdict plan None = done (verdict_text plan None) []
 verdict plan (Some fault) = record { status = 1; out = verdict_text plan (Some fault); err = [] }
 
 -- the certificate at a path
-abbrev pub ReadsCertificate : (List ℕ → Option (List ℕ)) → Text → Bool → Bool
+abbrev pub ReadsCertificate : (List ℕ → Option (List ℕ)) → Text → Failed → Failed
     → Result Content Trouble → Type 0
 ReadsCertificate files path = ReadsAs files path (λ bytes c. certificate_by bytes ≡ c) InCertificate
 
 -- the declarations and the certificate are read, and the checker says of the two
-abbrev pub Judges : (List ℕ → Option (List ℕ)) → AskedCheck → Table × JobTable → Bool → Bool
+abbrev pub Judges : (List ℕ → Option (List ℕ)) → AskedCheck → Table × JobTable → Failed → Failed
     → Result Ending Trouble → Type 0
 Judges files a tables = AndThen (ReadsDeclared files tables a.declarations) (λ plan.
     AndThen (ReadsCertificate files a.certificate) (λ c.
@@ -62,12 +63,12 @@ IsSafeWith ending None = ending.status ≢ 0
 
 -- the declarations and the certificate are read, and denote what was accepted
 pub record AreRead (files : List ℕ → Option (List ℕ)) (a : AskedCheck) (tables : Table × JobTable)
-    (failed : Bool) (checked : Checked) : Type 0 where
+    (failed : Failed) (checked : Checked) : Type 0 where
   pub plan : ReadsDeclared files tables a.declarations failed failed (Ok (plan_in checked))
   pub certificate : ReadsCertificate files a.certificate failed failed (Ok (certificate_in checked))
 
 -- the files, each read in its own turn, denote the plan and the certificate that were accepted
-pub record IsProofOf (files : List ℕ → Option (List ℕ)) (a : AskedCheck) (failed : Bool)
+pub record IsProofOf (files : List ℕ → Option (List ℕ)) (a : AskedCheck) (failed : Failed)
     (checked : Checked) : Type 0 where
   pub tables : Table × JobTable
   pub read : ReadsTables files a.table a.anacrontab failed failed (Ok tables)
@@ -75,6 +76,6 @@ pub record IsProofOf (files : List ℕ → Option (List ℕ)) (a : AskedCheck) (
 
 -- what is answered to `check`: the verdict, or the first fault of a file, and no file is read
 -- before its own turn
-abbrev pub AnswersCheck : AskedCheck → (List ℕ → Option (List ℕ)) → Bool → Bool → Ending → Type 0
+abbrev pub AnswersCheck : AskedCheck → (List ℕ → Option (List ℕ)) → Failed → Failed → Ending → Type 0
 AnswersCheck a files =
     Answered (ReadsTables files a.table a.anacrontab) (λ both. Judges files a both)

@@ -1,5 +1,5 @@
 -- What is answered to `day`.
-use Rattle.std.specs.Prelude.{◌≡◌, ℕ, Bool, List, [], ◌++◌, Option, Result, Ok, Err, codes, decimal}
+use Rattle.std.specs.Prelude.{◌≡◌, ℕ, List, [], ◌++◌, Option, Result, Ok, Err, codes, decimal}
 use Rattle.std.specs.Prelude.{flat_map}
 use Rattle.cs_crontab.specs.declared.table.When.{When}
 use Rattle.cs_crontab.specs.declared.table.When.TheVariants.{At, Reboot}
@@ -10,6 +10,7 @@ use Rattle.cs_call.specs.CommandLine.{Asked}
 use Rattle.cs_call.specs.Question.{IsBadWord, IsQuestion, Question}
 use Rattle.cs_call.specs.Words.{word_fault}
 use Rattle.cs_call.specs.declared.question.WordFault.{WordFault}
+use Rattle.cs_io.specs.Files.{Failed}
 use Rattle.cs_cli.specs.DayText.{catch_up_text, date_line, job_text}
 use Rattle.cs_cli.specs.Reads.{AndThen, Gives, ReadsTables}
 use Rattle.cs_cli.specs.Response.{Ending, done}
@@ -38,13 +39,13 @@ shown q table jobs =
     done (tables_text q table.lines jobs.lines) (warnings_text table jobs)
 
 -- the words ask a question, or hold a fault: the first of DATE, MAX and the hours
-abbrev pub AsksIn : Asked → Bool → Bool → Result Question Trouble → Type 0
+abbrev pub AsksIn : Asked → Failed → Failed → Result Question Trouble → Type 0
 AsksIn a before after (Ok q) = (after ≡ before) × IsQuestion a q
 AsksIn a before after (Err t) =
     (after ≡ before) × ((fault : WordFault) × (t ≡ InWords fault) × IsBadWord a (word_fault fault))
 
 -- the words, and then both tables
-abbrev pub ShowsDay : Asked → (List ℕ → Option (List ℕ)) → Bool → Bool → Result Ending Trouble
+abbrev pub ShowsDay : Asked → (List ℕ → Option (List ℕ)) → Failed → Failed → Result Ending Trouble
     → Type 0
 ShowsDay a files = AndThen (AsksIn a) (λ q.
     AndThen (ReadsTables files a.table a.anacrontab) (λ both. Gives (Ok (shown q both.0 both.1))))
@@ -56,6 +57,6 @@ ended (Err t) = ends [] t
 
 -- what is answered to `day`: the first fault of DATE, MAX, the hours, the crontab and the
 -- anacrontab ends the call, and no file is read before its own turn
-abbrev pub AnswersDay : Asked → (List ℕ → Option (List ℕ)) → Bool → Bool → Ending → Type 0
+abbrev pub AnswersDay : Asked → (List ℕ → Option (List ℕ)) → Failed → Failed → Ending → Type 0
 AnswersDay a files before after ending =
     (r : Result Ending Trouble) × ShowsDay a files before after r × (ending ≡ ended r)

@@ -1,5 +1,5 @@
 -- What is answered to `judge` and to `make`: how the tables stand as they are declared.
-use Rattle.std.specs.Prelude.{◌≡◌, ℕ, Bool, List, [], Option, Result}
+use Rattle.std.specs.Prelude.{◌≡◌, ℕ, List, [], Option, Result}
 use Rattle.cs_crontab.specs.Crontab.{Table}
 use Rattle.cs_anacrontab.specs.Anacrontab.{Table as JobTable}
 use Rattle.cs_decl.specs.Plan.{Declared}
@@ -10,6 +10,7 @@ use Rattle.cs_judge.specs.declared.answers.Outcome.{Outcome}
 use Rattle.cs_judge.specs.declared.answers.Outcome.TheVariants.{NoMemory, Safe, Unknown, Unsafe}
 use Rattle.cs_judge.specs.declared.answers.Wanted.{Wanted}
 use Rattle.cs_call.specs.CommandLine.{AskedJudge}
+use Rattle.cs_io.specs.Files.{Failed}
 use Rattle.cs_cli.specs.Response.{Ending}
 use Rattle.cs_cli.specs.Reads.{AndThen, Answered, GivesSome, ReadsDeclared, ReadsTables}
 use Rattle.cs_cli.specs.Trouble.{Trouble}
@@ -31,14 +32,14 @@ pub record IsJudged (wanted : Wanted) (plan : Declared) (ending : Ending) : Type
   pub err : ending.err ≡ []
 
 -- the declarations are read, and the plan is judged
-abbrev pub JudgesPlan : Wanted → (List ℕ → Option (List ℕ)) → AskedJudge → Table × JobTable → Bool
-    → Bool → Result Ending Trouble → Type 0
+abbrev pub JudgesPlan : Wanted → (List ℕ → Option (List ℕ)) → AskedJudge → Table × JobTable → Failed
+    → Failed → Result Ending Trouble → Type 0
 JudgesPlan wanted files a tables =
     AndThen (ReadsDeclared files tables a.declarations) (λ plan. GivesSome (IsJudged wanted plan))
 
 -- what is answered where this is wanted: how the plan was found, or the first fault of a file, and no
 -- file is read before its own turn
-abbrev pub AnswersJudge : Wanted → AskedJudge → (List ℕ → Option (List ℕ)) → Bool → Bool → Ending
+abbrev pub AnswersJudge : Wanted → AskedJudge → (List ℕ → Option (List ℕ)) → Failed → Failed → Ending
     → Type 0
 AnswersJudge wanted a files =
     Answered (ReadsTables files a.table a.anacrontab) (λ both. JudgesPlan wanted files a both)

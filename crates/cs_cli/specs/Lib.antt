@@ -2,6 +2,7 @@ pub mod DayText
 pub mod Response
 pub mod Replay
 pub mod Trouble
+pub mod RanOut
 pub mod Reads
 pub mod DayAnswer
 pub mod Replayed
@@ -10,3 +11,4 @@ pub mod Safe
 pub mod Answer
 pub mod Judge
 pub mod Call
+pub mod Turn

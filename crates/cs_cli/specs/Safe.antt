@@ -1,10 +1,11 @@
 -- What the word `safe` says of the files of a call.
-use Rattle.std.specs.Prelude.{ℕ, Bool, List, Option}
+use Rattle.std.specs.Prelude.{ℕ, List, Option}
 use Rattle.cs_decl.specs.Plan.{as_plan}
 use Rattle.cs_check.specs.Case.{reach_for}
 use Rattle.cs_check.specs.Checked.{IsCalmThroughout, IsHeadline, certificate_in, plan_in}
 use Rattle.cs_check.specs.declared.checked.Checked.{Checked}
 use Rattle.cs_call.specs.CommandLine.{AskedCheck}
+use Rattle.cs_io.specs.Files.{Failed}
 use Rattle.cs_cli.specs.Check.{IsProofOf}
 
 -- every legal history of its plan in which each run ends within its declared time is safe, and each
@@ -15,7 +16,7 @@ pub record IsSafe (checked : Checked) : Type 0 where
       (reach_for (plan_in checked) (certificate_in checked))
 
 -- the files denote a plan and a certificate of which this holds
-pub record AreSafe (files : List ℕ → Option (List ℕ)) (a : AskedCheck) (failed : Bool) : Type 0 where
+pub record AreSafe (files : List ℕ → Option (List ℕ)) (a : AskedCheck) (failed : Failed) : Type 0 where
   pub checked : Checked
   pub proof : IsProofOf files a failed checked
   pub safe : IsSafe checked

@@ -1,5 +1,5 @@
 -- Why a call ends before all of it was done, and what is answered of it.
-use Rattle.std.specs.Prelude.{◌≡◌, ℕ, Bool, true, List, [], ◌++◌, Option, Some, None, IfSome}
+use Rattle.std.specs.Prelude.{◌≡◌, ◌≢◌, ◌⊎◌, ℕ, true, List, [], ◌++◌, Option, Some, None, IfSome}
 use Rattle.std.specs.Prelude.{Result, Ok, Err, codes, decimal, option_map}
 use Rattle.clap.specs.Words.{Text}
 use Rattle.cs_crontab.specs.Printed.{fault_text as crontab_fault_text}
@@ -24,6 +24,7 @@ use Rattle.cs_cert.specs.declared.fault.CertError.{CertError}
 use Rattle.cs_cert.specs.declared.fault.CertError.TheVariants as cert_error
 use Rattle.cs_call.specs.Words.{word_fault}
 use Rattle.cs_call.specs.declared.question.WordFault.{WordFault}
+use Rattle.cs_io.specs.Files.{Failed, IsReadOut, Reads}
 use Rattle.cs_cli.specs.Response.{Ending, complaint}
 use Rattle.cs_cli.specs.declared.fault.Fault.{Fault}
 use Rattle.cs_cli.specs.declared.fault.Fault.TheVariants.{Anacrontab, CannotRead, Certificate}
@@ -123,9 +124,29 @@ trouble OutOfMemory = None
 abbrev pub Says : Option Trouble → List ℕ → Type 0
 Says said text = option_map trouble_text said ≡ Some text
 
--- a path is told as unread only where a read has failed
-abbrev pub IsHonestOf : Bool → Fault → Type 0
-IsHonestOf failed fault = IfSome (trouble fault) (λ t. trouble_status t ≡ 6 → failed ≡ true)
+-- a read of this path has failed, or the last reads were all of it, as many as it may take
+abbrev pub IsUnread : Text → Failed → Reads → Type 0
+IsUnread path failed reads = (failed path ≡ true) ⊎ ((before : Reads) × IsReadOut path before reads)
+
+-- a call that ends so tells which path was unread
+pub record TellsUnread (failed : Failed) (reads : Reads) (ending : Ending) : Type 0 where
+  pub path : Text
+  pub unread : IsUnread path failed reads
+  pub warnings : List ℕ
+  pub told : ending ≡ ends warnings (Unread path)
+
+-- the status of a failed device is answered only where a path was unread, which is told
+abbrev pub IsHonest : Failed → Reads → Ending → Type 0
+IsHonest failed reads ending = ending.status ≡ 6 → TellsUnread failed reads ending
+
+-- and so of a fault: it is such a path, or has another status
+abbrev pub IsHonestOf : Failed → Reads → Fault → Type 0
+IsHonestOf failed reads fault = IfSome (trouble fault)
+    (λ t. trouble_status t ≡ 6 → (path : Text) × IsUnread path failed reads × (t ≡ Unread path))
+
+-- a fault of what was read, and not of reading
+abbrev pub IsOfContent : Fault → Type 0
+IsOfContent fault = IfSome (trouble fault) (λ t. trouble_status t ≢ 6)
 
 -- what a function answered, where memory did not run out, is such a value or such a fault
 abbrev pub CameTo : {X : Type 0} → (Result X Trouble → Type 0) → Result X Fault → Type 0

@@ -1,21 +1,24 @@
 //! The subcommand `check`.
-ghost use Rattle.std.specs.Prelude.{◌≡◌, ◌≢◌, [], IfErr, IfOk, IfSome, None, OnOk, Some, false, true};
+ghost use Rattle.std.specs.Prelude.{◌≡◌, ◌≢◌, [], ◌∷◌, IfErr, IfOk, IfSome, None, OnOk, Some};
 ghost use Rattle.cs_check.specs.Checked.{certificate_in, plan_in};
 ghost use Rattle.cs_cert.specs.Certificate.{content};
 ghost use Rattle.cs_check.specs.Case.{fault_of};
 ghost use Rattle.cs_refused.specs.Told.{told};
 ghost use Rattle.cs_decl.specs.Plan.{Declared};
 ghost use Rattle.cs_call.specs.Asked.{asked_check};
-ghost use Rattle.cs_io.specs.Files.{IsFresh};
+ghost use Rattle.cs_io.specs.Files.{AreReadInTurn, IsFresh, IsReadAlone};
 ghost use Rattle.cs_cli.specs.Check.{AnswersCheck, AreRead, IsProofOf, IsSafeWith, Judges};
 ghost use Rattle.cs_cli.specs.Check.{ReadsCertificate, answer_of, safe_text, said, verdict};
+ghost use Rattle.cs_cli.specs.RanOut.{IsWarned};
 ghost use Rattle.cs_cli.specs.Response.{done};
 ghost use Rattle.cs_cli.specs.Reads.{MeansIt};
 ghost use Rattle.cs_cli.specs.Safe.{AreSafe, IsSafe};
-ghost use Rattle.cs_cli.specs.Trouble.{CameTo, InCertificate, IsHonestOf};
+ghost use Rattle.cs_cli.specs.Trouble.{CameTo, InCertificate, IsHonest, IsHonestOf, IsOfContent};
+ghost use Rattle.cs_cli.specs.Turn.{check_paths};
 ghost use Rattle.cs_cert.specs.Denoted.{certificate_by};
 
 use crate::fault::Fault;
+use crate::ran_out::RanOut;
 use crate::reads::{bytes_at, declared_plan_from, read_tables};
 use crate::response::Response;
 use cs_anacrontab::Anacrontab;
@@ -35,7 +38,7 @@ use std::thread::Threads;
 fn certificate_in<'a>(alloc: Global, bytes: &[u8]) -> Result<Certificate, Fault<'a>>
     ensures value { MeansIt (λ bytes c. certificate_by bytes ≡ c) InCertificate bytes.now
         (said result) }
-    ensures status { IfErr result (IsHonestOf false) }
+    ensures status { IfErr result IsOfContent }
 {
     match read_certificate(alloc, bytes) {
         Ok(certificate) => Ok(certificate),
@@ -53,7 +56,8 @@ fn certificate_from<'a, I: Inputs>(
         → CameTo (ReadsCertificate (I.whole inputs.old) path.now
         (I.failed inputs.old) (I.failed inputs.new)) (said result) }
     ensures works { OnOk result (I.failed inputs.new ≡ I.failed inputs.old) }
-    ensures status { IfErr result (IsHonestOf (I.failed inputs.new)) }
+    ensures alone { IsReadAlone path.now (I.reads inputs.old) (I.reads inputs.new) }
+    ensures status { IfErr result (IsHonestOf (I.failed inputs.new) (I.reads inputs.new)) }
 {
     let bytes = bytes_at(alloc, inputs, path, MAX_CERTIFICATE as u32)?;
     certificate_in(alloc, bytes.as_slice())
@@ -122,8 +126,11 @@ fn judged<'a, R: Threads + Sync, I: Inputs>(
         (table, jobs) (I.failed inputs.old))) }
     ensures safe { IfOk result (λ r. IsSafeWith r.0 r.1) }
     ensures headline { IfOk result (λ r. IfSome r.1 IsSafe) }
-    ensures status { IfErr result (IsHonestOf (I.failed inputs.new)) }
+    ensures status { IfErr result (IsHonestOf (I.failed inputs.new) (I.reads inputs.new)) }
     ensures done { IfOk result (λ r. r.0.status ≢ 6) }
+    ensures turn { AreReadInTurn ((asked_check request.now).declarations
+        ∷ (asked_check request.now).certificate ∷ [])
+        (I.reads inputs.old) (I.reads inputs.new) }
 {
     let plan = declared_plan_from(alloc, inputs, request.declarations, table, jobs)?;
     let certificate = certificate_from(alloc, inputs, request.certificate)?;
@@ -138,7 +145,7 @@ pub(crate) fn checked_answer<R: Threads + Sync, I: Inputs>(
     alloc: Global,
     request: &CheckWords<'_>,
     inputs: &mut I,
-) -> Result<(Response, Option<Checked>), AllocError>
+) -> Result<(Response, Option<Checked>), RanOut>
     ensures value { IsFresh (I.whole inputs.old) (I.left inputs.old)
         → IfOk result (λ r. AnswersCheck (asked_check request.now) (I.whole inputs.old)
         (I.failed inputs.old) (I.failed inputs.new) r.0) }
@@ -147,7 +154,14 @@ pub(crate) fn checked_answer<R: Threads + Sync, I: Inputs>(
         (IsProofOf (I.whole inputs.old) (asked_check request.now) (I.failed inputs.old))) }
     ensures safe { IfOk result (λ r. IsSafeWith r.0 r.1) }
     ensures headline { IfOk result (λ r. IfSome r.1 IsSafe) }
-    ensures status { IfOk result (λ r. r.0.status ≡ 6 → I.failed inputs.new ≡ true) }
+    ensures status { IfOk result
+        (λ r. IsHonest (I.failed inputs.new) (I.reads inputs.new) r.0) }
+    ensures warned { IsFresh (I.whole inputs.old) (I.left inputs.old)
+        → IfErr result (λ e. IsWarned (I.whole inputs.old) (asked_check request.now).table
+        (asked_check request.now).anacrontab (I.failed inputs.old)
+        (I.reads inputs.old) (I.reads inputs.new) e.warnings) }
+    ensures turn { AreReadInTurn (check_paths (asked_check request.now))
+        (I.reads inputs.old) (I.reads inputs.new) }
 {
     let (table, jobs) = match read_tables(alloc, inputs, request.table, request.anacrontab) {
         Ok(tables) => tables,
@@ -156,7 +170,7 @@ pub(crate) fn checked_answer<R: Threads + Sync, I: Inputs>(
     let warnings = warnings(alloc, &table, &jobs)?;
     match judged(rt, alloc, inputs, request, table, jobs) {
         Ok((answer, checked)) => Ok((answer.behind(warnings), checked)),
-        Err(fault) => Ok((fault.response(alloc, warnings.as_slice())?, None)),
+        Err(fault) => Ok((fault.response_behind(alloc, warnings)?, None)),
     }
 }
 
@@ -166,14 +180,20 @@ pub(crate) fn check_certificate<R: Threads + Sync, I: Inputs>(
     alloc: Global,
     request: &CheckWords<'_>,
     inputs: &mut I,
-) -> Result<Response, AllocError>
+) -> Result<Response, RanOut>
     ensures value { IsFresh (I.whole inputs.old) (I.left inputs.old)
         → IfOk result (AnswersCheck (asked_check request.now) (I.whole inputs.old)
         (I.failed inputs.old) (I.failed inputs.new)) }
     ensures safe { IsFresh (I.whole inputs.old) (I.left inputs.old)
         → IfOk result (λ r. r.status ≡ 0
         → AreSafe (I.whole inputs.old) (asked_check request.now) (I.failed inputs.old)) }
-    ensures status { IfOk result (λ r. r.status ≡ 6 → I.failed inputs.new ≡ true) }
+    ensures status { IfOk result (IsHonest (I.failed inputs.new) (I.reads inputs.new)) }
+    ensures warned { IsFresh (I.whole inputs.old) (I.left inputs.old)
+        → IfErr result (λ e. IsWarned (I.whole inputs.old) (asked_check request.now).table
+        (asked_check request.now).anacrontab (I.failed inputs.old)
+        (I.reads inputs.old) (I.reads inputs.new) e.warnings) }
+    ensures turn { AreReadInTurn (check_paths (asked_check request.now))
+        (I.reads inputs.old) (I.reads inputs.new) }
 {
     match checked_answer(rt, alloc, request, inputs)? {
         (answer, Some(_checked)) => Ok(answer),

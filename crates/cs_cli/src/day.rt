@@ -1,13 +1,17 @@
 //! The subcommand `day`.
-ghost use Rattle.std.specs.Prelude.{◌≡◌, ◌≢◌, ◌++◌, true, IfErr, IfOk, OnOk, flat_map};
+ghost use Rattle.std.specs.Prelude.{◌≡◌, ◌++◌, IfErr, IfOk, IfSome, OnOk, flat_map};
 ghost use Rattle.cs_call.specs.Asked.{asked};
-ghost use Rattle.cs_io.specs.Files.{IsFresh};
-ghost use Rattle.cs_cli.specs.DayAnswer.{AnswersDay, ShowsDay, anacron_text, line_text, shown};
+ghost use Rattle.cs_io.specs.Files.{AreReadInTurn, IsFresh};
+ghost use Rattle.cs_warning.specs.Warning.{warnings as warnings_text};
+ghost use Rattle.cs_cli.specs.DayAnswer.{AnswersDay, anacron_text, line_text, shown};
 ghost use Rattle.cs_cli.specs.DayAnswer.{tables_text};
-ghost use Rattle.cs_cli.specs.Trouble.{CameTo, IsHonestOf};
+ghost use Rattle.cs_cli.specs.RanOut.{IsWarned};
+ghost use Rattle.cs_cli.specs.Trouble.{IsHonest};
+ghost use Rattle.cs_cli.specs.Turn.{table_paths};
 
 use crate::day_text::{add_catch_up, add_date, add_job};
 use crate::fault::Fault;
+use crate::ran_out::RanOut;
 use crate::reads::read_tables;
 use crate::response::Response;
 use cs_anacrontab::{Anacrontab, Job};
@@ -117,29 +121,18 @@ fn show(
     question: Question,
     table: &Crontab,
     jobs: &Anacrontab,
-) -> Result<Response, AllocError>
-    ensures { IfOk result (λ r. r ≡ shown question table.now jobs.now) }
+) -> Result<Response, RanOut>
+    ensures value { IfOk result (λ r. r ≡ shown question table.now jobs.now) }
+    ensures warned { IfErr result (λ e. IfSome e.warnings
+        (λ text. text ≡ warnings_text table.now jobs.now)) }
 {
     let warnings = warnings(alloc, table, jobs)?;
-    let text = tables_text(alloc, table.lines(), jobs.lines(), question)?;
-    Ok(Response::done(text, warnings))
-}
-
-/// What is answered, file after file.
-fn shown_day<'a, I: Inputs>(
-    alloc: Global,
-    request: &DayWords<'a>,
-    inputs: &mut I,
-) -> Result<Response, Fault<'a>>
-    ensures step { IsFresh (I.whole inputs.old) (I.left inputs.old)
-        → CameTo (ShowsDay (asked request.now) (I.whole inputs.old)
-        (I.failed inputs.old) (I.failed inputs.new)) result }
-    ensures status { IfErr result (IsHonestOf (I.failed inputs.new)) }
-    ensures done { IfOk result (λ r. r.status ≢ 6) }
-{
-    let question = Question::new(request)?;
-    let (table, jobs) = read_tables(alloc, inputs, request.table, request.anacrontab)?;
-    Ok(show(alloc, question, &table, &jobs)?)
+    match tables_text(alloc, table.lines(), jobs.lines(), question) {
+        Ok(text) => Ok(Response::done(text, warnings)),
+        Err(AllocError) => Err(RanOut {
+            warnings: Some(warnings),
+        }),
+    }
 }
 
 /// The answer to `day TABLE DATE MAX [--anacrontab FILE] [--from M] [--to M]`.
@@ -147,14 +140,26 @@ pub(crate) fn day<I: Inputs>(
     alloc: Global,
     request: &DayWords<'_>,
     inputs: &mut I,
-) -> Result<Response, AllocError>
+) -> Result<Response, RanOut>
     ensures value { IsFresh (I.whole inputs.old) (I.left inputs.old)
         → IfOk result (AnswersDay (asked request.now) (I.whole inputs.old)
         (I.failed inputs.old) (I.failed inputs.new)) }
-    ensures status { IfOk result (λ r. r.status ≡ 6 → I.failed inputs.new ≡ true) }
+    ensures status { IfOk result (IsHonest (I.failed inputs.new) (I.reads inputs.new)) }
+    ensures warned { IsFresh (I.whole inputs.old) (I.left inputs.old)
+        → IfErr result (λ e. IsWarned (I.whole inputs.old) (asked request.now).table
+        (asked request.now).anacrontab (I.failed inputs.old)
+        (I.reads inputs.old) (I.reads inputs.new) e.warnings) }
+    ensures turn { AreReadInTurn
+        (table_paths (asked request.now).table (asked request.now).anacrontab)
+        (I.reads inputs.old) (I.reads inputs.new) }
 {
-    match shown_day(alloc, request, inputs) {
-        Ok(answer) => Ok(answer),
-        Err(fault) => fault.response(alloc, b"".as_slice()),
-    }
+    let question = match Question::new(request) {
+        Ok(question) => question,
+        Err(fault) => return Ok(Fault::Words(fault).response(alloc, b"".as_slice())?),
+    };
+    let (table, jobs) = match read_tables(alloc, inputs, request.table, request.anacrontab) {
+        Ok(tables) => tables,
+        Err(fault) => return Ok(fault.response(alloc, b"".as_slice())?),
+    };
+    show(alloc, question, &table, &jobs)
 }

@@ -1,5 +1,5 @@
 //! Why a call ends before all of it was done, and what is answered of it.
-ghost use Rattle.std.specs.Prelude.{◌≡◌, ◌++◌, IfOk, IfSome, Some, codes, decimal, option_map};
+ghost use Rattle.std.specs.Prelude.{◌≡◌, ◌++◌, IfErr, IfOk, IfSome, Some, codes, decimal, option_map};
 ghost use Rattle.cs_call.specs.Words.{word_fault};
 ghost use Rattle.cs_cli.specs.Response.{status_of};
 ghost use Rattle.cs_cli.specs.Trouble.{Says, certificate_trouble, declared_trouble, ends};
@@ -8,10 +8,12 @@ ghost use Rattle.cs_cli.specs.Trouble.{trouble_status};
 ghost use Rattle.cs_cli.specs.declared.fault.Fault.TheVariants.{Anacrontab, Crontab, Declarations};
 ghost use Rattle.cs_cli.specs.declared.fault.Fault.TheVariants.{OutOfMemory, Words};
 
+use crate::ran_out::RanOut;
 use crate::response::{Response, Status};
 use cs_anacrontab::AnacronFault;
 use cs_call::WordFault;
 use cs_cert::CertError;
+use cs_civil::Bytes;
 use cs_crontab::TableFault;
 use cs_decl::DeclError;
 use cs_script::ScriptError;
@@ -221,5 +223,19 @@ impl Fault<'_> {
     {
         let text = self.text(alloc)?;
         Response::fault(alloc, self.status(), warnings, text.as_slice())
+    }
+
+    /// The same, where the warnings are kept for the case that memory runs out.
+    pub(crate) fn response_behind(&self, alloc: Global, warnings: Bytes) -> Result<Response, RanOut>
+        ensures told { IfOk result
+            (λ r. option_map (ends warnings) (trouble self.now) ≡ Some r) }
+        ensures warned { IfErr result (λ e. e.warnings ≡ Some warnings) }
+    {
+        match self.response(alloc, warnings.as_slice()) {
+            Ok(response) => Ok(response),
+            Err(AllocError) => Err(RanOut {
+                warnings: Some(warnings),
+            }),
+        }
     }
 }

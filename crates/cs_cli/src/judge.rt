@@ -1,12 +1,15 @@
 //! The subcommands `judge` and `make`.
-ghost use Rattle.std.specs.Prelude.{◌≡◌, ◌≢◌, IfErr, IfOk, true};
+ghost use Rattle.std.specs.Prelude.{◌≡◌, ◌≢◌, IfErr, IfOk};
 ghost use Rattle.cs_call.specs.Asked.{asked_judge};
-ghost use Rattle.cs_io.specs.Files.{IsFresh};
+ghost use Rattle.cs_io.specs.Files.{AreReadInTurn, IsFresh, IsReadAlone};
 ghost use Rattle.cs_cli.specs.Judge.{AnswersJudge, IsJudged, JudgesPlan, outcome_status};
+ghost use Rattle.cs_cli.specs.RanOut.{IsWarned};
 ghost use Rattle.cs_cli.specs.Response.{status_of};
-ghost use Rattle.cs_cli.specs.Trouble.{CameTo, IsHonestOf};
+ghost use Rattle.cs_cli.specs.Trouble.{CameTo, IsHonest, IsHonestOf};
+ghost use Rattle.cs_cli.specs.Turn.{judge_paths};
 
 use crate::fault::Fault;
+use crate::ran_out::RanOut;
 use crate::reads::{declared_plan_from, read_tables};
 use crate::response::{Response, Status};
 use cs_anacrontab::Anacrontab;
@@ -59,8 +62,10 @@ fn told<'a, R: Threads + Sync, I: Inputs>(
     ensures step { IsFresh (I.whole inputs.old) (I.left inputs.old)
         → CameTo (JudgesPlan wanted (I.whole inputs.old) (asked_judge request.now) (table, jobs)
         (I.failed inputs.old) (I.failed inputs.new)) result }
-    ensures status { IfErr result (IsHonestOf (I.failed inputs.new)) }
+    ensures status { IfErr result (IsHonestOf (I.failed inputs.new) (I.reads inputs.new)) }
     ensures done { IfOk result (λ r. r.status ≢ 6) }
+    ensures alone { IsReadAlone (asked_judge request.now).declarations
+        (I.reads inputs.old) (I.reads inputs.new) }
 {
     let plan = declared_plan_from(alloc, inputs, request.declarations, table, jobs)?;
     Ok(judged(rt, alloc, &plan, wanted)?)
@@ -74,19 +79,25 @@ pub(crate) fn judge_plan<R: Threads + Sync, I: Inputs>(
     request: &JudgeWords<'_>,
     wanted: Wanted,
     inputs: &mut I,
-) -> Result<Response, AllocError>
+) -> Result<Response, RanOut>
     ensures value { IsFresh (I.whole inputs.old) (I.left inputs.old)
         → IfOk result (AnswersJudge wanted (asked_judge request.now) (I.whole inputs.old)
         (I.failed inputs.old) (I.failed inputs.new)) }
-    ensures status { IfOk result (λ r. r.status ≡ 6 → I.failed inputs.new ≡ true) }
+    ensures status { IfOk result (IsHonest (I.failed inputs.new) (I.reads inputs.new)) }
+    ensures warned { IsFresh (I.whole inputs.old) (I.left inputs.old)
+        → IfErr result (λ e. IsWarned (I.whole inputs.old) (asked_judge request.now).table
+        (asked_judge request.now).anacrontab (I.failed inputs.old)
+        (I.reads inputs.old) (I.reads inputs.new) e.warnings) }
+    ensures turn { AreReadInTurn (judge_paths (asked_judge request.now))
+        (I.reads inputs.old) (I.reads inputs.new) }
 {
     let (table, jobs) = match read_tables(alloc, inputs, request.table, request.anacrontab) {
         Ok(tables) => tables,
-        Err(fault) => return fault.response(alloc, b"".as_slice()),
+        Err(fault) => return Ok(fault.response(alloc, b"".as_slice())?),
     };
     let warnings = warnings(alloc, &table, &jobs)?;
     match told(rt, alloc, inputs, request, wanted, table, jobs) {
         Ok(answer) => Ok(answer.behind(warnings)),
-        Err(fault) => fault.response(alloc, warnings.as_slice()),
+        Err(fault) => fault.response_behind(alloc, warnings),
     }
 }

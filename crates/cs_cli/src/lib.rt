@@ -8,6 +8,7 @@ mod day_text;
 mod fault;
 mod judge;
 mod order;
+mod ran_out;
 mod reads;
 mod replay;
 mod replay_text;
@@ -15,5 +16,6 @@ mod responding;
 mod response;
 
 pub use answer::{Answer, Order};
+pub use ran_out::RanOut;
 pub use responding::respond;
 pub use response::{Response, Status};

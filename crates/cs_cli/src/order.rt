@@ -1,14 +1,18 @@
 //! The subcommand `run`, up to where something is run.
-ghost use Rattle.std.specs.Prelude.{◌≡◌, IfOk, true};
-ghost use Rattle.cs_call.specs.Asked.{asked_run};
-ghost use Rattle.cs_io.specs.Files.{IsFresh};
+ghost use Rattle.std.specs.Prelude.{IfErr, IfOk};
+ghost use Rattle.cs_call.specs.Asked.{asked_check, asked_run};
+ghost use Rattle.cs_io.specs.Files.{AreReadInTurn, IsFresh};
 ghost use Rattle.cs_cli.specs.Answer.{AnswersRun, IfEnds};
+ghost use Rattle.cs_cli.specs.RanOut.{IsWarned};
+ghost use Rattle.cs_cli.specs.Trouble.{IsHonest};
+ghost use Rattle.cs_cli.specs.Turn.{check_paths};
 
 use crate::answer::{Answer, Order};
 use crate::check::checked_answer;
+use crate::ran_out::RanOut;
 use cs_call::RunWords;
 use cs_io::Inputs;
-use std::alloc::{AllocError, Global};
+use std::alloc::Global;
 use std::thread::Threads;
 
 /// The answer to `run TABLE DECLS CERT STAMPS [--anacrontab FILE] [--minutes N]`: that of `check`
@@ -18,12 +22,18 @@ pub(crate) fn order<'a, R: Threads + Sync, I: Inputs>(
     alloc: Global,
     request: &RunWords<'a>,
     inputs: &mut I,
-) -> Result<Answer<'a>, AllocError>
+) -> Result<Answer<'a>, RanOut>
     ensures value { IsFresh (I.whole inputs.old) (I.left inputs.old)
         → IfOk result (AnswersRun (asked_run request.now) (I.whole inputs.old)
         (I.failed inputs.old) (I.failed inputs.new)) }
     ensures status { IfOk result
-        (IfEnds (λ ending. ending.status ≡ 6 → I.failed inputs.new ≡ true)) }
+        (IfEnds (IsHonest (I.failed inputs.new) (I.reads inputs.new))) }
+    ensures warned { IsFresh (I.whole inputs.old) (I.left inputs.old)
+        → IfErr result (λ e. IsWarned (I.whole inputs.old) (asked_check request.now.check).table
+        (asked_check request.now.check).anacrontab (I.failed inputs.old)
+        (I.reads inputs.old) (I.reads inputs.new) e.warnings) }
+    ensures turn { AreReadInTurn (check_paths (asked_check request.now.check))
+        (I.reads inputs.old) (I.reads inputs.new) }
 {
     match checked_answer(rt, alloc, &request.check, inputs)? {
         (response, Some(checked)) => {

@@ -1,23 +1,21 @@
 //! The files of a call, read one after the other.
-ghost use Rattle.std.specs.Prelude.{◌≡◌, ◌≤◌, IfErr, IfOk, OnOk, length, option_map};
+ghost use Rattle.std.specs.Prelude.{◌≡◌, ◌≤◌, IfErr, IfOk, IfSome, OnOk, length, option_map};
 ghost use Rattle.cs_crontab.specs.declared.limits.TheConstants.{MAX_TABLE};
 ghost use Rattle.cs_crontab.specs.Faults.{Means};
 ghost use Rattle.cs_anacrontab.specs.Faults.{Means as MeansJobs};
 ghost use Rattle.cs_decl.specs.Meaning.{declared_by};
-ghost use Rattle.cs_io.specs.Files.{IsFresh};
-ghost use Rattle.cs_cli.specs.Reads.{IsRead, IsUnreadAt, MeansIt, ReadsAs, ReadsDeclared};
-ghost use Rattle.cs_cli.specs.Reads.{ReadsJobs, ReadsTables};
+ghost use Rattle.cs_io.specs.Files.{AreReadInTurn, IsFresh, IsReadAlone};
+ghost use Rattle.cs_cli.specs.Reads.{IsRead, IsUnreadAt, IsUnreadWhole, MeansIt, ReadsAs};
+ghost use Rattle.cs_cli.specs.Reads.{ReadsDeclared, ReadsEntries, ReadsJobs, ReadsTables};
+ghost use Rattle.cs_cli.specs.Turn.{some_path, table_paths};
 ghost use Rattle.cs_cli.specs.Trouble.{CameTo, InAnacrontab, InCrontab, InDeclarations, IsHonestOf};
 
 use crate::fault::Fault;
 use cs_anacrontab::{Anacrontab, read_anacrontab};
 use cs_crontab::{Crontab, MAX_TABLE, read_crontab};
 use cs_decl::{Plan, join, read_declarations};
-use cs_io::{Inputs, ReadFault, read_up_to};
+use cs_io::{Inputs, ReadFault, read_up_to, read_whole};
 use std::alloc::Global;
-
-/// The most bytes of declarations that are held: 16 MiB. Longer ones are want of memory.
-const MAX_DECLARATIONS: usize = 16_777_216;
 
 /// The bytes of a file, or more than `limit` of them where it is longer.
 pub(crate) fn bytes_at<'a, I: Inputs>(
@@ -33,8 +31,32 @@ pub(crate) fn bytes_at<'a, I: Inputs>(
         (λ v. length v.items ≤ limit → IsFresh (I.whole inputs.old) (I.left inputs.old)
         → IsFresh (I.whole inputs.new) (I.left inputs.new)) }
     ensures fails { IfErr result (IsUnreadAt path.now (I.failed inputs.new)) }
+    ensures alone { IsReadAlone path.now (I.reads inputs.old) (I.reads inputs.new) }
 {
     match read_up_to(alloc, inputs, path, limit) {
+        Ok(bytes) => Ok(bytes),
+        Err(ReadFault::CannotRead) => Err(Fault::CannotRead(path)),
+        Err(ReadFault::OutOfMemory) => Err(Fault::OutOfMemory),
+    }
+}
+
+/// The bytes of a file of any length.
+fn all_bytes_at<'a, I: Inputs>(
+    alloc: Global,
+    inputs: &mut I,
+    path: &'a str,
+) -> Result<Vec<u8>, Fault<'a>>
+    ensures bytes { IfOk result
+        (λ v. IfSome (I.left inputs.old path.now) (λ text. v.items ≡ text)) }
+    ensures works { OnOk result (I.failed inputs.new ≡ I.failed inputs.old) }
+    ensures whole { I.whole inputs.new ≡ I.whole inputs.old }
+    ensures fresh { OnOk result (IsFresh (I.whole inputs.old) (I.left inputs.old)
+        → IsFresh (I.whole inputs.new) (I.left inputs.new)) }
+    ensures fails { IfErr result (IsUnreadWhole path.now (I.left inputs.old)
+        (I.failed inputs.old) (I.failed inputs.new) (I.reads inputs.old) (I.reads inputs.new)) }
+    ensures alone { IsReadAlone path.now (I.reads inputs.old) (I.reads inputs.new) }
+{
+    match read_whole(alloc, inputs, path) {
         Ok(bytes) => Ok(bytes),
         Err(ReadFault::CannotRead) => Err(Fault::CannotRead(path)),
         Err(ReadFault::OutOfMemory) => Err(Fault::OutOfMemory),
@@ -54,7 +76,8 @@ pub(crate) fn table_from<'a, I: Inputs>(
     ensures whole { I.whole inputs.new ≡ I.whole inputs.old }
     ensures fresh { OnOk result (IsFresh (I.whole inputs.old) (I.left inputs.old)
         → IsFresh (I.whole inputs.new) (I.left inputs.new)) }
-    ensures status { IfErr result (IsHonestOf (I.failed inputs.new)) }
+    ensures status { IfErr result (IsHonestOf (I.failed inputs.new) (I.reads inputs.new)) }
+    ensures alone { IsReadAlone path.now (I.reads inputs.old) (I.reads inputs.new) }
 {
     let bytes = bytes_at(alloc, inputs, path, MAX_TABLE as u32)?;
     Ok(read_crontab(alloc, bytes.as_slice())?)
@@ -73,7 +96,8 @@ fn jobs_from<'a, I: Inputs>(
     ensures whole { I.whole inputs.new ≡ I.whole inputs.old }
     ensures fresh { OnOk result (IsFresh (I.whole inputs.old) (I.left inputs.old)
         → IsFresh (I.whole inputs.new) (I.left inputs.new)) }
-    ensures status { IfErr result (IsHonestOf (I.failed inputs.new)) }
+    ensures status { IfErr result (IsHonestOf (I.failed inputs.new) (I.reads inputs.new)) }
+    ensures alone { IsReadAlone path.now (I.reads inputs.old) (I.reads inputs.new) }
 {
     let bytes = bytes_at(alloc, inputs, path, MAX_TABLE as u32)?;
     Ok(read_anacrontab(alloc, bytes.as_slice())?)
@@ -92,7 +116,9 @@ fn some_jobs_from<'a, I: Inputs>(
     ensures whole { I.whole inputs.new ≡ I.whole inputs.old }
     ensures fresh { OnOk result (IsFresh (I.whole inputs.old) (I.left inputs.old)
         → IsFresh (I.whole inputs.new) (I.left inputs.new)) }
-    ensures status { IfErr result (IsHonestOf (I.failed inputs.new)) }
+    ensures status { IfErr result (IsHonestOf (I.failed inputs.new) (I.reads inputs.new)) }
+    ensures turn { AreReadInTurn (some_path (option_map (λ path. path.now) path.entry))
+        (I.reads inputs.old) (I.reads inputs.new) }
 {
     match path {
         Some(path) => jobs_from(alloc, inputs, path),
@@ -115,7 +141,10 @@ pub(crate) fn read_tables<'a, I: Inputs>(
     ensures whole { I.whole inputs.new ≡ I.whole inputs.old }
     ensures fresh { OnOk result (IsFresh (I.whole inputs.old) (I.left inputs.old)
         → IsFresh (I.whole inputs.new) (I.left inputs.new)) }
-    ensures status { IfErr result (IsHonestOf (I.failed inputs.new)) }
+    ensures status { IfErr result (IsHonestOf (I.failed inputs.new) (I.reads inputs.new)) }
+    ensures turn { AreReadInTurn
+        (table_paths table.now (option_map (λ path. path.now) anacrontab.entry))
+        (I.reads inputs.old) (I.reads inputs.new) }
 {
     let table = table_from(alloc, inputs, table)?;
     let jobs = some_jobs_from(alloc, inputs, anacrontab)?;
@@ -137,12 +166,10 @@ pub(crate) fn declared_plan_from<'a, I: Inputs>(
     ensures whole { I.whole inputs.new ≡ I.whole inputs.old }
     ensures fresh { OnOk result (IsFresh (I.whole inputs.old) (I.left inputs.old)
         → IsFresh (I.whole inputs.new) (I.left inputs.new)) }
-    ensures status { IfErr result (IsHonestOf (I.failed inputs.new)) }
+    ensures status { IfErr result (IsHonestOf (I.failed inputs.new) (I.reads inputs.new)) }
+    ensures alone { IsReadAlone path.now (I.reads inputs.old) (I.reads inputs.new) }
 {
-    let bytes = bytes_at(alloc, inputs, path, MAX_DECLARATIONS as u32)?;
-    if bytes.len() > MAX_DECLARATIONS {
-        return Err(Fault::OutOfMemory);
-    }
+    let bytes = all_bytes_at(alloc, inputs, path)?;
     let declarations = read_declarations(alloc, bytes.as_slice())?;
     Ok(join(alloc, table, jobs, declarations)?)
 }

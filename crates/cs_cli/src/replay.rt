@@ -1,13 +1,16 @@
 //! The subcommand `replay`.
-ghost use Rattle.std.specs.Prelude.{◌≡◌, ◌≢◌, IfErr, IfOk, OnOk, false, true};
+ghost use Rattle.std.specs.Prelude.{◌≡◌, ◌≢◌, ◌++◌, [], ◌∷◌, IfErr, IfOk, OnOk};
 ghost use Rattle.cs_script.specs.Faults.{Means as MeansScript};
 ghost use Rattle.cs_call.specs.Asked.{asked_replay};
-ghost use Rattle.cs_io.specs.Files.{IsFresh};
+ghost use Rattle.cs_io.specs.Files.{AreReadInTurn, IsFresh, IsReadAlone};
+ghost use Rattle.cs_cli.specs.RanOut.{IsWarned};
 ghost use Rattle.cs_cli.specs.Reads.{MeansIt};
 ghost use Rattle.cs_cli.specs.Replayed.{AnswersReplay, ReadsPlan, ReadsScript, Replays, replayed};
-ghost use Rattle.cs_cli.specs.Trouble.{CameTo, InScript, IsHonestOf};
+ghost use Rattle.cs_cli.specs.Trouble.{CameTo, InScript, IsHonest, IsHonestOf, IsOfContent};
+ghost use Rattle.cs_cli.specs.Turn.{replay_paths, some_path};
 
 use crate::fault::Fault;
+use crate::ran_out::RanOut;
 use crate::reads::{bytes_at, declared_plan_from, read_tables};
 use crate::replay_text::replay_text;
 use crate::response::Response;
@@ -37,7 +40,9 @@ fn plan_from<'a, I: Inputs>(
     ensures whole { I.whole inputs.new ≡ I.whole inputs.old }
     ensures fresh { OnOk result (IsFresh (I.whole inputs.old) (I.left inputs.old)
         → IsFresh (I.whole inputs.new) (I.left inputs.new)) }
-    ensures status { IfErr result (IsHonestOf (I.failed inputs.new)) }
+    ensures status { IfErr result (IsHonestOf (I.failed inputs.new) (I.reads inputs.new)) }
+    ensures turn { AreReadInTurn (some_path (asked_replay request.now).declarations)
+        (I.reads inputs.old) (I.reads inputs.new) }
 {
     match request.declarations {
         Some(path) => declared_plan_from(alloc, inputs, path, table, jobs),
@@ -48,7 +53,7 @@ fn plan_from<'a, I: Inputs>(
 /// The script that the bytes denote under the plan.
 fn script_in<'a>(alloc: Global, plan: &Plan, bytes: &[u8]) -> Result<NumberedScript, Fault<'a>>
     ensures value { MeansIt (MeansScript plan.now) InScript bytes.now result }
-    ensures status { IfErr result (IsHonestOf false) }
+    ensures status { IfErr result IsOfContent }
 {
     match read_numbered_script(alloc, plan, bytes) {
         Ok(script) => Ok(script),
@@ -67,7 +72,8 @@ fn script_from<'a, I: Inputs>(
         → CameTo (ReadsScript (I.whole inputs.old) plan.now path.now
         (I.failed inputs.old) (I.failed inputs.new)) result }
     ensures works { OnOk result (I.failed inputs.new ≡ I.failed inputs.old) }
-    ensures status { IfErr result (IsHonestOf (I.failed inputs.new)) }
+    ensures status { IfErr result (IsHonestOf (I.failed inputs.new) (I.reads inputs.new)) }
+    ensures alone { IsReadAlone path.now (I.reads inputs.old) (I.reads inputs.new) }
 {
     let bytes = bytes_at(alloc, inputs, path, MAX_SCRIPT as u32)?;
     script_in(alloc, plan, bytes.as_slice())
@@ -92,7 +98,10 @@ fn tried<'a, I: Inputs>(
     ensures step { IsFresh (I.whole inputs.old) (I.left inputs.old)
         → CameTo (Replays (I.whole inputs.old) (asked_replay request.now) (table, jobs)
         (I.failed inputs.old) (I.failed inputs.new)) result }
-    ensures status { IfErr result (IsHonestOf (I.failed inputs.new)) }
+    ensures status { IfErr result (IsHonestOf (I.failed inputs.new) (I.reads inputs.new)) }
+    ensures turn { AreReadInTurn (some_path (asked_replay request.now).declarations
+        ++ ((asked_replay request.now).script ∷ []))
+        (I.reads inputs.old) (I.reads inputs.new) }
     ensures done { IfOk result (λ r. r.status ≢ 6) }
 {
     let plan = plan_from(alloc, inputs, request, table, jobs)?;
@@ -105,19 +114,25 @@ pub(crate) fn replay<I: Inputs>(
     alloc: Global,
     request: &ReplayWords<'_>,
     inputs: &mut I,
-) -> Result<Response, AllocError>
+) -> Result<Response, RanOut>
     ensures value { IsFresh (I.whole inputs.old) (I.left inputs.old)
         → IfOk result (AnswersReplay (asked_replay request.now) (I.whole inputs.old)
         (I.failed inputs.old) (I.failed inputs.new)) }
-    ensures status { IfOk result (λ r. r.status ≡ 6 → I.failed inputs.new ≡ true) }
+    ensures status { IfOk result (IsHonest (I.failed inputs.new) (I.reads inputs.new)) }
+    ensures warned { IsFresh (I.whole inputs.old) (I.left inputs.old)
+        → IfErr result (λ e. IsWarned (I.whole inputs.old) (asked_replay request.now).table
+        (asked_replay request.now).anacrontab (I.failed inputs.old)
+        (I.reads inputs.old) (I.reads inputs.new) e.warnings) }
+    ensures turn { AreReadInTurn (replay_paths (asked_replay request.now))
+        (I.reads inputs.old) (I.reads inputs.new) }
 {
     let (table, jobs) = match read_tables(alloc, inputs, request.table, request.anacrontab) {
         Ok(tables) => tables,
-        Err(fault) => return fault.response(alloc, b"".as_slice()),
+        Err(fault) => return Ok(fault.response(alloc, b"".as_slice())?),
     };
     let warnings = warnings(alloc, &table, &jobs)?;
     match tried(alloc, inputs, request, table, jobs) {
         Ok(answer) => Ok(answer.behind(warnings)),
-        Err(fault) => fault.response(alloc, warnings.as_slice()),
+        Err(fault) => fault.response_behind(alloc, warnings),
     }
 }

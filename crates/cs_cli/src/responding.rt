@@ -1,16 +1,20 @@
 //! The answer to the words of a call.
-ghost use Rattle.std.specs.Prelude.{◌≡◌, [], true, IfOk, map};
+ghost use Rattle.std.specs.Prelude.{◌≡◌, [], IfErr, IfOk, map};
 ghost use Rattle.cs_io.specs.Files.{IsFresh};
 ghost use Rattle.cs_cli.specs.Answer.{IfEnds};
 ghost use Rattle.cs_cli.specs.Call.{Answers};
 ghost use Rattle.cs_call.specs.Version.{version_text};
+ghost use Rattle.cs_cli.specs.RanOut.{RanOutOn};
 ghost use Rattle.cs_cli.specs.Response.{done};
+ghost use Rattle.cs_cli.specs.Trouble.{IsHonest};
+ghost use Rattle.cs_cli.specs.Turn.{ReadsInTurn};
 
 use crate::answer::Answer;
 use crate::check::check_certificate;
 use crate::day::day;
 use crate::judge::judge_plan;
 use crate::order::order;
+use crate::ran_out::RanOut;
 use crate::replay::replay;
 use crate::response::Response;
 use cs_call::{Request, UsageFault, parse_words, version_text};
@@ -28,13 +32,18 @@ pub fn respond<'a, R: Threads + Sync, S: AsStr, I: Inputs>(
     alloc: Global,
     words: &'a [S],
     inputs: &mut I,
-) -> Result<Answer<'a>, AllocError>
+) -> Result<Answer<'a>, RanOut>
     // Where each path of known bytes stands at its front.
     ensures value { IsFresh (I.whole inputs.old) (I.left inputs.old)
         → IfOk result (Answers (map S.text words.now) (I.whole inputs.old)
         (I.failed inputs.old) (I.failed inputs.new)) }
     ensures status { IfOk result
-        (IfEnds (λ ending. ending.status ≡ 6 → I.failed inputs.new ≡ true)) }
+        (IfEnds (IsHonest (I.failed inputs.new) (I.reads inputs.new))) }
+    ensures warned { IsFresh (I.whole inputs.old) (I.left inputs.old)
+        → IfErr result (λ e. RanOutOn (map S.text words.now) (I.whole inputs.old)
+        (I.failed inputs.old) (I.reads inputs.old) (I.reads inputs.new) e.warnings) }
+    ensures turn { ReadsInTurn (map S.text words.now)
+        (I.reads inputs.old) (I.reads inputs.new) }
 {
     match parse_words(alloc, words) {
         Ok(Request::Day(request)) => Ok(Answer::Ends(day(alloc, &request, inputs)?)),
@@ -59,7 +68,7 @@ pub fn respond<'a, R: Threads + Sync, S: AsStr, I: Inputs>(
         Err(UsageFault::NoCall(text)) => {
             Ok(Answer::Ends(Response::no_call(alloc, text.into_bytes())))
         }
-        Err(UsageFault::OutOfMemory) => Err(AllocError),
+        Err(UsageFault::OutOfMemory) => Err(RanOut { warnings: None }),
     }
 }
 

@@ -1,10 +1,10 @@
 -- Reading a path piece by piece.
-use Rattle.std.proofs.Common.{◌≡◌, ◌≢◌, ◌≤◌, ◌<◌, ◌+◌, ℕ, List, [], Option, Some, None, IfSome, take, ◌++◌, ◌∙◌, sym, ap, subst, append_assoc, length, arith, refl, inl, inr}
-use Rattle.std.proofs.lemmas.List.{length-append, length-take-le}
+use Rattle.std.proofs.Common.{◌≡◌, ◌≢◌, ◌≤◌, ◌<◌, ◌+◌, ℕ, List, [], Option, Some, None, IfSome, take, ◌++◌, ◌∙◌, sym, ap, subst, append_assoc, length, arith, refl, inl, inr, option_map, replicate}
+use Rattle.std.proofs.lemmas.List.{length-append, length-take-le, replicate-append-replicate}
 use Rattle.std.proofs.lemmas.Slice.Eq.{bytes_eq-Decides}
 use Rattle.std.proofs.lemmas.Bool.{cases_Bool}
 use Rattle.std.specs.Str.{bytes_eq}
-use Rattle.cs_io.specs.Files.{IsNextOf, IsFresh}
+use Rattle.cs_io.specs.Files.{IsFresh, IsNextOf, IsReadAlone, IsReadOn, Reads}
 
 -- what was read so far and what is left make up what there was, after one more read of n bytes
 pub goes_on : (whole left0 left1 left2 : List ℕ → Option (List ℕ)) (path : List ℕ) (n : ℕ) (buf done : List ℕ) →
@@ -57,3 +57,29 @@ still_fresh whole left0 left1 left2 path buf done others inv next some fresh q =
       | inr other ↦ let e : q ≢ path = λ h. absurd (let yes' = same.1 h in cc) in
           kept (whole q) (left0 q) (left2 q) (next.others q e ∙ others q e) (fresh q)
     ]
+
+-- one read more of the same path
+pub read_again : (path : List ℕ) (n : ℕ) (r0 r1 r2 : Reads) → IsReadOn path n r0 r1 → IsReadOn path 1 r1 r2 → IsReadOn path (n + 1) r0 r2
+read_again path n r0 r1 r2 before last = last ∙ ap (option_map (λ ps. replicate 1 path ++ ps)) before ∙ joined r0
+  where
+    sum : replicate 1 path ++ replicate n path ≡ replicate (n + 1) path
+    sum = let e : 1 + n ≡ n + 1 = omega arith in replicate-append-replicate 1 n path ∙ ap (λ m. replicate m path) e
+
+    joined : (r : Reads) → option_map (λ ps. replicate 1 path ++ ps) (option_map (λ ps. replicate n path ++ ps) r) ≡ option_map (λ ps. replicate (n + 1) path ++ ps) r
+    joined None = refl
+    joined (Some xs) = ap Some (sym (append_assoc (replicate 1 path) (replicate n path) xs) ∙ ap (λ t. t ++ xs) sum)
+
+pub read_alone : (path : List ℕ) (n : ℕ) (r0 r1 r2 : Reads) → IsReadOn path n r0 r1 → IsReadOn path 1 r1 r2 → IsReadAlone path r0 r2
+read_alone path n r0 r1 r2 before last = (n + 1, read_again path n r0 r1 r2 before last)
+
+-- before the first read
+pub not_read : (path : List ℕ) (r : Reads) → IsReadOn path 0 r r
+not_read path None = refl
+not_read path (Some xs) = refl
+
+-- as many bytes as reads were there at least
+pub is_long : (most reads : ℕ) (done : List ℕ) (o m : Option (List ℕ)) → most ≤ reads → reads ≤ length done → IfSome o (λ xs. (ys : List ℕ) × (xs ≡ done ++ ys) × (m ≡ Some ys)) → IfSome o (λ text. most ≤ length text)
+is_long most reads done None m all count parts = parts
+is_long most reads done (Some xs) m all count (ys, e, l) =
+    let long = length-append done ys in
+    rw e (omega (arith, long, all, count))

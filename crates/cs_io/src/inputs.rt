@@ -1,6 +1,8 @@
 //! What the program reads.
-ghost use Rattle.std.specs.Prelude.{◌≡◌, ◌≤◌, ◌<◌, ◌+◌, ◌^◌, ℕ, List, Option, Some, None, Bool, true, false, IfOk, IfErr, OnErr, OnOk, length};
-ghost use Rattle.cs_io.specs.Files.{IsNextOf, Gives, IsFresh};
+ghost use Rattle.std.specs.Prelude.{◌≡◌, ◌≤◌, ◌<◌, ◌+◌, ◌^◌, ◌⊎◌, ℕ, List, Option, Some, None, Bool};
+ghost use Rattle.std.specs.Prelude.{true, false, IfOk, IfErr, IfSome, OnErr, OnOk, length};
+ghost use Rattle.cs_io.specs.Files.{Gives, IsFresh, IsNextOf, IsReadAlone, IsReadOn, IsReadOut};
+ghost use Rattle.cs_io.specs.Files.{IsTooLong};
 ghost use Rattle.cs_io.specs.declared.inputs.ReadFault.TheVariants.{CannotRead as cannot_read, OutOfMemory as no_memory};
 
 use std::alloc::{AllocError, AllocFailed, Global};
@@ -17,8 +19,11 @@ pub trait Inputs {
     /// What the next reads of a path give up to its end, where that is known.
     ghost left: { Self → List ℕ → Option (List ℕ) } = { λ _ _. None };
 
-    /// Whether a read has failed.
-    ghost failed: { Self → Bool };
+    /// Whether a read of a path has failed.
+    ghost failed: { Self → List ℕ → Bool };
+
+    /// The paths of all reads so far, the last read first, where they are known.
+    ghost reads: { Self → Option (List (List ℕ)) } = { λ _. None };
 
     /// Gives the next bytes of a path, and 0 at its end, after which a read of it begins anew.
     fn read(&mut self, path: &str, buf: &mut [u8]) -> Result<usize, CannotRead>
@@ -27,7 +32,8 @@ pub trait Inputs {
             (left self.new) n buf.new) }
         ensures whole { whole self.new ≡ whole self.old }
         ensures works { OnOk result (failed self.new ≡ failed self.old) }
-        ensures fails { OnErr result (failed self.new ≡ true) };
+        ensures fails { OnErr result (failed self.new path.now ≡ true) }
+        ensures noted { IsReadOn path.now 1 (reads self.old) (reads self.new) };
 }
 
 /// Why an input was not read.
@@ -37,6 +43,14 @@ pub enum ReadFault {
     CannotRead,
     /// There was no room for its bytes.
     OutOfMemory,
+}
+
+impl From<CannotRead> for ReadFault {
+    ghost from_gives = { λ _ e. e ≡ cannot_read };
+
+    fn from(_error: CannotRead) -> ReadFault {
+        ReadFault::CannotRead
+    }
 }
 
 impl<T: Drop> From<AllocFailed<T>> for ReadFault {
@@ -55,6 +69,9 @@ impl From<AllocError> for ReadFault {
     }
 }
 
+/// The most reads that a path takes.
+pub const MOST_READS: u32 = 16_777_217;
+
 /// Reads all of a path, or more than `limit` bytes of it where it is longer: an input without end is
 /// left as soon as it is too long. Each read gives a byte at least, so there are at most `limit + 1`.
 pub fn read_up_to<I: Inputs>(
@@ -69,7 +86,8 @@ pub fn read_up_to<I: Inputs>(
 
     // a path that was read to its end, and each other one, is to be read from its front again
     ensures fresh { IfOk result (λ v. length v.items ≤ limit → IsFresh (I.whole inputs.old) (I.left inputs.old) → IsFresh (I.whole inputs.new) (I.left inputs.new)) }
-    ensures fails { IfErr result (λ e. e ≡ cannot_read → I.failed inputs.new ≡ true) }
+    ensures fails { IfErr result (λ e. e ≡ cannot_read → I.failed inputs.new path.now ≡ true) }
+    ensures alone { IsReadAlone path.now (I.reads inputs.old) (I.reads inputs.new) }
 {
     let mut bytes = Vec::new(alloc);
     let mut buf = [0u8; 4096];
@@ -84,4 +102,35 @@ pub fn read_up_to<I: Inputs>(
         }
     }
     Ok(bytes)
+}
+
+/// Reads all of a path. One that has no end after [`MOST_READS`] reads can't be read.
+pub fn read_whole<I: Inputs>(
+    alloc: Global,
+    inputs: &mut I,
+    path: &str,
+) -> Result<Vec<u8>, ReadFault>
+    ensures bytes { IfOk result (λ v. IfSome (I.left inputs.old path.now) (λ text. v.items ≡ text)) }
+    ensures works { OnOk result (I.failed inputs.new ≡ I.failed inputs.old) }
+    ensures whole { I.whole inputs.new ≡ I.whole inputs.old }
+
+    // this path too is to be read from its front again
+    ensures fresh { OnOk result (IsFresh (I.whole inputs.old) (I.left inputs.old)
+        → IsFresh (I.whole inputs.new) (I.left inputs.new)) }
+    ensures fails { IfErr result (λ e. e ≡ cannot_read
+        → (I.failed inputs.new path.now ≡ true)
+        ⊎ ((I.failed inputs.new ≡ I.failed inputs.old)
+        × IsReadOut path.now (I.reads inputs.old) (I.reads inputs.new)
+        × IsTooLong path.now (I.left inputs.old))) }
+    ensures alone { IsReadAlone path.now (I.reads inputs.old) (I.reads inputs.new) }
+{
+    let mut bytes = Vec::new(alloc);
+    let mut buf = [0u8; 4096];
+    for _reads in 0..MOST_READS {
+        match inputs.read(path, buf.as_mut_slice())? {
+            0 => return Ok(bytes),
+            n => bytes.extend_from_slice(&buf[..n])?,
+        }
+    }
+    Err(ReadFault::CannotRead)
 }

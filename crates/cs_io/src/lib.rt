@@ -5,6 +5,6 @@ mod inputs;
 mod machine;
 mod outputs;
 
-pub use inputs::{CannotRead, Inputs, ReadFault, read_up_to};
+pub use inputs::{CannotRead, Inputs, MOST_READS, ReadFault, read_up_to, read_whole};
 pub use machine::Machine;
 pub use outputs::{CannotWrite, Output, Printer};

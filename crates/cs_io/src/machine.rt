@@ -49,7 +49,8 @@ impl<'a, R: Files + Input> Machine<'a, R> {
 }
 
 impl<'a, R: Files + Input> Inputs for Machine<'a, R> {
-    ghost failed = { λ s. s.has_failed };
+    // It keeps no paths: a failure of one counts for each.
+    ghost failed = { λ s _. s.has_failed };
 
     fn read(&mut self, path: &str, buf: &mut [u8]) -> Result<usize, CannotRead> {
         let given = if path == "-" {

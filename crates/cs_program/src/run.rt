@@ -3,14 +3,15 @@ ghost use Rattle.std.specs.Prelude.{map};
 ghost use Rattle.cs_io.specs.Files.{IsFresh};
 ghost use Rattle.cs_program.specs.Ending.{sink};
 ghost use Rattle.cs_cli.specs.Response.{status_of};
+ghost use Rattle.cs_cli.specs.Turn.{ReadsInTurn};
 ghost use Rattle.cs_program.specs.Run.{CarriesOut, Runs};
 
-use crate::ending::{finish, run_out};
+use crate::ending::{finish, run_out_behind};
 use crate::serve::serve;
 use cs_cli::{Answer, Status, respond};
 use cs_device::Runner;
 use cs_io::{Inputs, Output};
-use std::alloc::{AllocError, Global};
+use std::alloc::Global;
 use std::convert::AsStr;
 use std::io::Write;
 use std::rt::{Clock, Files};
@@ -57,15 +58,18 @@ pub fn run_words<
 >(rt: &R, alloc: Global, words: &[S], inputs: &mut I, out: &mut O, err: &mut E, new_runner: F) -> u8
     requires { F.IsAlwaysCallable new_runner }
     // Where each path of known bytes stands at its front.
-    ensures { IsFresh (I.whole inputs.old) (I.left inputs.old)
+    ensures value { IsFresh (I.whole inputs.old) (I.left inputs.old)
         → Runs (map S.text words.now) (I.whole inputs.old) (I.failed inputs.old) (I.failed inputs.new)
+        (I.reads inputs.old) (I.reads inputs.new)
         (sink (O.Output.contents out.old) (O.Output.failed out.old))
         (sink (O.Output.contents out.new) (O.Output.failed out.new))
         (sink (E.contents err.old) (E.failed err.old)) (sink (E.contents err.new) (E.failed err.new))
         result }
+    ensures turn { ReadsInTurn (map S.text words.now)
+        (I.reads inputs.old) (I.reads inputs.new) }
 {
     match respond(rt, alloc, words, inputs) {
         Ok(answer) => carry_out(rt, alloc, answer, out, err, new_runner).code(),
-        Err(AllocError) => run_out(err).code(),
+        Err(ran_out) => run_out_behind(&ran_out, err).code(),
     }
 }

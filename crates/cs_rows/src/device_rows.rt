@@ -113,8 +113,8 @@ fn run_with_room<R: Threads + Wait + Sync + HostFiles + Clock + AllocGlobal>(
     )
 }
 
-/// Where standard output can't be written the status is 6 and nothing is said; where standard error
-/// can't, the status stays.
+/// Where standard output can't be written the status is 6 and nothing is said but the warnings; where
+/// standard error can't, the status stays.
 #[test]
 fn full_outputs(rt: HostRuntime) {
     let good = b"0 12 13 * 5 /bin/report\n";
@@ -127,4 +127,7 @@ fn full_outputs(rt: HostRuntime) {
     let (status, shown, _) = run_with_room(&rt, bad.as_slice(), 100, 38);
     assert_eq!(rt; (status, shown), (3, 0));
     assert_eq!(rt; run_with_room(&rt, bad.as_slice(), 100, 0), (3, 0, 0));
+    let zoned = b"CRON_TZ=UTC\n";
+    assert_eq!(rt; run_with_room(&rt, zoned.as_slice(), 15, 100), (0, 15, 56));
+    assert_eq!(rt; run_with_room(&rt, zoned.as_slice(), 0, 100), (6, 0, 56));
 }

@@ -1,5 +1,6 @@
 //! Files in memory, as the inputs of the program.
-ghost use Rattle.std.specs.Prelude.{◌≡◌, ◌≤◌, IfOk, length};
+ghost use Rattle.std.specs.Prelude.{◌≡◌, ◌≤◌, IfOk, IfSome, Some, length, map, option_map};
+ghost use Rattle.cs_rows.specs.Held.{held, left_of};
 
 use cs_io::{CannotRead, Inputs};
 
@@ -20,56 +21,95 @@ pub(crate) fn readable<'a>(path: &'a str, bytes: &'a [u8]) -> File<'a> {
     }
 }
 
-/// Files of which one is read at a time, from its front to its end.
+/// Files of which each is read from its front to its end before another is: else a read fails.
 #[derive(Drop)]
 pub(crate) struct Files<'a> {
     files: &'a [File<'a>],
     most_at_once: usize,
-    done: usize,
+    // the file that is being read, with the bytes that are left of it
+    begun: Option<File<'a>>,
     has_failed: bool,
 }
 
 impl<'a> Files<'a> {
-    /// Files of which a read gives up to `most_at_once` bytes.
+    /// Files of which a read gives up to `most_at_once` bytes, and one at least.
     pub(crate) fn new(files: &'a [File<'a>], most_at_once: usize) -> Files<'a> {
         Files {
             files,
             most_at_once,
-            done: 0,
+            begun: None,
             has_failed: false,
         }
     }
 
-    /// The bytes that are left of a path, where it can be read.
-    fn rest_of(&self, path: &str) -> Option<&'a [u8]> {
+    /// The first file with this path.
+    fn find(&self, path: &str) -> Option<File<'a>>
+        ensures path { IfSome result (λ f. f.path.now ≡ path.now) }
+        ensures bytes { IfSome result (λ f.
+            held (map (λ f. (f.path.now, f.bytes.now)) self.now.files.now) path.now
+            ≡ Some f.bytes.now) }
+    {
         for file in self.files {
             if file.path == path {
-                let rest = &file.bytes[self.done.min(file.bytes.len())..];
-                return if file.is_broken && rest.is_empty() {
-                    None
-                } else {
-                    Some(rest)
-                };
+                return Some(*file);
             }
         }
         None
     }
+
+    /// The file at a path, with what is left of it.
+    fn next_of(&self, path: &str) -> Option<File<'a>>
+        ensures path { IfSome result (λ f. f.path.now ≡ path.now) }
+        ensures bytes { IfSome result (λ f.
+            left_of (map (λ f. (f.path.now, f.bytes.now)) self.now.files.now)
+            (option_map (λ f. (f.path.now, f.bytes.now)) self.now.begun) path.now
+            ≡ Some f.bytes.now) }
+        ensures alone { IfSome result (λ f.
+            IfSome self.now.begun (λ begun. begun.path.now ≡ path.now)) }
+    {
+        let file = match self.begun {
+            Some(file) => {
+                if file.path != path {
+                    return None;
+                }
+                file
+            }
+            None => self.find(path)?,
+        };
+        if file.is_broken && file.bytes.is_empty() {
+            return None;
+        }
+        Some(file)
+    }
 }
 
 impl<'a> Inputs for Files<'a> {
-    ghost failed = { λ s. s.has_failed };
+    ghost whole = { λ s. held (map (λ f. (f.path.now, f.bytes.now)) s.files.now) };
+
+    ghost left = { λ s. left_of (map (λ f. (f.path.now, f.bytes.now)) s.files.now)
+        (option_map (λ f. (f.path.now, f.bytes.now)) s.begun) };
+
+    ghost failed = { λ s _. s.has_failed };
 
     fn read(&mut self, path: &str, buf: &mut [u8]) -> Result<usize, CannotRead> {
-        let Some(rest) = self.rest_of(path) else {
+        let Some(file) = self.next_of(path) else {
             self.has_failed = true;
             return Err(CannotRead);
         };
-        let n = rest.len().min(buf.len()).min(self.most_at_once);
-        buf[..n].copy_from_slice(&rest[..n]);
-        self.done = if n == 0 {
-            0
+        let n = file
+            .bytes
+            .len()
+            .min(buf.len())
+            .min(self.most_at_once.max(1));
+        buf[..n].copy_from_slice(&file.bytes[..n]);
+        self.begun = if n == 0 {
+            None
         } else {
-            self.done.saturating_add(n)
+            Some(File {
+                path: file.path,
+                bytes: &file.bytes[n..],
+                is_broken: file.is_broken,
+            })
         };
         Ok(n)
     }

@@ -1,6 +1,6 @@
 //! Texts of the greatest length, and texts of a byte more.
-use crate::files::readable;
-use crate::runs::{run, run_day};
+use crate::files::{Files, readable};
+use crate::runs::{run, run_day, run_on};
 use std::test::Fail;
 
 const SHOWN: &[u8] = b"2024-09-13 Fri\n";
@@ -55,6 +55,31 @@ fn length_of_certificates(rt: HostRuntime) -> Result<(), Fail> {
         ];
         let ran = run(&rt, line, files.as_slice())?;
         assert!(rt; ran.is(3, b"".as_slice(), fault), "at {length}");
+    }
+    Ok(())
+}
+
+/// Declarations of any length are read, in as many reads as a path may take: at least 16 MiB of them,
+/// also where each read gives a byte.
+#[test]
+fn length_of_declarations(rt: HostRuntime) -> Result<(), Fail> {
+    let words = ["cronsafe", "judge", "table", "terms"];
+    let unread = b"cronsafe: can't read terms\n".as_slice();
+    let rows = [
+        (16_777_217, 4_096, 0, b"safe\n".as_slice(), b"".as_slice()),
+        (16_777_216, 1, 0, b"safe\n".as_slice(), b"".as_slice()),
+        (16_777_217, 1, 6, b"".as_slice(), unread),
+    ];
+    for (length, most_at_once, status, shown, told) in rows {
+        let mut terms = Vec::from_slice(rt.alloc(), b"{\"capacity\":1}".as_slice())?;
+        terms.resize(length, b' ')?;
+        let files = [readable("table", b""), readable("terms", terms.as_slice())];
+        let mut inputs = Files::new(files.as_slice(), most_at_once);
+        let ran = run_on(&rt, words.as_slice(), &mut inputs);
+        assert!(rt;
+            ran.is(status, shown, told),
+            "at {length} by {most_at_once}"
+        );
     }
     Ok(())
 }

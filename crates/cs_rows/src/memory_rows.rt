@@ -19,6 +19,16 @@ const CERTIFICATE: &str =
     "{\"classes\":[{\"backlog\":[],\"due\":[[0,[0]],[1,[0]]]}],\"kinds\":{\"class\":0},\
     \"pairs\":[{\"of\":[0,0],\"tree\":{\"list\":[[0,0,0],[1,0,0]]}}],\"reach\":[],\"version\":1}";
 
+const SCRIPT: &[u8] = b"start 2024-03-10 23:59 up\nminute 2024-03-11 00:00\nbegin line 1\n";
+
+/// The script with a comment behind it, so long that reading it takes more memory than all before it.
+fn commented_script() -> [u8; 100_000] {
+    let mut text = [b'#'; 100_000];
+    let length = SCRIPT.len().min(text.len());
+    text[..length].copy_from_slice(&SCRIPT[..length]);
+    text
+}
+
 /// The status of a call, and how much it wrote to the two outputs.
 fn run_in<R: Threads + Wait + Sync + HostFiles + Clock + AllocGlobal>(
     rt: &R,
@@ -26,20 +36,20 @@ fn run_in<R: Threads + Wait + Sync + HostFiles + Clock + AllocGlobal>(
     out: &mut [u8],
     err: &mut [u8],
 ) -> (u8, u64, u64) {
+    let commented = commented_script();
     let files = [
         readable("jobs", b"0 12 13 * 5 /bin/report\n"),
         readable("bad", b"60 * * * * a"),
         readable("anacron", b"CRON_TZ=UTC\n1 5 a b\n"),
         readable("twice", b"1 5 a b\n1 5 a b\n"),
+        readable("zone", b"CRON_TZ=UTC\n"),
         readable("nightly", b"0 0 * * * a\n0 0 * * * b\n"),
         readable("terms", TERMS.as_bytes()),
         readable("tight", TIGHT.as_bytes()),
         readable("cert", CERTIFICATE.as_bytes()),
         readable("torn", b"{"),
-        readable(
-            "script",
-            b"start 2024-03-10 23:59 up\nminute 2024-03-11 00:00\nbegin line 1\n",
-        ),
+        readable("script", SCRIPT),
+        readable("commented", commented.as_slice()),
     ];
     let mut inputs = Files::new(files.as_slice(), 4_096);
     let mut out = Printer::new(Cursor::new(out));
@@ -61,9 +71,12 @@ fn run_in<R: Threads + Wait + Sync + HostFiles + Clock + AllocGlobal>(
     )
 }
 
-/// Whether it was said on standard error that memory ran out, and nothing else.
-fn is_no_memory(shown: u64, told: u64, err: &[u8]) -> bool {
-    shown == 0 && told == 24 && err.starts_with(b"cronsafe: out of memory\n".as_slice())
+/// What is said where memory ran out.
+const NO_MEMORY: &[u8] = b"cronsafe: out of memory\n";
+
+/// Whether this was said on standard error, and nothing else.
+fn is_told(shown: u64, told: u64, err: &[u8], text: &[u8]) -> bool {
+    shown == 0 && told == text.len() as u64 && err.starts_with(text)
 }
 
 /// Whether it was said of a plan, and nothing else, that memory ran out while it was judged.
@@ -75,28 +88,40 @@ fn is_unknown(words: &[&str], shown: u64, told: u64, out: &[u8]) -> bool {
     judges && shown == 18 && told == 0 && out.starts_with(b"unknown: NoMemory\n".as_slice())
 }
 
+/// The answer of a call, how often memory ran out before, and how often of these behind the warnings.
+type Starved = ((u8, u64, u64), u32, u32);
+
 /// Runs a call again and again, with hardly any memory at first and `step` bytes more each time.
-/// Each run has to say that memory ran out and nothing else, until one has another answer: this
-/// one, and how often memory ran out before.
+/// Each run has to say that memory ran out, alone or behind the warnings, and nothing else, until one
+/// has another answer.
 fn run_starved<R: Abort + Threads + Wait + Sync + HostFiles + Clock + AllocGlobal>(
     rt: &R,
     words: &[&str],
     step: usize,
+    warnings: &[u8],
     out: &mut [u8],
     err: &mut [u8],
-) -> Result<((u8, u64, u64), u32), Fail> {
+) -> Result<Starved, Fail> {
+    let mut behind = Vec::from_slice(rt.alloc(), warnings)?;
+    behind.extend_from_slice(NO_MEMORY)?;
     let mut hoard = Hoard::new(rt.alloc(), 64)?;
     hoard.take_rest();
+    let mut warned = 0u32;
     for refusals in 0..60_000 {
         let (status, shown, told) = run_in(rt, words, out, err);
         if status != 5 {
             hoard.free_all();
-            return Ok(((status, shown, told), refusals));
+            return Ok(((status, shown, told), refusals, warned));
         }
-        assert!(rt; is_no_memory(shown, told, err) || is_unknown(words, shown, told, out));
+        if is_told(shown, told, err, behind.as_slice()) {
+            warned = warned.saturating_add(1);
+        } else {
+            let alone = is_told(shown, told, err, NO_MEMORY);
+            assert!(rt; alone || is_unknown(words, shown, told, out));
+        }
         assert!(rt; hoard.give_back(step));
     }
-    Ok(((5, 0, 0), 60_000))
+    Ok(((5, 0, 0), 60_000, warned))
 }
 
 /// A call of `day`, and the answer to it: a status and two texts.
@@ -139,10 +164,12 @@ fn refused_growths(rt: HostRuntime) -> Result<(), Fail> {
         let words = line.split(' ').collect::<Vec<&str>>(rt.alloc())?;
         let mut out = [0u8; 200];
         let mut err = [0u8; 200];
-        let (answer, refusals) = run_starved(
+        let warnings = if status == 0 { told } else { b"".as_slice() };
+        let (answer, refusals, _) = run_starved(
             &rt,
             words.as_slice(),
             16,
+            warnings,
             out.as_mut_slice(),
             err.as_mut_slice(),
         )?;
@@ -181,10 +208,11 @@ fn refused_growths_of_help(rt: HostRuntime) -> Result<(), Fail> {
     for (words, want) in rows {
         let mut out = [0u8; 4_096];
         let mut err = [0u8; 4_096];
-        let (answer, refusals) = run_starved(
+        let (answer, refusals, _) = run_starved(
             &rt,
             words,
             16,
+            b"".as_slice(),
             out.as_mut_slice(),
             err.as_mut_slice(),
         )?;
@@ -196,9 +224,17 @@ fn refused_growths_of_help(rt: HostRuntime) -> Result<(), Fail> {
 }
 
 /// A call, how many bytes more it has each time, and the answer: a safe plan, a refused one, a
-/// certificate with a fault, a run without a folder, and a script.
-const STEPPED: [(&str, usize, u8, &[u8], &[u8]); 5] = [
+/// certificate with a fault, a run without a folder, and a script; the safe plan and a longer script
+/// beside a warning too.
+const STEPPED: [(&str, usize, u8, &[u8], &[u8]); 7] = [
     ("cronsafe check nightly terms cert", 64, 0, b"safe\n", b""),
+    (
+        "cronsafe check nightly terms cert --anacrontab zone",
+        64,
+        0,
+        b"safe\n",
+        b"warning: CRON_TZ on line 1 of the anacrontab has no effect\n",
+    ),
     (
         "cronsafe check nightly tight cert",
         64,
@@ -227,6 +263,13 @@ const STEPPED: [(&str, usize, u8, &[u8], &[u8]); 5] = [
         b"2: clock\n3: started\nup 2024-03-11 00:00, pending 1, waiting 0, running 1\n",
         b"",
     ),
+    (
+        "cronsafe replay nightly commented --declarations terms --anacrontab zone",
+        256,
+        0,
+        b"2: clock\n3: started\nup 2024-03-11 00:00, pending 1, waiting 0, running 1\n",
+        b"warning: CRON_TZ on line 1 of the anacrontab has no effect\n",
+    ),
 ];
 
 #[test]
@@ -235,10 +278,12 @@ fn refused_growths_of_check(rt: HostRuntime) -> Result<(), Fail> {
         let words = line.split(' ').collect::<Vec<&str>>(rt.alloc())?;
         let mut out = [0u8; 200];
         let mut err = [0u8; 200];
-        let (answer, refusals) = run_starved(
+        let warnings = if status == 0 { told } else { b"".as_slice() };
+        let (answer, refusals, warned) = run_starved(
             &rt,
             words.as_slice(),
             step,
+            warnings,
             out.as_mut_slice(),
             err.as_mut_slice(),
         )?;
@@ -252,6 +297,7 @@ fn refused_growths_of_check(rt: HostRuntime) -> Result<(), Fail> {
             "at {line}"
         );
         assert!(rt; refusals > 20, "{refusals} refusals at {line}");
+        assert!(rt; warned > 0 || warnings.is_empty(), "no warning at {line}");
     }
     Ok(())
 }
@@ -261,10 +307,11 @@ fn refused_growths_of_a_plan(rt: HostRuntime) -> Result<(), Fail> {
     let words = ["cronsafe", "judge", "nightly", "terms"];
     let mut out = [0u8; 200];
     let mut err = [0u8; 200];
-    let (answer, refusals) = run_starved(
+    let (answer, refusals, _) = run_starved(
         &rt,
         words.as_slice(),
         512,
+        b"".as_slice(),
         out.as_mut_slice(),
         err.as_mut_slice(),
     )?;

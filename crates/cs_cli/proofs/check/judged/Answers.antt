@@ -1,4 +1,4 @@
-use Rattle.std.proofs.Common.{◌≡◌, ◌∙◌, Bool, Ok, Err, ap, inr, subst}
+use Rattle.std.proofs.Common.{◌≡◌, ◌∙◌, [], ◌∷◌, Ok, Err, ap, inr, subst}
 use Rattle.std.proofs.lemmas.Result.{err_from_is_err_and}
 use Rattle.cs_cert.specs.Certificate.{content}
 use Rattle.cs_cert.specs.Content.{Content}
@@ -10,6 +10,8 @@ use Rattle.cs_cli.specs.Reads.{AndThen, Gives}
 use Rattle.cs_cli.specs.Trouble.{CameTo}
 use Rattle.cs_cli.proofs.CheckLemmas.{are_read}
 use Rattle.cs_cli.proofs.TroubleLemmas.{goes_on, moved, stops}
+use Rattle.cs_io.specs.Files.{Failed}
+use Rattle.cs_cli.proofs.TurnLemmas.{first_read}
 use Rattle.cs_cli.proofs.check.judged.Goals as goal
 
 pub returns-in_err-certificate-clause-step : goal.returns-in_err-certificate-clause-step
@@ -20,7 +22,7 @@ returns-in_err-certificate-clause-step g c = λ fresh.
     let a = asked_check c.args.request.now in
     let plan = c.in_ok-plan.plan in
     let fault = c.in_err-certificate.field-0.0 in
-    let one = subst (λ (f : Bool). ReadsDeclared files (c.args.table, c.args.jobs) a.declarations before f (Ok plan)) c.in_ok-plan.ensures.works (c.in_ok-plan.ensures.step fresh) in
+    let one = subst (λ (f : Failed). ReadsDeclared files (c.args.table, c.args.jobs) a.declarations before f (Ok plan)) c.in_ok-plan.ensures.works (c.in_ok-plan.ensures.step fresh) in
     let two = moved (λ w f. CameTo {X = Content} (ReadsCertificate w a.certificate f after) (Err fault)) (g.I.Inputs.whole c.declared_plan_from.new.inputs) files (g.I.Inputs.failed c.declared_plan_from.new.inputs) before c.declared_plan_from.ensures.whole c.in_ok-plan.ensures.works (c.in_err-certificate.ensures.step (c.in_ok-plan.ensures.fresh fresh)) in
     let next = stops (ReadsCertificate files a.certificate) (λ x. Gives (Ok (verdict plan (fault_of plan x)))) before after fault two in
     let p = err_from_is_err_and c.from_residual-in_err-certificate.result c.from_residual-in_err-certificate.ensures.1 in
@@ -34,10 +36,10 @@ returns-clause-step g c = λ fresh.
     let a = asked_check c.args.request.now in
     let plan = c.in_ok-plan.plan in
     let x = content c.in_ok-certificate.certificate in
-    let one = subst (λ (f : Bool). ReadsDeclared files (c.args.table, c.args.jobs) a.declarations before f (Ok plan)) c.in_ok-plan.ensures.works (c.in_ok-plan.ensures.step fresh) in
+    let one = subst (λ (f : Failed). ReadsDeclared files (c.args.table, c.args.jobs) a.declarations before f (Ok plan)) c.in_ok-plan.ensures.works (c.in_ok-plan.ensures.step fresh) in
     let two = moved (λ w f. ReadsCertificate w a.certificate f after (Ok x)) (g.I.Inputs.whole c.declared_plan_from.new.inputs) files (g.I.Inputs.failed c.declared_plan_from.new.inputs) before c.declared_plan_from.ensures.whole c.in_ok-plan.ensures.works (c.in_ok-certificate.ensures.step (c.in_ok-plan.ensures.fresh fresh)) in
     let same : after ≡ before = c.in_ok-certificate.ensures.works ∙ c.in_ok-plan.ensures.works in
-    inr (plan, one, inr (x, subst (λ (f : Bool). ReadsCertificate files a.certificate before f (Ok x)) same two, (same, ap Ok c.in_ok-judge.ensures.answer)))
+    inr (plan, one, inr (x, subst (λ (f : Failed). ReadsCertificate files a.certificate before f (Ok x)) same two, (same, ap Ok c.in_ok-judge.ensures.answer)))
 
 pub returns-clause-read : goal.returns-clause-read
 returns-clause-read g c = λ fresh.
@@ -47,8 +49,13 @@ returns-clause-read g c = λ fresh.
     let a = asked_check c.args.request.now in
     let plan = c.in_ok-plan.plan in
     let x = content c.in_ok-certificate.certificate in
-    let one = subst (λ (f : Bool). ReadsDeclared files (c.args.table, c.args.jobs) a.declarations before f (Ok plan)) c.in_ok-plan.ensures.works (c.in_ok-plan.ensures.step fresh) in
+    let one = subst (λ (f : Failed). ReadsDeclared files (c.args.table, c.args.jobs) a.declarations before f (Ok plan)) c.in_ok-plan.ensures.works (c.in_ok-plan.ensures.step fresh) in
     let two = moved (λ w f. ReadsCertificate w a.certificate f after (Ok x)) (g.I.Inputs.whole c.declared_plan_from.new.inputs) files (g.I.Inputs.failed c.declared_plan_from.new.inputs) before c.declared_plan_from.ensures.whole c.in_ok-plan.ensures.works (c.in_ok-certificate.ensures.step (c.in_ok-plan.ensures.fresh fresh)) in
     let same : after ≡ before = c.in_ok-certificate.ensures.works ∙ c.in_ok-plan.ensures.works in
     are_read files a (c.args.table, c.args.jobs) before plan x c.in_ok-judge.field-0.1 one
-    (subst (λ (f : Bool). ReadsCertificate files a.certificate before f (Ok x)) same two) c.in_ok-judge.ensures.same
+    (subst (λ (f : Failed). ReadsCertificate files a.certificate before f (Ok x)) same two) c.in_ok-judge.ensures.same
+
+pub returns-in_err-plan-clause-turn : goal.returns-in_err-plan-clause-turn
+returns-in_err-plan-clause-turn g c =
+    let a = asked_check c.args.request.now in
+    first_read a.declarations (a.certificate ∷ []) (g.I.Inputs.reads c.args.inputs.now) (g.I.Inputs.reads c.declared_plan_from.new.inputs) c.declared_plan_from.ensures.alone

@@ -1,6 +1,7 @@
-use Rattle.std.proofs.Common.{Bool, Ok, inr, refl, subst}
+use Rattle.std.proofs.Common.{Ok, inr, refl, subst}
 use Rattle.cs_call.specs.Asked.{asked_judge}
 use Rattle.cs_cli.specs.Reads.{ReadsDeclared}
+use Rattle.cs_io.specs.Files.{Failed}
 use Rattle.cs_cli.proofs.judge.told.Goals as goal
 
 pub returns-clause-step : goal.returns-clause-step
@@ -9,5 +10,5 @@ returns-clause-step g c = λ fresh.
     let before = g.I.Inputs.failed c.args.inputs.now in
     let a = asked_judge c.args.request.now in
     let plan = c.in_ok-plan.plan in
-    let one = subst (λ (f : Bool). ReadsDeclared files (c.args.table, c.args.jobs) a.declarations before f (Ok plan)) c.in_ok-plan.ensures.works (c.in_ok-plan.ensures.step fresh) in
+    let one = subst (λ (f : Failed). ReadsDeclared files (c.args.table, c.args.jobs) a.declarations before f (Ok plan)) c.in_ok-plan.ensures.works (c.in_ok-plan.ensures.step fresh) in
     inr (plan, one, (c.in_ok-plan.ensures.works, (c.in_ok-judged.field-0, c.in_ok-judged.ensures, refl)))

@@ -1,6 +1,6 @@
 use Rattle.std.proofs.Common.{rules, ◌≡◌, ◌≢◌, ◌≤◌, ◌<◌, take, ◌++◌, ◌∙◌, length, subst, sym}
 use Rattle.cs_io.specs.Files.{IsNextOf, IsFresh}
-use Rattle.cs_io.proofs.ReadLemmas.{goes_on, one_more, still_fresh}
+use Rattle.cs_io.proofs.ReadLemmas.{goes_on, one_more, read_again, read_alone, still_fresh}
 use Rattle.cs_io.proofs.inputs.read_up_to.Goals as goal
 
 pub loop-reads-preserved : goal.loop-reads-preserved
@@ -14,6 +14,7 @@ loop-reads-preserved g c =
       works = search rules;
       parts = rw more (goes_on (g.I.Inputs.whole c.loop-reads.inputs) (g.I.Inputs.left c.args.inputs.now) (g.I.Inputs.left c.loop-reads.inputs) (g.I.Inputs.left c.read.new.self) c.args.path.now c.in-Ok.n c.read.new.buf c.loop-reads.bytes.items c.loop-reads.invariant.parts c.in-Ok.ensures.bytes some_read);
       whole = c.read.ensures.whole ∙ c.loop-reads.invariant.whole;
+      alone = read_again c.args.path.now c.loop-reads._reads _ _ _ c.loop-reads.invariant.alone c.read.ensures.noted;
       others = λ q other. c.in-Ok.ensures.bytes.others q other ∙ c.loop-reads.invariant.others q other;
     }
 
@@ -27,3 +28,18 @@ returns-in-Ok-eq0-clause-fresh g c = λ short fresh.
     = still_fresh (g.I.Inputs.whole c.args.inputs.now) (g.I.Inputs.left c.args.inputs.now) (g.I.Inputs.left c.loop-reads.inputs) (g.I.Inputs.left c.read.new.self) c.args.path.now c.read.new.buf c.loop-reads.bytes.items
     c.loop-reads.invariant.others c.loop-reads.invariant.parts next room fresh in
     subst (λ w. IsFresh w (g.I.Inputs.left c.read.new.self)) (sym (c.read.ensures.whole ∙ c.loop-reads.invariant.whole)) done
+
+pub returns-in-Err-clause-alone : goal.returns-in-Err-clause-alone
+returns-in-Err-clause-alone g c = read_alone c.args.path.now c.loop-reads._reads _ _ _ c.loop-reads.invariant.alone c.read.ensures.noted
+
+pub returns-in-Ok-eq0-clause-alone : goal.returns-in-Ok-eq0-clause-alone
+returns-in-Ok-eq0-clause-alone g c = read_alone c.args.path.now c.loop-reads._reads _ _ _ c.loop-reads.invariant.alone c.read.ensures.noted
+
+pub returns-in_err-extend_from_slice-in-Ok-clause-alone : goal.returns-in_err-extend_from_slice-in-Ok-clause-alone
+returns-in_err-extend_from_slice-in-Ok-clause-alone g c = read_alone c.args.path.now c.loop-reads._reads _ _ _ c.loop-reads.invariant.alone c.read.ensures.noted
+
+pub returns-then-len-limit-clause-alone : goal.returns-then-len-limit-clause-alone
+returns-then-len-limit-clause-alone g c = read_alone c.args.path.now c.loop-reads._reads _ _ _ c.loop-reads.invariant.alone c.read.ensures.noted
+
+pub returns-clause-alone : goal.returns-clause-alone
+returns-clause-alone g c = (c.loop-reads._reads, c.loop-reads.invariant.alone)

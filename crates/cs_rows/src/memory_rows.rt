@@ -4,6 +4,7 @@ use crate::runs::NoRunner;
 use cs_io::Printer;
 use cs_program::run_words;
 use short_memory::Hoard;
+use std::alloc::{AllocError, Global};
 use std::io::Cursor;
 use std::process::Abort;
 use std::rt::{Clock, Files as HostFiles};
@@ -21,22 +22,14 @@ const CERTIFICATE: &str =
 
 const SCRIPT: &[u8] = b"start 2024-03-10 23:59 up\nminute 2024-03-11 00:00\nbegin line 1\n";
 
-/// The script with a comment behind it, so long that reading it takes more memory than all before it.
-fn commented_script() -> [u8; 100_000] {
-    let mut text = [b'#'; 100_000];
-    let length = SCRIPT.len().min(text.len());
-    text[..length].copy_from_slice(&SCRIPT[..length]);
-    text
-}
-
 /// The status of a call, and how much it wrote to the two outputs.
 fn run_in<R: Threads + Wait + Sync + HostFiles + Clock + AllocGlobal>(
     rt: &R,
     words: &[&str],
+    commented: &[u8],
     out: &mut [u8],
     err: &mut [u8],
 ) -> (u8, u64, u64) {
-    let commented = commented_script();
     let files = [
         readable("jobs", b"0 12 13 * 5 /bin/report\n"),
         readable("bad", b"60 * * * * a"),
@@ -49,7 +42,7 @@ fn run_in<R: Threads + Wait + Sync + HostFiles + Clock + AllocGlobal>(
         readable("cert", CERTIFICATE.as_bytes()),
         readable("torn", b"{"),
         readable("script", SCRIPT),
-        readable("commented", commented.as_slice()),
+        readable("commented", commented),
     ];
     let mut inputs = Files::new(files.as_slice(), 4_096);
     let mut out = Printer::new(Cursor::new(out));
@@ -88,6 +81,13 @@ fn is_unknown(words: &[&str], shown: u64, told: u64, out: &[u8]) -> bool {
     judges && shown == 18 && told == 0 && out.starts_with(b"unknown: NoMemory\n".as_slice())
 }
 
+/// The script with a comment behind it, so long that reading it takes more memory than all before it.
+fn commented_script(alloc: Global) -> Result<Vec<u8>, AllocError> {
+    let mut text = Vec::from_slice(alloc, SCRIPT)?;
+    text.resize(100_000, b'#')?;
+    Ok(text)
+}
+
 /// The answer of a call, how often memory ran out before, and how often of these behind the warnings.
 type Starved = ((u8, u64, u64), u32, u32);
 
@@ -104,11 +104,12 @@ fn run_starved<R: Abort + Threads + Wait + Sync + HostFiles + Clock + AllocGloba
 ) -> Result<Starved, Fail> {
     let mut behind = Vec::from_slice(rt.alloc(), warnings)?;
     behind.extend_from_slice(NO_MEMORY)?;
+    let commented = commented_script(rt.alloc())?;
     let mut hoard = Hoard::new(rt.alloc(), 64)?;
     hoard.take_rest();
     let mut warned = 0u32;
     for refusals in 0..60_000 {
-        let (status, shown, told) = run_in(rt, words, out, err);
+        let (status, shown, told) = run_in(rt, words, commented.as_slice(), out, err);
         if status != 5 {
             hoard.free_all();
             return Ok(((status, shown, told), refusals, warned));

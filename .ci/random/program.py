@@ -38,9 +38,9 @@ class Program:
             raise Fault(f"{words[0]} ended with status {ran.returncode}, and said: {err}")
         return ran.returncode, out
 
-    def judged(self, subcommand):
+    def judged(self, subcommand, *options):
         """Returns the answer of `judge` or `make`, and what it printed."""
-        status, out = self.call(subcommand, "crontab", "declarations")
+        status, out = self.call(subcommand, "crontab", "declarations", *options)
         unknown = rf"unknown: ({REASONS})\n(refused [1-8] [^\n]+\n)?"
         if status == 2 and not re.fullmatch(unknown, out):
             raise Fault(f"{subcommand} ended with status 2, and printed {out[:200]!r}")

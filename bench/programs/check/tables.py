@@ -1,8 +1,10 @@
-"""tables.py FOLDER CLASSES JOBS STRETCHES [refused|over]: writes a crontab, an anacrontab, declarations and a complete certificate.
+"""tables.py FOLDER CLASSES JOBS STRETCHES [refused|over]: writes a crontab, an anacrontab, declarations, a complete certificate and a
+compact one of the same plan, version 3.
 
 A day's class is its month's part, its day's part and its weekday's, so that there are about as many classes as asked for; the order of the
 parts of days decides how many stretches of two days come. Every cron job is due once on its days; every fourth waits for the lock of its group.
-With `refused` the last stretch's leaf lacks its last window; with `over` the capacity is 1, which many a day's jobs exceed.
+With `refused` the last stretch's leaf lacks its last window, and in version 3 the last reach is a minute too short; with `over` the
+capacity is 1, which many a day's jobs exceed.
 """
 import json
 import sys
@@ -87,6 +89,8 @@ def backlog_of(waiting):
         if following > max(bound - 1, 0):
             pieces.append([minute + 1, following])
         bound = following
+    # so that no class begins with something left over
+    assert bound == 0
     return pieces
 
 
@@ -170,12 +174,19 @@ certificate = {
     "version": 1, "classes": classes, "kinds": kinds_tree(), "pairs": pairs,
     "reach": [[number, minutes] for number, minutes in sorted(reaches.items())],
 }
+compact = {
+    "version": 3, "classes": [{"carry": []} for _ in classes], "kinds": certificate["kinds"],
+    "reach": [list(listed) for listed in certificate["reach"]],
+}
+if refused:
+    compact["reach"][-1][1] -= 1
 with open(f"{folder}/table", "w") as file:
     file.write("\n".join(lines) + "\n")
 with open(f"{folder}/jobs", "w") as file:
     file.write("".join(f"1 1 job{number} /bin/job\n" for number in range(anacrons)))
 with open(f"{folder}/terms", "w") as file:
     json.dump(declarations, file, separators=(",", ":"), sort_keys=True)
-with open(f"{folder}/certificate", "w") as file:
-    json.dump(certificate, file, separators=(",", ":"), sort_keys=True)
+for name, written in (("certificate", certificate), ("compact", compact)):
+    with open(f"{folder}/{name}", "w") as file:
+        json.dump(written, file, separators=(",", ":"), sort_keys=True)
 print(f"{len(numbers)} classes, {len(used)} stretches, {len(lines) + anacrons} jobs")

@@ -2,6 +2,9 @@
 
 varied   half of the lines daily, the others on one of 22 patterns of days; 3 % minutely, 9 % each five minutes, 8 % each 10 to 30;
          a quarter of the others wait for the lock of one of 16 groups
+distinct a line for each month, one for each day of a month and one for each weekday, so that no two of the 2,562 kinds of days have
+         the same lines due; the others are due each day, 5 of them minutely, 18 each five minutes, 16 each twenty. Every run takes
+         one minute and none waits; at most 40 run at once
 waiting  every line waits for the lock of one of 16 groups
 months   each line is due daily in one month
 """
@@ -37,10 +40,29 @@ def varied():
     return f"{daily()} {days}", rng.randint(1, 30), True
 
 
+def distinct(number):
+    """A line's fields: the first 50 are restricted in one field each."""
+    for hour, count, days in ((0, 12, "* {} *"), (1, 31, "{} * *")):
+        if number < count:
+            return f"{number} {hour} {days.format(number + 1)}"
+        number -= count
+    if number < 7:
+        return f"{number} 2 * * {number}"
+    number -= 7
+    for count, minutes in ((5, "*"), (18, "*/5"), (16, "*/20")):
+        if number < count:
+            return f"{minutes} * * * *"
+        number -= count
+    minute = 180 + 6 * number
+    return f"{minute % 60} {minute // 60} * * *"
+
+
 def line_of(number):
     if shape == "varied":
         fields, most, may_wait = varied()
         waits = may_wait and rng.random() < 0.25
+    elif shape == "distinct":
+        fields, most, waits = distinct(number), 1, False
     elif shape == "waiting":
         fields, most, waits = f"{daily()} * * *", rng.randint(1, 30), True
     else:

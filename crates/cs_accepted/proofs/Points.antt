@@ -16,7 +16,7 @@ use Rattle.cs_accepted.specs.Windows.{holders}
 use Rattle.cs_accepted.specs.Certificate.{Certificate, Stretch}
 use Rattle.cs_windows.specs.Entries.{lists}
 use Rattle.cs_windows.specs.Tree.{Tree, entries_at}
-use Rattle.cs_accepted.specs.Accepted.{windows_of, arrivals, nth, clash, blocks, run_in, IsChain, IsUsed, InEach, IsCovered, AreApart, AreWithin, AreFree, IsAccepted}
+use Rattle.cs_accepted.specs.Accepted.{windows_of, arrivals, nth, clash, blocks, run_in, IsChain, IsUsed, InEach, ListsAll, IsCovered, AreApart, AreWithin, AreFree, IsAccepted}
 use Rattle.cs_wait.specs.Bounds.{at_days, StepsHold, ClearsBy}
 use Rattle.cs_accepted.specs.Faults.{Fault, ClassNotDue, Missing, BacklogRises, ReachTooShort, WindowMissing, Collision, OverCapacity, SkipBlocked, or_else, first_of, first_pair, unless, same_bool, same_list, chains, is_used, used_stretches, minute_of, is_due_alike, due_fault, stretch_fault, has_waiter, steps_at, rise_in, step_fault, clears_by, reaches_far, reach_fault, missing_in, leaf_fault, collision_in, collision_fault, overload_in, capacity_fault, blocked_in, skip_fault, first_fault}
 use Rattle.cs_windows.proofs.Members.{Has, has_contains, contains_has, has_range, range_has}
@@ -165,8 +165,9 @@ module _ (p : Plan) (plan : IsPlan p) (on : ℕ → Kind → ℕ → Bool) (a : 
       subst (λ (k : ℕ). Far j k (a.reach j)) (sym (ap (λ (o : Option ℕ). unwrap_or o 0) g.1)) (h j g.0 (lt-ltb j p.crons l) wait (locks_of p g.0 j takes g.1)))
 
   -- point 5
-  pub says_missing : (tree : Tree) (ws : List Window) → Says (missing_in tree ws) ((m : ℕ) → m < 1440 → AllByRecursion (λ w. lists (entries_at tree m) w ≡ true) (holders m ws))
-  says_missing tree ws = says_minutes (λ m. option_map (λ (w : Window). (m, w)) (find (λ w. not (lists (entries_at tree m) w)) (holders m ws))) (λ m. AllByRecursion (λ w. lists (entries_at tree m) w ≡ true) (holders m ws))
+  pub says_missing : (tree : Option Tree) (ws : List Window) → Says (missing_in tree ws) (ListsAll tree ws)
+  says_missing None ws = (λ _. tt, λ _. refl)
+  says_missing (Some tree) ws = says_minutes (λ m. option_map (λ (w : Window). (m, w)) (find (λ w. not (lists (entries_at tree m) w)) (holders m ws))) (λ m. AllByRecursion (λ w. lists (entries_at tree m) w ≡ true) (holders m ws))
       (λ m. says_map (λ (w : Window). (m, w)) (find (λ w. not (lists (entries_at tree m) w)) (holders m ws)) (AllByRecursion (λ w. lists (entries_at tree m) w ≡ true) (holders m ws))
       (says_to (find (λ w. not (lists (entries_at tree m) w)) (holders m ws)) (AllByRecursion (λ w. not (lists (entries_at tree m) w) ≡ false) (holders m ws)) (AllByRecursion (λ w. lists (entries_at tree m) w ≡ true) (holders m ws))
       (says_find (λ w. not (lists (entries_at tree m) w)) (holders m ws))

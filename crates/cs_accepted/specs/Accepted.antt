@@ -1,5 +1,5 @@
 -- What makes a certificate accepted: eight rules about the kinds of days and the stretches that successive days have.
-use Rattle.std.specs.Prelude.{◌≡◌, ℕ, ◌+◌, ◌-◌, ◌*◌, ◌/◌, ◌%◌, ◌<◌, ◌≤◌, Bool, true, false, not, ◌&&◌, ◌||◌, List, [], ◌∷◌, Some, if◌then◌else◌, ◌==◌, filter, map, length, get_or, unwrap_or, Contains, ⊤}
+use Rattle.std.specs.Prelude.{◌≡◌, ℕ, ◌+◌, ◌-◌, ◌*◌, ◌/◌, ◌%◌, ◌<◌, ◌≤◌, Bool, true, false, not, ◌&&◌, ◌||◌, List, [], ◌∷◌, Option, Some, None, if◌then◌else◌, ◌==◌, filter, map, length, get_or, unwrap_or, Contains, ⊤}
 use Rattle.std.specs.List.{AllByRecursion, range_with_len}
 use Rattle.cs_civil.specs.Calendar.{Kind, IsKind, kind, kinds_after}
 use Rattle.cs_history.specs.declared.mode.Mode.{Mode}
@@ -15,7 +15,7 @@ use Rattle.cs_windows.specs.Window.{window}
 use Rattle.cs_accepted.specs.Windows.{same_window, holders}
 use Rattle.cs_accepted.specs.Certificate.{Certificate, Stretch}
 use Rattle.cs_windows.specs.Entries.{lists}
-use Rattle.cs_windows.specs.Tree.{entries_at}
+use Rattle.cs_windows.specs.Tree.{Tree, entries_at}
 
 -- the reach that a certificate gives a job, its declared time where it gives none
 abbrev pub reach_in : Plan → Certificate → ℕ → ℕ
@@ -96,9 +96,14 @@ blocks p m v w = (is_skip (p.mode v.job) && ((v.day_back == 0) && (v.from == m))
 abbrev pub run_in : ℕ → Window → Run
 run_in n w = record { job = w.job; at = 1440 * ((n - 1) - w.day_back) + w.from }
 
--- at each minute the leaf there lists the windows that hold it
+-- where windows are listed: at each minute the leaf there lists those that hold it
+abbrev pub ListsAll : Option Tree → List Window → Type 0
+ListsAll None ws = ⊤
+ListsAll (Some tree) ws = (m : ℕ) → m < 1440 → AllByRecursion (λ w. lists (entries_at tree m) w ≡ true) (holders m ws)
+
+-- of the windows of a stretch
 abbrev pub IsCovered : Plan → Certificate → Stretch → Type 0
-IsCovered p a s = (m : ℕ) → m < 1440 → AllByRecursion (λ w. lists (entries_at s.tree m) w ≡ true) (holders m (windows_of p a s.of))
+IsCovered p a s = ListsAll s.tree (windows_of p a s.of)
 
 -- at no minute of the day do two windows clash
 abbrev pub AreApart : Plan → List Window → Type 0
@@ -126,7 +131,7 @@ pub record IsAccepted (p : Plan) (on : ℕ → Kind → ℕ → Bool) (a : Certi
   pub steps : (g : ℕ) → HasWaiter p g → InEach a n (λ s. StepsHold (a.bound (nth s.of (n - 2)) g) (arrivals p a g (nth s.of (n - 2))) (a.bound (nth s.of (n - 1)) g))
   -- reaches: each waiting job has one, and within it the backlog of its group is zero after each due minute of the first day
   pub clears : (j g : ℕ) → is_cron p j ≡ true → waits p j ≡ true → locks p g j ≡ true → (r : ℕ) × (a.reach j ≡ Some r) × InEach a n (λ s. (m : ℕ) → m < 1440 → a.due (nth s.of 0) j m ≡ true → ClearsBy (map (λ class. a.bound class g) s.of) m r)
-  -- leaves: at each minute of the last day the leaf there lists each window that holds it
+  -- leaves: where windows are listed, at each minute of the last day the leaf there lists each window that holds it
   pub covered : InEach a n (IsCovered p a)
   -- collisions, capacity, skip jobs: on the last day
   pub apart : InEach a n (λ s. AreApart p (windows_of p a s.of))

@@ -3,10 +3,10 @@ use Rattle.std.specs.Prelude.{ℕ, Bool, List, Option}
 use Rattle.cs_civil.specs.Calendar.{Kind}
 use Rattle.cs_windows.specs.Tree.{Tree}
 
--- classes of successive days, and the windows of the last of them
+-- classes of successive days, and the windows of the last of them, where they are listed
 pub record Stretch : Type 0 where
   pub of : List ℕ
-  pub tree : Tree
+  pub tree : Option Tree
 
 pub record Certificate : Type 0 where
   pub class_of : Kind → ℕ

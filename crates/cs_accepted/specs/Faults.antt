@@ -122,9 +122,10 @@ reaches_far p a n j (Some r) = list_all (λ s. list_all (λ m. not (a.due (nth s
 abbrev pub reach_fault : Plan → Certificate → ℕ → Option Fault
 reach_fault p a n = first_of (λ j. unless (not (waits p j) || reaches_far p a n j (a.reach j)) (ReachTooShort j)) (below p.crons)
 
--- the first minute of the day, and the first window that holds it, that isn't in the leaf there
-abbrev pub missing_in : Tree → List Window → Option (ℕ × Window)
-missing_in tree ws = first_of (λ m. option_map (λ w. (m, w)) (find (λ w. not (lists (entries_at tree m) w)) (holders m ws))) day_minutes
+-- where windows are listed: the first minute of the day, and the first window that holds it, that isn't in the leaf there
+abbrev pub missing_in : Option Tree → List Window → Option (ℕ × Window)
+missing_in None ws = None
+missing_in (Some tree) ws = first_of (λ m. option_map (λ w. (m, w)) (find (λ w. not (lists (entries_at tree m) w)) (holders m ws))) day_minutes
 
 -- leaves
 abbrev pub leaf_fault : Plan → Certificate → ℕ → Option Fault

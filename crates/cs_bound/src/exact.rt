@@ -77,7 +77,7 @@ fn window_of(facts: &Facts, run: &QueuedRun, length: u8) -> Option<Window> {
     let place = u8::try_from(run.due / MINUTES_OF_DAY).ok()?;
     let until = run.start.saturating_add(u32::from(task.max));
     let window = Window {
-        job: usize::from(run.job),
+        job: run.job,
         day_back: length.checked_sub(1)?.checked_sub(place)?,
         from: u16::try_from(run.due % MINUTES_OF_DAY).ok()?,
         reach: u16::try_from(until.saturating_sub(run.due)).unwrap_or(u16::MAX),
@@ -105,7 +105,7 @@ fn add_windows(
 }
 
 /// What names a window of a stretch: its job, the days back and the minute from which it is.
-type Name = (usize, u8, u16);
+type Name = (u16, u8, u16);
 
 /// The windows by their names.
 fn by_name(alloc: Global, windows: &[Window]) -> Result<IndexMap<Name, Window>, AllocError> {
@@ -209,7 +209,7 @@ impl<'a> ExactWaits<'a> {
 
     /// A window of the stretch as it really is.
     fn exact(&self, own: &IndexMap<Name, Window>, window: &Window) -> Option<Window> {
-        match self.facts.tasks().get(window.job) {
+        match self.facts.tasks().get(usize::from(window.job)) {
             Some(task) if task.is_cron && task.waits() => own
                 .get(&(window.job, window.day_back, window.from))
                 .copied(),

@@ -6,8 +6,9 @@ use Rattle.clap.specs.declared.error.kind.ErrorKind.TheVariants.{DisplayHelp, Di
 use Rattle.clap.specs.declared.error.kind.ErrorKind.TheVariants as kind
 use Rattle.cs_call.specs.CommandLine.{Asked, AskedCheck, AskedReplay, Asking, Asks, AsksHelp, AsksVersion, Check, Day, Help as HelpAsking, IsNoCall, Replay, asked_by, asked_in, check_in, help_in, replay_in}
 use Rattle.cs_call.specs.declared.request.CheckWords.{CheckWords}
-use Rattle.cs_call.specs.CommandLine.{AskedJudge, AskedRun, Judge, Make, Run, judge_in, run_in}
+use Rattle.cs_call.specs.CommandLine.{AskedJudge, AskedMake, AskedRun, Judge, Make, Run, judge_in, make_in, run_in}
 use Rattle.cs_call.specs.declared.request.JudgeWords.{JudgeWords}
+use Rattle.cs_call.specs.declared.request.MakeWords.{MakeWords}
 use Rattle.cs_call.specs.declared.request.DayWords.{DayWords}
 use Rattle.cs_call.specs.declared.request.ReplayWords.{ReplayWords}
 use Rattle.cs_call.specs.declared.request.RunWords.{RunWords}
@@ -41,13 +42,16 @@ asked_judge j = record {
   anacrontab = option_map (λ path. path.now) j.anacrontab;
 }
 
+abbrev pub asked_make : MakeWords → AskedMake
+asked_make m = record { judge = asked_judge m.judge; compact = m.compact }
+
 abbrev pub asking : Request → Asking
 asking (request.Day d) = Day (asked d)
 asking (request.Replay r) = Replay (asked_replay r)
 asking (request.Check c) = Check (asked_check c)
 asking (request.Run r) = Run (asked_run r)
 asking (request.Judge j) = Judge (asked_judge j)
-asking (request.Make j) = Make (asked_judge j)
+asking (request.Make m) = Make (asked_make m)
 
 -- the words ask what is answered; help and the version are answered where they are asked for, and a
 -- fault of the words where there is one
@@ -106,13 +110,21 @@ RunAsked rows (Err Version) = ⊥
 RunAsked rows (Err (NoCall text)) = run_in rows ≡ None
 RunAsked rows (Err OutOfMemory) = ⊤
 
--- and of those that follow `judge` or `make`
+-- and of those that follow `judge`, and of `make` the same of them
 abbrev pub JudgeAsked : List Row → Result JudgeWords UsageFault → Type 0
 JudgeAsked rows (Ok j) = judge_in rows ≡ Some (asked_judge j)
 JudgeAsked rows (Err (Help text)) = ⊥
 JudgeAsked rows (Err Version) = ⊥
 JudgeAsked rows (Err (NoCall text)) = judge_in rows ≡ None
 JudgeAsked rows (Err OutOfMemory) = ⊤
+
+-- and of those that follow `make`
+abbrev pub MakeAsked : List Row → Result MakeWords UsageFault → Type 0
+MakeAsked rows (Ok m) = make_in rows ≡ Some (asked_make m)
+MakeAsked rows (Err (Help text)) = ⊥
+MakeAsked rows (Err Version) = ⊥
+MakeAsked rows (Err (NoCall text)) = make_in rows ≡ None
+MakeAsked rows (Err OutOfMemory) = ⊤
 
 -- and of those that follow `help`: a text of it
 abbrev pub HelpAsked : {T : Type 0} → List Row → Result T UsageFault → Type 0

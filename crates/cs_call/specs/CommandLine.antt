@@ -7,6 +7,7 @@ use Rattle.std.specs.Option.{option_map_or}
 use Rattle.std.specs.Str.{bytes_eq}
 use Rattle.clap.specs.Words.{App, IsAmong, Row, Rule, Text, fault_of, first_of, new_app, new_rule, subcommand_of, with_rule, with_subcommand}
 use Rattle.clap.specs.Simple.{on_top}
+use Rattle.clap.specs.declared.builder.action.ArgAction.TheVariants.{SetTrue}
 use Rattle.clap.specs.declared.builder.command.Command.{Command}
 use Rattle.clap.specs.declared.builder.command.Command.TheViews.{out-Command as fields_of}
 use Rattle.clap.specs.declared.error.kind.ErrorKind.{ErrorKind}
@@ -23,6 +24,10 @@ IsLocal c = (fields_of c).has_globals ≡ false
 -- an option with one value, `--NAME VALUE`
 abbrev pub option_rule : Text → Rule
 option_rule id = record (new_rule id) { long = Some id; value_names = 1 }
+
+-- an option with no value, `--NAME`
+abbrev pub flag_rule : Text → Rule
+flag_rule id = record (new_rule id) { long = Some id; action = Some SetTrue }
 
 -- `TABLE DATE MAX`
 abbrev pub with_words : App → App
@@ -71,9 +76,9 @@ plan_app name =
 abbrev pub judge_app : App
 judge_app = plan_app (codes "judge")
 
--- `make TABLE DECLS [--anacrontab FILE]`
+-- `make TABLE DECLS [--anacrontab FILE] [--compact]`
 abbrev pub make_app : App
-make_app = plan_app (codes "make")
+make_app = with_rule (plan_app (codes "make")) (flag_rule (codes "compact"))
 
 -- `help [COMMAND]`
 abbrev pub help_app : App
@@ -140,11 +145,16 @@ pub record AskedRun : Type 0 where
   pub stamps : Text
   pub minutes : Option ℕ
 
--- what `judge` and `make` are asked: the paths of a table, of declarations and of an anacrontab
+-- what `judge` is asked: the paths of a table, of declarations and of an anacrontab
 pub record AskedJudge : Type 0 where
   pub table : Text
   pub declarations : Text
   pub anacrontab : Option Text
+
+-- what `make` is asked: what `judge` is, and whether the certificate is to be a compact one
+pub record AskedMake : Type 0 where
+  pub judge : AskedJudge
+  pub compact : Bool
 
 -- what words may ask: a subcommand, or, by the subcommand `help`, how the program is called
 pub data Asking : Type 0 where
@@ -153,12 +163,16 @@ pub data Asking : Type 0 where
   Check : AskedCheck → Asking
   Run : AskedRun → Asking
   Judge : AskedJudge → Asking
-  Make : AskedJudge → Asking
+  Make : AskedMake → Asking
   Help : Asking
 
 -- the first value of an argument, and this text where it has none
 abbrev pub value_or : Text → Text → List Row → Text
 value_or absent id rows = unwrap_or (first_of id rows) absent
+
+-- an option with no value is given
+abbrev pub has_flag : Text → List Row → Bool
+has_flag id rows = option_map_or (λ text. bytes_eq text (codes "true")) (first_of id rows) false
 
 -- both paths name standard input
 abbrev pub is_dash : Text → Bool
@@ -232,7 +246,7 @@ run_in rows =
     (λ check. record { check = check; stamps = stamps; minutes = minutes }) (check_in rows))
     (minutes_of (first_of (codes "minutes") rows))
 
--- what the entries of `judge` and of `make` ask: standard input is named once at most
+-- what the entries of `judge` ask: standard input is named once at most
 abbrev pub judge_in : List Row → Option AskedJudge
 judge_in rows =
     let table = value_or [] (codes "TABLE") rows in
@@ -240,6 +254,12 @@ judge_in rows =
     let anacrontab = first_of (codes "anacrontab") rows in
     if are_dashes table declarations anacrontab None then None
     else Some (record { table = table; declarations = declarations; anacrontab = anacrontab })
+
+-- what the entries of `make` ask: what those of `judge` do, and whether `--compact` is among them
+abbrev pub make_in : List Row → Option AskedMake
+make_in rows =
+    option_map (λ judge. record { judge = judge; compact = has_flag (codes "compact") rows })
+    (judge_in rows)
 
 -- the names of the subcommands
 abbrev pub is_subcommand : Text → Bool
@@ -260,7 +280,7 @@ asked_by name rows =
     else if bytes_eq name (codes "check") then option_map Check (check_in rows)
     else if bytes_eq name (codes "run") then option_map Run (run_in rows)
     else if bytes_eq name (codes "judge") then option_map Judge (judge_in rows)
-    else if bytes_eq name (codes "make") then option_map Make (judge_in rows)
+    else if bytes_eq name (codes "make") then option_map Make (make_in rows)
     else if bytes_eq name (codes "help") then help_in rows
     else option_map Day (asked_in rows)
 

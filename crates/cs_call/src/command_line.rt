@@ -3,13 +3,13 @@ ghost use Rattle.std.specs.Prelude.{◌≡◌, map, option_map};
 ghost use Rattle.std.specs.Char.{is_ascii_digit};
 ghost use Rattle.std.specs.List.{list_all};
 ghost use Rattle.clap.specs.Words.{first_of, found_of, rows_of};
-ghost use Rattle.cs_call.specs.CommandLine.{are_dashes, is_dash_in, is_twice_standard, minutes_of, number_of, value_or};
+ghost use Rattle.cs_call.specs.CommandLine.{are_dashes, has_flag, is_dash_in, is_twice_standard, minutes_of, number_of, value_or};
 ghost use Rattle.cs_call.specs.Asked.{CheckAsked, DayAsked, FaultOf, HelpAsked, NumberAsked, Parses, ReplayAsked, RequestAsked};
-ghost use Rattle.cs_call.specs.Asked.{JudgeAsked, MinutesAsked, RunAsked};
+ghost use Rattle.cs_call.specs.Asked.{JudgeAsked, MakeAsked, MinutesAsked, RunAsked};
 
 use crate::commands::{Subcommand, command};
 use crate::request::{
-    CheckWords, DayWords, JudgeWords, ReplayWords, Request, RunWords, UsageFault,
+    CheckWords, DayWords, JudgeWords, MakeWords, ReplayWords, Request, RunWords, UsageFault,
 };
 use clap::error::ErrorKind;
 use clap::{ArgMatches, Error};
@@ -68,6 +68,16 @@ fn text_of<'a>(given: &ArgMatches<'a>, id: &str, absent: &'a str) -> &'a str
     match value_of(given, id) {
         Some(text) => text,
         None => absent,
+    }
+}
+
+/// Whether an option with no value is given.
+fn has_flag(given: &ArgMatches<'_>, id: &str) -> bool
+    ensures { result ≡ has_flag id.now (rows_of (found_of given.now)) }
+{
+    match value_of(given, id) {
+        Some(text) => text == "true",
+        None => false,
     }
 }
 
@@ -239,7 +249,7 @@ fn run_words<'a>(alloc: Global, given: &ArgMatches<'a>) -> Result<RunWords<'a>, 
     })
 }
 
-/// What the entries of `judge` or of `make` ask.
+/// What the entries of `judge` ask, and of `make` the same of them.
 fn judge_words<'a>(
     alloc: Global,
     subcommand: Subcommand,
@@ -258,6 +268,15 @@ fn judge_words<'a>(
         declarations,
         anacrontab,
     })
+}
+
+/// What the entries of `make` ask.
+fn make_words<'a>(alloc: Global, given: &ArgMatches<'a>) -> Result<MakeWords<'a>, UsageFault>
+    ensures { MakeAsked (rows_of (found_of given.now)) result }
+{
+    let judge = judge_words(alloc, Subcommand::Make, given)?;
+    let compact = has_flag(given, "compact");
+    Ok(MakeWords { judge, compact })
 }
 
 /// The help that the entries of `help` ask for, of the program or of a subcommand.
@@ -297,7 +316,7 @@ fn asked_by<'a>(
         return Ok(Request::Judge(judge_words(alloc, Subcommand::Judge, given)?));
     }
     if name == "make" {
-        return Ok(Request::Make(judge_words(alloc, Subcommand::Make, given)?));
+        return Ok(Request::Make(make_words(alloc, given)?));
     }
     if name == "help" {
         return Err(UsageFault::Help(help_text(alloc, given)?));

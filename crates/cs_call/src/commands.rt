@@ -4,17 +4,18 @@ ghost use Rattle.clap.specs.Words.{app_of, rule_of, with_rule};
 ghost use Rattle.cs_call.specs.CommandLine.{IsLocal, check_app, cronsafe_app, day_app, help_app, judge_and_make_app};
 ghost use Rattle.cs_call.specs.CommandLine.{judge_app, make_app, plan_app, replay_app, run_app};
 ghost use Rattle.cs_call.specs.CommandLine.{up_to_replay_app, up_to_run_app, with_certificate};
-ghost use Rattle.cs_call.specs.CommandLine.{is_subcommand, option_rule, required_rule, with_hours, with_terms, with_words};
+ghost use Rattle.cs_call.specs.CommandLine.{flag_rule, is_subcommand, option_rule, required_rule, with_hours, with_terms, with_words};
 
 use crate::texts::{
-    ABOUT, ANACRONTAB_HELP, CERTIFICATE_HELP, CHECK_ABOUT, CHECK_EXAMPLE, COMMAND_HELP, DATE_HELP,
-    DAY_ABOUT, DAY_EXAMPLE, DECLARATIONS_HELP, EXAMPLE, FROM_HELP, HELP_ABOUT, JUDGE_ABOUT,
-    JUDGE_EXAMPLE, MAKE_ABOUT, MAKE_EXAMPLE, MAX_HELP, MINUTES_HELP, REPLAY_ABOUT, REPLAY_EXAMPLE,
-    REPLAY_MAX_HELP, RUN_ABOUT, RUN_EXAMPLE, SCRIPT_HELP, STAMPS_HELP, TABLE_HELP, TO_HELP,
+    ABOUT, ANACRONTAB_HELP, CERTIFICATE_HELP, CHECK_ABOUT, CHECK_EXAMPLE, COMMAND_HELP,
+    COMPACT_HELP, DATE_HELP, DAY_ABOUT, DAY_EXAMPLE, DECLARATIONS_HELP, EXAMPLE, FROM_HELP,
+    HELP_ABOUT, JUDGE_ABOUT, JUDGE_EXAMPLE, MAKE_ABOUT, MAKE_EXAMPLE, MAX_HELP, MINUTES_HELP,
+    REPLAY_ABOUT, REPLAY_EXAMPLE, REPLAY_MAX_HELP, RUN_ABOUT, RUN_EXAMPLE, SCRIPT_HELP,
+    STAMPS_HELP, TABLE_HELP, TO_HELP,
 };
 use crate::version::version_text;
 use clap::error::ErrorKind;
-use clap::{Arg, Command};
+use clap::{Arg, ArgAction, Command};
 use std::alloc::{AllocError, Global};
 
 /// An argument that stands without a name, and has to.
@@ -33,6 +34,17 @@ fn option_arg<'a>(alloc: Global, name: &'a str, value: &'a str, help: &'a str) -
     Arg::new(alloc, name)
         .long(name)
         .value_name(value)
+        .help(help)
+}
+
+/// An option with no value, `--NAME`.
+fn flag_arg<'a>(alloc: Global, name: &'a str, help: &'a str) -> Arg<'a>
+    ensures rule { rule_of result ≡ flag_rule name.now }
+    ensures local { result.global ≡ false }
+{
+    Arg::new(alloc, name)
+        .long(name)
+        .action(ArgAction::SetTrue)
         .help(help)
 }
 
@@ -172,12 +184,13 @@ fn judge_command<'a>(alloc: Global) -> Result<Command<'a>, AllocError>
     plan_command(alloc, "judge", JUDGE_ABOUT, JUDGE_EXAMPLE)
 }
 
-/// `make TABLE DECLS [--anacrontab FILE]`.
+/// `make TABLE DECLS [--anacrontab FILE] [--compact]`.
 fn make_command<'a>(alloc: Global) -> Result<Command<'a>, AllocError>
     ensures app { IfOk result (λ c. app_of c ≡ make_app) }
     ensures local { IfOk result IsLocal }
 {
-    plan_command(alloc, "make", MAKE_ABOUT, MAKE_EXAMPLE)
+    let command = plan_command(alloc, "make", MAKE_ABOUT, MAKE_EXAMPLE)?;
+    command.arg(flag_arg(alloc, "compact", COMPACT_HELP))
 }
 
 /// `help [COMMAND]`.

@@ -12,5 +12,7 @@ mod version;
 pub use command_line::parse_words;
 pub use hours::Hours;
 pub use question::{Question, WordFault};
-pub use request::{CheckWords, DayWords, JudgeWords, ReplayWords, Request, RunWords, UsageFault};
+pub use request::{
+    CheckWords, DayWords, JudgeWords, MakeWords, ReplayWords, Request, RunWords, UsageFault,
+};
 pub use version::version_text;

@@ -60,7 +60,7 @@ pub struct RunWords<'a> {
     pub minutes: Option<u64>,
 }
 
-/// What `judge` and `make` are asked.
+/// What `judge` is asked.
 #[derive(Clone, Copy, Debug)]
 pub struct JudgeWords<'a> {
     /// The path of a crontab.
@@ -69,6 +69,15 @@ pub struct JudgeWords<'a> {
     pub declarations: &'a str,
     /// The path of an anacrontab.
     pub anacrontab: Option<&'a str>,
+}
+
+/// What `make` is asked.
+#[derive(Clone, Copy, Debug)]
+pub struct MakeWords<'a> {
+    /// The paths that `judge` is asked with.
+    pub judge: JudgeWords<'a>,
+    /// Whether the certificate is to be a compact one, which says only what the tables and declarations don't.
+    pub compact: bool,
 }
 
 /// What a call asks.
@@ -85,7 +94,7 @@ pub enum Request<'a> {
     /// Whether a plan is safe, or a history that breaks it.
     Judge(JudgeWords<'a>),
     /// A certificate of a plan, or a history that breaks it.
-    Make(JudgeWords<'a>),
+    Make(MakeWords<'a>),
 }
 
 /// Why words are no call.

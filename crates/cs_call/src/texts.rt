@@ -86,13 +86,15 @@ or lets a due minute of a skip job be skipped.
 The status is 1 where the plan is unsafe and 2 where neither is known.";
 
 pub(crate) const MAKE_ABOUT: &str =
-    "Makes the certificate that proves that declared jobs keep out of each other's way.";
+    "Makes a certificate that proves that declared jobs keep out of each other's way.";
 
 pub(crate) const MAKE_EXAMPLE: &str = "Example, a certificate that 'cronsafe check' accepts:
   cronsafe make night.cron night.json > night.cert
 
-It prints the certificate; or, as 'cronsafe judge' does, 'unsafe' with a script that shows it, or
-'unknown' with a reason. The status is 1 where the plan is unsafe and 2 where neither is known.";
+It prints the certificate, which lists all due minutes and windows; or one that says only what the
+tables and declarations don't, where that list can't be kept in a file of 16 MiB or --compact is
+given; or, as 'cronsafe judge' does, 'unsafe' with a script that shows it, or 'unknown' with a
+reason. The status is 1 where the plan is unsafe and 2 where neither is known.";
 
 pub(crate) const TABLE_HELP: &str = "Path of a crontab, or - for standard input";
 
@@ -110,6 +112,9 @@ pub(crate) const REPLAY_MAX_HELP: &str =
 pub(crate) const DECLARATIONS_HELP: &str = "Path of declarations, or - for standard input";
 
 pub(crate) const CERTIFICATE_HELP: &str = "Path of a certificate, or - for standard input";
+
+pub(crate) const COMPACT_HELP: &str =
+    "Makes a certificate that says only what the tables and declarations don't";
 
 pub(crate) const STAMPS_HELP: &str =
     "Path of a folder, with a file for each anacron job that has run, as anacron(8) keeps them";

@@ -10,6 +10,7 @@ use Rattle.serde_json.specs.Written.{has_float}
 use Rattle.cs_json.specs.NoFloat.{list_no_float, pair_no_float, triple_no_float}
 use Rattle.cs_daytree.specs.Tree as day
 use Rattle.cs_windows.specs.Tree as minute
+use Rattle.cs_wait.specs.Bounds.{at}
 use Rattle.cs_windows.specs.declared.tree.Entry.{Entry}
 use Rattle.cs_wait.specs.declared.backlog.Piece.{Piece}
 use Rattle.cs_cert.specs.declared.class.Class.{Class}
@@ -18,7 +19,7 @@ use Rattle.cs_cert.specs.declared.class.GroupBacklog.{GroupBacklog}
 use Rattle.cs_cert.specs.Content.{Content, StretchTree}
 use Rattle.cs_cert.specs.Rules.{is_shallow}
 use Rattle.cs_cert.specs.Rules as rule
-use Rattle.cs_cert.specs.Written.{certificate_data, class_data, first_version_data, second_version_data, day_tree_data, due_list_data, entry_data, group_backlog_data, list_data, minute_tree_data, number_data, piece_data, reach_data, stretch_data}
+use Rattle.cs_cert.specs.Written.{carry_class_data, carry_data, certificate_data, class_data, first_version_data, second_version_data, third_version_data, listed_data, day_tree_data, due_list_data, entry_data, group_backlog_data, list_data, minute_tree_data, number_data, piece_data, reach_data, stretch_data}
 use Rattle.cs_cert.proofs.Both.{and_both}
 
 -- ---- depth
@@ -59,8 +60,11 @@ minute_depth (minute.split at before after) = omega (arith, minute_depth before,
 stretch_depth : (s : StretchTree) → is_shallow s ≡ true → depth (stretch_data s) ≤ 28
 stretch_depth s h = let deep = leb-true (rule.depth s.tree) 24 h in omega (arith, deep, numbers_depth s.of, minute_depth s.tree)
 
+carry_class_depth : (c : Class) → depth (carry_class_data c) ≤ 3
+carry_class_depth c = omega (arith, items_all carry_data 1 (λ b. omega arith) c.backlog)
+
 pub certificate_depth : (c : Content) → day.depth c.kinds ≤ 24 → list_all is_shallow c.stretches ≡ true → depth (certificate_data c) ≤ max_depth
-certificate_depth c d h = by_version (c.version == 2)
+certificate_depth c d h = by_form (c.version == 3)
   where
     classes : items_depth (items_of (map class_data c.classes)) ≤ 5
     classes = items_all class_data 5 class_depth c.classes
@@ -74,9 +78,16 @@ certificate_depth c d h = by_version (c.version == 2)
     kinds : depth (day_tree_data c.kinds) ≤ 26
     kinds = omega (arith, d, day_depth c.kinds)
 
+    carries : items_depth (items_of (map carry_class_data c.classes)) ≤ 3
+    carries = items_all carry_class_data 3 carry_class_depth c.classes
+
     by_version : (b : Bool) → depth (if b then second_version_data c else first_version_data c) ≤ max_depth
     by_version true = omega (arith, classes, reaches, stretches, kinds)
     by_version false = omega (arith, classes, reaches, stretches, kinds)
+
+    by_form : (b : Bool) → depth (if b then third_version_data c else listed_data c) ≤ max_depth
+    by_form true = omega (arith, carries, reaches, kinds)
+    by_form false = by_version (c.version == 2)
 
 -- ---- no float
 
@@ -109,8 +120,14 @@ minute_no_float (minute.split at before after) = rw (minute_no_float after, minu
 stretch_no_float : (s : StretchTree) → has_float (stretch_data s) ≡ false
 stretch_no_float s = rw (numbers_no_float s.of, minute_no_float s.tree) refl
 
+carry_no_float : (b : GroupBacklog) → has_float (carry_data b) ≡ false
+carry_no_float b = pair_no_float (number_data b.group) (number_data (at b.backlog 0)) refl refl
+
+carry_class_no_float : (c : Class) → has_float (carry_class_data c) ≡ false
+carry_class_no_float c = rw (list_no_float carry_data carry_no_float c.backlog) refl
+
 pub certificate_no_float : (c : Content) → has_float (certificate_data c) ≡ false
-certificate_no_float c = by_version (c.version == 2)
+certificate_no_float c = by_form (c.version == 3)
   where
     classes : has_float (list_data class_data c.classes) ≡ false
     classes = list_no_float class_data class_no_float c.classes
@@ -121,6 +138,13 @@ certificate_no_float c = by_version (c.version == 2)
     reaches : has_float (list_data reach_data c.reach) ≡ false
     reaches = list_no_float reach_data (λ r. pair_no_float (number_data r.job) (number_data r.reach) refl refl) c.reach
 
+    carries : has_float (list_data carry_class_data c.classes) ≡ false
+    carries = list_no_float carry_class_data carry_class_no_float c.classes
+
     by_version : (b : Bool) → has_float (if b then second_version_data c else first_version_data c) ≡ false
     by_version true = rw (classes, day_no_float c.kinds, reaches, stretches) refl
     by_version false = rw (classes, day_no_float c.kinds, stretches, reaches) refl
+
+    by_form : (b : Bool) → has_float (if b then third_version_data c else listed_data c) ≡ false
+    by_form true = rw (carries, day_no_float c.kinds, reaches) refl
+    by_form false = by_version (c.version == 2)

@@ -9,20 +9,21 @@ use Rattle.cs_daytree.specs.Tree as day
 use Rattle.cs_daytree.specs.Possible.{all_numbers, splits_fit}
 use Rattle.cs_cert.specs.declared.fault.CertFault.{CertFault}
 use Rattle.cs_cert.specs.Content.{Content, StretchTree}
-use Rattle.cs_cert.specs.Rules.{class_fits, classes_there, fault_of, first_fault, has_days, has_entries, is_of_classes, is_split_well, is_version, leaves_short, lengths_fit, lists_fit, most_days, most_reach, reach_fits, trees_shallow, trees_split_well, unless}
+use Rattle.cs_cert.specs.Rules.{carries_fit, class_fits, classes_shaped, classes_there, fault_of, first_fault, has_days, has_entries, is_of_classes, is_split_well, is_version, leaves_short, lengths_fit, lists_fit, most_classes, most_days, most_reach, reach_fits, shapes_fit, trees_shallow, trees_split_well, unless}
 use Rattle.cs_cert.specs.Kept.{IsSound, Keeps}
+use Rattle.cs_cert.specs.Judged.{IsClaim}
 use Rattle.cs_cert.proofs.Splits.{inside_so}
 use Rattle.cs_cert.proofs.Both.{and_both}
 
 -- no fault stands: each rule holds
 pub record Rules (c : Content) : Type 0 where
   pub version : is_version c.version ≡ true
-  pub lengths : lengths_fit c ≡ true
+  pub shapes : shapes_fit c ≡ true
   pub shallow : trees_shallow c ≡ true
   pub splits : trees_split_well c ≡ true
   pub classes : classes_there c ≡ true
   pub lists : lists_fit c ≡ true
-  pub count : nat_le (length c.classes) 512 ≡ true
+  pub count : nat_le (length c.classes) (most_classes c.version) ≡ true
   pub short : leaves_short c ≡ true
 
 all_hold : (a b c d e f g h : Bool) (s t u v w x y z : CertFault)
@@ -41,12 +42,28 @@ all_hold false b c d e f g h s t u v w x y z k = cc
 pub rules_hold : (c : Content) → fault_of c ≡ None → Rules c
 unfolding fault_of
 rules_hold c h =
-    let t = all_hold (is_version c.version) (lengths_fit c) (trees_shallow c) (trees_split_well c) (classes_there c) (lists_fit c) (nat_le (length c.classes) 512) (leaves_short c) _ _ _ _ _ _ _ _ h in
-    record { version = t.0; lengths = t.1; shallow = t.2; splits = t.3; classes = t.4; lists = t.5; count = t.6; short = t.7 }
+    let t = all_hold (is_version c.version) (shapes_fit c) (trees_shallow c) (trees_split_well c) (classes_there c) (lists_fit c) (nat_le (length c.classes) (most_classes c.version)) (leaves_short c) _ _ _ _ _ _ _ _ h in
+    record { version = t.0; shapes = t.1; shallow = t.2; splits = t.3; classes = t.4; lists = t.5; count = t.6; short = t.7 }
 
-pub one_or_two : (v : ℕ) (b : Bool) → (v == 1) ≡ b → (b || (v == 2)) ≡ true → (v ≡ 1) ⊎ (v ≡ 2)
-one_or_two v true e h = inl (eqb-true v 1 e)
-one_or_two v false e h = inr (eqb-true v 2 h)
+pub which_version : (v : ℕ) (a b : Bool) → (v == 1) ≡ a → (v == 2) ≡ b → (a || (b || (v == 3))) ≡ true → (v ≡ 1) ⊎ ((v ≡ 2) ⊎ (v ≡ 3))
+which_version v true b e f h = inl (eqb-true v 1 e)
+which_version v false true e f h = inr (inl (eqb-true v 2 f))
+which_version v false false e f h = inr (inr (eqb-true v 3 h))
+
+pub few_classes : (v : ℕ) → most_classes v ≤ 2562
+few_classes v = step (v == 3)
+  where
+    step : (b : Bool) → (if b then 2562 else 512) ≤ 2562
+    step true = omega arith
+    step false = omega arith
+
+-- how the parts of the lists' rule are nested
+pub list_parts : (c : Content) → lists_fit c ≡ true → (reach_fits (most_reach c.version) c.reach ≡ true) × (list_all class_fits c.classes ≡ true) × (list_all (has_entries (most_days c.version)) c.stretches ≡ true) × (carries_fit c ≡ true)
+list_parts c h =
+    let all = and_both (reach_fits (most_reach c.version) c.reach && list_all class_fits c.classes && list_all (has_entries (most_days c.version)) c.stretches) (carries_fit c) h in
+    let lists = and_both (reach_fits (most_reach c.version) c.reach && list_all class_fits c.classes) (list_all (has_entries (most_days c.version)) c.stretches) all.0 in
+    let inner = and_both (reach_fits (most_reach c.version) c.reach) (list_all class_fits c.classes) lists.0 in
+    (inner.0, inner.1, lists.1, all.1)
 
 -- the class of a kind is that of a leaf
 class_within : (t : day.Tree) (k : Kind) → day.class_in t k ≤ day.greatest_class t
@@ -71,19 +88,31 @@ by_rules c r =
     let splits = and_both (splits_fit all_numbers c.kinds) (list_all is_split_well c.stretches) r.splits in
     let classes = and_both _ _ r.classes in
     let first = and_both (nat_lt (day.greatest_class c.kinds) (length c.classes)) (list_all (is_of_classes (length c.classes)) c.stretches) classes.0 in
-    let lists = and_both (reach_fits (most_reach c.version) c.reach && list_all class_fits c.classes) (list_all (has_entries (most_days c.version)) c.stretches) r.lists in
-    let inner = and_both (reach_fits (most_reach c.version) c.reach) (list_all class_fits c.classes) lists.0 in
+    let lengths = (and_both (lengths_fit c) (classes_shaped c) r.shapes).0 in
+    let lists = list_parts c r.lists in
     let greatest : day.greatest_class c.kinds < length c.classes = ltb-true _ _ first.0 in
     record {
-      version = one_or_two c.version (c.version == 1) refl r.version;
+      version = which_version c.version (c.version == 1) (c.version == 2) refl refl r.version;
       count = (omega arith, leb-true _ _ r.count);
       class_of_kind = λ kind. let w = class_within c.kinds kind in omega arith;
-      classes = AllPass-from_list_all class_fits c.classes inner.1;
+      classes = AllPass-from_list_all class_fits c.classes lists.1;
       stretches = λ k d within.
-          sound c.version (length c.classes) _ (AllPass-from_list_all _ c.stretches r.lengths k d within) (AllPass-from_list_all _ c.stretches splits.1 k d within)
-          (AllPass-from_list_all _ c.stretches first.1 k d within) (AllPass-from_list_all _ c.stretches lists.1 k d within);
-      reach = inner.0;
+          sound c.version (length c.classes) _ (AllPass-from_list_all _ c.stretches lengths k d within) (AllPass-from_list_all _ c.stretches splits.1 k d within)
+          (AllPass-from_list_all _ c.stretches first.1 k d within) (AllPass-from_list_all _ c.stretches lists.2 k d within);
+      reach = lists.0;
     }
 
 pub keeps : (c : Content) → fault_of c ≡ None → Keeps c
 keeps c h = by_rules c (rules_hold c h)
+
+-- what a certificate says may be judged
+pub claims : (c : Content) → fault_of c ≡ None → IsClaim c
+claims c h =
+    let r = rules_hold c h in
+    let k = by_rules c r in
+    record {
+      count = (k.count.0, omega (arith, k.count.1, few_classes c.version));
+      class_of_kind = k.class_of_kind;
+      splits = (and_both (splits_fit all_numbers c.kinds) (list_all is_split_well c.stretches) r.splits).1;
+      reach = k.reach;
+    }

@@ -83,7 +83,7 @@ part_back Month = refl
 part_back Day = refl
 part_back Weekday = refl
 
-pub day_back : (p : Numbers) (count : ℕ) (t : day.Tree) → AreSmall p → count ≤ 512 → splits_fit p t ≡ true → day.greatest_class t < count → day_tree_said (day_tree_data t) ≡ Ok t
+pub day_back : (p : Numbers) (count : ℕ) (t : day.Tree) → AreSmall p → count ≤ 2562 → splits_fit p t ≡ true → day.greatest_class t < count → day_tree_said (day_tree_data t) ≡ Ok t
 unfolding splits_fit day_leaf_said day_split_said
 day_back p count (day.leaf class) s c h g = day_leaf _ refl ∙ rw (held_back 4294967295 class (omega (arith, c, g))) refl
 day_back p count (day.split part ns inside outside) s c h g =

@@ -11,7 +11,7 @@ use Rattle.cs_cert.specs.declared.fault.CertFault.{CertFault}
 use Rattle.cs_cert.specs.declared.fault.CertFault.TheVariants.{TooLong, NotJson, BadVersion, BadShape}
 use Rattle.cs_cert.specs.Content.{Content, StretchTree}
 use Rattle.cs_cert.specs.Rules.{judged}
-use Rattle.cs_cert.specs.Said.{class_said, held, reach_said}
+use Rattle.cs_cert.specs.Said.{carry_class_said, class_said, held, reach_said}
 use Rattle.cs_cert.specs.TreeSaid.{day_tree_said, minute_tree_said}
 
 -- `{"of": [classes], "tree": minute tree}`
@@ -26,10 +26,9 @@ stretch_said d = do
 abbrev pub stretches_name : ℕ → List ℕ
 stretches_name version = if version == 2 then codes "stretches" else codes "pairs"
 
--- exactly these members
-unfoldable pub content_said : Data → Result Content JsonFault
-content_said d = do
-  version ← member_as (held 255) (codes "version") d
+-- versions 1 and 2: exactly these members
+unfoldable pub listed_said : ℕ → Data → Result Content JsonFault
+listed_said version d = do
   o ← object_with (is_among (codes "classes" ∷ codes "kinds" ∷ codes "reach" ∷ codes "version" ∷ stretches_name version ∷ [])) d
   classes ← member_as (list_as class_said) (codes "classes") d
   kinds ← member_as day_tree_said (codes "kinds") d
@@ -37,11 +36,25 @@ content_said d = do
   reach ← member_as (list_as reach_said) (codes "reach") d
   Ok (record { version = version; classes = classes; kinds = kinds; stretches = stretches; reach = reach })
 
+-- version 3: exactly these
+unfoldable pub carried_said : Data → Result Content JsonFault
+carried_said d = do
+  o ← object_with (is_among (codes "classes" ∷ codes "kinds" ∷ codes "reach" ∷ codes "version" ∷ [])) d
+  classes ← member_as (list_as carry_class_said) (codes "classes") d
+  kinds ← member_as day_tree_said (codes "kinds") d
+  reach ← member_as (list_as reach_said) (codes "reach") d
+  Ok (record { version = 3; classes = classes; kinds = kinds; stretches = []; reach = reach })
+
+unfoldable pub content_said : Data → Result Content JsonFault
+content_said d = do
+  version ← member_as (held 255) (codes "version") d
+  if version == 3 then carried_said d else listed_said version d
+
 abbrev pub is_other : Option ℤ → Bool
 is_other None = false
-is_other (Some z) = not (int_eq z (pos 1) || int_eq z (pos 2))
+is_other (Some z) = not (int_eq z (pos 1) || (int_eq z (pos 2) || int_eq z (pos 3)))
 
--- the version is a whole number other than 1 and 2
+-- the version is a whole number other than 1, 2 and 3
 abbrev pub is_other_version : Data → Bool
 is_other_version d = is_other (option_and_then as_integer (option_and_then as_number (get (codes "version") d)))
 

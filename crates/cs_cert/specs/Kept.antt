@@ -5,7 +5,7 @@ use Rattle.cs_civil.specs.Calendar.{Kind}
 use Rattle.cs_daytree.specs.Tree.{class_in}
 use Rattle.cs_windows.specs.Tree.{SplitsInside}
 use Rattle.cs_cert.specs.Content.{Content, StretchTree}
-use Rattle.cs_cert.specs.Rules.{class_fits, entries_fit, leaves_pass, most_days, most_reach, reach_fits}
+use Rattle.cs_cert.specs.Rules.{class_fits, entries_fit, leaves_pass, most_classes, most_days, most_reach, reach_fits}
 
 -- the stretch has two days or more, as the version allows, of classes that are there, and its tree's splits lie inside their ranges
 pub record IsSound (version count : ℕ) (s : StretchTree) : Type 0 where
@@ -15,8 +15,8 @@ pub record IsSound (version count : ℕ) (s : StretchTree) : Type 0 where
   pub entries : leaves_pass (entries_fit (most_days version)) s.tree ≡ true
 
 pub record Keeps (c : Content) : Type 0 where
-  pub version : (c.version ≡ 1) ⊎ (c.version ≡ 2)
-  pub count : (1 ≤ length c.classes) × (length c.classes ≤ 512)
+  pub version : (c.version ≡ 1) ⊎ ((c.version ≡ 2) ⊎ (c.version ≡ 3))
+  pub count : (1 ≤ length c.classes) × (length c.classes ≤ most_classes c.version)
   pub class_of_kind : (kind : Kind) → class_in c.kinds kind < length c.classes
   pub classes : AllPass class_fits c.classes
   pub stretches : All (IsSound c.version (length c.classes)) c.stretches

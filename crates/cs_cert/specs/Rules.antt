@@ -1,5 +1,5 @@
 -- What every certificate keeps, and the fault of what doesn't.
-use Rattle.std.specs.Prelude.{ℕ, ◌+◌, ◌==◌, Bool, true, ◌&&◌, ◌||◌, List, [], ◌∷◌, length, max, nat_eq, nat_lt, nat_le, if◌then◌else◌, Option, Some, None, Result, Ok, Err}
+use Rattle.std.specs.Prelude.{ℕ, ◌+◌, ◌==◌, Bool, true, not, ◌&&◌, ◌||◌, List, [], ◌∷◌, length, max, nat_eq, nat_lt, nat_le, if◌then◌else◌, Option, Some, None, Result, Ok, Err}
 use Rattle.std.specs.List.{list_all}
 use Rattle.std.specs.Ordering.{nat_cmp, is_lt}
 use Rattle.std.specs.Cmp.Lexicographic.{slice_cmp}
@@ -20,15 +20,19 @@ use Rattle.cs_cert.specs.Content.{Content, StretchTree}
 -- ---- versions
 
 abbrev pub is_version : ℕ → Bool
-is_version version = version == 1 || version == 2
+is_version version = version == 1 || (version == 2 || version == 3)
 
--- the most days of a stretch, which has two at least: a window begins fewer days back
+-- the most days of a stretch, which has two at least, so that version 3 has none: a window begins fewer days back
 abbrev pub most_days : ℕ → ℕ
-most_days version = if version == 1 then 2 else 4
+most_days version = if version == 1 then 2 else (if version == 2 then 4 else 0)
 
 -- the greatest reach, in minutes
 abbrev pub most_reach : ℕ → ℕ
 most_reach version = if version == 1 then 1440 else 4320
+
+-- the most classes: version 3 may have one for each kind of day
+abbrev pub most_classes : ℕ → ℕ
+most_classes version = if version == 3 then 2_562 else 512
 
 -- ---- minute trees
 
@@ -83,6 +87,25 @@ backlog_fits backlog = each_next (λ a b. nat_lt a.group b.group) backlog && lis
 abbrev pub class_fits : Class → Bool
 class_fits c = due_fits c.due && backlog_fits c.backlog
 
+-- ---- what is carried over midnight
+
+-- a bound that says nothing of the minutes after the first
+abbrev pub is_at_midnight : GroupBacklog → Bool
+is_at_midnight b = list_all (λ p. nat_eq p.minute 0) b.backlog
+
+-- a class that says what is left over at midnight and no more
+abbrev pub is_carries : Class → Bool
+is_carries c = nat_eq (length c.due) 0 && list_all is_at_midnight c.backlog
+
+-- something is left over for each group that is listed
+abbrev pub has_carry : GroupBacklog → Bool
+has_carry b = nat_lt 0 (length b.backlog)
+
+abbrev pub has_carries : Class → Bool
+has_carries c = list_all has_carry c.backlog
+
+-- ---- reaches and stretches
+
 -- jobs rising, each reach from 1 to the greatest
 abbrev pub reach_fits : ℕ → List JobReach → Bool
 reach_fits most reach =
@@ -100,6 +123,13 @@ has_days most s = nat_le 2 (length s.of) && nat_le (length s.of) most
 
 abbrev pub lengths_fit : Content → Bool
 lengths_fit c = list_all (has_days (most_days c.version)) c.stretches
+
+-- a class of version 3 says what is left over at midnight and no more
+abbrev pub classes_shaped : Content → Bool
+classes_shaped c = not (c.version == 3) || list_all is_carries c.classes
+
+abbrev pub shapes_fit : Content → Bool
+shapes_fit c = lengths_fit c && classes_shaped c
 
 -- no tree is deeper than 24
 abbrev pub is_shallow : StretchTree → Bool
@@ -129,9 +159,13 @@ classes_there c =
 abbrev pub has_entries : ℕ → StretchTree → Bool
 has_entries days s = leaves_pass (entries_fit days) s.tree
 
+abbrev pub carries_fit : Content → Bool
+carries_fit c = not (c.version == 3) || list_all has_carries c.classes
+
 abbrev pub lists_fit : Content → Bool
 lists_fit c =
     reach_fits (most_reach c.version) c.reach && list_all class_fits c.classes && list_all (has_entries (most_days c.version)) c.stretches
+    && carries_fit c
 
 -- no leaf has more than 4,096 entries
 abbrev pub has_short_leaves : StretchTree → Bool
@@ -154,12 +188,12 @@ first_fault (None ∷ rest) = first_fault rest
 abbrev pub faults_of : Content → List (Option CertFault)
 faults_of c =
     unless (is_version c.version) BadVersion
-    ∷ unless (lengths_fit c) BadShape
+    ∷ unless (shapes_fit c) BadShape
     ∷ unless (trees_shallow c) TooDeep
     ∷ unless (trees_split_well c) BadSplit
     ∷ unless (classes_there c) BadClass
     ∷ unless (lists_fit c) BadEntry
-    ∷ unless (nat_le (length c.classes) 512) TooManyClasses
+    ∷ unless (nat_le (length c.classes) (most_classes c.version)) TooManyClasses
     ∷ unless (leaves_short c) LeafTooLong
     ∷ []
 

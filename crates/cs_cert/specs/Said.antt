@@ -45,6 +45,17 @@ class_said d = do
   backlog ← member_as (list_as group_backlog_said) (codes "backlog") d
   Ok (record { due = due; backlog = backlog })
 
+-- `[group, minutes]`: what is left over at midnight, as a bound from minute 0 on
+abbrev pub carry_said : Data → Result GroupBacklog JsonFault
+carry_said d = pair_as (held 255) (held 4294967295) d >>= (λ p. Ok (held_backlog p.0 (record { minute = 0; value = p.1 } ∷ [])))
+
+-- `{"carry": ..}`
+abbrev pub carry_class_said : Data → Result Class JsonFault
+carry_class_said d = do
+  o ← object_with (is_among (codes "carry" ∷ [])) d
+  backlog ← member_as (list_as carry_said) (codes "carry") d
+  Ok (record { due = []; backlog = backlog })
+
 -- `[job, reach]`
 abbrev pub reach_said : Data → Result JobReach JsonFault
 reach_said d = pair_as (held 65535) (held 65535) d >>= (λ p. Ok (record { job = p.0; reach = p.1 }))

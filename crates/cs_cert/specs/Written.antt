@@ -2,6 +2,7 @@
 use Rattle.std.specs.Prelude.{ℕ, List, map, codes, if◌then◌else◌, ◌==◌}
 use Rattle.serde_json.specs.Data.{Data, number, unsigned, string, array, item, no_items, object, member, no_members}
 use Rattle.serde_json.specs.View.{items_of}
+use Rattle.cs_wait.specs.Bounds.{at}
 use Rattle.cs_wait.specs.declared.backlog.Piece.{Piece}
 use Rattle.cs_windows.specs.declared.tree.Entry.{Entry}
 use Rattle.cs_windows.specs.Tree as minute
@@ -37,6 +38,13 @@ group_backlog_data b = pair_data (number_data b.group) (list_data piece_data b.b
 
 abbrev pub class_data : Class → Data
 class_data c = object (member (codes "backlog") (list_data group_backlog_data c.backlog) (member (codes "due") (list_data due_list_data c.due) no_members))
+
+-- what is left over at midnight
+abbrev pub carry_data : GroupBacklog → Data
+carry_data b = pair_data (number_data b.group) (number_data (at b.backlog 0))
+
+abbrev pub carry_class_data : Class → Data
+carry_class_data c = object (member (codes "carry") (list_data carry_data c.backlog) no_members)
 
 abbrev pub reach_data : JobReach → Data
 reach_data r = pair_data (number_data r.job) (number_data r.reach)
@@ -89,5 +97,16 @@ second_version_data c =
     (member (codes "stretches") (list_data stretch_data c.stretches)
     (member (codes "version") (number_data c.version) no_members)))))
 
+-- version 3 has none, and its classes say what is left over at midnight
+abbrev pub third_version_data : Content → Data
+third_version_data c =
+    object (member (codes "classes") (list_data carry_class_data c.classes)
+    (member (codes "kinds") (day_tree_data c.kinds)
+    (member (codes "reach") (list_data reach_data c.reach)
+    (member (codes "version") (number_data c.version) no_members))))
+
+abbrev pub listed_data : Content → Data
+listed_data c = if c.version == 2 then second_version_data c else first_version_data c
+
 abbrev pub certificate_data : Content → Data
-certificate_data c = if c.version == 2 then second_version_data c else first_version_data c
+certificate_data c = if c.version == 3 then third_version_data c else listed_data c

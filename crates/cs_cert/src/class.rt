@@ -1,14 +1,14 @@
-ghost use Rattle.std.specs.Prelude.{◌≡◌, nat_lt};
+ghost use Rattle.std.specs.Prelude.{◌≡◌, nat_eq, nat_lt};
 ghost use Rattle.std.specs.List.{list_all};
 ghost use Rattle.cs_daytree.specs.Rising.{each_next, rises};
 ghost use Rattle.cs_daytree.specs.Tree.{has};
 ghost use Rattle.cs_wait.specs.Bounds.{at};
 ghost use Rattle.cs_cert.specs.Certificate.{bound_in, is_due_in, pieces_of};
-ghost use Rattle.cs_cert.specs.Rules.{class_fits, due_list_fits, group_backlog_fits};
+ghost use Rattle.cs_cert.specs.Rules.{class_fits, due_list_fits, group_backlog_fits, has_carries, has_carry, is_at_midnight, is_carries};
 
 use crate::limits::{MAX_GROUPS, MAX_JOBS};
 use cs_civil::Sequence;
-use cs_wait::Backlog;
+use cs_wait::{Backlog, Piece};
 use cs_windows::MINUTES_OF_DAY;
 
 /// The minutes of a day at which a cron job is due.
@@ -27,7 +27,9 @@ pub struct GroupBacklog {
 
 /// What a certificate says of all days of one class: when each job is due, and the backlog of each group.
 ///
-/// A job without a list is due at no minute, and a group without a backlog has the bound 0 everywhere.
+/// A job without a list is due at no minute, and a group without a backlog has the bound 0 everywhere. In version 3 there are
+/// no lists, and each backlog is one piece at minute 0, what is left over of the days before: when jobs are due and what the
+/// bounds are after midnight is worked out from the plan, and not told here.
 #[derive(Debug, Drop)]
 pub struct Class {
     pub due: Sequence<DueList>,
@@ -76,7 +78,27 @@ fn groups_rise(backlog: &[GroupBacklog]) -> bool
     backlog.is_sorted_by(|one, next| one.group < next.group)
 }
 
+fn is_start(piece: &Piece) -> bool
+    ensures { result ≡ nat_eq piece.now.minute 0 }
+{
+    piece.minute == 0
+}
+
 impl GroupBacklog {
+    /// Whether it says nothing of the minutes after the first.
+    fn is_at_midnight(&self) -> bool
+        ensures { result ≡ is_at_midnight self.now }
+    {
+        self.backlog.pieces().iter().all(|piece| is_start(piece))
+    }
+
+    /// Whether something is left over at midnight.
+    fn has_carry(&self) -> bool
+        ensures { result ≡ has_carry self.now }
+    {
+        !self.backlog.pieces().is_empty()
+    }
+
     /// Whether the group can be one. Its pieces make a backlog as they are.
     #[tactic(auto, using(crate::proofs::Backlogs::backlog_so))]
     fn fits(&self) -> bool
@@ -91,6 +113,18 @@ fn backlogs_fit(backlog: &[GroupBacklog]) -> bool
     ensures { result ≡ list_all group_backlog_fits backlog.now }
 {
     backlog.iter().all(|of_group| of_group.fits())
+}
+
+fn are_at_midnight(backlog: &[GroupBacklog]) -> bool
+    ensures { result ≡ list_all is_at_midnight backlog.now }
+{
+    backlog.iter().all(|of_group| of_group.is_at_midnight())
+}
+
+fn have_carries(backlog: &[GroupBacklog]) -> bool
+    ensures { result ≡ list_all has_carry backlog.now }
+{
+    backlog.iter().all(|of_group| of_group.has_carry())
 }
 
 fn has(minutes: &[u16], minute: u16) -> bool
@@ -111,7 +145,7 @@ fn bound_among(backlog: &[GroupBacklog], group: u8, minute: u16) -> u32
 }
 
 impl Class {
-    /// Whether a job is due at a minute of a day of this class.
+    /// Whether a job is due at a minute of a day of this class, as it is listed here: not at any in version 3.
     pub fn is_due(&self, job: u16, minute: u16) -> bool
         ensures { result ≡ is_due_in self.now job minute }
     {
@@ -119,11 +153,26 @@ impl Class {
             && has(list.minutes.as_slice(), minute))
     }
 
-    /// The backlog bound of a group at a minute of a day of this class: 0 where the group isn't listed.
+    /// The backlog bound of a group at a minute of a day of this class, as it is listed here: 0 where the group isn't. In
+    /// version 3 it counts at minute 0 alone.
     pub fn bound(&self, group: u8, minute: u16) -> u32
         ensures { result ≡ bound_in self.now group minute }
     {
         bound_among(self.backlog.as_slice(), group, minute)
+    }
+
+    /// Whether it says what is left over at midnight and no more, as a class of version 3 does.
+    pub(crate) fn is_carries(&self) -> bool
+        ensures { result ≡ is_carries self.now }
+    {
+        self.due.is_empty() && are_at_midnight(self.backlog.as_slice())
+    }
+
+    /// Whether something is left over for each group that is listed.
+    pub(crate) fn has_carries(&self) -> bool
+        ensures { result ≡ has_carries self.now }
+    {
+        have_carries(self.backlog.as_slice())
     }
 
     /// Whether jobs and groups rise, each can be one, and each due list fits.

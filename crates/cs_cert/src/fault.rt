@@ -15,9 +15,10 @@ pub enum CertFault {
     TooLong,
     /// The text is no JSON, as `serde_json` reads it.
     NotJson,
-    /// The version is a whole number other than 1 and 2.
+    /// The version is a whole number other than 1, 2 and 3.
     BadVersion,
-    /// A member is unknown, absent or of another type, a number isn't whole, or a list is of another length.
+    /// A member is unknown, absent or of another type, a number isn't whole, or a list is of another length; a certificate of
+    /// version 3 has a stretch, or a class that says more than what is left over at midnight.
     BadShape,
     /// A tree is deeper than [`MAX_DEPTH`](crate::MAX_DEPTH).
     TooDeep,
@@ -27,7 +28,8 @@ pub enum CertFault {
     BadClass,
     /// A list does not rise, or one of its numbers is out of range.
     BadEntry,
-    /// There are more classes than [`MAX_CLASSES`](crate::MAX_CLASSES).
+    /// There are more classes than [`MAX_CLASSES`](crate::MAX_CLASSES), in version 3 than
+    /// [`MAX_KIND_CLASSES`](crate::MAX_KIND_CLASSES).
     TooManyClasses,
     /// A leaf has more entries than [`MAX_ENTRIES`](crate::MAX_ENTRIES).
     LeafTooLong,

@@ -7,15 +7,17 @@ ghost use Rattle.cs_json.specs.Gives as json;
 ghost use Rattle.cs_cert.specs.Answers.{Gives};
 ghost use Rattle.cs_cert.specs.Certificate.{content};
 ghost use Rattle.cs_cert.specs.Content.{content_of};
-ghost use Rattle.cs_cert.specs.Denoted.{certificate_by, content_in, content_said, is_other_version, json_in, stretches_name};
-ghost use Rattle.cs_cert.specs.Written.{certificate_data};
+ghost use Rattle.cs_cert.specs.Denoted.{carried_said, certificate_by, content_in, content_said, is_other_version, json_in, listed_said, stretches_name};
+ghost use Rattle.cs_cert.specs.Written.{certificate_data, listed_data, third_version_data};
 
+use crate::carry_form::{read_carry_classes, write_carry_classes};
 use crate::certificate::Certificate;
 use crate::fault::{CertError, CertFault};
 use crate::form::{Form, member};
 use crate::limits::MAX_CERTIFICATE;
 use crate::parts::Parts;
-use cs_json::{Misread, only_members, parse};
+use cs_civil::Sequence;
+use cs_json::{Misread, only_members, parse, value_at};
 use serde_json::{Value, json};
 use std::alloc::{AllocError, Global};
 
@@ -34,7 +36,7 @@ fn is_other_version(value: &Value) -> bool
 {
     match value.get("version").and_then(Value::as_number) {
         Some(number) => match number.as_i128() {
-            Some(number) => number != 1 && number != 2,
+            Some(number) => number != 1 && number != 2 && number != 3,
             None => false,
         },
         None => false,
@@ -47,11 +49,11 @@ fn stretches_name(version: u8) -> &'static str
     if version == 2 { "stretches" } else { "pairs" }
 }
 
-#[tactic(auto, unfolding(crate::specs::Denoted::content_said))]
-fn read_parts(alloc: Global, value: &Value) -> Result<Parts, Misread>
-    ensures { json.Gives content_of result (content_said (view value.now)) }
+/// The parts of a certificate of version 1 or 2.
+#[tactic(auto, unfolding(crate::specs::Denoted::listed_said))]
+fn read_listed(alloc: Global, value: &Value, version: u8) -> Result<Parts, Misread>
+    ensures { json.Gives content_of result (listed_said version (view value.now)) }
 {
-    let version = member(alloc, value, "version")?;
     let name = stretches_name(version);
     only_members(value, &["classes", "kinds", "reach", "version", name])?;
     let classes = member(alloc, value, "classes")?;
@@ -65,6 +67,36 @@ fn read_parts(alloc: Global, value: &Value) -> Result<Parts, Misread>
         stretches,
         reach,
     })
+}
+
+/// The parts of a certificate of version 3.
+#[tactic(auto, unfolding(crate::specs::Denoted::carried_said))]
+fn read_carried(alloc: Global, value: &Value) -> Result<Parts, Misread>
+    ensures { json.Gives content_of result (carried_said (view value.now)) }
+{
+    only_members(value, &["classes", "kinds", "reach", "version"])?;
+    let classes = read_carry_classes(alloc, value_at(value, "classes")?)?;
+    let kinds = member(alloc, value, "kinds")?;
+    let reach = member(alloc, value, "reach")?;
+    Ok(Parts {
+        version: 3,
+        classes,
+        kinds,
+        stretches: Sequence::new(alloc),
+        reach,
+    })
+}
+
+#[tactic(auto, unfolding(crate::specs::Denoted::content_said))]
+fn read_parts(alloc: Global, value: &Value) -> Result<Parts, Misread>
+    ensures { json.Gives content_of result (content_said (view value.now)) }
+{
+    let version = member(alloc, value, "version")?;
+    if version == 3 {
+        read_carried(alloc, value)
+    } else {
+        read_listed(alloc, value, version)
+    }
 }
 
 fn parts_in(alloc: Global, value: &Value) -> Result<Parts, CertError>
@@ -98,10 +130,20 @@ pub fn read_certificate(alloc: Global, bytes: &[u8]) -> Result<Certificate, Cert
     }
 }
 
-fn to_value(alloc: Global, certificate: &Certificate) -> Result<Value, AllocError>
-    ensures { IfOk result (λ v. view v ≡ certificate_data (content certificate.now)) }
+/// The JSON of a certificate of version 3.
+fn carried_value(alloc: Global, parts: &Parts) -> Result<Value, AllocError>
+    ensures { IfOk result (λ v. view v ≡ third_version_data (content_of parts.now)) }
 {
-    let parts = &certificate.parts;
+    let classes = write_carry_classes(alloc, parts.classes.as_slice())?;
+    let kinds = parts.kinds.write(alloc)?;
+    let reach = parts.reach.write(alloc)?;
+    json!(in alloc; {"classes": classes, "kinds": kinds, "reach": reach, "version": parts.version})
+}
+
+/// The JSON of a certificate of version 1 or 2.
+fn listed_value(alloc: Global, parts: &Parts) -> Result<Value, AllocError>
+    ensures { IfOk result (λ v. view v ≡ listed_data (content_of parts.now)) }
+{
     let classes = parts.classes.write(alloc)?;
     let kinds = parts.kinds.write(alloc)?;
     let stretches = parts.stretches.write(alloc)?;
@@ -110,6 +152,17 @@ fn to_value(alloc: Global, certificate: &Certificate) -> Result<Value, AllocErro
         json!(in alloc; {"classes": classes, "kinds": kinds, "reach": reach, "stretches": stretches, "version": parts.version})
     } else {
         json!(in alloc; {"classes": classes, "kinds": kinds, "pairs": stretches, "reach": reach, "version": parts.version})
+    }
+}
+
+fn to_value(alloc: Global, certificate: &Certificate) -> Result<Value, AllocError>
+    ensures { IfOk result (λ v. view v ≡ certificate_data (content certificate.now)) }
+{
+    let parts = &certificate.parts;
+    if parts.version == 3 {
+        carried_value(alloc, parts)
+    } else {
+        listed_value(alloc, parts)
     }
 }
 

@@ -60,7 +60,7 @@ impl<T: Form> Form for Sequence<T> {
 }
 
 /// The items of a list.
-fn items(value: &Value) -> Result<&Vec<Value>, Misread>
+pub(crate) fn items(value: &Value) -> Result<&Vec<Value>, Misread>
     ensures { Gives (λ l. items_view l.now.items) result (or_bad_shape (as_array (view value.now))) }
 {
     value.as_array().ok_or(BAD_SHAPE)

@@ -1,7 +1,10 @@
 //! Certificates: what is claimed of the windows of each day, and its JSON text.
 #![tactic(auto)]
 
+mod carry_form;
 mod certificate;
+mod claim;
+mod claiming;
 mod class;
 mod day_tree_form;
 mod fault;
@@ -18,9 +21,12 @@ mod reach;
 mod stretch;
 
 pub use certificate::Certificate;
+pub use claim::Claim;
 pub use class::{Class, DueList, GroupBacklog};
 pub use cs_windows::{JobReach, reach_of};
 pub use fault::{CertError, CertFault};
 pub use file::{read_certificate, write_certificate};
-pub use limits::{MAX_CERTIFICATE, MAX_CLASSES, MAX_DEPTH, MAX_ENTRIES, MAX_GROUPS, MAX_JOBS};
+pub use limits::{
+    MAX_CERTIFICATE, MAX_CLASSES, MAX_DEPTH, MAX_ENTRIES, MAX_GROUPS, MAX_JOBS, MAX_KIND_CLASSES,
+};
 pub use stretch::Stretch;

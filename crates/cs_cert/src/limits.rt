@@ -1,8 +1,11 @@
 /// The greatest length of a certificate's text, in bytes.
 pub const MAX_CERTIFICATE: usize = 16_777_216;
 
-/// The most classes of a certificate.
+/// The most classes of a certificate of version 1 or 2.
 pub const MAX_CLASSES: usize = 512;
+
+/// The most classes of a certificate of version 3: one for each kind of day.
+pub const MAX_KIND_CLASSES: usize = 2_562;
 
 /// The greatest depth of a day tree and of a minute tree: a leaf has depth 0.
 pub const MAX_DEPTH: u8 = 24;

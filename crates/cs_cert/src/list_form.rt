@@ -61,7 +61,7 @@ impl Form for Piece {
 }
 
 /// The pieces of a group. Those that make no backlog are held as none of a group that can't be: the greatest `u8`.
-fn held_backlog(alloc: Global, group: u8, pieces: Sequence<Piece>) -> GroupBacklog
+pub(crate) fn held_backlog(alloc: Global, group: u8, pieces: Sequence<Piece>) -> GroupBacklog
     ensures { result ≡ held_backlog group pieces }
 {
     match Backlog::new(pieces.into_vec()) {

@@ -20,8 +20,9 @@ use cs_windows::JobReach;
 impl Certificate {
     /// The certificate of these parts. It takes no memory.
     ///
-    /// Where rules are broken the fault of the smallest number is answered, from 3 on: `BadVersion` where the version is neither 1 nor 2,
-    /// `BadShape` where a stretch has a number of days that the version does not allow, and the others as [`CertFault`] says.
+    /// Where rules are broken the fault of the smallest number is answered, from 3 on: `BadVersion` where the version is none of 1, 2
+    /// and 3, `BadShape` where a stretch has a number of days that the version does not allow (version 3 has no stretch) or a
+    /// class of version 3 says more than what is left over at midnight, and the others as [`CertFault`] says.
     pub fn new(
         version: u8,
         classes: Sequence<Class>,
@@ -64,7 +65,7 @@ impl Certificate {
         &self.parts
     }
 
-    /// The version: 1 for stretches of two days, 2 for two to four.
+    /// The version: 1 for stretches of two days, 2 for two to four, 3 for none.
     pub fn version(&self) -> u8
         ensures value { result ≡ (content self.now).version }
         ensures kept { Keeps (content self.now) }
@@ -72,7 +73,7 @@ impl Certificate {
         self.parts().version
     }
 
-    /// The classes of days, 1 to 512, named by their place from 0.
+    /// The classes of days, 1 to 512 (in version 3 to 2,562), named by their place from 0.
     pub fn classes(&self) -> &[Class]
         ensures value { result.now ≡ (content self.now).classes }
         ensures kept { Keeps (content self.now) }
@@ -96,7 +97,7 @@ impl Certificate {
         self.parts().kinds.class_of(kind)
     }
 
-    /// The stretches, strictly rising: by length, then in order of the classes.
+    /// The stretches, strictly rising: by length, then in order of the classes. Version 3 has none.
     pub fn stretches(&self) -> &[Stretch]
         ensures value { map stretch_of result.now ≡ (content self.now).stretches }
         ensures kept { Keeps (content self.now) }

@@ -1,11 +1,12 @@
 ghost use Rattle.std.specs.Prelude.{◌≡◌, Some};
 ghost use Rattle.std.specs.List.{list_all};
 ghost use Rattle.cs_cert.specs.Content.{content_of};
-ghost use Rattle.cs_cert.specs.Rules.{class_fits, classes_there, fault_of, is_version, leaves_short, lengths_fit, lists_fit, most_days, most_reach, trees_shallow, trees_split_well};
+ghost use Rattle.cs_cert.specs.Rules.{carries_fit, class_fits, classes_shaped, classes_there, fault_of, has_carries, is_carries, is_version, leaves_short, lengths_fit, lists_fit};
+ghost use Rattle.cs_cert.specs.Rules.{most_classes, most_days, most_reach, trees_shallow, trees_split_well};
 
 use crate::class::Class;
 use crate::fault::CertFault;
-use crate::limits::{MAX_CLASSES, MAX_DEPTH};
+use crate::limits::{MAX_CLASSES, MAX_DEPTH, MAX_KIND_CLASSES};
 use crate::reach::reach_fits;
 use crate::stretch::{
     Stretch, are_of_classes, are_shallow, are_split_well, have_days, have_entries,
@@ -29,7 +30,11 @@ pub(crate) struct Parts {
 fn most_days(version: u8) -> u8
     ensures { result ≡ most_days version }
 {
-    if version == 1 { 2 } else { 4 }
+    match version {
+        1 => 2,
+        2 => 4,
+        _ => 0,
+    }
 }
 
 /// The greatest reach, in minutes.
@@ -37,6 +42,29 @@ fn most_reach(version: u8) -> u16
     ensures { result ≡ most_reach version }
 {
     if version == 1 { 1_440 } else { 4_320 }
+}
+
+/// The most classes.
+fn most_classes(version: u8) -> usize
+    ensures { result ≡ most_classes version }
+{
+    if version == 3 {
+        MAX_KIND_CLASSES
+    } else {
+        MAX_CLASSES
+    }
+}
+
+fn are_carries(classes: &[Class]) -> bool
+    ensures { result ≡ list_all is_carries classes.now }
+{
+    classes.iter().all(|class| class.is_carries())
+}
+
+fn have_carries(classes: &[Class]) -> bool
+    ensures { result ≡ list_all has_carries classes.now }
+{
+    classes.iter().all(|class| class.has_carries())
 }
 
 fn classes_fit(classes: &[Class]) -> bool
@@ -51,6 +79,18 @@ impl Parts {
         ensures { result ≡ lengths_fit (content_of self.now) }
     {
         have_days(self.stretches.as_slice(), most_days(self.version))
+    }
+
+    fn classes_shaped(&self) -> bool
+        ensures { result ≡ classes_shaped (content_of self.now) }
+    {
+        self.version != 3 || are_carries(self.classes.as_slice())
+    }
+
+    fn carries_fit(&self) -> bool
+        ensures { result ≡ carries_fit (content_of self.now) }
+    {
+        self.version != 3 || have_carries(self.classes.as_slice())
     }
 
     #[tactic(auto, using(crate::proofs::Seen::all_seen))]
@@ -85,6 +125,7 @@ impl Parts {
         reach_fits(self.reach.as_slice(), most_reach(self.version))
             && classes_fit(self.classes.as_slice())
             && have_entries(self.stretches.as_slice(), most_days(self.version))
+            && self.carries_fit()
     }
 
     #[tactic(auto, using(crate::proofs::Seen::all_seen))]
@@ -99,10 +140,10 @@ impl Parts {
     pub(crate) fn fault(&self) -> Option<CertFault>
         ensures { result ≡ fault_of (content_of self.now) }
     {
-        if self.version != 1 && self.version != 2 {
+        if self.version != 1 && self.version != 2 && self.version != 3 {
             return Some(CertFault::BadVersion);
         }
-        if !self.lengths_fit() {
+        if !(self.lengths_fit() && self.classes_shaped()) {
             return Some(CertFault::BadShape);
         }
         if !self.trees_shallow() {
@@ -117,7 +158,7 @@ impl Parts {
         if !self.lists_fit() {
             return Some(CertFault::BadEntry);
         }
-        if self.classes.len() > MAX_CLASSES {
+        if self.classes.len() > most_classes(self.version) {
             return Some(CertFault::TooManyClasses);
         }
         if !self.leaves_short() {

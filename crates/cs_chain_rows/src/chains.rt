@@ -69,13 +69,14 @@ fn unlike<R: Abort + Threads + Sync>(
     rt: &R,
     alloc: Global,
     table: &str,
-    claimed: &Certificate,
+    certificate: &Certificate,
 ) -> Option<(u8, u8, u8)> {
     let plan = plan(rt, alloc, table);
-    let one = first_unlike(alloc, &plan, claimed)
+    let claim = certificate.claim();
+    let one = first_unlike(alloc, &plan, &claim)
         .expect(rt, "memory")
         .map(date_of);
-    let several = first_unlike_parallel(rt, alloc, &plan, claimed)
+    let several = first_unlike_parallel(rt, alloc, &plan, &claim)
         .expect(rt, "memory")
         .map(date_of);
     assert!(rt; one == several);
@@ -120,13 +121,14 @@ const USED: [[u32; 2]; 3] = [[0, 0], [0, 1], [1, 0]];
 #[test]
 fn stretches_in_use(rt: HostRuntime) -> Result<(), Fail> {
     let certificate = certificate(&rt, rt.alloc(), LEAP);
-    let used = used_stretches(rt.alloc(), &certificate, 2)?;
+    let claim = certificate.claim();
+    let used = used_stretches(rt.alloc(), &claim, 2)?;
     assert!(rt; used.len() == 3);
     for (number, (stretch, classes)) in used.iter().zip(&USED).enumerate() {
         assert!(rt; stretch.number == number);
         assert!(rt; stretch.stretch.of.as_slice() == classes.as_slice());
     }
-    assert!(rt; used_stretches(rt.alloc(), &certificate, 3)?.is_empty());
+    assert!(rt; used_stretches(rt.alloc(), &claim, 3)?.is_empty());
     Ok(())
 }
 
@@ -134,7 +136,8 @@ fn stretches_in_use(rt: HostRuntime) -> Result<(), Fail> {
 fn kinds_of_a_stretch(rt: HostRuntime) -> Result<(), Fail> {
     let leap = [kind(&rt, 2, 28, 0), kind(&rt, 2, 29, 1)];
     let certificate = certificate(&rt, rt.alloc(), LEAP);
-    let used = used_stretches(rt.alloc(), &certificate, 2)?;
+    let claim = certificate.claim();
+    let used = used_stretches(rt.alloc(), &claim, 2)?;
     assert!(rt;
         used.get(1)
             .is_some_and(|stretch| stretch.kinds.as_slice() == leap.as_slice())
@@ -145,11 +148,11 @@ fn kinds_of_a_stretch(rt: HostRuntime) -> Result<(), Fail> {
 #[test]
 fn missing_stretches(rt: HostRuntime) -> Result<(), Fail> {
     let whole = certificate(&rt, rt.alloc(), LEAP);
-    assert!(rt; first_missing(rt.alloc(), &whole, 2)?.is_none());
+    assert!(rt; first_missing(rt.alloc(), &whole.claim(), 2)?.is_none());
     let cut = LEAP.replace(rt.alloc(), "{\"of\":[0,1],\"tree\":{\"list\":[]}},", "")?;
     let cut = certificate(&rt, rt.alloc(), cut.as_str());
     let leap = [kind(&rt, 2, 28, 0), kind(&rt, 2, 29, 1)];
-    let missing = first_missing(rt.alloc(), &cut, 2)?;
+    let missing = first_missing(rt.alloc(), &cut.claim(), 2)?;
     assert!(rt; missing.is_some_and(|chain| chain.as_slice() == leap.as_slice()));
     Ok(())
 }
@@ -158,6 +161,7 @@ fn missing_stretches(rt: HostRuntime) -> Result<(), Fail> {
 #[test]
 fn last_days(rt: HostRuntime) {
     let certificate = certificate(&rt, rt.alloc(), LEAP);
+    let claim = certificate.claim();
     let rows: [(&[u32], u8, u32); 6] = [
         (&[0, 0], 2, 2),
         (&[0, 1], 2, 789),
@@ -167,7 +171,7 @@ fn last_days(rt: HostRuntime) {
         (&[1, 1, 0], 3, 3),
     ];
     for (classes, days, want) in rows {
-        assert!(rt; last_day(&certificate, classes, days) == want);
+        assert!(rt; last_day(&claim, classes, days) == want);
     }
 }
 

@@ -1,3 +1,4 @@
+pub mod WorkedClasses
 pub mod Grown
 pub mod Searched
 pub mod InUse
@@ -5,6 +6,5 @@ pub mod Missed
 pub mod Alike
 pub mod Ending
 pub mod Lasting
-pub mod KindOf
 pub mod ByClasses
 pub mod Rows

@@ -20,8 +20,8 @@ missed a ks = unless (has a ks) (Missing ks)
 pub listed_is : (c : Content) (ss : List ListedStretch) (ks : List Kind) (classes : List _) → map stretch_of ss ≡ c.stretches → classes ≡ map (as_certificate c).class_of ks → list_any (λ s. same_list s.of classes) ss ≡ has (as_certificate c) ks
 listed_is c ss ks classes e same =
     ap (λ (cs : List _). list_any (λ (s : ListedStretch). same_list s.of cs) ss) same
-    ∙ sym (any_map (λ (s : Stretch). same_list s.of (map (as_certificate c).class_of ks)) (λ s. as_stretch (stretch_of s)) ss)
-    ∙ ap (list_any (λ (s : Stretch). same_list s.of (map (as_certificate c).class_of ks))) (sym (map_twice as_stretch stretch_of ss) ∙ ap (map as_stretch) e)
+    ∙ sym (any_map (λ (s : Stretch). same_list s.of (map (as_certificate c).class_of ks)) (λ s. as_stretch c.version (stretch_of s)) ss)
+    ∙ ap (list_any (λ (s : Stretch). same_list s.of (map (as_certificate c).class_of ks))) (sym (map_twice (as_stretch c.version) stretch_of ss) ∙ ap (map (as_stretch c.version)) e)
 
 pub here : (a : Certificate) (ks : List Kind) (kss : List (List Kind)) → has a ks ≡ false → first_of (missed a) (ks ∷ kss) ≡ Some (Missing ks)
 here a ks kss e = ap (λ (b : Bool). or_else (unless b (Missing ks)) (first_of (missed a) kss)) e

@@ -3,5 +3,5 @@ pub mod Used
 pub mod Days
 pub mod Fitting
 pub mod Likeness
-pub mod KindOf
 pub mod ByClasses
+pub mod WorkedOut

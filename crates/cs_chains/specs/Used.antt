@@ -35,6 +35,6 @@ pub record HaveClasses (c : Content) (n : ℕ) (named : List ℕ) (kinds : List 
 abbrev pub IsOneOf : List ClassedChain → List ℕ → List Kind → Type 0
 IsOneOf chains named kinds = (chain : ClassedChain) × Contains chains chain × (classes_in chain ≡ named) × (kinds_in chain ≡ kinds)
 
--- the stretch, as the rules see it
-abbrev pub seen : UsedStretch → Stretch
-seen used = as_stretch (stretch_of used.stretch.now)
+-- a stretch of what is claimed, as the rules see it
+abbrev pub seen : Content → UsedStretch → Stretch
+seen c used = as_stretch c.version (stretch_of used.stretch.now)

@@ -1,11 +1,12 @@
 //! The kinds of successive days with their classes.
 ghost use Rattle.std.specs.Prelude.{◌≡◌, ◌≤◌, IfOk, map};
-ghost use Rattle.cs_cert.specs.Certificate.{class_of, content};
+ghost use Rattle.cs_cert.specs.Certificate.{class_of};
+ghost use Rattle.cs_cert.specs.Claim.{said};
 ghost use Rattle.cs_chains.specs.Used.{AreClassed};
 
 use crate::chain::{Chain, chains};
 use arrayvec::ArrayVec;
-use cs_cert::Certificate;
+use cs_cert::Claim;
 use std::alloc::{AllocError, Global};
 
 /// Kinds that successive days can have, and the class of each.
@@ -16,12 +17,12 @@ pub(crate) struct ClassedChain {
 }
 
 /// The classes of these kinds.
-pub(crate) fn classes_of(certificate: &Certificate, chain: &Chain) -> ArrayVec<u32, 4>
-    ensures { result.items ≡ map (class_of (content certificate.now)) chain.now.items }
+pub(crate) fn classes_of(claim: &Claim<'_>, chain: &Chain) -> ArrayVec<u32, 4>
+    ensures { result.items ≡ map (class_of (said claim.now)) chain.now.items }
 {
     let mut classes = ArrayVec::new();
     for kind in chain.as_slice() {
-        classes.push(certificate.class_of(*kind));
+        classes.push(claim.class_of(*kind));
     }
     classes
 }
@@ -29,15 +30,15 @@ pub(crate) fn classes_of(certificate: &Certificate, chain: &Chain) -> ArrayVec<u
 /// All chains of so many days with their classes.
 pub(crate) fn classed_chains(
     alloc: Global,
-    certificate: &Certificate,
+    claim: &Claim<'_>,
     days: u8,
 ) -> Result<Vec<ClassedChain>, AllocError>
     requires { (1 ≤ days) × (days ≤ 4) }
-    ensures { IfOk result (λ classed. AreClassed (content certificate.now) days classed.items) }
+    ensures { IfOk result (λ classed. AreClassed (said claim.now) days classed.items) }
 {
     let mut classed = Vec::new(alloc);
     for kinds in chains(alloc, days)? {
-        let classes = classes_of(certificate, &kinds);
+        let classes = classes_of(claim, &kinds);
         classed.push(ClassedChain { kinds, classes })?;
     }
     Ok(classed)

@@ -87,7 +87,8 @@ fn all_fit(jobs: &[Occupied], days: u8) -> bool
 /// The length of the stretches by which a plan whose jobs occupy these windows is checked: 2, 3 or 4 days, the fewest that
 /// no window outlasts, counted from the start of the day on which it begins. Where one outlasts four days, 4.
 pub fn stretch_length(jobs: &[Occupied]) -> u8
-    ensures { (p : Plan) (on : ℕ → Kind → ℕ → Bool) (c : ℕ → ℕ) → map job_of jobs.now ≡ occupied p on c → result ≡ stretch_length p on c }
+    ensures range { (2 ≤ result) × (result ≤ 4) }
+    ensures value { (p : Plan) (on : ℕ → Kind → ℕ → Bool) (c : ℕ → ℕ) → map job_of jobs.now ≡ occupied p on c → result ≡ stretch_length p on c }
 {
     if all_fit(jobs, 2) {
         return 2;

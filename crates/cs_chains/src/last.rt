@@ -2,62 +2,63 @@
 ghost use Rattle.std.specs.Prelude.{◌≡◌, ◌+◌, ◌<◌, ◌≤◌, map};
 ghost use Rattle.std.specs.List.{range_with_len};
 ghost use Rattle.cs_accepted.specs.Faults.{last_of, same_list};
-ghost use Rattle.cs_cert.specs.Certificate.{class_of, content};
+ghost use Rattle.cs_cert.specs.Certificate.{class_of};
+ghost use Rattle.cs_cert.specs.Claim.{said};
 ghost use Rattle.cs_claim.specs.Claim.{as_certificate};
 ghost use Rattle.cs_civil.specs.Calendar.{kind};
 ghost use Rattle.cs_chains.specs.Days.{classes_on};
 
 use arrayvec::ArrayVec;
-use cs_cert::Certificate;
+use cs_cert::Claim;
 use cs_civil::{Day, kind_of};
 
 /// In so many days, 28 years, all chains of days have come.
 const SEARCHED: u32 = 10_227;
 
 /// The class of a day.
-fn class_on(certificate: &Certificate, day: u32) -> u32
+fn class_on(claim: &Claim<'_>, day: u32) -> u32
     requires { day ≤ 100000 }
-    ensures { result ≡ class_of (content certificate.now) (kind day) }
+    ensures { result ≡ class_of (said claim.now) (kind day) }
 {
     match Day::new(u64::from(day)) {
-        Some(day) => certificate.class_of(kind_of(day)),
+        Some(day) => claim.class_of(kind_of(day)),
         None => 0,
     }
 }
 
 /// The classes of so many successive days.
-fn classes_from(certificate: &Certificate, first: u32, days: u8) -> ArrayVec<u32, 4>
+fn classes_from(claim: &Claim<'_>, first: u32, days: u8) -> ArrayVec<u32, 4>
     requires few { days ≤ 4 }
     requires near { first ≤ 50000 }
-    ensures { result.items ≡ classes_on (content certificate.now) first days }
+    ensures { result.items ≡ classes_on (said claim.now) first days }
 {
     let mut classes = ArrayVec::new();
     for place in 0..days {
-        classes.push(class_on(certificate, first + u32::from(place)));
+        classes.push(class_on(claim, first + u32::from(place)));
     }
     classes
 }
 
 /// Whether so many successive days have these classes.
 #[tactic(auto, using(crate::proofs::Searched::slices_same))]
-fn have_classes(certificate: &Certificate, first: u32, days: u8, classes: &[u32]) -> bool
+fn have_classes(claim: &Claim<'_>, first: u32, days: u8, classes: &[u32]) -> bool
     requires few { days ≤ 4 }
     requires near { first ≤ 50000 }
-    ensures { result ≡ same_list (classes_on (content certificate.now) first days) classes.now }
+    ensures { result ≡ same_list (classes_on (said claim.now) first days) classes.now }
 {
-    classes_from(certificate, first, days).as_slice() == classes
+    classes_from(claim, first, days).as_slice() == classes
 }
 
 /// The first day, counted from 1970-01-01 as 0, that ends so many days of these classes: of the days from that number on,
 /// of which as many are looked at as 28 years have. Where none does, the number of days.
-pub fn last_day(certificate: &Certificate, classes: &[u32], days: u8) -> u32
+pub fn last_day(claim: &Claim<'_>, classes: &[u32], days: u8) -> u32
     requires { (1 ≤ days) × (days ≤ 4) }
-    ensures value { result ≡ last_of (as_certificate (content certificate.now)) days classes.now }
+    ensures value { result ≡ last_of (as_certificate (said claim.now)) days classes.now }
     ensures within { (days ≤ result) × (result < days + 10227) }
 {
     let start = u32::from(days);
     for last in start..start + SEARCHED {
-        if have_classes(certificate, last + 1 - start, days, classes) {
+        if have_classes(claim, last + 1 - start, days, classes) {
             return last;
         }
     }

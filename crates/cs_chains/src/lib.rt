@@ -3,7 +3,6 @@
 
 mod by_classes;
 mod chain;
-mod class_kinds;
 mod classed;
 mod fitting;
 mod last;
@@ -11,11 +10,12 @@ mod likeness;
 mod missing;
 mod unlike;
 mod used;
+mod working_out;
 
 pub use chain::{Chain, chains};
-pub use class_kinds::kinds_of_classes;
 pub use fitting::stretch_length;
 pub use last::last_day;
 pub use missing::first_missing;
 pub use unlike::{first_unlike, first_unlike_parallel};
 pub use used::{UsedStretch, used_stretches};
+pub use working_out::{WorkedOut, claim_by, work_out, work_out_parallel};

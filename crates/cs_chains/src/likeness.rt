@@ -1,11 +1,11 @@
 //! Whether the classes of a certificate have the due minutes of the cron jobs, whatever the day.
 ghost use Rattle.std.specs.Prelude.{◌≡◌, ◌<◌, [], ℕ, IfOk};
-ghost use Rattle.cs_cert.specs.Certificate.{content};
+ghost use Rattle.cs_cert.specs.Claim.{said};
 ghost use Rattle.cs_chains.specs.Likeness.{AreLikenesses, AreTimes, IsRow, is_due_day, is_due_minute, likeness_by};
 ghost use Rattle.cs_decl.specs.Plan.{Declared};
 ghost use Rattle.cs_schedule.specs.Numbers.{has};
 
-use cs_cert::{Certificate, Class};
+use cs_cert::{Claim, Class};
 use cs_civil::{DayKind, Sequence};
 use cs_claim::due_sets;
 use cs_crontab::{Line, When};
@@ -91,13 +91,13 @@ fn row_of(
 pub(crate) fn likenesses(
     alloc: Global,
     plan: &Plan,
-    certificate: &Certificate,
+    claim: &Claim<'_>,
 ) -> Result<Vec<Sequence<Likeness>>, AllocError>
-    ensures { IfOk result (λ rows. AreLikenesses plan.now (content certificate.now) rows.items) }
+    ensures { IfOk result (λ rows. AreLikenesses plan.now (said claim.now) rows.items) }
 {
     let times = times_of_jobs(alloc, plan)?;
     let mut rows = Vec::new(alloc);
-    for class in certificate.classes() {
+    for class in claim.classes() {
         rows.push(row_of(alloc, class, times.as_slice())?)?;
     }
     Ok(rows)
@@ -108,13 +108,13 @@ pub(crate) fn likenesses_parallel<R: Threads + Sync>(
     rt: &R,
     alloc: Global,
     plan: &Plan,
-    certificate: &Certificate,
+    claim: &Claim<'_>,
 ) -> Result<Vec<Sequence<Likeness>>, AllocError>
-    ensures { IfOk result (λ rows. AreLikenesses plan.now (content certificate.now) rows.items) }
+    ensures { IfOk result (λ rows. AreLikenesses plan.now (said claim.now) rows.items) }
 {
     let times = times_of_jobs(alloc, plan)?;
     let times = times.as_slice();
-    certificate
+    claim
         .classes()
         .par_iter()
         .with_min_len(LEAST_ROWS)

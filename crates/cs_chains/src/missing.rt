@@ -1,7 +1,7 @@
 //! The first of the stretches that successive days have that a certificate lacks.
 ghost use Rattle.std.specs.Prelude.{◌≡◌, ◌≤◌, IfOk, option_map};
 ghost use Rattle.cs_accepted.specs.Faults.{stretch_fault};
-ghost use Rattle.cs_cert.specs.Certificate.{content};
+ghost use Rattle.cs_cert.specs.Claim.{said};
 ghost use Rattle.cs_claim.specs.Claim.{as_certificate};
 ghost use Rattle.cs_chains.specs.ByClasses.{is_among};
 ghost use Rattle.cs_chains.specs.Chains.{missing_chain};
@@ -9,7 +9,7 @@ ghost use Rattle.cs_chains.specs.Chains.{missing_chain};
 use crate::by_classes::class_lists;
 use crate::chain::{Chain, chains};
 use crate::classed::classes_of;
-use cs_cert::Certificate;
+use cs_cert::Claim;
 use indexmap::IndexSet;
 use std::alloc::{AllocError, Global};
 
@@ -24,15 +24,15 @@ fn is_listed(lists: &IndexSet<&[u32]>, classes: &[u32]) -> bool
 /// certificate has. The only error is want of memory.
 pub fn first_missing(
     alloc: Global,
-    certificate: &Certificate,
+    claim: &Claim<'_>,
     days: u8,
 ) -> Result<Option<Chain>, AllocError>
     requires { (1 ≤ days) × (days ≤ 4) }
-    ensures { IfOk result (λ found. stretch_fault (as_certificate (content certificate.now)) days ≡ option_map missing_chain found) }
+    ensures { IfOk result (λ found. stretch_fault (as_certificate (said claim.now)) days ≡ option_map missing_chain found) }
 {
-    let lists = class_lists(alloc, certificate.stretches())?;
+    let lists = class_lists(alloc, claim.stretches())?;
     for chain in chains(alloc, days)? {
-        let classes = classes_of(certificate, &chain);
+        let classes = classes_of(claim, &chain);
         if !is_listed(&lists, classes.as_slice()) {
             return Ok(Some(chain));
         }

@@ -1,14 +1,14 @@
 //! Whether each class of a certificate has the due minutes of its kinds of days.
 ghost use Rattle.std.specs.Prelude.{◌≡◌, IfOk, option_map};
 ghost use Rattle.cs_accepted.specs.Faults.{ClassNotDue, due_fault, is_due_alike};
-ghost use Rattle.cs_cert.specs.Certificate.{content};
+ghost use Rattle.cs_cert.specs.Claim.{said};
 ghost use Rattle.cs_chains.specs.Likeness.{AreLikenesses, is_due_day, likeness_on};
 ghost use Rattle.cs_claim.specs.Claim.{as_certificate};
 ghost use Rattle.cs_claim.specs.Planned.{due_on};
 ghost use Rattle.cs_decl.specs.Plan.{as_plan};
 
 use crate::likeness::{Likeness, is_due_day, likenesses, likenesses_parallel};
-use cs_cert::Certificate;
+use cs_cert::Claim;
 use cs_civil::{DayKind, Sequence, all_kinds};
 use cs_crontab::Line;
 use cs_decl::Plan;
@@ -27,16 +27,11 @@ fn is_job_alike(likeness: Likeness, line: &Line, kind: DayKind) -> bool
 }
 
 /// Whether the class of this kind has the due minutes of each cron job, by the rows of the classes.
-fn is_alike(
-    plan: &Plan,
-    certificate: &Certificate,
-    rows: &[Sequence<Likeness>],
-    kind: DayKind,
-) -> bool
-    requires { AreLikenesses plan.now (content certificate.now) rows.now }
-    ensures { result ≡ is_due_alike (as_plan plan.now) (due_on plan.now) (as_certificate (content certificate.now)) kind }
+fn is_alike(plan: &Plan, claim: &Claim<'_>, rows: &[Sequence<Likeness>], kind: DayKind) -> bool
+    requires { AreLikenesses plan.now (said claim.now) rows.now }
+    ensures { result ≡ is_due_alike (as_plan plan.now) (due_on plan.now) (as_certificate (said claim.now)) kind }
 {
-    let class = certificate.class_of(kind) as usize;
+    let class = claim.class_of(kind) as usize;
     let row = rows[class].as_slice();
     for (number, line) in plan.crontab().lines().iter().enumerate() {
         if !is_job_alike(row[number], line, kind) {
@@ -48,16 +43,12 @@ fn is_alike(
 
 /// The first kind of day, in the order of [`all_kinds`], whose class has not the due minutes of each cron job, by the rows of
 /// the classes.
-fn first_by_rows(
-    plan: &Plan,
-    certificate: &Certificate,
-    rows: &[Sequence<Likeness>],
-) -> Option<DayKind>
-    requires { AreLikenesses plan.now (content certificate.now) rows.now }
-    ensures { option_map ClassNotDue result ≡ due_fault (as_plan plan.now) (due_on plan.now) (as_certificate (content certificate.now)) }
+fn first_by_rows(plan: &Plan, claim: &Claim<'_>, rows: &[Sequence<Likeness>]) -> Option<DayKind>
+    requires { AreLikenesses plan.now (said claim.now) rows.now }
+    ensures { option_map ClassNotDue result ≡ due_fault (as_plan plan.now) (due_on plan.now) (as_certificate (said claim.now)) }
 {
     for kind in all_kinds() {
-        if !is_alike(plan, certificate, rows, kind) {
+        if !is_alike(plan, claim, rows, kind) {
             return Some(kind);
         }
     }
@@ -69,12 +60,12 @@ fn first_by_rows(
 pub fn first_unlike(
     alloc: Global,
     plan: &Plan,
-    certificate: &Certificate,
+    claim: &Claim<'_>,
 ) -> Result<Option<DayKind>, AllocError>
-    ensures { IfOk result (λ found. option_map ClassNotDue found ≡ due_fault (as_plan plan.now) (due_on plan.now) (as_certificate (content certificate.now))) }
+    ensures { IfOk result (λ found. option_map ClassNotDue found ≡ due_fault (as_plan plan.now) (due_on plan.now) (as_certificate (said claim.now))) }
 {
-    let rows = likenesses(alloc, plan, certificate)?;
-    Ok(first_by_rows(plan, certificate, rows.as_slice()))
+    let rows = likenesses(alloc, plan, claim)?;
+    Ok(first_by_rows(plan, claim, rows.as_slice()))
 }
 
 /// The same, where several threads look at the classes.
@@ -82,10 +73,10 @@ pub fn first_unlike_parallel<R: Threads + Sync>(
     rt: &R,
     alloc: Global,
     plan: &Plan,
-    certificate: &Certificate,
+    claim: &Claim<'_>,
 ) -> Result<Option<DayKind>, AllocError>
-    ensures { IfOk result (λ found. option_map ClassNotDue found ≡ due_fault (as_plan plan.now) (due_on plan.now) (as_certificate (content certificate.now))) }
+    ensures { IfOk result (λ found. option_map ClassNotDue found ≡ due_fault (as_plan plan.now) (due_on plan.now) (as_certificate (said claim.now))) }
 {
-    let rows = likenesses_parallel(rt, alloc, plan, certificate)?;
-    Ok(first_by_rows(plan, certificate, rows.as_slice()))
+    let rows = likenesses_parallel(rt, alloc, plan, claim)?;
+    Ok(first_by_rows(plan, claim, rows.as_slice()))
 }

@@ -2,7 +2,7 @@
 ghost use Rattle.std.specs.Prelude.{◌≡◌, ◌≤◌, All, IfNone, IfOk, IfSome, List, Some, false, map, slice_get};
 ghost use Rattle.std.specs.List.{list_any};
 ghost use Rattle.cs_accepted.specs.Faults.{used_stretches};
-ghost use Rattle.cs_cert.specs.Certificate.{content};
+ghost use Rattle.cs_cert.specs.Claim.{said};
 ghost use Rattle.cs_cert.specs.Content.{stretch_of};
 ghost use Rattle.cs_claim.specs.Claim.{as_certificate};
 ghost use Rattle.cs_chains.specs.ByClasses.{LeadTo};
@@ -12,7 +12,7 @@ ghost use Rattle.cs_chains.specs.declared.classed.ClassedChain.{ClassedChain};
 use crate::by_classes::{ByClasses, by_classes, chain_with};
 use crate::chain::{Chain, copy_of};
 use crate::classed::classed_chains;
-use cs_cert::{Certificate, Stretch};
+use cs_cert::{Claim, Stretch};
 use std::alloc::{AllocError, Global};
 
 /// A stretch of a certificate that successive days have, its place among the stretches, and kinds of such days.
@@ -20,7 +20,7 @@ use std::alloc::{AllocError, Global};
 pub struct UsedStretch<'a> {
     pub stretch: &'a Stretch,
 
-    /// The place in [`Certificate::stretches`].
+    /// The place in [`Claim::stretches`](cs_cert::Claim::stretches).
     pub number: usize,
 
     /// Kinds of successive days that have its classes.
@@ -47,17 +47,17 @@ fn used_by<'a>(
 /// The stretches of so many days that successive days have, in the certificate's order. The only error is want of memory.
 pub fn used_stretches<'a>(
     alloc: Global,
-    certificate: &'a Certificate,
+    claim: &Claim<'a>,
     days: u8,
 ) -> Result<Vec<UsedStretch<'a>>, AllocError>
     requires { (1 ≤ days) × (days ≤ 4) }
-    ensures listed { IfOk result (λ used. map seen used.items ≡ used_stretches (as_certificate (content certificate.now)) days) }
-    ensures kinds { IfOk result (λ used. All (λ u. HaveClasses (content certificate.now) days u.stretch.now.of u.kinds.items) used.items) }
-    ensures numbers { IfOk result (λ used. All (λ u. slice_get (content certificate.now).stretches u.number ≡ Some (stretch_of u.stretch.now)) used.items) }
+    ensures listed { IfOk result (λ used. map (seen (said claim.now)) used.items ≡ used_stretches (as_certificate (said claim.now)) days) }
+    ensures kinds { IfOk result (λ used. All (λ u. HaveClasses (said claim.now) days u.stretch.now.of u.kinds.items) used.items) }
+    ensures numbers { IfOk result (λ used. All (λ u. slice_get (said claim.now).stretches u.number ≡ Some (stretch_of u.stretch.now)) used.items) }
 {
-    let listed = classed_chains(alloc, certificate, days)?;
+    let listed = classed_chains(alloc, claim, days)?;
     let chains = by_classes(alloc, listed.as_slice())?;
-    let stretches = certificate.stretches();
+    let stretches = claim.stretches();
     let mut used = Vec::new(alloc);
     for (number, stretch) in stretches.iter().enumerate() {
         if let Some(found) = used_by(&chains, number, stretch) {

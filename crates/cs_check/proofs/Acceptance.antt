@@ -15,13 +15,13 @@ use Rattle.cs_accepted.proofs.Chains.{tells_used}
 use Rattle.cs_accepted.proofs.Points.{says_all, says_one, says_two, waiter_to}
 use Rattle.cs_check.specs.Stretches.{AreGood, AreStretches, HaveReaches, IsCase, IsGood}
 use Rattle.std.proofs.lemmas.List.Elements.{All-head, All-tail}
-use Rattle.cs_cert.specs.Certificate.{content}
+use Rattle.cs_cert.specs.Claim.{said}
 use Rattle.cs_chains.specs.Used.{seen}
 use Rattle.cs_chains.specs.declared.used.UsedStretch.{UsedStretch}
 use Rattle.cs_claim.specs.Claim.{as_certificate}
 use Rattle.cs_decl.specs.Plan.{as_plan}
 use Rattle.cs_claim.specs.Planned.{due_on}
-use Rattle.cs_check.specs.Case.{fault_of}
+use Rattle.cs_check.specs.Case.{claim_fault}
 use Rattle.cs_check.specs.declared.case.Case.{Case}
 use Rattle.cs_check.proofs.Using.{days_range}
 
@@ -55,16 +55,16 @@ module _ (p : Plan) (plan : IsPlan p) (on : ℕ → Kind → ℕ → Bool) (a : 
     free = in_each (λ s. AreFree p (windows_of p a s.of)) (λ s is. is.free);
   })
 
-recursion_from : (P : Stretch → Type 0) (us : List UsedStretch) → All (λ u. P (seen u)) us → AllByRecursion P (map seen us)
-recursion_from P [] h = tt
-recursion_from P (u ∷ us) h = (All-head (λ (v : UsedStretch). P (seen v)) u us h, recursion_from P us (All-tail (λ (v : UsedStretch). P (seen v)) u us h))
+recursion_from : (P : Stretch → Type 0) (see : UsedStretch → Stretch) (us : List UsedStretch) → All (λ u. P (see u)) us → AllByRecursion P (map see us)
+recursion_from P see [] h = tt
+recursion_from P see (u ∷ us) h = (All-head (λ (v : UsedStretch). P (see v)) u us h, recursion_from P see us (All-tail (λ (v : UsedStretch). P (see v)) u us h))
 
 -- where the quick test found nothing, there is nothing
-pub quiet_is_none : (k : Case) (us : List UsedStretch) → IsCase k → AreStretches k us → AreGood k us → HaveReaches (as_plan k.plan.now) (as_certificate (content k.certificate.now)) → fault_of k.plan.now (content k.certificate.now) ≡ None
-unfolding fault_of
+pub quiet_is_none : (k : Case) (us : List UsedStretch) → IsCase k → AreStretches k us → AreGood k us → HaveReaches (as_plan k.plan.now) (as_certificate (said k.claim.now)) → claim_fault k.plan.now (said k.claim.now) ≡ None
+unfolding claim_fault
 quiet_is_none k us is listed good reaches =
     let d = k.plan.now in
-    let c = content k.certificate.now in
+    let c = said k.claim.now in
     subst (λ (n : ℕ). first_fault (as_plan d) (due_on d) (as_certificate c) n ≡ None) is.long
     (good_is_none (as_plan d) is.fit.plan (due_on d) (as_certificate c) k.days (omega (arith, (days_range k is).0))
-    (subst (AllByRecursion (IsGood (as_plan d) (as_certificate c) k.days)) listed.listed (recursion_from (IsGood (as_plan d) (as_certificate c) k.days) us good)) is.due listed.complete reaches)
+    (subst (AllByRecursion (IsGood (as_plan d) (as_certificate c) k.days)) listed.listed (recursion_from (IsGood (as_plan d) (as_certificate c) k.days) (seen c) us good)) is.due listed.complete reaches)

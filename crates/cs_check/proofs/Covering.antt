@@ -1,11 +1,16 @@
 -- What a complete tree lists at each minute.
-use Rattle.std.proofs.Common.{◌≡◌, ℕ, ◌+◌, ◌<◌, true, List, subst, arith}
+use Rattle.std.proofs.Common.{◌≡◌, ℕ, ◌+◌, ◌<◌, Bool, true, false, List, Some, refl, subst, arith}
+use Rattle.std.specs.Prelude.{◌==◌}
+use Rattle.cs_accepted.specs.Accepted.{ListsAll}
+use Rattle.cs_cert.specs.Content.{Content}
+use Rattle.cs_chains.specs.Used.{seen}
+use Rattle.cs_chains.specs.declared.used.UsedStretch.{UsedStretch}
 use Rattle.std.specs.List.{AllByRecursion}
 use Rattle.cs_history.proofs.Lists.{all_zip, all-filter, all_passes}
 use Rattle.cs_windows.specs.declared.window.Window.{Window}
 use Rattle.cs_windows.specs.Window.{Holds, touches}
 use Rattle.cs_windows.specs.Entries.{lists}
-use Rattle.cs_windows.specs.Tree.{IsComplete, Tree, entries_at}
+use Rattle.cs_windows.specs.Tree.{IsComplete, Tree, entries_at, tree_of}
 use Rattle.cs_windows.proofs.Members.{Has, has_contains}
 use Rattle.cs_windows.proofs.Touching.{touches_held}
 use Rattle.cs_accepted.specs.Windows.{holders}
@@ -18,3 +23,8 @@ pub covered_from : (tree : Tree) (ws : List Window) → IsComplete tree ws → (
 covered_from tree ws complete m lt =
     all_zip (Has ws) (λ w. touches w m (m + 1) ≡ true) (λ w. lists (entries_at tree m) w ≡ true) (holders m ws) (λ w has t. complete m lt w (has_contains ws w has) (held w m t))
     (all-filter (Has ws) (λ w. touches w m (m + 1)) ws (all_from_has (Has ws) ws (λ w h. h))) (all_passes (λ w. touches w m (m + 1)) ws)
+
+-- the tree of a stretch counts where the version has trees
+pub listed_or_not : (c : Content) (u : UsedStretch) (ws : List Window) (b : Bool) → (c.version == 3) ≡ b → (b ≡ false → ListsAll (Some (tree_of u.stretch.now.tree)) ws) → ListsAll (seen c u).tree ws
+listed_or_not c u ws true e h = rw e tt
+listed_or_not c u ws false e h = rw e (h refl)

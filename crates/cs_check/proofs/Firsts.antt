@@ -9,7 +9,7 @@ use Rattle.cs_history.specs.Plan.{Plan, waits}
 use Rattle.cs_claim.specs.Planned.{due_on}
 use Rattle.cs_accepted.specs.Certificate.{Certificate}
 use Rattle.cs_accepted.specs.Faults.{Fault, ReachTooShort, due_fault, first_fault, first_of, leaf_fault, or_else, reach_fault, reaches_far, step_fault, stretch_fault, unless, used_stretches, collision_fault, capacity_fault, skip_fault}
-use Rattle.cs_check.specs.Case.{fault_of, length_for}
+use Rattle.cs_check.specs.Case.{claim_fault, length_for}
 use Rattle.cs_check.specs.Stretches.{is_far_by, fault_by_windows, later_fault}
 
 module _ (p : Plan) (on : ℕ → Kind → ℕ → Bool) (a : Certificate) (n : ℕ) where
@@ -41,16 +41,16 @@ module _ (p : Plan) (on : ℕ → Kind → ℕ → Bool) (a : Certificate) (n : 
   later_last none complete = first_is ∙ (ap (λ (o : Option Fault). or_else o (or_else (stretch_fault a n) rest)) none ∙ (ap (λ (o : Option Fault). or_else o rest) complete ∙ rest_is))
 
 -- the same of a plan and a certificate
-pub unlike_first : (d : Declared) (c : Content) (f : Fault) → due_fault (as_plan d) (due_on d) (as_certificate c) ≡ Some f → fault_of d c ≡ Some f
-unfolding fault_of
+pub unlike_first : (d : Declared) (c : Content) (f : Fault) → due_fault (as_plan d) (due_on d) (as_certificate c) ≡ Some f → claim_fault d c ≡ Some f
+unfolding claim_fault
 unlike_first d c f e = one_first (as_plan d) (due_on d) (as_certificate c) (length_for d c) f e
 
-pub missing_next : (d : Declared) (c : Content) (n : ℕ) (f : Fault) → n ≡ length_for d c → due_fault (as_plan d) (due_on d) (as_certificate c) ≡ None → stretch_fault (as_certificate c) n ≡ Some f → fault_of d c ≡ Some f
-unfolding fault_of
+pub missing_next : (d : Declared) (c : Content) (n : ℕ) (f : Fault) → n ≡ length_for d c → due_fault (as_plan d) (due_on d) (as_certificate c) ≡ None → stretch_fault (as_certificate c) n ≡ Some f → claim_fault d c ≡ Some f
+unfolding claim_fault
 missing_next d c n f long none e = two_next (as_plan d) (due_on d) (as_certificate c) (length_for d c) f none (ap (stretch_fault (as_certificate c)) (sym long) ∙ e)
 
-pub others_last : (d : Declared) (c : Content) (n : ℕ) → n ≡ length_for d c → due_fault (as_plan d) (due_on d) (as_certificate c) ≡ None → stretch_fault (as_certificate c) n ≡ None → fault_of d c ≡ later_fault (as_plan d) (as_certificate c) n (used_stretches (as_certificate c) n)
-unfolding fault_of
+pub others_last : (d : Declared) (c : Content) (n : ℕ) → n ≡ length_for d c → due_fault (as_plan d) (due_on d) (as_certificate c) ≡ None → stretch_fault (as_certificate c) n ≡ None → claim_fault d c ≡ later_fault (as_plan d) (as_certificate c) n (used_stretches (as_certificate c) n)
+unfolding claim_fault
 others_last d c n long none complete =
     later_last (as_plan d) (due_on d) (as_certificate c) (length_for d c) none (ap (stretch_fault (as_certificate c)) (sym long) ∙ complete)
     ∙ ap (λ (k : ℕ). later_fault (as_plan d) (as_certificate c) k (used_stretches (as_certificate c) k)) (sym long)

@@ -1,28 +1,28 @@
 -- What follows for a stretch in use.
-use Rattle.std.proofs.Common.{◌≡◌, ℕ, ◌<◌, ◌≤◌, List, [], ◌∷◌, ◌++◌, ◌+◌, zero, suc, map, take, length, slice_set, Bor, All, None, Some, ap, sym, ◌∙◌, subst, arith, get_or}
+use Rattle.std.proofs.Common.{◌≡◌, ℕ, ◌<◌, ◌≤◌, List, [], ◌∷◌, ◌++◌, ◌+◌, zero, suc, map, take, length, slice_set, Bor, All, None, Some, true, ap, sym, ◌∙◌, subst, arith, get_or}
 use Rattle.std.specs.Prelude.{slice_get}
 use Rattle.std.proofs.lemmas.List.{length-map, map-append, take_more_set}
 use Rattle.std.proofs.Math.Seq.{take-suc}
 use Rattle.std.proofs.lemmas.List.Elements.{All-map, All-head, All-tail}
-use Rattle.cs_civil.specs.Calendar.{Kind, IsKind}
+use Rattle.std.proofs.lemmas.List.Sums.{AllPass-from_list_all}
+use Rattle.cs_civil.specs.Calendar.{Kind}
 use Rattle.cs_decl.specs.Plan.{Declared, as_plan}
-use Rattle.cs_cert.specs.Content.{Content, stretch_of}
+use Rattle.cs_cert.specs.Content.{Content, StretchTree, stretch_of}
 use Rattle.cs_chains.specs.declared.used.UsedStretch.{UsedStretch}
 use Rattle.cs_cert.specs.Certificate.{class_of}
-use Rattle.cs_cert.specs.Kept.{IsSound, Keeps}
-use Rattle.cs_history.specs.Plan.{Plan}
+use Rattle.cs_cert.specs.Judged.{IsClaim}
+use Rattle.cs_cert.specs.Rules.{is_split_well}
+use Rattle.cs_cert.proofs.Splits.{inside_so}
 use Rattle.cs_claim.specs.Planned.{due_on, planned}
 use Rattle.cs_windows.specs.Windows.{windows_on}
-use Rattle.cs_windows.specs.declared.window.Window.{Window}
 use Rattle.cs_claim.specs.Claim.{as_certificate}
-use Rattle.cs_accepted.specs.Accepted.{IsChain, windows_of}
-use Rattle.cs_accepted.specs.Certificate.{Certificate}
+use Rattle.cs_accepted.specs.Accepted.{windows_of}
 use Rattle.cs_accepted.specs.Faults.{due_fault}
 use Rattle.cs_accepted.proofs.ByKind.{by_kinds}
 use Rattle.cs_accepted.proofs.Points.{says_one}
 use Rattle.cs_chains.specs.Used.{HaveClasses}
 use Rattle.cs_check.specs.Case.{IsFit, length_for}
-use Rattle.cs_cert.specs.Certificate.{content}
+use Rattle.cs_cert.specs.Claim.{said}
 use Rattle.cs_cert.specs.declared.class.Class.{Class}
 use Rattle.cs_claim.specs.Claim.{class_at}
 use Rattle.cs_accepted.specs.Accepted.{nth}
@@ -36,20 +36,20 @@ windows_are d c n kinds of fit due have =
     by_kinds (as_plan d) (due_on d) (as_certificate c) ((says_one (as_plan d) fit.plan (due_on d) (as_certificate c) (length_for d c) (omega (arith, (length_of d c fit).range.0))).0 due) kinds have.chain
     ∙ ap (windows_of (as_plan d) (as_certificate c)) have.classes
 
-classes_below : (c : Content) (kinds : List Kind) → Keeps c → All (λ class. class < length c.classes) (map (class_of c) kinds)
+classes_below : (c : Content) (kinds : List Kind) → IsClaim c → All (λ class. class < length c.classes) (map (class_of c) kinds)
 classes_below c kinds keeps = All-map (λ (class : ℕ). class < length c.classes) (class_of c) kinds (λ i d lt. keeps.class_of_kind (get_or kinds i d))
 
-pub classes_there : (c : Content) (n : ℕ) (kinds : List Kind) (of : List ℕ) → Keeps c → HaveClasses c n of kinds → All (λ class. class < length c.classes) of
+pub classes_there : (c : Content) (n : ℕ) (kinds : List Kind) (of : List ℕ) → IsClaim c → HaveClasses c n of kinds → All (λ class. class < length c.classes) of
 classes_there c n kinds of keeps have = subst (All (λ (class : ℕ). class < length c.classes)) have.classes (classes_below c kinds keeps)
 
 pub long_as_kinds : (c : Content) (n : ℕ) (kinds : List Kind) (of : List ℕ) → HaveClasses c n of kinds → length of ≡ n
 long_as_kinds c n kinds of have = sym (ap length have.classes) ∙ (length-map kinds (class_of c) ∙ have.long)
 
-pub number_there : (c : Content) (n : ℕ) (kinds : List Kind) (of : List ℕ) → Keeps c → HaveClasses c n of kinds → (place : ℕ) → place < n → get_or of place 0 < length c.classes
+pub number_there : (c : Content) (n : ℕ) (kinds : List Kind) (of : List ℕ) → IsClaim c → HaveClasses c n of kinds → (place : ℕ) → place < n → get_or of place 0 < length c.classes
 number_there c n kinds of keeps have place lt = let long = long_as_kinds c n kinds of have in classes_there c n kinds of keeps have place 0 (omega (arith, long, lt))
 
 pub days_range : (k : Case) → IsCase k → (2 ≤ k.days) × (k.days ≤ 4)
-days_range k is = let r = (length_of k.plan.now (content k.certificate.now) is.fit).range in (omega (arith, is.long, r.0), omega (arith, is.long, r.1))
+days_range k is = let r = (length_of k.plan.now (said k.claim.now) is.fit).range in (omega (arith, is.long, r.0), omega (arith, is.long, r.1))
 
 -- one more of what the classes have
 one_more_of : {A B : Type 0} (now : A → B) (value : ℕ → B) (of : List ℕ) (so_far : List A) (place : ℕ) (x : A) → place < length so_far → place < length of → now x ≡ value (nth of place)
@@ -69,12 +69,6 @@ pub one_more : (classes : List Class) (of : List ℕ) (so_far : List (Bor Class)
     → map (λ (x : Bor Class). x.now) (take (place + 1) (slice_set so_far place class)) ≡ map (class_at classes) (take (place + 1) of)
 one_more classes of so_far place class lt in_of is so = one_more_of (λ (x : Bor Class). x.now) (class_at classes) of so_far place class lt in_of is so
 
--- one more of the lists of windows that begin on the days
-pub one_more_day : (p : Plan) (a : Certificate) (of : List ℕ) (so_far : List (Bor (List Window))) (place : ℕ) (day : Bor (List Window)) → place < length so_far → place < length of → day.now ≡ windows_of p a (nth of place ∷ [])
-    → map (λ (x : Bor (List Window)). x.now) (take place so_far) ≡ map (λ (class : ℕ). windows_of p a (class ∷ [])) (take place of)
-    → map (λ (x : Bor (List Window)). x.now) (take (place + 1) (slice_set so_far place day)) ≡ map (λ (class : ℕ). windows_of p a (class ∷ [])) (take (place + 1) of)
-one_more_day p a of so_far place day lt in_of is so = one_more_of (λ (x : Bor (List Window)). x.now) (λ (class : ℕ). windows_of p a (class ∷ [])) of so_far place day lt in_of is so
-
 -- the classes of a stretch in use are as many as its days
 pub long_as_classes : (c : Content) (n : ℕ) (kinds : List Kind) (of : List ℕ) (classes : List (Bor Class)) → HaveClasses c n of kinds → map (λ (x : Bor Class). x.now) classes ≡ map (class_at c.classes) of → length classes ≡ n
 long_as_classes c n kinds of classes have e =
@@ -86,15 +80,7 @@ at_place P (y ∷ ys) zero x h e = subst P (cc) (All-head P y ys h)
 at_place P (y ∷ ys) (suc i) x h e = at_place P ys i x (All-tail P y ys h) e
 
 -- the stretches that are found are in use
-pub found_in_use : (c : Content) (n : ℕ) (us : List UsedStretch) → Keeps c → All (λ u. HaveClasses c n u.stretch.now.of u.kinds.items) us → All (λ u. slice_get c.stretches u.number ≡ Some (stretch_of u.stretch.now)) us → All (IsInUse c n) us
-found_in_use c n us keeps kinds numbers = λ k d lt. record { kinds = kinds k d lt; splits = (at_place (IsSound c.version (length c.classes)) c.stretches (get_or us k d).number (stretch_of (get_or us k d).stretch.now) keeps.stretches (numbers k d lt)).splits }
-
--- the kind at a place of a chain, which has the class there
-pub kind_there : (c : Content) (n : ℕ) (of : List ℕ) (kinds : List Kind) → HaveClasses c n of kinds → (place : ℕ) → place < n → (kind : Kind) × IsKind kind × (class_of c kind ≡ nth of place)
-kind_there c n of kinds have place lt = there kinds of have.chain have.classes place (omega (arith, lt, have.long))
-  where
-    there : (kinds : List Kind) (of : List ℕ) → IsChain kinds → map (class_of c) kinds ≡ of → (place : ℕ) → place < length kinds → (kind : Kind) × IsKind kind × (class_of c kind ≡ nth of place)
-    there [] of chain e place lt = absurd (omega (arith, lt))
-    there (k ∷ ks) of chain e zero lt = (k, chain.0, ap (λ (xs : List ℕ). nth xs 0) e)
-    there (k ∷ ks) [] chain e (suc place) lt = absurd (cc)
-    there (k ∷ ks) (x ∷ xs) chain e (suc place) lt = there ks xs chain.2 (cc) place (omega (arith, lt))
+pub found_in_use : (c : Content) (n : ℕ) (us : List UsedStretch) → IsClaim c → All (λ u. HaveClasses c n u.stretch.now.of u.kinds.items) us → All (λ u. slice_get c.stretches u.number ≡ Some (stretch_of u.stretch.now)) us → All (IsInUse c n) us
+found_in_use c n us claim kinds numbers = λ k d lt.
+    let split = at_place (λ (s : StretchTree). is_split_well s ≡ true) c.stretches (get_or us k d).number (stretch_of (get_or us k d).stretch.now) (AllPass-from_list_all is_split_well c.stretches claim.splits) (numbers k d lt) in
+    record { kinds = kinds k d lt; splits = inside_so (stretch_of (get_or us k d).stretch.now).tree 0 1440 split }

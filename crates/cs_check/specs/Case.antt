@@ -4,6 +4,7 @@ use Rattle.cs_decl.specs.Plan.{Declared, as_plan}
 use Rattle.cs_claim.specs.Planned.{due_on}
 use Rattle.cs_cert.specs.Content.{Content}
 use Rattle.cs_claim.specs.Claim.{as_certificate}
+use Rattle.cs_claim.specs.WorkedOut.{claimed}
 use Rattle.cs_history.specs.Plan.{IsPlan}
 use Rattle.cs_accepted.specs.Accepted.{IsAccepted, IsModest, reach_in}
 use Rattle.cs_accepted.specs.Faults.{Fault, first_fault, stretch_length}
@@ -16,13 +17,21 @@ reach_for d c = reach_in (as_plan d) (as_certificate c)
 abbrev pub length_for : Declared → Content → ℕ
 length_for d c = stretch_length (as_plan d) (due_on d) (reach_for d c)
 
--- the first fault, if there is one
-unfoldable pub fault_of : Declared → Content → Option Fault
-fault_of d c = first_fault (as_plan d) (due_on d) (as_certificate c) (length_for d c)
+-- the first fault of what is claimed, if there is one
+unfoldable pub claim_fault : Declared → Content → Option Fault
+claim_fault d c = first_fault (as_plan d) (due_on d) (as_certificate c) (length_for d c)
 
--- the eight rules hold
+-- the eight rules hold of what is claimed
+abbrev pub IsAcceptedClaim : Declared → Content → Type 0
+IsAcceptedClaim d c = IsAccepted (as_plan d) (due_on d) (as_certificate c) (length_for d c)
+
+-- the first fault of a certificate, if there is one: of what it stands for
+unfoldable pub fault_of : Declared → Content → Option Fault
+fault_of d c = claim_fault d (claimed d c)
+
+-- the eight rules hold of what the certificate stands for
 abbrev pub IsAcceptedWith : Declared → Content → Type 0
-IsAcceptedWith d c = IsAccepted (as_plan d) (due_on d) (as_certificate c) (length_for d c)
+IsAcceptedWith d c = IsAcceptedClaim d (claimed d c)
 
 -- numbers in range and names resolved
 pub record IsFit (d : Declared) (c : Content) : Type 0 where

@@ -1,14 +1,10 @@
 -- What is known of the days of each class.
-use Rattle.std.specs.Prelude.{◌≡◌, ℕ, ◌<◌, ◌∷◌, [], IsTrue, true, List, length, map, None, Option, Some, slice_get}
-use Rattle.cs_civil.specs.Calendar.{Kind, IsKind}
-use Rattle.cs_civil.specs.declared.kind.DayKind.{DayKind}
-use Rattle.cs_chains.specs.KindOf.{IsKindOf}
+use Rattle.std.specs.Prelude.{◌≡◌, ℕ, ◌<◌, ◌≤◌, ◌∷◌, [], IsTrue, true, List, length, map, None, Some, slice_get}
 use Rattle.cs_decl.specs.Plan.{Declared, as_plan, crons}
 use Rattle.cs_cert.specs.Content.{Content}
-use Rattle.cs_cert.specs.Certificate.{class_of, content}
+use Rattle.cs_cert.specs.Claim.{said}
 use Rattle.cs_cert.specs.declared.class.Class.{Class}
-use Rattle.cs_cert.specs.Kept.{Keeps}
-use Rattle.cs_accepted.specs.Accepted.{windows_of}
+use Rattle.cs_cert.specs.Judged.{IsClaim}
 use Rattle.cs_accepted.specs.Faults.{due_fault}
 use Rattle.cs_claim.specs.Claim.{as_certificate, class_at}
 use Rattle.cs_claim.specs.GroupDays.{AreGroupDays}
@@ -22,10 +18,11 @@ use Rattle.cs_check.specs.declared.class_day.ClassDay.{ClassDay}
 
 -- the classes have the due minutes of their kinds, and the rest is the plan's and the certificate's
 pub record IsBasis (b : Basis) : Type 0 where
-  pub fit : IsFit b.plan.now (content b.certificate.now)
-  pub keeps : Keeps (content b.certificate.now)
-  pub due : due_fault (as_plan b.plan.now) (due_on b.plan.now) (as_certificate (content b.certificate.now)) ≡ None
-  pub jobs : map job_of b.occupied.items ≡ planned b.plan.now (content b.certificate.now).reach
+  pub fit : IsFit b.plan.now (said b.claim.now)
+  pub keeps : IsClaim (said b.claim.now)
+  pub due : due_fault (as_plan b.plan.now) (due_on b.plan.now) (as_certificate (said b.claim.now)) ≡ None
+  pub jobs : map job_of b.occupied.items ≡ planned b.plan.now (said b.claim.now).reach
+  pub few : length b.occupied.items ≤ 320
   pub nothing : b.none.now ≡ []
 
 -- on a day of the class the job, if it waits and has a reach, has had its lock within it
@@ -36,27 +33,18 @@ Settles d c class j = waits (as_plan d) j ≡ true → (r : ℕ) → (as_certifi
 abbrev pub Settle : Declared → Content → Class → Type 0
 Settle d c class = (j : ℕ) → j < crons d → Settles d c class j
 
--- the windows that begin on a day of the class, its locks, and whether all jobs that wait settle
+-- the locks on a day of the class, and whether all jobs that wait settle
 pub record IsClassDay (d : Declared) (c : Content) (class : ℕ) (day : ClassDay) : Type 0 where
-  pub windows : day.windows.items ≡ windows_of (as_plan d) (as_certificate c) (class ∷ [])
   pub groups : AreGroupDays (as_plan d) (class_at c.classes class) day.groups.items
   pub settles : IsTrue day.settles → Settle d c (class_at c.classes class)
-
--- the same, if days of some kind have the class
-abbrev pub IsDayOf : Declared → Content → ℕ → ClassDay → Type 0
-IsDayOf d c class day = (k : Kind) → IsKind k → class_of c k ≡ class → IsClassDay d c class day
 
 -- of each class, by number
 pub record AreClassDays (d : Declared) (c : Content) (days : List ClassDay) : Type 0 where
   pub long : length days ≡ length c.classes
-  pub each : (class : ℕ) (day : ClassDay) → slice_get days class ≡ Some day → IsDayOf d c class day
+  pub each : (class : ℕ) (day : ClassDay) → slice_get days class ≡ Some day → IsClassDay d c class day
 
 -- a basis is of this plan and this certificate
 pub record IsBasisOf (d : Declared) (c : Content) (b : Basis) : Type 0 where
   pub basis : IsBasis b
   pub plan : b.plan.now ≡ d
-  pub certificate : content b.certificate.now ≡ c
-
--- a kind of day of each class, by number
-abbrev pub AreKinds : Content → List (Option DayKind) → Type 0
-AreKinds c kinds = (class : ℕ) (found : Option DayKind) → slice_get kinds class ≡ Some found → IsKindOf c class found
+  pub certificate : said b.claim.now ≡ c

@@ -1,6 +1,7 @@
 -- What is asked of one stretch.
-use Rattle.std.specs.Prelude.{◌≡◌, ℕ, ◌-◌, ◌<◌, true, false, Bool, not, ◌||◌, List, [], map, Option, None, Some, option_map, unwrap_or, All}
+use Rattle.std.specs.Prelude.{◌≡◌, ℕ, ◌-◌, ◌<◌, ◌≤◌, length, true, false, Bool, not, ◌||◌, List, [], map, Option, None, Some, option_map, unwrap_or, All}
 use Rattle.std.specs.List.{list_all}
+use Rattle.cs_windows.specs.Occupied.{job_of}
 use Rattle.cs_windows.specs.Windows.{day_minutes}
 use Rattle.cs_history.specs.Lists.{below}
 use Rattle.cs_history.specs.Plan.{Plan, waits}
@@ -9,12 +10,12 @@ use Rattle.cs_accepted.specs.Accepted.{AreApart, AreFree, AreWithin, IsCovered, 
 use Rattle.cs_accepted.specs.Faults.{Fault, BacklogRises, ReachTooShort, WindowMissing, Collision, OverCapacity, SkipBlocked, blocked_in, clears_by, collision_in, due_fault, first_of, has_waiter, or_else, stretch_fault, unless, used_stretches, minute_of, missing_in, overload_in, rise_in}
 use Rattle.cs_wait.specs.Bounds.{ClearsBy, StepsHold}
 use Rattle.cs_cert.specs.Content.{Content}
-use Rattle.cs_cert.specs.Certificate.{content}
-use Rattle.cs_cert.specs.Kept.{Keeps}
+use Rattle.cs_cert.specs.Claim.{said}
+use Rattle.cs_cert.specs.Judged.{IsClaim}
 use Rattle.cs_claim.specs.Claim.{as_certificate}
 use Rattle.cs_decl.specs.Plan.{Declared, as_plan}
 use Rattle.cs_stretch.specs.Roles.{IsOf}
-use Rattle.cs_claim.specs.Planned.{due_on}
+use Rattle.cs_claim.specs.Planned.{due_on, planned}
 use Rattle.cs_check.specs.Case.{IsFit, length_for}
 use Rattle.cs_check.specs.ClassDays.{AreClassDays}
 use Rattle.cs_check.specs.declared.case.Case.{Case}
@@ -52,12 +53,14 @@ pub record IsInUse (c : Content) (n : ℕ) (u : UsedStretch) : Type 0 where
 
 -- the classes have the due minutes of their kinds, and the rest is the plan's and the certificate's
 pub record IsCase (k : Case) : Type 0 where
-  pub fit : IsFit k.plan.now (content k.certificate.now)
-  pub keeps : Keeps (content k.certificate.now)
-  pub due : due_fault (as_plan k.plan.now) (due_on k.plan.now) (as_certificate (content k.certificate.now)) ≡ None
-  pub long : k.days ≡ length_for k.plan.now (content k.certificate.now)
+  pub fit : IsFit k.plan.now (said k.claim.now)
+  pub keeps : IsClaim (said k.claim.now)
+  pub due : due_fault (as_plan k.plan.now) (due_on k.plan.now) (as_certificate (said k.claim.now)) ≡ None
+  pub long : k.days ≡ length_for k.plan.now (said k.claim.now)
+  pub jobs : map job_of k.occupied.items ≡ planned k.plan.now (said k.claim.now).reach
+  pub few : length k.occupied.items ≤ 320
   pub roles : IsOf (as_plan k.plan.now) k.roles
-  pub class_days : AreClassDays k.plan.now (content k.certificate.now) k.class_days.items
+  pub class_days : AreClassDays k.plan.now (said k.claim.now) k.class_days.items
   pub nothing : k.none.now ≡ []
 
 -- the same as a test
@@ -89,13 +92,13 @@ later_fault p a n stretches =
 
 -- each stretch is good
 abbrev pub AreGood : Case → List UsedStretch → Type 0
-AreGood k stretches = All (λ u. IsGood (as_plan k.plan.now) (as_certificate (content k.certificate.now)) k.days (seen u)) stretches
+AreGood k stretches = All (λ u. IsGood (as_plan k.plan.now) (as_certificate (said k.claim.now)) k.days (seen (said k.claim.now) u)) stretches
 
 -- these are the stretches in use, and none is missing
 pub record AreStretches (k : Case) (stretches : List UsedStretch) : Type 0 where
-  pub listed : map seen stretches ≡ used_stretches (as_certificate (content k.certificate.now)) k.days
-  pub in_use : All (IsInUse (content k.certificate.now) k.days) stretches
-  pub complete : stretch_fault (as_certificate (content k.certificate.now)) k.days ≡ None
+  pub listed : map (seen (said k.claim.now)) stretches ≡ used_stretches (as_certificate (said k.claim.now)) k.days
+  pub in_use : All (IsInUse (said k.claim.now) k.days) stretches
+  pub complete : stretch_fault (as_certificate (said k.claim.now)) k.days ≡ None
 
 -- each job that waits has a reach
 abbrev pub HaveReaches : Plan → Certificate → Type 0
@@ -105,4 +108,4 @@ HaveReaches p a = (j : ℕ) → j < p.crons → waits p j ≡ true → (r : ℕ)
 pub record IsCaseOf (d : Declared) (c : Content) (k : Case) : Type 0 where
   pub case : IsCase k
   pub plan : k.plan.now ≡ d
-  pub certificate : content k.certificate.now ≡ c
+  pub certificate : said k.claim.now ≡ c

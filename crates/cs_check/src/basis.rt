@@ -1,9 +1,9 @@
 //! A plan and a certificate, once the first rule holds.
 ghost use Rattle.std.specs.Prelude.{◌≡◌, ◌<◌, length};
-ghost use Rattle.cs_cert.specs.Certificate.{content};
+ghost use Rattle.cs_cert.specs.Claim.{said};
 ghost use Rattle.cs_claim.specs.Claim.{class_at};
 
-use cs_cert::{Certificate, Class};
+use cs_cert::{Claim, Class};
 use cs_decl::Plan;
 use cs_wait::Backlog;
 use cs_windows::Occupied;
@@ -12,7 +12,7 @@ use cs_windows::Occupied;
 #[derive(Drop)]
 pub(crate) struct Basis<'a> {
     pub(crate) plan: &'a Plan,
-    pub(crate) certificate: &'a Certificate,
+    pub(crate) claim: &'a Claim<'a>,
     /// What each job occupies, by number.
     pub(crate) occupied: Vec<Occupied<'a>>,
     /// The bound of groups that have none.
@@ -20,9 +20,9 @@ pub(crate) struct Basis<'a> {
 }
 
 /// The class with this number.
-pub(crate) fn class_of_number<'a>(certificate: &'a Certificate, number: usize) -> &'a Class
-    requires { number < length (content certificate.now).classes }
-    ensures { result.now ≡ class_at (content certificate.now).classes number }
+pub(crate) fn class_of_number<'a>(claim: &'a Claim<'a>, number: usize) -> &'a Class
+    requires { number < length (said claim.now).classes }
+    ensures { result.now ≡ class_at (said claim.now).classes number }
 {
-    &certificate.classes()[number]
+    &claim.classes()[number]
 }

@@ -1,7 +1,8 @@
 //! What is known of a plan and a certificate before the stretches are looked at.
-ghost use Rattle.std.specs.Prelude.{◌≡◌, ◌<◌, ◌≤◌, ◌∷◌, [], IfOk, length, map, take};
-ghost use Rattle.cs_accepted.specs.Accepted.{nth, windows_of};
-ghost use Rattle.cs_cert.specs.Certificate.{content};
+ghost use Rattle.std.specs.Prelude.{◌≡◌, ◌<◌, ◌≤◌, IfOk, IsTrue, length, map, take};
+ghost use Rattle.cs_accepted.specs.Accepted.{ListsAll, nth, windows_of};
+ghost use Rattle.cs_chains.specs.Used.{seen};
+ghost use Rattle.cs_cert.specs.Claim.{said};
 ghost use Rattle.cs_check.specs.ClassDays.{IsClassDay};
 ghost use Rattle.cs_check.specs.Stretches.{IsCase, IsInUse};
 ghost use Rattle.cs_claim.specs.Claim.{as_certificate, class_at};
@@ -9,21 +10,23 @@ ghost use Rattle.cs_decl.specs.Plan.{as_plan};
 ghost use Rattle.cs_windows.specs.Window.{IsRising};
 
 use crate::class_day::ClassDay;
-use cs_cert::{Certificate, Class, reach_of};
+use cs_cert::{Claim, Class, reach_of};
 use cs_chains::UsedStretch;
 use cs_decl::Plan;
 use cs_stretch::Roles;
 use cs_wait::Backlog;
-use cs_windows::{Window, windows_over};
+use cs_windows::{Occupied, Window, windows_on};
 use std::alloc::{AllocError, Global};
 
 /// A plan and a certificate whose classes have the due minutes of their kinds, with what each stretch needs of them.
 #[derive(Drop)]
 pub(crate) struct Case<'a> {
     pub(crate) plan: &'a Plan,
-    pub(crate) certificate: &'a Certificate,
+    pub(crate) claim: &'a Claim<'a>,
     /// How many days a stretch has.
     pub(crate) days: u8,
+    /// What each job occupies, by number.
+    pub(crate) occupied: Vec<Occupied<'a>>,
     pub(crate) roles: Roles,
     /// What each day of each class has, by the number of the class.
     pub(crate) class_days: Vec<ClassDay>,
@@ -44,29 +47,29 @@ impl<'a> Case<'a> {
 
     /// The reach of a cron job, if it has one.
     pub(crate) fn reach_of(&self, number: usize) -> Option<u16>
-        ensures { result ≡ (as_certificate (content self.now.certificate.now)).reach number }
+        ensures { result ≡ (as_certificate (said self.now.claim.now)).reach number }
     {
-        reach_of(self.certificate.reach(), number)
+        reach_of(self.claim.reach(), number)
     }
 
     /// The class of the day at this place of a stretch in use.
     #[tactic(auto, using(crate::proofs::Using::classes_there, crate::proofs::Using::long_as_kinds))]
     pub(crate) fn class_on(&self, used: &UsedStretch<'_>, place: usize) -> &'a Class
         requires case { IsCase self.now }
-        requires in_use { IsInUse (content self.now.certificate.now) self.now.days used.now }
+        requires in_use { IsInUse (said self.now.claim.now) self.now.days used.now }
         requires within { place < self.now.days }
-        ensures { result.now ≡ class_at (content self.now.certificate.now).classes (nth used.now.stretch.now.of place) }
+        ensures { result.now ≡ class_at (said self.now.claim.now).classes (nth used.now.stretch.now.of place) }
     {
         let number = used.stretch.of.as_slice()[place];
-        &self.certificate.classes()[number as usize]
+        &self.claim.classes()[number as usize]
     }
 
     /// The classes of the days of a stretch in use, and the first of them after those.
     pub(crate) fn classes_of(&self, used: &UsedStretch<'_>) -> [&'a Class; 4]
         requires case { IsCase self.now }
-        requires in_use { IsInUse (content self.now.certificate.now) self.now.days used.now }
+        requires in_use { IsInUse (said self.now.claim.now) self.now.days used.now }
         ensures long { length result ≡ 4 }
-        ensures value { map (λ class. class.now) (take self.now.days result) ≡ map (class_at (content self.now.certificate.now).classes) used.now.stretch.now.of }
+        ensures value { map (λ class. class.now) (take self.now.days result) ≡ map (class_at (said self.now.claim.now).classes) used.now.stretch.now.of }
     {
         let days = self.days();
         let mut classes = [self.class_on(used, 0); 4];
@@ -79,27 +82,23 @@ impl<'a> Case<'a> {
     /// What is known of the day at this place of a stretch in use.
     pub(crate) fn day_on(&self, used: &UsedStretch<'_>, place: usize) -> &ClassDay
         requires case { IsCase self.now }
-        requires in_use { IsInUse (content self.now.certificate.now) self.now.days used.now }
+        requires in_use { IsInUse (said self.now.claim.now) self.now.days used.now }
         requires within { place < self.now.days }
-        ensures { IsClassDay self.now.plan.now (content self.now.certificate.now) (nth used.now.stretch.now.of place) result.now }
+        ensures { IsClassDay self.now.plan.now (said self.now.claim.now) (nth used.now.stretch.now.of place) result.now }
     {
         let number = used.stretch.of.as_slice()[place];
         &self.class_days.as_slice()[number as usize]
     }
 
-    /// The windows that begin on each day of a stretch in use, and those of the first day again after them.
-    fn begun_on(&self, used: &UsedStretch<'_>) -> [&[Window]; 4]
-        requires case { IsCase self.now }
-        requires in_use { IsInUse (content self.now.certificate.now) self.now.days used.now }
-        ensures long { length result ≡ 4 }
-        ensures value { map (λ day. day.now) (take self.now.days result) ≡ map (λ class. windows_of (as_plan self.now.plan.now) (as_certificate (content self.now.certificate.now)) (class ∷ [])) used.now.stretch.now.of }
+    /// Whether the leaves of a stretch in use list all these windows, where the version of the certificate lists windows.
+    pub(crate) fn covers(&self, used: &UsedStretch<'_>, windows: &[Window]) -> bool
+        requires { IsInUse (said self.now.claim.now) self.now.days used.now }
+        ensures { IsTrue result → ListsAll (seen (said self.now.claim.now) used.now).tree windows.now }
     {
-        let days = self.days();
-        let mut begun = [self.day_on(used, 0).windows.as_slice(); 4];
-        for place in 0..days {
-            begun[place] = self.day_on(used, place).windows.as_slice();
+        if self.claim.version() == 3 {
+            return true;
         }
-        begun
+        used.stretch.tree.covers(windows)
     }
 
     /// The windows of a stretch in use, in order of start. The only error is want of memory.
@@ -109,11 +108,11 @@ impl<'a> Case<'a> {
         used: &UsedStretch<'_>,
     ) -> Result<Vec<Window>, AllocError>
         requires case { IsCase self.now }
-        requires in_use { IsInUse (content self.now.certificate.now) self.now.days used.now }
-        ensures value { IfOk result (λ windows. windows.items ≡ windows_of (as_plan self.now.plan.now) (as_certificate (content self.now.certificate.now)) used.now.stretch.now.of) }
+        requires in_use { IsInUse (said self.now.claim.now) self.now.days used.now }
+        ensures value { IfOk result (λ windows. windows.items ≡ windows_of (as_plan self.now.plan.now) (as_certificate (said self.now.claim.now)) used.now.stretch.now.of) }
         ensures rising { IfOk result (λ windows. IsRising windows.items) }
     {
-        let begun = self.begun_on(used);
-        windows_over(alloc, &begun[..self.days()])
+        let _days = self.days();
+        windows_on(alloc, self.occupied.as_slice(), used.kinds.as_slice())
     }
 }

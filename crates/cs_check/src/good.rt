@@ -2,7 +2,7 @@
 ghost use Rattle.std.specs.Prelude.{◌≡◌, ℕ, ◌<◌, ◌-◌, true, IfOk, IsTrue, Some, map};
 ghost use Rattle.cs_accepted.specs.Accepted.{arrivals, nth};
 ghost use Rattle.cs_accepted.specs.Faults.{has_waiter};
-ghost use Rattle.cs_cert.specs.Certificate.{content};
+ghost use Rattle.cs_cert.specs.Claim.{said};
 ghost use Rattle.cs_chains.specs.Used.{seen};
 ghost use Rattle.cs_check.specs.Stretches.{IsCase, IsGood, IsInUse, clears_on};
 ghost use Rattle.cs_claim.specs.Claim.{as_certificate, class_at};
@@ -19,8 +19,8 @@ use std::alloc::{AllocError, Global};
 /// Whether the bounds of the groups follow what arrives, from the last day but one to the last.
 pub(crate) fn steps_hold(case: &Case<'_>, used: &UsedStretch<'_>) -> bool
     requires case { IsCase case.now }
-    requires in_use { IsInUse (content case.now.certificate.now) case.now.days used.now }
-    ensures { IsTrue result → (g : ℕ) → g < (as_plan case.now.plan.now).groups → has_waiter (as_plan case.now.plan.now) g ≡ true → StepsHold ((as_certificate (content case.now.certificate.now)).bound (nth used.now.stretch.now.of (case.now.days - 2)) g) (arrivals (as_plan case.now.plan.now) (as_certificate (content case.now.certificate.now)) g (nth used.now.stretch.now.of (case.now.days - 2))) ((as_certificate (content case.now.certificate.now)).bound (nth used.now.stretch.now.of (case.now.days - 1)) g) }
+    requires in_use { IsInUse (said case.now.claim.now) case.now.days used.now }
+    ensures { IsTrue result → (g : ℕ) → g < (as_plan case.now.plan.now).groups → has_waiter (as_plan case.now.plan.now) g ≡ true → StepsHold ((as_certificate (said case.now.claim.now)).bound (nth used.now.stretch.now.of (case.now.days - 2)) g) (arrivals (as_plan case.now.plan.now) (as_certificate (said case.now.claim.now)) g (nth used.now.stretch.now.of (case.now.days - 2))) ((as_certificate (said case.now.claim.now)).bound (nth used.now.stretch.now.of (case.now.days - 1)) g) }
 {
     let days = case.days();
     let eve = case.day_on(used, days - 2);
@@ -37,10 +37,10 @@ pub(crate) fn clears_on<'a>(
     reach: u16,
 ) -> bool
     requires case { IsCase case.now }
-    requires in_use { IsInUse (content case.now.certificate.now) case.now.days used.now }
-    requires classes { map (λ class. class.now) classes.now ≡ map (class_at (content case.now.certificate.now).classes) used.now.stretch.now.of }
+    requires in_use { IsInUse (said case.now.claim.now) case.now.days used.now }
+    requires classes { map (λ class. class.now) classes.now ≡ map (class_at (said case.now.claim.now).classes) used.now.stretch.now.of }
     requires cron { number < crons case.now.plan.now }
-    ensures { result ≡ clears_on (as_plan case.now.plan.now) (as_certificate (content case.now.certificate.now)) number reach (seen used.now) }
+    ensures { result ≡ clears_on (as_plan case.now.plan.now) (as_certificate (said case.now.claim.now)) number reach (seen (said case.now.claim.now) used.now) }
 {
     let _days = case.days();
     clears(case.plan, number, reach, classes, case.none)
@@ -54,10 +54,10 @@ fn reach_holds<'a>(
     number: usize,
 ) -> bool
     requires case { IsCase case.now }
-    requires in_use { IsInUse (content case.now.certificate.now) case.now.days used.now }
-    requires classes { map (λ class. class.now) classes.now ≡ map (class_at (content case.now.certificate.now).classes) used.now.stretch.now.of }
+    requires in_use { IsInUse (said case.now.claim.now) case.now.days used.now }
+    requires classes { map (λ class. class.now) classes.now ≡ map (class_at (said case.now.claim.now).classes) used.now.stretch.now.of }
     requires cron { number < crons case.now.plan.now }
-    ensures { IsTrue result → (r : ℕ) → waits (as_plan case.now.plan.now) number ≡ true → (as_certificate (content case.now.certificate.now)).reach number ≡ Some r → clears_on (as_plan case.now.plan.now) (as_certificate (content case.now.certificate.now)) number r (seen used.now) ≡ true }
+    ensures { IsTrue result → (r : ℕ) → waits (as_plan case.now.plan.now) number ≡ true → (as_certificate (said case.now.claim.now)).reach number ≡ Some r → clears_on (as_plan case.now.plan.now) (as_certificate (said case.now.claim.now)) number r (seen (said case.now.claim.now) used.now) ≡ true }
 {
     if !waits(case.plan, number) {
         return true;
@@ -71,8 +71,8 @@ fn reach_holds<'a>(
 /// Whether each reach of a job that waits is far enough, job by job.
 fn all_reaches_hold(case: &Case<'_>, used: &UsedStretch<'_>) -> bool
     requires case { IsCase case.now }
-    requires in_use { IsInUse (content case.now.certificate.now) case.now.days used.now }
-    ensures { IsTrue result → (j r : ℕ) → j < crons case.now.plan.now → waits (as_plan case.now.plan.now) j ≡ true → (as_certificate (content case.now.certificate.now)).reach j ≡ Some r → clears_on (as_plan case.now.plan.now) (as_certificate (content case.now.certificate.now)) j r (seen used.now) ≡ true }
+    requires in_use { IsInUse (said case.now.claim.now) case.now.days used.now }
+    ensures { IsTrue result → (j r : ℕ) → j < crons case.now.plan.now → waits (as_plan case.now.plan.now) j ≡ true → (as_certificate (said case.now.claim.now)).reach j ≡ Some r → clears_on (as_plan case.now.plan.now) (as_certificate (said case.now.claim.now)) j r (seen (said case.now.claim.now) used.now) ≡ true }
 {
     let classes = case.classes_of(used);
     for number in 0..case.plan.crons() {
@@ -86,8 +86,8 @@ fn all_reaches_hold(case: &Case<'_>, used: &UsedStretch<'_>) -> bool
 /// The same. No job is looked at where all have had their locks on the first day itself.
 fn reaches_hold(case: &Case<'_>, used: &UsedStretch<'_>) -> bool
     requires case { IsCase case.now }
-    requires in_use { IsInUse (content case.now.certificate.now) case.now.days used.now }
-    ensures { IsTrue result → (j r : ℕ) → j < crons case.now.plan.now → waits (as_plan case.now.plan.now) j ≡ true → (as_certificate (content case.now.certificate.now)).reach j ≡ Some r → clears_on (as_plan case.now.plan.now) (as_certificate (content case.now.certificate.now)) j r (seen used.now) ≡ true }
+    requires in_use { IsInUse (said case.now.claim.now) case.now.days used.now }
+    ensures { IsTrue result → (j r : ℕ) → j < crons case.now.plan.now → waits (as_plan case.now.plan.now) j ≡ true → (as_certificate (said case.now.claim.now)).reach j ≡ Some r → clears_on (as_plan case.now.plan.now) (as_certificate (said case.now.claim.now)) j r (seen (said case.now.claim.now) used.now) ≡ true }
 {
     let _days = case.days();
     if case.day_on(used, 0).settles {
@@ -104,8 +104,8 @@ pub(crate) fn is_good(
     used: &UsedStretch<'_>,
 ) -> Result<bool, AllocError>
     requires case { IsCase case.now }
-    requires in_use { IsInUse (content case.now.certificate.now) case.now.days used.now }
-    ensures { IfOk result (λ good. IsTrue good → IsGood (as_plan case.now.plan.now) (as_certificate (content case.now.certificate.now)) case.now.days (seen used.now)) }
+    requires in_use { IsInUse (said case.now.claim.now) case.now.days used.now }
+    ensures { IfOk result (λ good. IsTrue good → IsGood (as_plan case.now.plan.now) (as_certificate (said case.now.claim.now)) case.now.days (seen (said case.now.claim.now) used.now)) }
 {
     if !steps_hold(case, used) {
         return Ok(false);
@@ -114,7 +114,7 @@ pub(crate) fn is_good(
         return Ok(false);
     }
     let windows = case.windows(alloc, used)?;
-    if !used.stretch.tree.covers(windows.as_slice()) {
+    if !case.covers(used, windows.as_slice()) {
         return Ok(false);
     }
     let quiet = case.roles.quiet(alloc, windows.as_slice())?;

@@ -1,6 +1,6 @@
 //! The first fault of the stretches in use, in the order of the rules.
 ghost use Rattle.std.specs.Prelude.{◌≡◌, All, IfOk, map, option_map};
-ghost use Rattle.cs_cert.specs.Certificate.{content};
+ghost use Rattle.cs_cert.specs.Claim.{said};
 ghost use Rattle.cs_chains.specs.Used.{seen};
 ghost use Rattle.cs_check.specs.Stretches.{IsCase, IsInUse, fault_by_windows, later_fault};
 ghost use Rattle.cs_claim.specs.Claim.{as_certificate};
@@ -23,8 +23,8 @@ fn first_by_windows(
     stretches: &[UsedStretch<'_>],
 ) -> Result<Option<CheckFault>, AllocError>
     requires case { IsCase case.now }
-    requires in_use { All (IsInUse (content case.now.certificate.now) case.now.days) stretches.now }
-    ensures { IfOk result (λ found. option_map told found ≡ fault_by_windows (as_plan case.now.plan.now) (as_certificate (content case.now.certificate.now)) case.now.days (map seen stretches.now)) }
+    requires in_use { All (IsInUse (said case.now.claim.now) case.now.days) stretches.now }
+    ensures { IfOk result (λ found. option_map told found ≡ fault_by_windows (as_plan case.now.plan.now) (as_certificate (said case.now.claim.now)) case.now.days (map (seen (said case.now.claim.now)) stretches.now)) }
 {
     if let Some(fault) = first_by(alloc, case, Rule::Leaves, stretches)? {
         return Ok(Some(fault));
@@ -46,8 +46,8 @@ pub(crate) fn later_fault(
     stretches: &[UsedStretch<'_>],
 ) -> Result<Option<CheckFault>, AllocError>
     requires case { IsCase case.now }
-    requires in_use { All (IsInUse (content case.now.certificate.now) case.now.days) stretches.now }
-    ensures { IfOk result (λ found. option_map told found ≡ later_fault (as_plan case.now.plan.now) (as_certificate (content case.now.certificate.now)) case.now.days (map seen stretches.now)) }
+    requires in_use { All (IsInUse (said case.now.claim.now) case.now.days) stretches.now }
+    ensures { IfOk result (λ found. option_map told found ≡ later_fault (as_plan case.now.plan.now) (as_certificate (said case.now.claim.now)) case.now.days (map (seen (said case.now.claim.now)) stretches.now)) }
 {
     if let Some(fault) = first_by(alloc, case, Rule::Steps, stretches)? {
         return Ok(Some(fault));

@@ -1,7 +1,7 @@
 //! A quick test of one stretch in use by one rule.
 ghost use Rattle.std.specs.Prelude.{◌≡◌, IfOk, IsTrue, None};
 ghost use Rattle.cs_accepted.specs.Accepted.{AreApart, AreFree, AreWithin, windows_of};
-ghost use Rattle.cs_cert.specs.Certificate.{content};
+ghost use Rattle.cs_cert.specs.Claim.{said};
 ghost use Rattle.cs_chains.specs.Used.{seen};
 ghost use Rattle.cs_check.specs.Stretches.{IsCase, IsInUse, fault_by};
 ghost use Rattle.cs_check.specs.declared.rule.Rule.TheVariants as rules;
@@ -18,10 +18,10 @@ use std::alloc::{AllocError, Global};
 /// By which of the rules on windows a quick test finds a stretch in use in order.
 fn quiet_on(alloc: Global, case: &Case<'_>, used: &UsedStretch<'_>) -> Result<Quiet, AllocError>
     requires case { IsCase case.now }
-    requires in_use { IsInUse (content case.now.certificate.now) case.now.days used.now }
-    ensures apart { IfOk result (λ quiet. IsTrue quiet.is_apart → AreApart (as_plan case.now.plan.now) (windows_of (as_plan case.now.plan.now) (as_certificate (content case.now.certificate.now)) used.now.stretch.now.of)) }
-    ensures within { IfOk result (λ quiet. IsTrue quiet.is_within → AreWithin (as_plan case.now.plan.now) case.now.days (windows_of (as_plan case.now.plan.now) (as_certificate (content case.now.certificate.now)) used.now.stretch.now.of)) }
-    ensures free { IfOk result (λ quiet. IsTrue quiet.is_free → AreFree (as_plan case.now.plan.now) (windows_of (as_plan case.now.plan.now) (as_certificate (content case.now.certificate.now)) used.now.stretch.now.of)) }
+    requires in_use { IsInUse (said case.now.claim.now) case.now.days used.now }
+    ensures apart { IfOk result (λ quiet. IsTrue quiet.is_apart → AreApart (as_plan case.now.plan.now) (windows_of (as_plan case.now.plan.now) (as_certificate (said case.now.claim.now)) used.now.stretch.now.of)) }
+    ensures within { IfOk result (λ quiet. IsTrue quiet.is_within → AreWithin (as_plan case.now.plan.now) case.now.days (windows_of (as_plan case.now.plan.now) (as_certificate (said case.now.claim.now)) used.now.stretch.now.of)) }
+    ensures free { IfOk result (λ quiet. IsTrue quiet.is_free → AreFree (as_plan case.now.plan.now) (windows_of (as_plan case.now.plan.now) (as_certificate (said case.now.claim.now)) used.now.stretch.now.of)) }
 {
     let windows = case.windows(alloc, used)?;
     case.roles.quiet(alloc, windows.as_slice())
@@ -30,11 +30,11 @@ fn quiet_on(alloc: Global, case: &Case<'_>, used: &UsedStretch<'_>) -> Result<Qu
 /// Whether the leaves of a stretch in use list all its windows.
 fn lists_all(alloc: Global, case: &Case<'_>, used: &UsedStretch<'_>) -> Result<bool, AllocError>
     requires case { IsCase case.now }
-    requires in_use { IsInUse (content case.now.certificate.now) case.now.days used.now }
-    ensures { IfOk result (λ lists. IsTrue lists → fault_by rules.Leaves (as_plan case.now.plan.now) (as_certificate (content case.now.certificate.now)) case.now.days (seen used.now) ≡ None) }
+    requires in_use { IsInUse (said case.now.claim.now) case.now.days used.now }
+    ensures { IfOk result (λ lists. IsTrue lists → fault_by rules.Leaves (as_plan case.now.plan.now) (as_certificate (said case.now.claim.now)) case.now.days (seen (said case.now.claim.now) used.now) ≡ None) }
 {
     let windows = case.windows(alloc, used)?;
-    Ok(used.stretch.tree.covers(windows.as_slice()))
+    Ok(case.covers(used, windows.as_slice()))
 }
 
 /// Whether a stretch in use passes a quick test by this rule, and so has no fault by it. Where it doesn't, the rule's finder
@@ -46,8 +46,8 @@ pub(crate) fn passes(
     used: &UsedStretch<'_>,
 ) -> Result<bool, AllocError>
     requires case { IsCase case.now }
-    requires in_use { IsInUse (content case.now.certificate.now) case.now.days used.now }
-    ensures { IfOk result (λ passes. IsTrue passes → fault_by rule (as_plan case.now.plan.now) (as_certificate (content case.now.certificate.now)) case.now.days (seen used.now) ≡ None) }
+    requires in_use { IsInUse (said case.now.claim.now) case.now.days used.now }
+    ensures { IfOk result (λ passes. IsTrue passes → fault_by rule (as_plan case.now.plan.now) (as_certificate (said case.now.claim.now)) case.now.days (seen (said case.now.claim.now) used.now) ≡ None) }
 {
     match rule {
         Rule::Steps => Ok(steps_hold(case, used)),

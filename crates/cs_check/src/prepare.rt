@@ -1,8 +1,8 @@
 //! What is looked at before the stretches: due minutes, and which stretches there have to be.
 ghost use Rattle.std.specs.Prelude.{◌≡◌, [], IfErr, IfOk, option_map};
 ghost use Rattle.cs_accepted.specs.Faults.{ClassNotDue, due_fault};
-ghost use Rattle.cs_cert.specs.Certificate.{content};
-ghost use Rattle.cs_check.specs.Case.{fault_of};
+ghost use Rattle.cs_cert.specs.Claim.{said};
+ghost use Rattle.cs_check.specs.Case.{claim_fault};
 ghost use Rattle.cs_check.specs.Checked.{Tells};
 ghost use Rattle.cs_check.specs.ClassDays.{AreClassDays, IsBasis, IsBasisOf};
 ghost use Rattle.cs_check.specs.Stretches.{AreStretches, IsCase, IsCaseOf};
@@ -14,7 +14,7 @@ use crate::basis::Basis;
 use crate::case::Case;
 use crate::class_day::ClassDay;
 use crate::fault::CheckError;
-use cs_cert::Certificate;
+use cs_cert::Claim;
 use cs_chains::{
     UsedStretch, first_missing, first_unlike, first_unlike_parallel, stretch_length, used_stretches,
 };
@@ -31,23 +31,23 @@ use std::thread::Threads;
 fn basis_by<'a>(
     alloc: Global,
     plan: &'a Plan,
-    certificate: &'a Certificate,
+    claim: &'a Claim<'a>,
     none: &'a Backlog,
     unlike: Option<DayKind>,
 ) -> Result<Basis<'a>, CheckError>
     requires none { none.now ≡ [] }
-    requires unlike { option_map ClassNotDue unlike ≡ due_fault (as_plan plan.now) (due_on plan.now) (as_certificate (content certificate.now)) }
-    ensures ok { IfOk result (IsBasisOf plan.now (content certificate.now)) }
-    ensures fault { IfErr result (Tells (fault_of plan.now (content certificate.now))) }
+    requires unlike { option_map ClassNotDue unlike ≡ due_fault (as_plan plan.now) (due_on plan.now) (as_certificate (said claim.now)) }
+    ensures ok { IfOk result (IsBasisOf plan.now (said claim.now)) }
+    ensures fault { IfErr result (Tells (claim_fault plan.now (said claim.now))) }
 {
     let _jobs = plan.jobs();
-    let occupied = occupied(alloc, plan, certificate.reach())?;
+    let occupied = occupied(alloc, plan, claim.reach())?;
     if let Some(kind) = unlike {
         return Err(CheckError::Fault(CheckFault::ClassNotDue(kind)));
     }
     Ok(Basis {
         plan,
-        certificate,
+        claim,
         occupied,
         none,
     })
@@ -57,15 +57,15 @@ fn basis_by<'a>(
 pub(crate) fn basis_of<'a>(
     alloc: Global,
     plan: &'a Plan,
-    certificate: &'a Certificate,
+    claim: &'a Claim<'a>,
     none: &'a Backlog,
 ) -> Result<Basis<'a>, CheckError>
     requires { none.now ≡ [] }
-    ensures ok { IfOk result (IsBasisOf plan.now (content certificate.now)) }
-    ensures fault { IfErr result (Tells (fault_of plan.now (content certificate.now))) }
+    ensures ok { IfOk result (IsBasisOf plan.now (said claim.now)) }
+    ensures fault { IfErr result (Tells (claim_fault plan.now (said claim.now))) }
 {
-    let unlike = first_unlike(alloc, plan, certificate)?;
-    basis_by(alloc, plan, certificate, none, unlike)
+    let unlike = first_unlike(alloc, plan, claim)?;
+    basis_by(alloc, plan, claim, none, unlike)
 }
 
 /// The same by several threads.
@@ -73,32 +73,33 @@ pub(crate) fn basis_of_parallel<'a, R: Threads + Sync>(
     rt: &R,
     alloc: Global,
     plan: &'a Plan,
-    certificate: &'a Certificate,
+    claim: &'a Claim<'a>,
     none: &'a Backlog,
 ) -> Result<Basis<'a>, CheckError>
     requires { none.now ≡ [] }
-    ensures ok { IfOk result (IsBasisOf plan.now (content certificate.now)) }
-    ensures fault { IfErr result (Tells (fault_of plan.now (content certificate.now))) }
+    ensures ok { IfOk result (IsBasisOf plan.now (said claim.now)) }
+    ensures fault { IfErr result (Tells (claim_fault plan.now (said claim.now))) }
 {
-    let unlike = first_unlike_parallel(rt, alloc, plan, certificate)?;
-    basis_by(alloc, plan, certificate, none, unlike)
+    let unlike = first_unlike_parallel(rt, alloc, plan, claim)?;
+    basis_by(alloc, plan, claim, none, unlike)
 }
 
 /// The case that has this basis, with what each day of each class has. The only error is want of memory.
 pub(crate) fn case_of<'a>(
     alloc: Global,
-    basis: &Basis<'a>,
+    basis: Basis<'a>,
     class_days: Vec<ClassDay>,
 ) -> Result<Case<'a>, AllocError>
-    requires basis { IsBasis basis.now }
-    requires days { AreClassDays basis.now.plan.now (content basis.now.certificate.now) class_days.items }
-    ensures { IfOk result (IsCaseOf basis.now.plan.now (content basis.now.certificate.now)) }
+    requires basis { IsBasis basis }
+    requires days { AreClassDays basis.plan.now (said basis.claim.now) class_days.items }
+    ensures { IfOk result (IsCaseOf basis.entry.plan.now (said basis.entry.claim.now)) }
 {
     Ok(Case {
         plan: basis.plan,
-        certificate: basis.certificate,
+        claim: basis.claim,
         days: stretch_length(basis.occupied.as_slice()),
         roles: Roles::of(alloc, basis.plan)?,
+        occupied: basis.occupied,
         class_days,
         none: basis.none,
     })
@@ -111,12 +112,12 @@ pub(crate) fn stretches_of<'a>(
 ) -> Result<Vec<UsedStretch<'a>>, CheckError>
     requires { IsCase case.now }
     ensures ok { IfOk result (λ stretches. AreStretches case.now stretches.items) }
-    ensures fault { IfErr result (Tells (fault_of case.now.plan.now (content case.now.certificate.now))) }
+    ensures fault { IfErr result (Tells (claim_fault case.now.plan.now (said case.now.claim.now))) }
 {
     let _days = case.days();
-    let _stretches = case.certificate.stretches();
-    if let Some(kinds) = first_missing(alloc, case.certificate, case.days)? {
+    let _stretches = case.claim.stretches();
+    if let Some(kinds) = first_missing(alloc, case.claim, case.days)? {
         return Err(CheckError::Fault(CheckFault::MissingPair(kinds)));
     }
-    Ok(used_stretches(alloc, case.certificate, case.days)?)
+    Ok(used_stretches(alloc, case.claim, case.days)?)
 }

@@ -34,6 +34,7 @@ impl Checked {
         ensures few { AreFew (as_plan (plan_in self.now)) }
     {
         let _jobs = self.plan.jobs();
-        let _reach = self.certificate.reach();
+        let claim = self.certificate.claim();
+        let _reach = claim.reach();
     }
 }

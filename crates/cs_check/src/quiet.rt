@@ -1,6 +1,6 @@
 //! The quick test of all stretches in use.
 ghost use Rattle.std.specs.Prelude.{◌≡◌, ◌<◌, ℕ, All, IfOk, IsTrue, Some, true};
-ghost use Rattle.cs_cert.specs.Certificate.{content};
+ghost use Rattle.cs_cert.specs.Claim.{said};
 ghost use Rattle.cs_chains.specs.Used.{seen};
 ghost use Rattle.cs_check.specs.Stretches.{AreGood, HaveReaches, IsCase, IsGood, IsInUse};
 ghost use Rattle.cs_claim.specs.Claim.{as_certificate};
@@ -18,7 +18,7 @@ use std::thread::Threads;
 /// Whether a cron job, if it waits, has a reach.
 fn has_reach(case: &Case<'_>, number: usize) -> bool
     requires { number < crons case.now.plan.now }
-    ensures { IsTrue result → waits (as_plan case.now.plan.now) number ≡ true → (r : ℕ) × ((as_certificate (content case.now.certificate.now)).reach number ≡ Some r) }
+    ensures { IsTrue result → waits (as_plan case.now.plan.now) number ≡ true → (r : ℕ) × ((as_certificate (said case.now.claim.now)).reach number ≡ Some r) }
 {
     if !waits(case.plan, number) {
         return true;
@@ -28,7 +28,7 @@ fn has_reach(case: &Case<'_>, number: usize) -> bool
 
 /// Whether each job that waits has a reach.
 pub(crate) fn have_reaches(case: &Case<'_>) -> bool
-    ensures { IsTrue result → HaveReaches (as_plan case.now.plan.now) (as_certificate (content case.now.certificate.now)) }
+    ensures { IsTrue result → HaveReaches (as_plan case.now.plan.now) (as_certificate (said case.now.claim.now)) }
 {
     for number in 0..case.plan.crons() {
         if !has_reach(case, number) {
@@ -45,7 +45,7 @@ pub(crate) fn are_good(
     stretches: &[UsedStretch<'_>],
 ) -> Result<bool, AllocError>
     requires case { IsCase case.now }
-    requires in_use { All (IsInUse (content case.now.certificate.now) case.now.days) stretches.now }
+    requires in_use { All (IsInUse (said case.now.claim.now) case.now.days) stretches.now }
     ensures { IfOk result (λ good. IsTrue good → AreGood case.now stretches.now) }
 {
     for used in stretches {
@@ -64,14 +64,14 @@ pub(crate) fn are_good_parallel<R: Threads + Sync>(
     stretches: &[UsedStretch<'_>],
 ) -> bool
     requires case { IsCase case.now }
-    requires in_use { All (IsInUse (content case.now.certificate.now) case.now.days) stretches.now }
+    requires in_use { All (IsInUse (said case.now.claim.now) case.now.days) stretches.now }
     ensures { IsTrue result → AreGood case.now stretches.now }
 {
     let good = stretches.par_iter().with_min_len(1).all(
         rt,
         |used: &UsedStretch<'_>| -> bool
-            requires { IsCase case.now × IsInUse (content case.now.certificate.now) case.now.days used.now }
-            ensures { IsTrue result → IsGood (as_plan case.entry.now.plan.now) (as_certificate (content case.entry.now.certificate.now)) case.entry.now.days (seen used.now) }
+            requires { IsCase case.now × IsInUse (said case.now.claim.now) case.now.days used.now }
+            ensures { IsTrue result → IsGood (as_plan case.entry.now.plan.now) (as_certificate (said case.entry.now.claim.now)) case.entry.now.days (seen (said case.entry.now.claim.now) used.now) }
         { is_good(alloc, case, used).unwrap_or(false) },
     );
     if good {

@@ -3,3 +3,4 @@ pub mod GroupDays
 pub mod Lists
 pub mod Midnight
 pub mod PlannedJobs
+pub mod WorkedOut

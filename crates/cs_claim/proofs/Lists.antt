@@ -12,7 +12,7 @@ use Rattle.cs_windows.proofs.Members.{Has, has_range}
 pub any_below : (t : ℕ → Bool) (n m : ℕ) → n < m → t n ≡ true → list_any t (below m) ≡ true
 any_below t n m lt e = any_has t (below m) n (subst (λ (xs : List ℕ). Has xs n) (sym (below_range m)) (has_range 0 m n (omega arith) (omega (arith, lt)))) e
 
-filter_push : (t : ℕ → Bool) (xs : List ℕ) (y : ℕ) → filter t (xs ++ y ∷ []) ≡ filter t xs ++ (if t y then y ∷ [] else [])
+pub filter_push : (t : ℕ → Bool) (xs : List ℕ) (y : ℕ) → filter t (xs ++ y ∷ []) ≡ filter t xs ++ (if t y then y ∷ [] else [])
 filter_push t [] y = refl
 filter_push t (x ∷ xs) y = step (t x) (filter_push t xs y)
   where

@@ -4,3 +4,4 @@ pub mod GroupDays
 pub mod Planned
 pub mod Reaches
 pub mod Work
+pub mod WorkedOut

@@ -8,9 +8,11 @@ mod locks;
 mod planned;
 mod reach;
 mod steps;
+mod worked;
 
 pub use due::{due_minutes, due_sets};
 pub use group_day::{GroupDay, group_days, is_steady_over};
 pub use planned::occupied;
 pub use reach::{clears, waits};
 pub use steps::first_rise;
+pub use worked::worked_class;

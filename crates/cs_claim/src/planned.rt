@@ -1,4 +1,4 @@
-ghost use Rattle.std.specs.Prelude.{◌≡◌, ◌≤◌, IfOk, IfSome, None, map, slice_get, Some};
+ghost use Rattle.std.specs.Prelude.{◌≡◌, ◌≤◌, IfOk, IfSome, None, length, map, slice_get, Some};
 ghost use Rattle.cs_decl.specs.Plan.{as_plan, crons};
 ghost use Rattle.cs_history.specs.Calm.{reach};
 ghost use Rattle.cs_windows.specs.Occupied.{job_of};
@@ -60,7 +60,8 @@ pub fn occupied<'a>(
     plan: &'a Plan,
     reaches: &[JobReach],
 ) -> Result<Vec<Occupied<'a>>, AllocError>
-    ensures { IfOk result (λ jobs. map job_of jobs.items ≡ planned plan.now reaches.now) }
+    ensures jobs { IfOk result (λ jobs. map job_of jobs.items ≡ planned plan.now reaches.now) }
+    ensures few { IfOk result (λ jobs. length jobs.items ≤ 320) }
 {
     let mut jobs = Vec::new(alloc);
     for (number, job) in plan.jobs().iter().enumerate() {

@@ -46,7 +46,8 @@ fn add_locker(arrivals: &mut Arrivals, plan: &Plan, class: &Class, group: usize,
 
 /// What the lock takers of a group that are due on a day of a class bring.
 pub(crate) fn arrivals_in(plan: &Plan, class: &Class, group: usize) -> Arrivals
-    ensures { (m : ℕ) → m < 1440 → slice_index result m ≡ arrivals_in (as_plan plan.now) class.now group m }
+    ensures long { length result ≡ 1440 }
+    ensures each { (m : ℕ) → m < 1440 → slice_index result m ≡ arrivals_in (as_plan plan.now) class.now group m }
 {
     let mut arrivals = Arrivals::none();
     for number in 0..plan.crons() {

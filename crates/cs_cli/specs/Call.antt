@@ -1,5 +1,5 @@
 -- What is answered to the words of a call.
-use Rattle.std.specs.Prelude.{◌≡◌, ◌⊎◌, ℕ, List, [], Option}
+use Rattle.std.specs.Prelude.{◌≡◌, ◌⊎◌, ℕ, Bool, true, false, List, [], Option}
 use Rattle.clap.specs.Words.{Text}
 use Rattle.cs_call.specs.CommandLine.{Asking, Check, Day, Help, Judge, Make, Replay, Run, Asks}
 use Rattle.cs_call.specs.CommandLine.{AskedCheck, AsksHelp, AsksVersion, IsNoCall}
@@ -13,7 +13,8 @@ use Rattle.cs_cli.specs.Check.{AnswersCheck}
 use Rattle.cs_cli.specs.Safe.{AreSafe}
 use Rattle.cs_cli.specs.Judge.{AnswersJudge}
 use Rattle.cs_cli.specs.declared.answer.Answer.{Answer}
-use Rattle.cs_judge.specs.declared.answers.Wanted.TheVariants.{Certificate, Verdict}
+use Rattle.cs_judge.specs.declared.answers.Wanted.{Wanted}
+use Rattle.cs_judge.specs.declared.answers.Wanted.TheVariants.{Certificate, Compact, Verdict}
 
 -- help is shown, on standard output alone
 abbrev pub ShowsHelp : Failed → Failed → Ending → Type 0
@@ -25,6 +26,11 @@ pub record IsChecked (a : AskedCheck) (files : List ℕ → Option (List ℕ)) (
   pub answer : AnswersCheck a files before failed ending
   pub safe : ending.status ≡ 0 → AreSafe files a before
 
+-- what `make` is to print of a plan that is safe: with `--compact` a compact certificate
+abbrev pub wanted_of : Bool → Wanted
+wanted_of true = Compact
+wanted_of false = Certificate
+
 -- what is answered to a subcommand
 abbrev pub AnswersAsked : Asking → (List ℕ → Option (List ℕ)) → Failed → Failed → Answer → Type 0
 AnswersAsked (Day a) files before failed = EndsAs (AnswersDay a files before failed)
@@ -32,7 +38,8 @@ AnswersAsked (Replay a) files before failed = EndsAs (AnswersReplay a files befo
 AnswersAsked (Check a) files before failed = EndsAs (IsChecked a files before failed)
 AnswersAsked (Run a) files before failed = AnswersRun a files before failed
 AnswersAsked (Judge a) files before failed = EndsAs (AnswersJudge Verdict a files before failed)
-AnswersAsked (Make a) files before failed = EndsAs (AnswersJudge Certificate a files before failed)
+AnswersAsked (Make a) files before failed =
+    EndsAs (AnswersJudge (wanted_of a.compact) a.judge files before failed)
 AnswersAsked Help files before failed = EndsAs (ShowsHelp before failed)
 
 -- the version is shown

@@ -26,7 +26,7 @@ IsWarnedOf (Replay a) files = IsWarned files a.table a.anacrontab
 IsWarnedOf (Check a) files = IsWarned files a.table a.anacrontab
 IsWarnedOf (Run a) files = IsWarned files a.check.table a.check.anacrontab
 IsWarnedOf (Judge a) files = IsWarned files a.table a.anacrontab
-IsWarnedOf (Make a) files = IsWarned files a.table a.anacrontab
+IsWarnedOf (Make a) files = IsWarned files a.judge.table a.judge.anacrontab
 IsWarnedOf Help files = λ before old new warnings. ⊥
 
 -- memory ran out on words: on what they ask, or before anything was read

@@ -30,7 +30,7 @@ paths_asked (Replay a) = replay_paths a
 paths_asked (Check a) = check_paths a
 paths_asked (Run a) = check_paths a.check
 paths_asked (Judge a) = judge_paths a
-paths_asked (Make a) = judge_paths a
+paths_asked (Make a) = judge_paths a.judge
 paths_asked Help = []
 
 -- the files of what the words ask are read one after the other, each in its turn, and nothing else

@@ -44,7 +44,7 @@ fn judged<R: Threads + Sync>(
 ) -> Result<Response, AllocError>
     ensures { IfOk result (IsJudged wanted plan.now) }
 {
-    let judged = judge(rt, alloc, plan);
+    let judged = judge(rt, alloc, plan, wanted);
     let (outcome, text) = answer(alloc, plan, wanted, &judged)?;
     Ok(Response::told(status_for(outcome), text, Bytes::new(alloc)))
 }
@@ -72,7 +72,7 @@ fn told<'a, R: Threads + Sync, I: Inputs>(
 }
 
 /// The answer to `judge TABLE DECLS [--anacrontab FILE]`, where a verdict is wanted, and to `make` with the same words,
-/// where a certificate is.
+/// where a certificate is, with `--compact` a compact one.
 pub(crate) fn judge_plan<R: Threads + Sync, I: Inputs>(
     rt: &R,
     alloc: Global,

@@ -2,7 +2,7 @@
 ghost use Rattle.std.specs.Prelude.{◌≡◌, [], IfErr, IfOk, map};
 ghost use Rattle.cs_io.specs.Files.{IsFresh};
 ghost use Rattle.cs_cli.specs.Answer.{IfEnds};
-ghost use Rattle.cs_cli.specs.Call.{Answers};
+ghost use Rattle.cs_cli.specs.Call.{Answers, wanted_of};
 ghost use Rattle.cs_call.specs.Version.{version_text};
 ghost use Rattle.cs_cli.specs.RanOut.{RanOutOn};
 ghost use Rattle.cs_cli.specs.Response.{done};
@@ -24,6 +24,17 @@ use cs_judge::Wanted;
 use std::alloc::{AllocError, Global};
 use std::convert::AsStr;
 use std::thread::Threads;
+
+/// What `make` is to print of a plan that is safe.
+fn wanted_of(compact: bool) -> Wanted
+    ensures { result ≡ wanted_of compact }
+{
+    if compact {
+        Wanted::Compact
+    } else {
+        Wanted::Certificate
+    }
+}
 
 /// The answer to the words of a call, of which the first is the program's name. A certificate is
 /// checked by the threads of `rt`. The only error is want of memory.
@@ -57,8 +68,8 @@ pub fn respond<'a, R: Threads + Sync, S: AsStr, I: Inputs>(
             Ok(Answer::Ends(judge_plan(rt, alloc, &request, wanted, inputs)?))
         }
         Ok(Request::Make(request)) => {
-            let wanted = Wanted::Certificate;
-            Ok(Answer::Ends(judge_plan(rt, alloc, &request, wanted, inputs)?))
+            let wanted = wanted_of(request.compact);
+            Ok(Answer::Ends(judge_plan(rt, alloc, &request.judge, wanted, inputs)?))
         }
         Err(UsageFault::Help(text)) => {
             let shown = Response::done(text.into_bytes(), Bytes::new(alloc));

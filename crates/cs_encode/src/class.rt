@@ -2,7 +2,7 @@
 use cs_cert::{CertError, CertFault, Class, DueList, GroupBacklog};
 use cs_civil::Sequence;
 use cs_profile::{DayClass, Facts, GroupBound, Task};
-use cs_wait::{Backlog, BadPiece};
+use cs_wait::{Backlog, BadPiece, Piece};
 use std::alloc::{AllocError, Global};
 
 /// The minutes at which a job is due.
@@ -27,13 +27,14 @@ fn due_lists(alloc: Global, facts: &Facts, jobs: &[u16]) -> Result<Sequence<DueL
     Ok(lists)
 }
 
-/// The backlog of a group. `BadEntry` where its pieces make none.
-fn group_backlog(alloc: Global, bound: &GroupBound) -> Result<GroupBacklog, CertError> {
-    match Backlog::new(Vec::from_slice(alloc, &bound.pieces)?) {
-        Ok(backlog) => Ok(GroupBacklog {
-            group: bound.group,
-            backlog,
-        }),
+/// The backlog of a group. `BadEntry` where these pieces make none.
+pub(crate) fn group_backlog(
+    alloc: Global,
+    group: u8,
+    pieces: &[Piece],
+) -> Result<GroupBacklog, CertError> {
+    match Backlog::new(Vec::from_slice(alloc, pieces)?) {
+        Ok(backlog) => Ok(GroupBacklog { group, backlog }),
         Err(BadPiece) => Err(CertError::Fault(CertFault::BadEntry)),
     }
 }
@@ -43,7 +44,7 @@ fn backlogs(alloc: Global, bounds: &[GroupBound]) -> Result<Sequence<GroupBacklo
     let mut backlogs = Sequence::new(alloc);
     for bound in bounds {
         if !bound.pieces.is_empty() {
-            backlogs.push(group_backlog(alloc, bound)?)?;
+            backlogs.push(group_backlog(alloc, bound.group, &bound.pieces)?)?;
         }
     }
     Ok(backlogs)

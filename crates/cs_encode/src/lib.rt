@@ -1,10 +1,11 @@
-//! Certificates of classes of days and the windows of their stretches. Nothing trusts them, so nothing is promised of them
-//! but that these calls return: `Certificate::new` judges what is made.
+//! Certificates of classes of days, with the windows of their stretches or without. Nothing trusts them, so little is promised
+//! of them but that these calls return: `Certificate::new` judges what is made.
 #![tactic(auto)]
 
 mod certificates;
 mod choice;
 mod class;
+mod compact;
 mod cut;
 mod day_trees;
 mod grouping;
@@ -13,6 +14,7 @@ mod minute_trees;
 mod size;
 
 pub use certificates::{certificate, stretch};
+pub use compact::compact_certificate;
 pub use day_trees::day_tree;
 pub use minute_trees::minute_tree;
 pub use size::least_text;

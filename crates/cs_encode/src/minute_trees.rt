@@ -16,7 +16,7 @@ const MOST_CUTS: u8 = 18;
 /// The name of a window. A job that no plan has stays one: the greatest `u16`.
 fn entry_of(window: &Window) -> Entry {
     Entry {
-        job: u16::try_from(window.job).unwrap_or(u16::MAX),
+        job: window.job,
         day_back: window.day_back,
         from: window.from,
     }

@@ -19,9 +19,14 @@ fn total(lengths: &[u64]) -> u64 {
     total
 }
 
-/// A list: brackets around it, and commas between its items.
+/// The brackets around a list of so many items, and the commas between them.
+fn brackets(items: usize) -> u64 {
+    (items.max(1) as u64).saturating_add(1)
+}
+
+/// A list of these items.
 fn list<T: Listed>(items: &[T]) -> u64 {
-    let mut text = (items.len().max(1) as u64).saturating_add(1);
+    let mut text = brackets(items.len());
     for item in items {
         text = text.saturating_add(item.text());
     }
@@ -118,6 +123,33 @@ fn minute_tree(tree: &MinuteTree) -> u64 {
     }
 }
 
+/// `[group,minutes]`.
+fn carry(of: &GroupBacklog) -> u64 {
+    match of.backlog.pieces().first() {
+        Some(piece) => total(&[3, of.group.text(), piece.value.text()]),
+        None => 0,
+    }
+}
+
+/// `{"carry":[..]}`.
+fn compact_class(class: &Class) -> u64 {
+    let carries = class.backlog.as_slice();
+    let mut text = total(&[10, brackets(carries.len())]);
+    for of in carries {
+        text = text.saturating_add(carry(of));
+    }
+    text
+}
+
+/// The list of these classes in version 3.
+fn compact_classes(classes: &[Class]) -> u64 {
+    let mut text = brackets(classes.len());
+    for class in classes {
+        text = text.saturating_add(compact_class(class));
+    }
+    text
+}
+
 /// The name of a part.
 fn part(part: KindPart) -> u64 {
     match part {
@@ -149,12 +181,24 @@ fn day_tree(tree: &DayTree) -> u64 {
 /// How many bytes the text of a certificate has, or at least so many: whoever makes the text holds the length of that against
 /// [`MAX_CERTIFICATE`](cs_cert::MAX_CERTIFICATE).
 pub fn least_text(certificate: &Certificate) -> u64 {
-    let names = if certificate.version() == 1 { 51 } else { 55 };
+    let (names, classes, stretches) = match certificate.version() {
+        1 => (
+            51,
+            list(certificate.classes()),
+            list(certificate.stretches()),
+        ),
+        2 => (
+            55,
+            list(certificate.classes()),
+            list(certificate.stretches()),
+        ),
+        _ => (42, compact_classes(certificate.classes()), 0),
+    };
     total(&[
         names,
-        list(certificate.classes()),
+        classes,
         day_tree(certificate.kinds()),
-        list(certificate.stretches()),
+        stretches,
         list(certificate.reach()),
     ])
 }

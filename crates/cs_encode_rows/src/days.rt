@@ -15,7 +15,7 @@ enum Division {
     FridayOrThirteenth,
     /// Whether it is the 31st, a Sunday, in February: each by itself.
     LastSundayFebruary,
-    /// The number of its kind, from the 513th on counted anew.
+    /// The number of its kind: each is in a class of its own.
     Number,
 }
 
@@ -41,7 +41,7 @@ fn class_by(division: Division, kind: DayKind) -> u16 {
         Division::LastSundayFebruary => {
             4 * u16::from(day == 31) + 2 * u16::from(weekday == 0) + u16::from(month == 2)
         }
-        Division::Number => kind_number(kind) % 512,
+        Division::Number => kind_number(kind),
     }
 }
 
@@ -81,7 +81,7 @@ fn each_kind_has_its_class(rt: HostRuntime) -> Result<(), Fail> {
         let tree = day_tree(rt.alloc(), classes.as_slice())?;
         assert!(rt; is_right(&tree, *division));
         assert!(rt; tree.splits_fit() && tree.is_no_deeper_than(MAX_DEPTH));
-        assert!(rt; leaves(&tree) <= least.unwrap_or(2_562));
+        assert!(rt; leaves(&tree) <= least.unwrap_or(12 * 31 * 7));
     }
     Ok(())
 }

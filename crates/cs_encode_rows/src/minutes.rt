@@ -8,7 +8,7 @@ use std::test::Fail;
 
 /// Windows of one length, so many of them begun in each minute of two days.
 struct Sort {
-    each: usize,
+    each: u16,
     reach: u16,
     /// The least leaves of its tree, and the most.
     leaves: (usize, usize),
@@ -100,7 +100,7 @@ fn of_one_minute(alloc: Global, count: usize) -> Result<Vec<Window>, AllocError>
     let mut windows = Vec::new(alloc);
     for job in 0..count {
         windows.push(Window {
-            job: job % 320,
+            job: (job % 320) as u16,
             day_back: 0,
             from: 720,
             reach: 1,

@@ -1,15 +1,16 @@
 -- What an answer stands for.
 use Rattle.std.proofs.Common.{◌≡◌, inl, inr, ℕ, List}
-use Rattle.cs_check.specs.Checked.{IsHeadline}
+use Rattle.cs_cert.specs.Content.{Content}
+use Rattle.cs_check.specs.Checked.{IsHeadline, certificate_in}
 use Rattle.cs_decl.specs.Plan.{Declared, as_plan}
-use Rattle.cs_judge.specs.Answer.{IsAnswer, IsStory, unknown_outcome}
+use Rattle.cs_judge.specs.Answer.{IsAnswer, IsSafeMade, IsStory, unknown_outcome}
 use Rattle.cs_judge.specs.Judged.{IsJudgement}
 use Rattle.cs_maker.specs.declared.made.Reason.{Reason}
 use Rattle.cs_maker.specs.declared.made.Reason.TheVariants.{TooManyClasses, LeafTooLong, TooDeep, NoReach, NoScript, NotChecked, NoMemory}
 use Rattle.cs_judge.specs.declared.answers.Outcome.{Outcome}
 use Rattle.cs_judge.specs.declared.answers.Outcome.TheVariants as outcome
 use Rattle.cs_judge.specs.declared.answers.Wanted.{Wanted}
-use Rattle.cs_judge.specs.declared.answers.Wanted.TheVariants.{Verdict, Certificate}
+use Rattle.cs_judge.specs.declared.answers.Wanted.TheVariants.{Certificate, Compact, Verdict}
 use Rattle.cs_judge.specs.declared.judged.Judged.{Judged}
 use Rattle.cs_judge.specs.declared.judged.Judged.TheVariants.{Safe, Unsafe, Unknown}
 
@@ -32,10 +33,14 @@ safe_stands Verdict plan (Unsafe script shown) found text known is safe =
     let found_so = is.0 in absurd (cc)
 safe_stands Certificate plan (Unsafe script shown) found text known is safe =
     let found_so = is.0 in absurd (cc)
+safe_stands Compact plan (Unsafe script shown) found text known is safe =
+    let found_so = is.1.0 in absurd (cc)
 safe_stands Verdict plan (Unknown reason refusal) found text known is safe =
     unknown_not_safe reason found is.0 safe
 safe_stands Certificate plan (Unknown reason refusal) found text known is safe =
     unknown_not_safe reason found is.0 safe
+safe_stands Compact plan (Unknown reason refusal) found text known is safe =
+    unknown_not_safe reason found is.1.0 safe
 
 -- what isn't known isn't unsafe
 unknown_not_unsafe : {A : Type 0} (reason : Reason) (found : Outcome) → found ≡ unknown_outcome reason
@@ -48,20 +53,30 @@ unknown_not_unsafe NoScript found is unsafe = absurd (cc)
 unknown_not_unsafe NotChecked found is unsafe = absurd (cc)
 unknown_not_unsafe NoMemory found is unsafe = absurd (cc)
 
+-- nor is what was accepted, whether a file can hold its certificate or not
+made_not_unsafe : {A : Type 0} (c : Content) (found : Outcome) (text : List ℕ)
+    → IsSafeMade c found text → found ≡ outcome.Unsafe → A
+made_not_unsafe c found text (inl made) unsafe = let found_so = made.0 in absurd (cc)
+made_not_unsafe c found text (inr made) unsafe = let found_so = made.0 in absurd (cc)
+
 pub unsafe_stands : (wanted : Wanted) (plan : Declared) (judged : Judged) (found : Outcome)
     (text : List ℕ) → IsJudgement plan judged → IsAnswer wanted plan judged found text
     → found ≡ outcome.Unsafe → IsStory plan text
 unsafe_stands Verdict plan (Safe checked) found text known is unsafe =
     let found_so = is.0 in absurd (cc)
-unsafe_stands Certificate plan (Safe checked) found text known (inl made) unsafe =
-    let found_so = made.0 in absurd (cc)
-unsafe_stands Certificate plan (Safe checked) found text known (inr made) unsafe =
-    let found_so = made.0 in absurd (cc)
+unsafe_stands Certificate plan (Safe checked) found text known is unsafe =
+    made_not_unsafe (certificate_in checked) found text is unsafe
+unsafe_stands Compact plan (Safe checked) found text known is unsafe =
+    made_not_unsafe (certificate_in checked) found text is.1 unsafe
 unsafe_stands Verdict plan (Unsafe script shown) found text known is unsafe =
     record { script = script; shown = shown; shows = known.shown; told = is.1 }
 unsafe_stands Certificate plan (Unsafe script shown) found text known is unsafe =
     record { script = script; shown = shown; shows = known.shown; told = is.1 }
+unsafe_stands Compact plan (Unsafe script shown) found text known is unsafe =
+    record { script = script; shown = shown; shows = known.shown; told = is.1.1 }
 unsafe_stands Verdict plan (Unknown reason refusal) found text known is unsafe =
     unknown_not_unsafe reason found is.0 unsafe
 unsafe_stands Certificate plan (Unknown reason refusal) found text known is unsafe =
     unknown_not_unsafe reason found is.0 unsafe
+unsafe_stands Compact plan (Unknown reason refusal) found text known is unsafe =
+    unknown_not_unsafe reason found is.1.0 unsafe

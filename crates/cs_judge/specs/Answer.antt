@@ -17,13 +17,14 @@ use Rattle.cs_maker.specs.declared.made.Reason.TheVariants.{TooManyClasses, Leaf
 use Rattle.cs_script.specs.ScriptText.{script_text}
 use Rattle.cs_shown.specs.ShownText.{shown_text}
 use Rattle.cs_shown.specs.declared.shown.Shown.{Shown}
+use Rattle.cs_judge.specs.Form.{IsJudgedBy}
 use Rattle.cs_judge.specs.Judged.{Shows}
 use Rattle.cs_judge.specs.declared.judged.Judged.{Judged}
 use Rattle.cs_judge.specs.declared.judged.Judged.TheVariants.{Safe, Unsafe, Unknown}
 use Rattle.cs_judge.specs.declared.answers.Outcome.{Outcome}
 use Rattle.cs_judge.specs.declared.answers.Outcome.TheVariants as outcome
 use Rattle.cs_judge.specs.declared.answers.Wanted.{Wanted}
-use Rattle.cs_judge.specs.declared.answers.Wanted.TheVariants.{Verdict, Certificate}
+use Rattle.cs_judge.specs.declared.answers.Wanted.TheVariants.{Certificate, Compact, Verdict}
 
 -- `unsafe: ` and what is broken first, a line, and then the script
 unfoldable pub unsafe_text : Declared → Script → Shown → List ℕ
@@ -86,6 +87,8 @@ abbrev pub IsAnswer : Wanted → Declared → Judged → Outcome → List ℕ �
 IsAnswer Verdict plan judged found text =
     (found ≡ outcome_of judged) × (text ≡ verdict_text plan judged)
 IsAnswer Certificate plan judged found text = IsMade plan judged found text
+IsAnswer Compact plan judged found text =
+    IsJudgedBy Compact judged × IsMade plan judged found text
 
 -- the text tells what a script breaks first, and is followed by the script: it shows that the plan is unsafe
 pub record IsStory (plan : Declared) (text : List ℕ) : Type 0 where

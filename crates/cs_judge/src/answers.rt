@@ -5,6 +5,7 @@ ghost use Rattle.cs_check.specs.Checked.{certificate_in};
 ghost use Rattle.cs_judge.specs.Answer.{IsAnswer, IsCertificate, IsMade, IsSafeMade};
 ghost use Rattle.cs_judge.specs.Answer.{outcome_of, refusal_text, unknown_outcome};
 ghost use Rattle.cs_judge.specs.Answer.{unknown_text, unsafe_text, verdict_text};
+ghost use Rattle.cs_judge.specs.Form.{IsJudgedBy};
 ghost use Rattle.cs_judge.specs.Judged.{IfUnsafe, Shows};
 ghost use Rattle.cs_refused.specs.Told.{told};
 
@@ -25,8 +26,10 @@ use std::alloc::{AllocError, Global};
 pub enum Wanted {
     /// Whether it is safe.
     Verdict,
-    /// A certificate that it is.
+    /// A certificate that it is: one of version 1 or 2, which lists its windows, where a file can hold that.
     Certificate,
+    /// A certificate of version 3, which says only what the plan doesn't.
+    Compact,
 }
 
 /// How a plan was found.
@@ -164,20 +167,21 @@ fn made(alloc: Global, plan: &Plan, judged: &Judged) -> Result<(Outcome, Vec<u8>
 /// What is printed of a plan that was judged, and how it was found.
 ///
 /// A verdict is `safe`, a line; or what a history breaks first and the script of it, lines; or `unknown: REASON` and, where the
-/// checker refused a certificate, the line of that refusal. Where a certificate is wanted, it is printed in place of `safe`, a
-/// line, and no refusal behind what is unknown; one that a file can't hold (16 MiB) is `unknown: LeafTooLong`. The only error is
-/// want of memory.
+/// checker refused a certificate, the line of that refusal. Where a certificate is wanted, the one that the checker has accepted
+/// is printed in place of `safe`, a line, and no refusal behind what is unknown; one that a file can't hold (16 MiB) is
+/// `unknown: LeafTooLong`. The only error is want of memory.
 pub fn answer(
     alloc: Global,
     plan: &Plan,
     wanted: Wanted,
     judged: &Judged,
 ) -> Result<(Outcome, Vec<u8>), AllocError>
-    requires { IfUnsafe judged.now (Shows plan.now) }
+    requires shown { IfUnsafe judged.now (Shows plan.now) }
+    requires form { IsJudgedBy wanted judged.now }
     ensures { IfOk result (λ told. IsAnswer wanted plan.now judged.now told.0 told.1.items) }
 {
     match wanted {
         Wanted::Verdict => Ok((outcome_of(judged), verdict_text(alloc, plan, judged)?)),
-        Wanted::Certificate => made(alloc, plan, judged),
+        Wanted::Certificate | Wanted::Compact => made(alloc, plan, judged),
     }
 }

@@ -1,14 +1,18 @@
-ghost use Rattle.cs_check.specs.Checked.{IsHeadline};
+ghost use Rattle.std.specs.Prelude.{◌≡◌};
+ghost use Rattle.cs_cert.specs.Certificate.{content};
+ghost use Rattle.cs_check.specs.Checked.{IsHeadline, certificate_in};
 ghost use Rattle.cs_decl.specs.Plan.{as_plan};
+ghost use Rattle.cs_judge.specs.Form.{IsJudgedBy, form_of};
 ghost use Rattle.cs_judge.specs.Judged.{IfRefused, IfSafe, IfUnsafe, IsCalmBy, IsCheckedFor};
 ghost use Rattle.cs_judge.specs.Judged.{IsRefusal, Shows};
 
+use crate::answers::Wanted;
 use crate::judged::Judged;
 use cs_cert::Certificate;
 use cs_check::{CheckError, check_parallel};
 use cs_decl::Plan;
 use cs_history::Script;
-use cs_maker::{Made, Reason, make};
+use cs_maker::{Form, Made, Reason, make};
 use cs_script::is_nameable;
 use cs_shown::{NotShown, prove_unsafe};
 use std::alloc::Global;
@@ -27,6 +31,7 @@ fn confirm<R: Threads + Sync>(
     ensures calm { IfSafe result (IsCalmBy plan.now) }
     ensures shown { IfUnsafe result (Shows plan.now) }
     ensures refused { IfRefused result (IsRefusal plan.now) }
+    ensures certificate { IfSafe result (λ checked. certificate_in checked ≡ content certificate) }
 {
     match check_parallel(rt, alloc, plan, certificate) {
         Ok(checked) => Judged::Safe(checked),
@@ -42,6 +47,7 @@ fn show(alloc: Global, plan: &Plan, script: Script) -> Judged
     ensures calm { IfSafe result (IsCalmBy plan.now) }
     ensures shown { IfUnsafe result (Shows plan.now) }
     ensures refused { IfRefused result (IsRefusal plan.now) }
+    ensures unsure { IfSafe result (λ checked. ⊥) }
 {
     if !is_nameable(plan, &script) {
         return Judged::Unknown(Reason::NotChecked, None);
@@ -53,13 +59,23 @@ fn show(alloc: Global, plan: &Plan, script: Script) -> Judged
     }
 }
 
+/// In which form a certificate is made for what is wanted. A verdict needs none that anybody reads.
+fn form_of(wanted: Wanted) -> Form
+    ensures { result ≡ form_of wanted }
+{
+    match wanted {
+        Wanted::Certificate => Form::Listed,
+        Wanted::Verdict | Wanted::Compact => Form::Compact,
+    }
+}
+
 /// Judges a plan by what the maker gives for it, which isn't trusted: a certificate is checked, by as many threads as the machine
 /// has processors, and a script is tried.
 ///
 /// `Safe` says that every legal history in which each run ends within its declared time is safe, and `Unsafe` shows one that
 /// isn't. `Unknown` has the maker's reason, `NotChecked` where what it gave wasn't confirmed, and `NoMemory` where memory ran
-/// out.
-pub fn judge<R: Threads + Sync>(rt: &R, alloc: Global, plan: &Plan) -> Judged
+/// out. The certificate is of version 3, but where one that lists windows is wanted and a file can hold it.
+pub fn judge<R: Threads + Sync>(rt: &R, alloc: Global, plan: &Plan, wanted: Wanted) -> Judged
     // what is called safe was accepted by the checker, every legal history in time is safe, and each
     // minute from 1970-01-04 on is calm
     ensures safe { IfSafe result (IsCheckedFor plan.now) }
@@ -69,10 +85,13 @@ pub fn judge<R: Threads + Sync>(rt: &R, alloc: Global, plan: &Plan) -> Judged
     // what is called unsafe is shown by a script that can be written
     ensures shown { IfUnsafe result (Shows plan.now) }
 
-    // and a refusal behind what is unknown is the checker's
+    // a refusal behind what is unknown is the checker's
     ensures refused { IfRefused result (IsRefusal plan.now) }
+
+    // and where a compact certificate is wanted, it is by one that the plan was found safe
+    ensures form { IsJudgedBy wanted result }
 {
-    match make(alloc, plan) {
+    match make(alloc, plan, form_of(wanted)) {
         Made::Safe(certificate) => confirm(rt, alloc, plan, certificate, Reason::NotChecked),
         Made::Refused(certificate, reason) => confirm(rt, alloc, plan, certificate, reason),
         Made::Unsafe(script) => show(alloc, plan, script),

@@ -34,7 +34,7 @@ pub(crate) fn broken_by(
     }
     if !quiet.is_free {
         if let Some((minute, skip, _)) = roles.blocked(alloc, windows)? {
-            let skip = u16::try_from(skip.job).unwrap_or(0);
+            let skip = skip.job;
             let rule = Rule::SkipBlocked { skip };
             return Ok(Some(Found { rule, minute }));
         }
@@ -73,7 +73,7 @@ fn minute_on(day: u64, minute: u16) -> u64 {
 fn span_on(day: u64, window: &Window) -> Span {
     let from = minute_on(day.saturating_sub(u64::from(window.day_back)), window.from);
     Span {
-        job: u16::try_from(window.job).unwrap_or(0),
+        job: window.job,
         from,
         to: from.saturating_add(u64::from(window.reach)),
     }

@@ -1,53 +1,107 @@
 //! The certificate of bounds.
+ghost use Rattle.std.specs.Prelude.{◌≤◌, IfOk, length};
+ghost use Rattle.cs_maker.specs.Form.{IsInForm};
+
+use crate::form::Form;
 use crate::made::Reason;
-use crate::stretches::{days_of, stretches_by};
+use crate::stretches::{Stretches, days_of, stretches_by};
 use crate::subject::Subject;
 use cs_bound::Bounds;
-use cs_cert::{CertFault, Certificate, MAX_CLASSES, Stretch};
+use cs_cert::{Certificate, MAX_CERTIFICATE, MAX_CLASSES, Stretch};
 use cs_civil::Sequence;
 use cs_claim::occupied;
-use cs_encode::{certificate, stretch};
-use cs_windows::windows_on;
+use cs_encode::{certificate, compact_certificate, least_text, stretch};
+use cs_profile::{Classing, Facts};
+use cs_windows::{Occupied, windows_on};
 use std::alloc::{AllocError, Global};
 
-/// The stretches in use, each with the windows that its last day has.
-fn stretches_of(
+/// How many bytes of a text an entry takes, with the comma or the brackets beside it, at least.
+const LEAST_ENTRY: u64 = 8;
+
+/// How many windows begin on a day of this class.
+fn windows_begun(facts: &Facts, classing: &Classing, class: u16) -> u64 {
+    let Some(class) = classing.classes.get(usize::from(class)) else {
+        return 0;
+    };
+    let Some(jobs) = facts.due().get(usize::from(class.profile)) else {
+        return 0;
+    };
+    let mut begun: u64 = 0;
+    for job in jobs {
+        if let Some(task) = facts.tasks().get(usize::from(*job)) {
+            begun = begun.saturating_add(task.minutes.len() as u64);
+        }
+    }
+    begun
+}
+
+/// How many bytes the entries of these stretches take in a text, at least: each lists what begins on its last day.
+fn least_entries(facts: &Facts, classing: &Classing, in_use: &Stretches) -> u64 {
+    let mut least: u64 = 0;
+    for (classes, _) in in_use {
+        if let Some(last) = classes.last() {
+            let begun = windows_begun(facts, classing, *last);
+            least = least.saturating_add(begun.saturating_mul(LEAST_ENTRY));
+        }
+    }
+    least
+}
+
+/// Each of these stretches, with the windows that its last day has.
+fn with_windows(
     alloc: Global,
-    subject: &Subject<'_>,
-    bounds: &Bounds,
-) -> Result<Sequence<Stretch>, AllocError> {
-    let occupied = occupied(alloc, subject.plan, bounds.reaches.as_slice())?;
-    let days = days_of(occupied.as_slice());
-    let in_use = stretches_by(alloc, days, bounds.classing.class_of.as_slice())?;
+    occupied: &[Occupied<'_>],
+    in_use: &Stretches,
+) -> Result<Sequence<Stretch>, AllocError>
+    requires { length occupied.now ≤ 320 }
+{
     let mut listed = Sequence::new(alloc);
-    for (classes, kinds) in &in_use {
-        let windows = windows_on(alloc, occupied.as_slice(), kinds.as_slice())?;
+    for (classes, kinds) in in_use {
+        let windows = windows_on(alloc, occupied, kinds.as_slice())?;
         listed.push(stretch(alloc, classes.as_slice(), windows.as_slice())?)?;
     }
     Ok(listed)
 }
 
-/// Why there is no certificate with this fault.
-fn reason_of(fault: CertFault) -> Reason {
-    match fault {
-        CertFault::TooDeep => Reason::TooDeep,
-        CertFault::TooManyClasses => Reason::TooManyClasses,
-        CertFault::LeafTooLong => Reason::LeafTooLong,
-        _ => Reason::NotChecked,
+/// The certificate that lists the windows of these bounds, if a file can hold it.
+fn listed_certificate(
+    alloc: Global,
+    subject: &Subject<'_>,
+    bounds: &Bounds,
+) -> Result<Option<Certificate>, AllocError> {
+    let classing = &bounds.classing;
+    if classing.classes.len() > MAX_CLASSES {
+        return Ok(None);
+    }
+    let reaches = bounds.reaches.as_slice();
+    let occupied = occupied(alloc, subject.plan, reaches)?;
+    let days = days_of(occupied.as_slice());
+    let in_use = stretches_by(alloc, days, classing.class_of.as_slice())?;
+    if least_entries(subject.facts, classing, &in_use) >= MAX_CERTIFICATE as u64 {
+        return Ok(None);
+    }
+    let stretches = with_windows(alloc, occupied.as_slice(), &in_use)?;
+    match certificate(alloc, subject.facts, classing, stretches, reaches)? {
+        Ok(listed) if least_text(&listed) < MAX_CERTIFICATE as u64 => Ok(Some(listed)),
+        _ => Ok(None),
     }
 }
 
-/// The certificate that claims these bounds, or why there is none. The only error is want of memory.
+/// The certificate that claims these bounds, in the form that is wanted, or why there is none. The only error is want of memory.
 pub(crate) fn certificate_of(
     alloc: Global,
     subject: &Subject<'_>,
     bounds: &Bounds,
-) -> Result<Result<Certificate, Reason>, AllocError> {
-    if bounds.classing.classes.len() > MAX_CLASSES {
-        return Ok(Err(Reason::TooManyClasses));
+) -> Result<Result<Certificate, Reason>, AllocError>
+    ensures { IfOk result (λ made. IfOk made (IsInForm subject.now.form)) }
+{
+    if subject.form == Form::Listed {
+        if let Some(listed) = listed_certificate(alloc, subject, bounds)? {
+            return Ok(Ok(listed));
+        }
     }
-    let stretches = stretches_of(alloc, subject, bounds)?;
-    let reaches = bounds.reaches.as_slice();
-    let claimed = certificate(alloc, subject.facts, &bounds.classing, stretches, reaches)?;
-    Ok(claimed.map_err(reason_of))
+    match compact_certificate(alloc, &bounds.classing, bounds.reaches.as_slice())? {
+        Ok(compact) => Ok(Ok(compact)),
+        Err(_) => Ok(Err(Reason::NotChecked)),
+    }
 }

@@ -1,4 +1,6 @@
 //! Stories of jobs that wait for a lock, from windows that are as long as their runs can really go on.
+ghost use Rattle.std.specs.Prelude.{◌≤◌, length};
+
 use crate::breaches::{breach_on, broken_by};
 use crate::stretches::days_of;
 use crate::subject::Subject;
@@ -80,7 +82,9 @@ fn breach_until(
     bounded: &Bounded<'_>,
     last_day: u64,
     looks: &mut u64,
-) -> Result<Option<Breach>, AllocError> {
+) -> Result<Option<Breach>, AllocError>
+    requires { length bounded.now.occupied.items ≤ 320 }
+{
     let kinds = kinds_until(last_day, bounded.days);
     let windows = windows_on(alloc, bounded.occupied.as_slice(), kinds.as_slice())?;
     *looks = looks.saturating_sub(looks_at_open(windows.as_slice()));
@@ -104,7 +108,9 @@ fn story_on(
     waits: &ExactWaits<'_>,
     bounded: &Bounded<'_>,
     last_days: &[u64],
-) -> Result<Option<Script>, AllocError> {
+) -> Result<Option<Script>, AllocError>
+    requires { length bounded.now.occupied.items ≤ 320 }
+{
     let mut untold: u8 = 0;
     let mut looks = MOST_LOOKS;
     for last_day in last_days {

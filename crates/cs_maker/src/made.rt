@@ -7,11 +7,11 @@ use cs_history::Script;
 /// Why the maker knows neither a certificate nor a script that breaks the plan.
 #[derive(Clone, Copy, Debug, PartialEq, Eq)]
 pub enum Reason {
-    /// The days are of more sorts than a certificate has classes.
+    /// The days are of more sorts than a certificate has classes. The maker doesn't answer this: it then makes a compact one.
     TooManyClasses,
-    /// The certificate would be too long: one of its leaves, or, where it is to be written, its text.
+    /// The text of the certificate is too long for a file, or a leaf is, where the maker made no compact one.
     LeafTooLong,
-    /// A tree of the certificate would be too deep.
+    /// A tree of the certificate would be too deep. The maker doesn't answer this.
     TooDeep,
     /// A job that waits for its lock may have to wait for too long.
     NoReach,

@@ -1,6 +1,10 @@
-//! The way from a plan to what is made for it: windows that break a rule first, then bounds, then the certificate.
+//! The way from a plan to what is made for it: bounds first, then windows that break a rule, then the certificate.
+ghost use Rattle.std.specs.Prelude.{IfOk, IfSome};
+ghost use Rattle.cs_maker.specs.Form.{IsMadeIn};
+
 use crate::encoding::certificate_of;
 use crate::exact::{exact_story, greatest_reaches};
+use crate::form::Form;
 use crate::made::{Made, Reason};
 use crate::subject::Subject;
 use crate::sweep::first_breach;
@@ -16,7 +20,9 @@ fn made_without_bounds(
     alloc: Global,
     subject: &Subject<'_>,
     reason: Reason,
-) -> Result<Made, AllocError> {
+) -> Result<Made, AllocError>
+    ensures { IfOk result (IsMadeIn subject.now.form) }
+{
     let reaches = greatest_reaches(alloc, subject.facts)?;
     Ok(match exact_story(alloc, subject, reaches.as_slice())? {
         Some(script) => Made::Unsafe(script),
@@ -25,11 +31,9 @@ fn made_without_bounds(
 }
 
 /// The story of a breach of windows in which no job waits.
-fn made_of_breach(
-    alloc: Global,
-    subject: &Subject<'_>,
-    breach: &Breach,
-) -> Result<Made, AllocError> {
+fn made_of_breach(alloc: Global, subject: &Subject<'_>, breach: &Breach) -> Result<Made, AllocError>
+    ensures { IfOk result (IsMadeIn subject.now.form) }
+{
     let told = tell(alloc, subject.plan, subject.facts, subject.calendar, breach)?;
     match told {
         Some(script) => Ok(Made::Unsafe(script)),
@@ -39,11 +43,9 @@ fn made_of_breach(
 
 /// What is made where the windows of these bounds break a rule: a story of jobs that wait for as long as they really can, or
 /// else the certificate, which the checker refuses.
-fn made_in_doubt(
-    alloc: Global,
-    subject: &Subject<'_>,
-    bounds: &Bounds,
-) -> Result<Made, AllocError> {
+fn made_in_doubt(alloc: Global, subject: &Subject<'_>, bounds: &Bounds) -> Result<Made, AllocError>
+    ensures { IfOk result (IsMadeIn subject.now.form) }
+{
     if let Some(script) = exact_story(alloc, subject, bounds.reaches.as_slice())? {
         return Ok(Made::Unsafe(script));
     }
@@ -53,35 +55,50 @@ fn made_in_doubt(
     })
 }
 
-/// The certificate of these bounds, unless their windows break a rule.
-fn made_of_bounds(
-    alloc: Global,
-    subject: &Subject<'_>,
-    bounds: &Bounds,
-) -> Result<Made, AllocError> {
-    let reaches = bounds.reaches.as_slice();
-    if !reaches.is_empty() && first_breach(alloc, subject, reaches)?.is_some() {
-        return made_in_doubt(alloc, subject, bounds);
+/// What is made where windows break a rule though no job waits, if there is such a breach.
+fn made_of_plain_breach(alloc: Global, subject: &Subject<'_>) -> Result<Option<Made>, AllocError>
+    ensures { IfOk result (λ made. IfSome made (IsMadeIn subject.now.form)) }
+{
+    match first_breach(alloc, subject, &[])? {
+        Some(breach) => Ok(Some(made_of_breach(alloc, subject, &breach)?)),
+        None => Ok(None),
     }
-    Ok(match certificate_of(alloc, subject, bounds)? {
-        Ok(certificate) => Made::Safe(certificate),
-        Err(reason) => Made::Unknown(reason),
-    })
+}
+
+/// The certificate of these bounds, unless their windows break a rule. Where they break none with the reaches of the jobs that
+/// wait, they break none without.
+fn made_of_bounds(alloc: Global, subject: &Subject<'_>, bounds: &Bounds) -> Result<Made, AllocError>
+    ensures { IfOk result (IsMadeIn subject.now.form) }
+{
+    if first_breach(alloc, subject, bounds.reaches.as_slice())?.is_none() {
+        return Ok(match certificate_of(alloc, subject, bounds)? {
+            Ok(certificate) => Made::Safe(certificate),
+            Err(reason) => Made::Unknown(reason),
+        });
+    }
+    match made_of_plain_breach(alloc, subject)? {
+        Some(made) => Ok(made),
+        None => made_in_doubt(alloc, subject, bounds),
+    }
 }
 
 /// What is made for the plan. The only error is want of memory.
-fn made_of(alloc: Global, subject: &Subject<'_>) -> Result<Made, AllocError> {
-    if let Some(breach) = first_breach(alloc, subject, &[])? {
-        return made_of_breach(alloc, subject, &breach);
+fn made_of(alloc: Global, subject: &Subject<'_>) -> Result<Made, AllocError>
+    ensures { IfOk result (IsMadeIn subject.now.form) }
+{
+    if let Some(bounds) = least_bounds(alloc, subject.plan, subject.facts)? {
+        return made_of_bounds(alloc, subject, &bounds);
     }
-    match least_bounds(alloc, subject.plan, subject.facts)? {
-        Some(bounds) => made_of_bounds(alloc, subject, &bounds),
+    match made_of_plain_breach(alloc, subject)? {
+        Some(made) => Ok(made),
         None => made_without_bounds(alloc, subject, Reason::NoReach),
     }
 }
 
 /// The same, with what is read off the plan once.
-fn made_of_plan(alloc: Global, plan: &Plan) -> Result<Made, AllocError> {
+fn made_of_plan(alloc: Global, plan: &Plan, form: Form) -> Result<Made, AllocError>
+    ensures { IfOk result (IsMadeIn form) }
+{
     let facts = Facts::of(alloc, plan)?;
     let calendar = Calendar::of(alloc, &facts)?;
     let roles = Roles::of(alloc, plan)?;
@@ -90,13 +107,17 @@ fn made_of_plan(alloc: Global, plan: &Plan) -> Result<Made, AllocError> {
         facts: &facts,
         calendar: &calendar,
         roles: &roles,
+        form,
     };
     made_of(alloc, &subject)
 }
 
-/// A certificate for the plan, or a script that breaks it, or why neither is known. The only error is want of memory.
-pub fn make(alloc: Global, plan: &Plan) -> Made {
-    match made_of_plan(alloc, plan) {
+/// A certificate for the plan in this form, or a script that breaks it, or why neither is known. `NoMemory` is the reason where
+/// memory ran out.
+pub fn make(alloc: Global, plan: &Plan, form: Form) -> Made
+    ensures { IsMadeIn form result }
+{
+    match made_of_plan(alloc, plan, form) {
         Ok(made) => made,
         Err(AllocError) => Made::Unknown(Reason::NoMemory),
     }

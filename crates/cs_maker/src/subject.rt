@@ -1,12 +1,14 @@
+use crate::form::Form;
 use cs_decl::Plan;
 use cs_profile::{Calendar, Facts};
 use cs_stretch::Roles;
 
-/// A plan, and what is read off it once.
+/// A plan, what is read off it once, and which certificate is wanted of it.
 #[derive(Drop)]
 pub(crate) struct Subject<'a> {
     pub(crate) plan: &'a Plan,
     pub(crate) facts: &'a Facts,
     pub(crate) calendar: &'a Calendar,
     pub(crate) roles: &'a Roles,
+    pub(crate) form: Form,
 }

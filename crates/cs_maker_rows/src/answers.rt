@@ -3,7 +3,7 @@ use cs_cert::Certificate;
 use cs_check::check;
 use cs_decl::Plan;
 use cs_history::Script;
-use cs_maker::{Made, make};
+use cs_maker::{Form, Made, make};
 use cs_shown::prove_unsafe;
 use std::alloc::Global;
 
@@ -51,8 +51,8 @@ fn answer_of_script(alloc: Global, plan: &Plan, script: &Script) -> Answer {
 }
 
 /// What the maker's answer comes to.
-pub(crate) fn answer_for(alloc: Global, plan: &Plan) -> Answer {
-    match make(alloc, plan) {
+pub(crate) fn answer_for(alloc: Global, plan: &Plan, form: Form) -> Answer {
+    match make(alloc, plan, form) {
         Made::Safe(certificate) => answer_of_certificate(alloc, plan, certificate),
         Made::Unsafe(script) => answer_of_script(alloc, plan, &script),
         Made::Refused(certificate, _) => answer_of_doubt(alloc, plan, certificate),

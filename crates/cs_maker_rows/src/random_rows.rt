@@ -2,6 +2,7 @@
 use crate::answers::{Answer, answer_for};
 use crate::chance::Chance;
 use crate::table::{ALL_MODES, MODES_WITHOUT_WAITING, Table};
+use cs_maker::Form;
 use std::alloc::Global;
 use std::test::Fail;
 
@@ -37,11 +38,17 @@ impl Tally {
     }
 }
 
-/// What is answered for the plan of this seed, whose jobs are of these modes.
+/// What is answered for the plan of this seed, whose jobs are of these modes. It is wrong where it depends on the form of the
+/// certificate.
 fn answer_of_seed(alloc: Global, seed: u64, modes: &[&'static str]) -> Result<Answer, Fail> {
     let mut chance = Chance::new(seed);
     let plan = Table::any(alloc, &mut chance, modes)?.plan(alloc)?;
-    Ok(answer_for(alloc, &plan))
+    let listed = answer_for(alloc, &plan, Form::Listed);
+    if answer_for(alloc, &plan, Form::Compact) == listed {
+        Ok(listed)
+    } else {
+        Ok(Answer::Wrong)
+    }
 }
 
 /// How often each answer is given for such plans, or the seed of a plan whose answer is wrong.

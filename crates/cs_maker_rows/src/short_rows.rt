@@ -3,7 +3,7 @@ use crate::answers::{Answer, answer_for};
 use cs_anacrontab::read_anacrontab;
 use cs_crontab::read_crontab;
 use cs_decl::{Plan, join, read_declarations};
-use cs_maker::{Made, Reason, make};
+use cs_maker::{Form, Made, Reason, make};
 use short_memory::Hoard;
 use std::alloc::Global;
 use std::process::Abort;
@@ -40,11 +40,11 @@ fn ran_out(made: &Made) -> bool {
 }
 
 /// How often memory runs out for the maker, with hardly any at first and some more each time, until it doesn't.
-fn refusals<R: Abort + AllocGlobal>(rt: &R, plan: &Plan) -> Result<u32, Fail> {
+fn refusals<R: Abort + AllocGlobal>(rt: &R, plan: &Plan, form: Form) -> Result<u32, Fail> {
     let mut hoard = Hoard::new(rt.alloc(), 64)?;
     hoard.take_rest();
     for refusals in 0..8_000 {
-        if !ran_out(&make(rt.alloc(), plan)) {
+        if !ran_out(&make(rt.alloc(), plan, form)) {
             hoard.free_all();
             return Ok(refusals);
         }
@@ -55,14 +55,22 @@ fn refusals<R: Abort + AllocGlobal>(rt: &R, plan: &Plan) -> Result<u32, Fail> {
 
 #[test]
 fn refused_growths(rt: HostRuntime) -> Result<(), Fail> {
-    for (declarations, wanted) in [(COLLIDING, Answer::Unsafe), (WAITING, Answer::Safe)] {
+    for (declarations, form, wanted) in [
+        (COLLIDING, Form::Listed, Answer::Unsafe),
+        (WAITING, Form::Listed, Answer::Safe),
+        (WAITING, Form::Compact, Answer::Safe),
+    ] {
         let plan = plan(rt.alloc(), declarations)?;
-        let refusals = refusals(&rt, &plan)?;
+        let refusals = refusals(&rt, &plan, form)?;
         assert!(rt;
             20 < refusals && refusals < 8_000,
             "{refusals} for {declarations}"
         );
-        assert_eq!(rt; answer_for(rt.alloc(), &plan), wanted, "{declarations}");
+        assert_eq!(rt;
+            answer_for(rt.alloc(), &plan, form),
+            wanted,
+            "{declarations}"
+        );
     }
     Ok(())
 }

@@ -1,8 +1,10 @@
 use cs_cert::{
-    CertFault, Certificate, Class, JobReach, Stretch, reach_of, read_certificate, write_certificate,
+    CertFault, Certificate, Class, DueList, GroupBacklog, JobReach, Stretch, reach_of,
+    read_certificate, write_certificate,
 };
 use cs_civil::{DayKind, Sequence};
 use cs_daytree::DayTree;
+use cs_wait::{Backlog, Piece};
 use cs_windows::{Entry, MinuteTree};
 use std::alloc::{AllocError, Global};
 use std::process::Abort;
@@ -16,6 +18,10 @@ const SMALLEST: &str =
 const LARGER: &str =
     "{\"classes\":[{\"backlog\":[[0,[[1,49],[61,49]]]],\"due\":[[0,[0,60]],[1,[0,60]]]},{\"backlog\":[],\"due\":[]}],\"kinds\":{\"in\":[13],\"no\":{\"class\":0},\"split\":\"day\",\"yes\":{\"class\":1}},\"reach\":[[0,50],[1,50]],\"stretches\":[{\"of\":[0,0],\"tree\":{\"after\":{\"list\":[]},\"at\":720,\"before\":{\"list\":[[0,0,0],[1,0,60]]}}},{\"of\":[1,0],\"tree\":{\"list\":[]}},{\"of\":[0,0,0,1],\"tree\":{\"list\":[[0,3,1439]]}}],\"version\":2}";
 
+/// One of version 3: at midnight up to nine minutes of runs are left over.
+const COMPACT: &str =
+    "{\"classes\":[{\"carry\":[[0,9]]}],\"kinds\":{\"class\":0},\"reach\":[[0,10]],\"version\":3}";
+
 /// The smallest one with members in another order, and with blanks.
 const LOOSE: &str =
     "{\"version\" : 1, \"reach\":[], \"pairs\":[{\"tree\":{\"list\":[]}, \"of\":[0,0]}], \"kinds\":{\"class\":0}, \"classes\":[{\"due\":[],\"backlog\":[]}]}\n";
@@ -27,7 +33,13 @@ fn certificate(rt: &impl Abort, alloc: Global, text: &str) -> Certificate {
 #[test]
 fn read_and_written_back(rt: HostRuntime) -> Result<(), Fail> {
     assert!(rt; SMALLEST.len() == 122);
-    for (text, want) in [(SMALLEST, SMALLEST), (LARGER, LARGER), (LOOSE, SMALLEST)] {
+    assert!(rt; COMPACT.len() == 80);
+    for (text, want) in [
+        (SMALLEST, SMALLEST),
+        (LARGER, LARGER),
+        (COMPACT, COMPACT),
+        (LOOSE, SMALLEST),
+    ] {
         let certificate = certificate(&rt, rt.alloc(), text);
         assert!(rt; write_certificate(rt.alloc(), &certificate)?.as_slice() == want.as_bytes());
     }
@@ -95,19 +107,74 @@ fn made(
 }
 
 /// Versions, lengths of the stretch, and the fault.
-const MADE: [(u8, usize, Option<CertFault>); 6] = [
+const MADE: [(u8, usize, Option<CertFault>); 7] = [
     (1, 2, None),
     (1, 3, Some(CertFault::BadShape)),
     (2, 4, None),
     (2, 5, Some(CertFault::BadShape)),
     (2, 1, Some(CertFault::BadShape)),
-    (3, 2, Some(CertFault::BadVersion)),
+    (3, 2, Some(CertFault::BadShape)),
+    (4, 2, Some(CertFault::BadVersion)),
 ];
 
 #[test]
 fn made_of_parts(rt: HostRuntime) -> Result<(), Fail> {
     for (version, days, fault) in &MADE {
         assert!(rt; made(rt.alloc(), *version, *days)?.err() == *fault);
+    }
+    Ok(())
+}
+
+/// The certificate of version 3 of one class, which says that job 0 is due at these minutes, and these pieces of group 0.
+fn carrying(
+    alloc: Global,
+    due: &[u16],
+    rows: &[(u16, u32)],
+) -> Result<Result<Certificate, CertFault>, AllocError> {
+    let mut lists = Sequence::new(alloc);
+    if !due.is_empty() {
+        let minutes = Sequence::from_slice(alloc, due)?;
+        lists.push(DueList { job: 0, minutes })?;
+    }
+    let mut pieces = Vec::new(alloc);
+    for (minute, value) in rows {
+        pieces.push(Piece {
+            minute: *minute,
+            value: *value,
+        })?;
+    }
+    let mut backlogs = Sequence::new(alloc);
+    if let Ok(backlog) = Backlog::new(pieces) {
+        backlogs.push(GroupBacklog { group: 0, backlog })?;
+    }
+    let mut classes = Sequence::new(alloc);
+    classes.push(Class {
+        due: lists,
+        backlog: backlogs,
+    })?;
+    let kinds = DayTree::Leaf(0);
+    Ok(Certificate::new(
+        3,
+        classes,
+        kinds,
+        Sequence::new(alloc),
+        Sequence::new(alloc),
+    ))
+}
+
+/// Due minutes, pieces, and the fault: version 3 says what is left over at minute 0, and no more.
+const CARRIED: [(&[u16], &[(u16, u32)], Option<CertFault>); 5] = [
+    (&[], &[(0, 9)], None),
+    (&[], &[(1, 9)], Some(CertFault::BadShape)),
+    (&[], &[(0, 9), (1, 9)], Some(CertFault::BadShape)),
+    (&[60], &[(0, 9)], Some(CertFault::BadShape)),
+    (&[], &[], Some(CertFault::BadEntry)),
+];
+
+#[test]
+fn made_of_carries(rt: HostRuntime) -> Result<(), Fail> {
+    for (due, rows, fault) in &CARRIED {
+        assert!(rt; carrying(rt.alloc(), *due, *rows)?.err() == *fault);
     }
     Ok(())
 }

@@ -162,7 +162,7 @@ fn push_window(
 ) -> Result<(), AllocError>
     ensures { OnOk result (text.new.items ≡ text.old.items ++ window_text plan.now at window.now) }
 {
-    push_window_name(alloc, text, plan, window.job)?;
+    push_window_name(alloc, text, plan, usize::from(window.job))?;
     text.extend_from_slice(&date_text(start_of(at, window)))
 }
 

@@ -1,5 +1,5 @@
 //! The slow finders: what is wrong with the windows of one stretch, minute by minute.
-ghost use Rattle.std.specs.Prelude.{◌≡◌, ◌≤◌, ◌<◌, ℕ, IfOk, find, not};
+ghost use Rattle.std.specs.Prelude.{◌≡◌, ◌≤◌, ◌<◌, ℕ, IfOk, Some, find, not};
 ghost use Rattle.cs_accepted.specs.Faults.{first_of, first_pair, missing_in};
 ghost use Rattle.cs_windows.specs.Entries.{lists};
 ghost use Rattle.cs_windows.specs.Tree.{SplitsInside, tree_of};
@@ -268,7 +268,7 @@ pub fn missing(
     windows: &[Window],
 ) -> Result<Option<(u16, Window)>, AllocError>
     requires { SplitsInside (tree_of tree.now) 0 1440 }
-    ensures { IfOk result (λ found. found ≡ missing_in (tree_of tree.now) windows.now) }
+    ensures { IfOk result (λ found. found ≡ missing_in (Some (tree_of tree.now)) windows.now) }
 {
     for minute in 0..MINUTES_OF_DAY {
         if let Some(found) = missing_at(alloc, tree, windows, minute)? {

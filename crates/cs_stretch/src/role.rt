@@ -80,7 +80,7 @@ pub(crate) fn clash(one: Role, other: Role) -> bool
 pub(crate) fn role_of(roles: &[Role], window: &Window) -> Role
     ensures { result ≡ role_at roles.now window.now.job }
 {
-    match roles.get(window.job) {
+    match roles.get(usize::from(window.job)) {
         Some(role) => *role,
         None => Role {
             is_cron: false,

@@ -1,6 +1,6 @@
 use cs_civil::{DayKind, Sequence};
 use cs_schedule::{Field, Numbers, Schedule};
-use cs_windows::{Entry, MinuteTree, Occupied, Window, touches, windows_on, windows_over};
+use cs_windows::{Entry, MinuteTree, Occupied, Window, touches, windows_on};
 use std::alloc::{AllocError, Global};
 use std::process::Abort;
 use std::test::Fail;
@@ -27,7 +27,7 @@ fn sunday_noon() -> Schedule {
     )
 }
 
-fn window(job: usize, day_back: u8, from: u16, reach: u16) -> Window {
+fn window(job: u16, day_back: u8, from: u16, reach: u16) -> Window {
     Window {
         job,
         day_back,
@@ -66,7 +66,7 @@ fn jobs<'a>(
 }
 
 /// A window by its job, the days back to its begin, the minute of that day, and its reach.
-type Row = (usize, u8, u16, u16);
+type Row = (u16, u8, u16, u16);
 
 fn are(windows: &[Window], rows: &[Row]) -> bool {
     windows.len() == rows.len()
@@ -99,24 +99,9 @@ fn windows_of_a_wednesday(rt: HostRuntime) -> Result<(), Fail> {
     ];
     let (late, noon) = (late(), sunday_noon());
     let occupied = jobs(rt.alloc(), &late, &noon)?;
+    assert!(rt; occupied.len() == 9);
     let windows = windows_on(rt.alloc(), &occupied, &days)?;
     assert!(rt; are(windows.as_slice(), OF_A_WEDNESDAY.as_slice()));
-    Ok(())
-}
-
-/// The windows of four days of one kind, each listed for itself, joined.
-#[test]
-fn windows_of_four_days(rt: HostRuntime) -> Result<(), Fail> {
-    let noon = [window(0, 0, 720, 2_161), window(1, 0, 1_439, 1)];
-    let windows = windows_over(rt.alloc(), &[&noon, &noon, &noon, &[]])?;
-    assert!(rt;
-        are(
-            windows.as_slice(),
-            [(0, 2, 720, 2_161), (0, 1, 720, 2_161)].as_slice()
-        )
-    );
-    let alone = windows_over(rt.alloc(), &[&noon])?;
-    assert!(rt; alone.as_slice() == noon.as_slice());
     Ok(())
 }
 

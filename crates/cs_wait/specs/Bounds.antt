@@ -1,5 +1,5 @@
 -- Bounds on the minutes of runs that wait for a group's lock or hold it.
-use Rattle.std.specs.Prelude.{◌≡◌, ℕ, ◌+◌, ◌-◌, ◌*◌, ◌<◌, ◌≤◌, List, [], ◌∷◌, length, fold, nat_le, nat_lt, if◌then◌else◌, replicate}
+use Rattle.std.specs.Prelude.{◌≡◌, ℕ, ◌+◌, ◌-◌, ◌*◌, ◌<◌, ◌≤◌, List, [], ◌∷◌, length, fold, nat_le, nat_lt, if◌then◌else◌, replicate, min, ◌==◌}
 use Rattle.cs_wait.specs.declared.backlog.Piece.{Piece}
 use Rattle.cs_wait.specs.declared.backlog.TheConstants.{MINUTES_OF_DAY, MAX_BACKLOG}
 
@@ -18,6 +18,19 @@ decided minute bound p = if nat_le p.minute minute then p.value - (minute - p.mi
 -- the last piece that begins by the minute decides; 0 before the first
 abbrev pub at : List Piece → ℕ → ℕ
 at ps minute = fold (decided minute) 0 ps
+
+-- from a minute of the day on, where the bound is `bound` and the pieces so far make it `shown`: a piece where they differ, and
+-- the bound of the next minute is what this one has and what arrives, less one
+abbrev pub following_from : ℕ → ℕ → ℕ → List ℕ → List Piece
+following_from minute bound shown [] = []
+following_from minute bound shown (a ∷ more) =
+    if bound == shown then following_from (minute + 1) (min MAX_BACKLOG (bound + a - 1)) (bound - 1) more
+    else record { minute = minute; value = bound } ∷ following_from (minute + 1) (min MAX_BACKLOG (bound + a - 1)) (bound - 1) more
+
+-- the pieces of the bound that is `first` at minute 0 and follows what arrives at each minute of the day, up to the greatest
+-- value of a piece
+unfoldable pub following : ℕ → List ℕ → List Piece
+following first arrivals = following_from 0 first 0 arrivals
 
 -- nothing arrives at any minute
 unfoldable pub none : List ℕ

@@ -1,4 +1,4 @@
-ghost use Rattle.std.specs.Prelude.{◌≡◌, ◌^◌, ◌+◌, ◌-◌, ◌<◌, ◌≤◌, ◌↔◌, [], ◌∷◌, ℕ, List, IsTrue, slice_index, slice_set};
+ghost use Rattle.std.specs.Prelude.{◌≡◌, ◌^◌, ◌+◌, ◌-◌, ◌<◌, ◌≤◌, ◌↔◌, [], ◌∷◌, ℕ, List, IsTrue, length, slice_index, slice_set};
 ghost use Rattle.cs_wait.specs.Bounds.{StepsHold, StepsHoldWithin, at, at_days, none};
 
 use crate::backlog::{Backlog, MINUTES_OF_DAY};
@@ -41,6 +41,14 @@ impl Arrivals {
         ensures { result ≡ slice_index self.now minute }
     {
         self.sums[usize::from(minute)]
+    }
+
+    /// What arrives at each minute of the day, in minutes of runs.
+    pub(crate) fn by_minute(&self) -> &[u32]
+        ensures value { result.now ≡ self.now }
+        ensures long { length result.now ≡ 1440 }
+    {
+        &self.sums
     }
 }
 

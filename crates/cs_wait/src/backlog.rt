@@ -64,6 +64,14 @@ impl Backlog {
         }
     }
 
+    /// The backlog of pieces that are known to make one. It takes no memory.
+    pub(crate) fn of_pieces(list: Vec<Piece>) -> Backlog
+        requires { IsBacklog list.items }
+        ensures { result ≡ list.items }
+    {
+        Backlog { list }
+    }
+
     /// The pieces, in order.
     pub fn pieces(&self) -> &[Piece]
         ensures value { result.now ≡ self.now }

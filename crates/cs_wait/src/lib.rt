@@ -3,6 +3,7 @@
 
 mod arrivals;
 mod backlog;
+mod following;
 mod stretch;
 
 pub use arrivals::{Arrivals, step_ok, steps_ok, steps_within};

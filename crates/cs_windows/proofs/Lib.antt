@@ -1,5 +1,4 @@
 pub mod Exact
-pub mod Joined
 pub mod Members
 pub mod Minutes
 pub mod Rising

@@ -1,5 +1,5 @@
 -- The starts of jobs on one day.
-use Rattle.std.proofs.Common.{◌≡◌, ℕ, suc, ◌+◌, ◌<◌, ◌++◌, Bool, true, false, cond, List, [], ◌∷◌, refl, sym, ap, ◌∙◌, arith, filter, append_assoc, length, get_or, drop, map, add-one, drop-cons}
+use Rattle.std.proofs.Common.{◌≡◌, ℕ, suc, ◌+◌, ◌<◌, ◌++◌, Bool, true, false, cond, List, [], ◌∷◌, None, refl, sym, ap, ◌∙◌, arith, filter, append_assoc, length, get_or, drop, map, add-one, drop-cons}
 use Rattle.std.proofs.lemmas.List.Elements.{filter_map-append}
 use Rattle.cs_civil.specs.Calendar.{Kind}
 use Rattle.cs_schedule.specs.Numbers.{has}
@@ -68,8 +68,8 @@ near_kept minute i starters near s all lt is h =
     ∙ append_assoc (begun minute near) (begun minute (s ∷ [])) (begun minute rest)
     ∙ ap (λ (ws : List Window). begun minute near ++ ws) (sym (starter_at (begun minute) starters s i lt is ∙ begun-cons minute s rest)) ∙ h
 
--- the next starter, which has no start at the minute, passed over
-pub near_passed : (minute i : ℕ) (starters near : List Starter) (s : Starter) (all : List Window) → i < length starters → s ≡ get_or starters i s → has s.starts minute ≡ false
+-- the next starter, of which no window begins at the minute, passed over
+pub near_passed : (minute i : ℕ) (starters near : List Starter) (s : Starter) (all : List Window) → i < length starters → s ≡ get_or starters i s → window_at s minute ≡ None
     → begun minute near ++ begun minute (drop i starters) ≡ all → begun minute near ++ begun minute (drop (i + 1) starters) ≡ all
 near_passed minute i starters near s all lt is out h =
     let rest = drop (i + 1) starters in

@@ -1,5 +1,5 @@
 -- The windows of jobs on successive days. What is known of a day is left open: its kind, or a class of kinds.
-use Rattle.std.specs.Prelude.{ℕ, ◌+◌, ◌*◌, ◌<◌, ◌≡◌, Bool, true, List, [], ◌∷◌, ◌++◌, if◌then◌else◌, flat_map, filter, length, map, slice_get, Some}
+use Rattle.std.specs.Prelude.{ℕ, ◌+◌, ◌*◌, ◌<◌, ◌≡◌, Bool, true, List, [], ◌∷◌, ◌++◌, if◌then◌else◌, flat_map, filter, length, slice_get, Some}
 use Rattle.std.specs.List.{range_with_len}
 use Rattle.cs_windows.specs.declared.window.Window.{Window}
 use Rattle.cs_windows.specs.declared.window.TheConstants.{MINUTES_OF_DAY}
@@ -29,15 +29,6 @@ windows_from jobs day back = flat_map (λ minute. starting day back minute 0 job
 abbrev pub windows_on : {D : Type 0} → List (Job D) → List D → List Window
 windows_on jobs [] = []
 windows_on jobs (day ∷ days) = filter reaches (windows_from jobs day (length days)) ++ windows_on jobs days
-
--- the window, seen from so many days after the one on which it begins
-abbrev pub seen_after : ℕ → Window → Window
-seen_after back w = window w.job back w.from w.reach
-
--- the windows of successive days, eldest first, each day given by those that begin on it, that reach the last of them
-abbrev pub over : List (List Window) → List Window
-over [] = []
-over (day ∷ days) = filter reaches (map (seen_after (length days)) day) ++ over days
 
 -- the window is one of the job at its place, begins on the day so many places before the last, and reaches the last
 pub record IsWindowOn {D : Type 0} (jobs : List (Job D)) (days : List D) (w : Window) : Type 0 where

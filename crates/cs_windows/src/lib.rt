@@ -1,7 +1,6 @@
 //! Windows: the minutes in which a run may go on, once its job was due or caught up.
 #![tactic(auto)]
 
-mod day_lists;
 mod job_windows;
 mod list;
 mod reach;
@@ -9,9 +8,8 @@ mod starter;
 mod tree;
 mod window;
 
-pub use day_lists::windows_over;
 pub use job_windows::Occupied;
-pub use list::windows_on;
+pub use list::{MOST_OCCUPIED, windows_on};
 pub use reach::{JobReach, reach_of};
 pub use tree::{Entry, LeafAt, MinuteTree, lists};
 pub use window::{MINUTES_OF_DAY, Window, touches};

@@ -12,11 +12,14 @@ use cs_civil::DayKind;
 use cs_schedule::MINUTES_OF_BLOCK;
 use std::alloc::{AllocError, Global};
 
+/// So many jobs can be named by a window.
+pub const MOST_OCCUPIED: usize = 65_536;
+
 /// A day's minutes are gone through by blocks of `MINUTES_OF_BLOCK`.
 const BLOCKS_OF_DAY: u16 = MINUTES_OF_DAY / MINUTES_OF_BLOCK;
 
 /// The starts of a job on a day, if one of its windows may reach the day so many days after it.
-fn starter_on(job: usize, own: &Occupied<'_>, day: DayKind, day_back: u8) -> Option<Starter>
+fn starter_on(job: u16, own: &Occupied<'_>, day: DayKind, day_back: u8) -> Option<Starter>
     ensures kept { IfSome result (λ starter. (minute : ℕ) → minute < MINUTES_OF_DAY → begun minute (starter ∷ []) ≡ begun_by day day_back minute job (job_of own.now)) }
     ensures left_out { IfNone result ((minute : ℕ) → minute < MINUTES_OF_DAY → begun_by day day_back minute job (job_of own.now) ≡ []) }
 {
@@ -39,18 +42,19 @@ fn starters_on(
     day: DayKind,
     day_back: u8,
 ) -> Result<Vec<Starter>, AllocError>
+    requires { length occupied.now ≤ MOST_OCCUPIED }
     ensures { IfOk result (λ starters. (minute : ℕ) → minute < MINUTES_OF_DAY → begun minute starters.items ≡ filter reaches (starting day day_back minute 0 (map job_of occupied.now))) }
 {
     let mut starters = Vec::new(alloc);
     for (job, own) in occupied.iter().enumerate() {
-        if let Some(starter) = starter_on(job, own, day, day_back) {
+        if let Some(starter) = starter_on(job as u16, own, day, day_back) {
             starters.push(starter)?;
         }
     }
     Ok(starters)
 }
 
-/// Keeps, in place of what was kept before, the starters that have a start in a block of minutes.
+/// Keeps, in place of what was kept before, the starters of which a window may begin in a block of minutes.
 fn keep_near<'a>(
     near: &mut Vec<&'a Starter>,
     starters: &'a [Starter],
@@ -60,7 +64,7 @@ fn keep_near<'a>(
 {
     near.clear();
     for starter in starters {
-        if starter.starts.meets_block(block) {
+        if starter.may_begin_in(block) {
             near.push(starter)?;
         }
     }
@@ -103,6 +107,7 @@ fn add_day(
     day: DayKind,
     day_back: u8,
 ) -> Result<(), AllocError>
+    requires { length occupied.now ≤ MOST_OCCUPIED }
     ensures { OnOk result (windows.new.items ≡ windows.old.items ++ filter reaches (windows_from (map job_of occupied.now) day day_back)) }
 {
     let starters = starters_on(alloc, occupied, day, day_back)?;
@@ -125,7 +130,8 @@ pub fn windows_on(
     occupied: &[Occupied<'_>],
     days: &[DayKind],
 ) -> Result<Vec<Window>, AllocError>
-    requires { length days.now ≤ 4 }
+    requires days { length days.now ≤ 4 }
+    requires few { length occupied.now ≤ MOST_OCCUPIED }
     ensures listed { IfOk result (λ windows. windows.items ≡ windows_on (map job_of occupied.now) days.now) }
     ensures rising { IfOk result (λ windows. IsRising windows.items) }
     ensures exact { IfOk result (λ windows. (w : Window) → Contains windows.items w ↔ IsWindowOn (map job_of occupied.now) days.now w) }

@@ -48,9 +48,7 @@ impl Entry {
     fn names(&self, window: &Window) -> bool
         ensures { result ≡ names self.now window.now }
     {
-        usize::from(self.job) == window.job
-            && self.day_back == window.day_back
-            && self.from == window.from
+        self.job == window.job && self.day_back == window.day_back && self.from == window.from
     }
 }
 

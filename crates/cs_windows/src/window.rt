@@ -8,10 +8,11 @@ pub const MINUTES_OF_DAY: u16 = 1_440;
 /// one run of a job may go on. Midnight is no cut: a window may hold minutes of several days.
 ///
 /// `from` counts the minutes of the day on which the window begins, from 0, and `reach` is in minutes. A window
-/// of reach 0 holds no minute. Jobs are named by their place, from 0, in the list that the window was made from.
+/// of reach 0 holds no minute. Jobs are named by their place, from 0, in the list that the window was made from. It takes eight
+/// bytes: a table of 256 lines may have a million of them.
 #[derive(Clone, Copy, Debug, PartialEq, Eq, Hash)]
 pub struct Window {
-    pub job: usize,
+    pub job: u16,
     pub day_back: u8,
     pub from: u16,
     pub reach: u16,
@@ -36,7 +37,7 @@ pub fn touches(window: &Window, lo: u16, hi: u16) -> bool
 }
 
 /// The minute at which the day looked at begins, counted from the start of the day so many days before it.
-fn first_minute(day_back: u8) -> u32
+pub(crate) fn first_minute(day_back: u8) -> u32
     ensures { result ≡ MINUTES_OF_DAY * day_back }
 {
     u32::from(MINUTES_OF_DAY) * u32::from(day_back)

@@ -1,6 +1,7 @@
 use Rattle.std.proofs.Common.{◌≡◌, ◌++◌, map, All}
 use Rattle.cs_accepted.specs.Faults.{chains}
-use Rattle.cs_cert.specs.Certificate.{class_of, content}
+use Rattle.cs_cert.specs.Certificate.{class_of}
+use Rattle.cs_cert.specs.Claim.{said}
 use Rattle.cs_chains.specs.Chains.{kinds_of}
 use Rattle.cs_chains.specs.Used.{kinds_in, classes_in}
 use Rattle.cs_chains.proofs.classed.classed_chains.Given as goal
@@ -9,5 +10,5 @@ use Rattle.cs_chains.proofs.classed.classed_chains.Given as goal
 abbrev pub invariant-loop-kinds : goal.invariant-loop-kinds
 invariant-loop-kinds l = record {
   all : map kinds_in l.classed.items ++ map kinds_of l.kinds-iterator.rest.items ≡ chains l.days;
-  classes : All (λ chain. classes_in chain ≡ map (class_of (content l.certificate)) (kinds_in chain)) l.classed.items;
+  classes : All (λ chain. classes_in chain ≡ map (class_of (said l.claim)) (kinds_in chain)) l.classed.items;
 }

@@ -2,7 +2,7 @@ use Rattle.std.proofs.Common.{ℕ, ◌≡◌, ◌+◌, ◌-◌, ◌∙◌, Optio
 use Rattle.std.specs.Prelude.{unwrap_or, find}
 use Rattle.std.specs.List.{range_with_len}
 use Rattle.cs_accepted.specs.Faults.{same_list}
-use Rattle.cs_cert.specs.Certificate.{content}
+use Rattle.cs_cert.specs.Claim.{said}
 use Rattle.cs_chains.specs.Days.{classes_on}
 use Rattle.cs_chains.proofs.Ending.{ends, first_from, first_is, last_is, passed, found, nowhere}
 use Rattle.cs_chains.proofs.last.last_day.Goals as goal
@@ -10,14 +10,14 @@ use Rattle.cs_chains.proofs.last.last_day.Goals as goal
 pub loop-last-init : goal.loop-last-init
 loop-last-init c =
     let n = c.args.days in
-    let t = ends (content c.args.certificate.now) n c.args.classes.now in
+    let t = ends (said c.args.claim.now) n c.args.classes.now in
     let e : n + 10227 - n ≡ 10227 = omega arith in
     let s : n + 10227 - c.from-start.result ≡ n + 10227 - n = omega (arith, c.from-start.ensures) in
     (omega (arith, c.from-start.ensures), ap (λ (m : ℕ). find t (range_with_len m (n + 10227 - c.from-start.result))) c.from-start.ensures ∙ ap (λ (k : ℕ). find t (range_with_len n k)) s ∙ first_is t n (n + 10227 - n) e)
 
 pub returns-then-have_classes : goal.returns-then-have_classes
 returns-then-have_classes c =
-    let a = content c.args.certificate.now in
+    let a = said c.args.claim.now in
     let n = c.args.days in
     let s = c.args.classes.now in
     let m = c.loop-last.last in
@@ -27,7 +27,7 @@ returns-then-have_classes c =
 
 pub loop-last-preserved : goal.loop-last-preserved
 loop-last-preserved c =
-    let a = content c.args.certificate.now in
+    let a = said c.args.claim.now in
     let n = c.args.days in
     let s = c.args.classes.now in
     let m = c.loop-last.last in
@@ -36,7 +36,7 @@ loop-last-preserved c =
 
 pub returns : goal.returns
 returns c =
-    let a = content c.args.certificate.now in
+    let a = said c.args.claim.now in
     let n = c.args.days in
     let s = c.args.classes.now in
     let m = c.loop-last.last in

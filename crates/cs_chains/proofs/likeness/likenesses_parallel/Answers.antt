@@ -6,7 +6,7 @@ use Rattle.rayon.proofs.ListFacts.{AllZip-weaken, IfOk-then}
 use Rattle.rayon.proofs.ToStd.{slice-AllZip}
 use Rattle.rayon.specs.declared.iter.min_len.MinLen.{MinLen}
 use Rattle.rayon.specs.declared.slice.Iter.{Iter}
-use Rattle.cs_cert.specs.Certificate.{content}
+use Rattle.cs_cert.specs.Claim.{said}
 use Rattle.cs_cert.specs.declared.class.Class.{Class}
 use Rattle.cs_decl.specs.Plan.{Declared}
 use Rattle.cs_chains.specs.declared.likeness.Likeness.{Likeness}
@@ -21,7 +21,7 @@ IsAnswer times class answer = IfOk answer (λ row. (d : Declared) → AreTimes d
 pub returns : goal.returns
 returns g c =
     let d = c.args.plan.now in
-    let classes = (content c.args.certificate.now).classes in
+    let classes = (said c.args.claim.now).classes in
     let times = c.as_slice-times.result.now in
     let h = c.in_ok-collect.ensures in
     let chain = h.1 in
@@ -29,6 +29,6 @@ returns g c =
     let answered = subst (λ (b : Bor (List (List ℕ))). AllZip (λ (class : Bor Class) answer. IsAnswer b.now class.now answer) chain.0 h.0) (ap (λ f. f.1) c.map.ensures.f) chain.2 in
     let zip = slice-AllZip chain.0 classes shown (IsAnswer times) h.0 answered in
     let are = subst (AreTimes d) (sym c.as_slice-times.ensures.value) c.in_ok-times.ensures in
-    rows_of_answers d (content c.args.certificate.now) h.0 c.in_ok-collect.field-0
+    rows_of_answers d (said c.args.claim.now) h.0 c.in_ok-collect.field-0
     (AllZip-weaken (IsAnswer times) (λ class answer. IfOk answer (IsRow d class)) (λ class answer p. IfOk-then answer _ _ p (λ row each. each d are)) classes h.0 zip)
     h.2

@@ -2,7 +2,7 @@ use Rattle.std.proofs.Common.{◌≡◌, ◌∙◌, true, false, List, map, sym,
 use Rattle.arrayvec.specs.ArrayVec.{ArrayVec}
 use Rattle.cs_civil.specs.Calendar.{Kind}
 use Rattle.cs_accepted.specs.Faults.{first_of}
-use Rattle.cs_cert.specs.Certificate.{content}
+use Rattle.cs_cert.specs.Claim.{said}
 use Rattle.cs_claim.specs.Claim.{as_certificate}
 use Rattle.cs_chains.specs.Chains.{kinds_of}
 use Rattle.cs_chains.proofs.Missed.{has, missed, listed_is, here, later}
@@ -10,7 +10,7 @@ use Rattle.cs_chains.proofs.missing.first_missing.Goals as goal
 
 pub returns-then-not-is_listed : goal.returns-then-not-is_listed
 returns-then-not-is_listed c =
-    let a = content c.args.certificate.now in
+    let a = said c.args.claim.now in
     let ks = c.in-Some.chain.items in
     let rest = map kinds_of c.next.new.self.rest.items in
     let unlisted : has (as_certificate a) ks ≡ false =
@@ -19,7 +19,7 @@ returns-then-not-is_listed c =
 
 pub loop-chain-preserved : goal.loop-chain-preserved
 loop-chain-preserved c =
-    let a = content c.args.certificate.now in
+    let a = said c.args.claim.now in
     let ks = c.in-Some.chain.items in
     let rest = map kinds_of c.next.new.self.rest.items in
     let listed : has (as_certificate a) ks ≡ true =

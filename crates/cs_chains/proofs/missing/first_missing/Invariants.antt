@@ -1,6 +1,6 @@
 use Rattle.std.proofs.Common.{◌≡◌, map}
 use Rattle.cs_accepted.specs.Faults.{chains, first_of}
-use Rattle.cs_cert.specs.Certificate.{content}
+use Rattle.cs_cert.specs.Claim.{said}
 use Rattle.cs_claim.specs.Claim.{as_certificate}
 use Rattle.cs_chains.specs.Chains.{kinds_of}
 use Rattle.cs_chains.proofs.Missed.{missed}
@@ -8,4 +8,4 @@ use Rattle.cs_chains.proofs.missing.first_missing.Given as goal
 
 -- none of the chains so far is missing
 abbrev pub invariant-loop-chain : goal.invariant-loop-chain
-invariant-loop-chain l = first_of (missed (as_certificate (content l.certificate))) (map kinds_of l.chain-iterator.rest.items) ≡ first_of (missed (as_certificate (content l.certificate))) (chains l.days)
+invariant-loop-chain l = first_of (missed (as_certificate (said l.claim))) (map kinds_of l.chain-iterator.rest.items) ≡ first_of (missed (as_certificate (said l.claim))) (chains l.days)

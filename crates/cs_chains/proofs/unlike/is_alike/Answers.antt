@@ -1,5 +1,5 @@
 use Rattle.std.proofs.Common.{List, ◌∙◌, get_or, length, sym, ap, arith, below_more}
-use Rattle.cs_cert.specs.Certificate.{content}
+use Rattle.cs_cert.specs.Claim.{said}
 use Rattle.cs_crontab.specs.Crontab.{Table}
 use Rattle.cs_decl.specs.Plan.{crons}
 use Rattle.cs_chains.specs.declared.likeness.Likeness.{Likeness}
@@ -9,7 +9,7 @@ use Rattle.cs_chains.proofs.unlike.is_alike.Goals as goal
 pub returns-then-not-is_job_alike : goal.returns-then-not-is_job_alike
 returns-then-not-is_job_alike c =
     let d = c.args.plan.now in
-    let a = content c.args.certificate.now in
+    let a = said c.args.claim.now in
     let lines = c.lines-line-items.ensures.value ∙ ap (λ (t : Table). t.lines) c.crontab.ensures.value in
     let long = ap length lines in
     let own = c.as_slice-row.ensures ∙ (c.index-rows-class.is ∙ ap (λ (r : List Likeness). get_or c.args.rows.now c.class_of-class.result r) (sym c.as_slice-row.ensures)) in
@@ -19,7 +19,7 @@ returns-then-not-is_job_alike c =
 pub loop-number-preserved : goal.loop-number-preserved
 loop-number-preserved c =
     let d = c.args.plan.now in
-    let a = content c.args.certificate.now in
+    let a = said c.args.claim.now in
     let lines = c.lines-line-items.ensures.value ∙ ap (λ (t : Table). t.lines) c.crontab.ensures.value in
     let own = c.as_slice-row.ensures ∙ (c.index-rows-class.is ∙ ap (λ (r : List Likeness). get_or c.args.rows.now c.class_of-class.result r) (sym c.as_slice-row.ensures)) in
     let one = row_says d a c.args.kind c.loop-number.number c.class_of-class.result c.args.rows.now c.as_slice-row.result.now c.line-item.result c.lines-line-items.result.now c.requires own c.class_of-class.ensures.value c.class_of-class.ensures.there lines c.loop-number-test.true c.line-item.is in
@@ -30,4 +30,4 @@ returns c =
     let d = c.args.plan.now in
     let lines = c.lines-line-items.ensures.value ∙ ap (λ (t : Table). t.lines) c.crontab.ensures.value in
     let long = ap length lines in
-    sym (below_true (job_alike d (content c.args.certificate.now) c.args.kind) (crons d) c.loop-number.number (omega (arith, long, c.loop-number-test.false)) c.loop-number.invariant)
+    sym (below_true (job_alike d (said c.args.claim.now) c.args.kind) (crons d) c.loop-number.number (omega (arith, long, c.loop-number-test.false)) c.loop-number.invariant)

@@ -5,7 +5,7 @@ use Rattle.std.proofs.lemmas.List.Elements.{All-push, All-same}
 use Rattle.cs_accepted.specs.Certificate.{Stretch}
 use Rattle.cs_accepted.specs.Faults.{is_used}
 use Rattle.cs_accepted.proofs.Stretches.{map_twice}
-use Rattle.cs_cert.specs.Certificate.{content}
+use Rattle.cs_cert.specs.Claim.{said}
 use Rattle.cs_cert.specs.Content.{stretch_of}
 use Rattle.cs_cert.specs.declared.stretch.Stretch.{Stretch as ListedStretch}
 use Rattle.cs_claim.specs.Claim.{as_certificate, as_stretch}
@@ -18,13 +18,13 @@ use Rattle.cs_chains.proofs.used.used_stretches.Goals.{in-Some+in_ok-push, in_de
 
 pub loop-number-preserved : goal.loop-number-preserved
 loop-number-preserved c =
-    let a = content c.args.certificate.now in
+    let a = said c.args.claim.now in
     let n = c.args.days in
     let ss = c.stretches-stretches.result.now in
     let i = c.loop-number.number in
     let s = c.index-stretches-number.result in
     let us = c.loop-number.used.items in
-    let f = λ (t : ListedStretch). as_stretch (stretch_of t) in
+    let f = λ (t : ListedStretch). as_stretch a.version (stretch_of t) in
     let test = λ (t : Stretch). is_used (as_certificate a) n t.of in
     let known = subst (AreClassed a n) (sym c.as_slice.ensures.value) c.in_ok-listed.ensures in
     let lead = c.in_ok-chains.ensures in
@@ -35,7 +35,7 @@ loop-number-preserved c =
           let grown : c.match-used_by.used.items ≡ us ++ u ∷ [] = ap (λ (v : Vec UsedStretch Global). v.items) w.used-is ∙ w.in_ok-push.ensures.items in
           let have : HaveClasses a n s.of u.kinds.items = have_classes a n s.of c.as_slice.result.now u.kinds.items c.requires.0 known named.2 in
           record {
-            listed = kept test f ss i s (map seen us) (map seen c.match-used_by.used.items) (filter test (map f ss)) (seen u) c.loop-number-test.true c.index-stretches-number.is (is_in_use a n s.of u.kinds.items c.requires.0 have) (ap f named.0) (ap (map seen) grown ∙ map-append seen us (u ∷ [])) c.loop-number.invariant.listed;
+            listed = kept test f ss i s (map (seen a) us) (map (seen a) c.match-used_by.used.items) (filter test (map f ss)) (seen a u) c.loop-number-test.true c.index-stretches-number.is (is_in_use a n s.of u.kinds.items c.requires.0 have) (ap f named.0) (ap (map (seen a)) grown ∙ map-append (seen a) us (u ∷ [])) c.loop-number.invariant.listed;
             kinds = All-same (λ v. HaveClasses a n v.stretch.now.of v.kinds.items) c.match-used_by.used.items (us ++ u ∷ []) grown (All-push (λ v. HaveClasses a n v.stretch.now.of v.kinds.items) us u c.loop-number.invariant.kinds (subst (λ (t : ListedStretch). HaveClasses a n t.of u.kinds.items) (sym named.0) have));
             numbers = All-same (λ v. slice_get (map stretch_of ss) v.number ≡ Some (stretch_of v.stretch.now)) c.match-used_by.used.items (us ++ u ∷ []) grown (All-push (λ v. slice_get (map stretch_of ss) v.number ≡ Some (stretch_of v.stretch.now)) us u c.loop-number.invariant.numbers (placed stretch_of ss i u.number s u.stretch.now c.loop-number-test.true c.index-stretches-number.is named.1 named.0));
           }
@@ -43,7 +43,7 @@ loop-number-preserved c =
           let same : c.match-used_by.used.items ≡ us = ap (λ (v : Vec UsedStretch Global). v.items) w.used-is in
           let unused : test (f s) ≡ false = sym (used_is a n s.of c.as_slice.result.now known) ∙ w.in_default.ensures.unused c.as_slice.result.now lead in
           record {
-            listed = ap (λ (l : List UsedStretch). map seen l ++ filter test (map f (drop (i + 1) ss))) same ∙ left_out test f ss i s (map seen us) (filter test (map f ss)) c.loop-number-test.true c.index-stretches-number.is unused c.loop-number.invariant.listed;
+            listed = ap (λ (l : List UsedStretch). map (seen a) l ++ filter test (map f (drop (i + 1) ss))) same ∙ left_out test f ss i s (map (seen a) us) (filter test (map f ss)) c.loop-number-test.true c.index-stretches-number.is unused c.loop-number.invariant.listed;
             kinds = All-same (λ v. HaveClasses a n v.stretch.now.of v.kinds.items) c.match-used_by.used.items us same c.loop-number.invariant.kinds;
             numbers = All-same (λ v. slice_get (map stretch_of ss) v.number ≡ Some (stretch_of v.stretch.now)) c.match-used_by.used.items us same c.loop-number.invariant.numbers;
           }
@@ -51,9 +51,9 @@ loop-number-preserved c =
 
 pub returns-clause-listed : goal.returns-clause-listed
 returns-clause-listed c =
-    let a = content c.args.certificate.now in
+    let a = said c.args.claim.now in
     let ss = c.stretches-stretches.result.now in
-    let f = λ (t : ListedStretch). as_stretch (stretch_of t) in
+    let f = λ (t : ListedStretch). as_stretch a.version (stretch_of t) in
     let test = λ (t : Stretch). is_used (as_certificate a) c.args.days t.of in
-    all_kept test f ss c.loop-number.number (map seen c.loop-number.used.items) (filter test (map f ss)) c.loop-number-test.false c.loop-number.invariant.listed
-    ∙ ap (filter test) (sym (map_twice as_stretch stretch_of ss) ∙ ap (map as_stretch) c.stretches-stretches.ensures.value)
+    all_kept test f ss c.loop-number.number (map (seen a) c.loop-number.used.items) (filter test (map f ss)) c.loop-number-test.false c.loop-number.invariant.listed
+    ∙ ap (filter test) (sym (map_twice (as_stretch a.version) stretch_of ss) ∙ ap (map (as_stretch a.version)) c.stretches-stretches.ensures.value)

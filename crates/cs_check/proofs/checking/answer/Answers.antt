@@ -1,6 +1,6 @@
 use Rattle.std.proofs.Common.{rules, ◌≡◌, List, true, option_map, sym, ap, ◌∙◌}
 use Rattle.cs_accepted.specs.Certificate.{Stretch}
-use Rattle.cs_cert.specs.Certificate.{content}
+use Rattle.cs_cert.specs.Claim.{said}
 use Rattle.cs_claim.specs.Claim.{as_certificate}
 use Rattle.cs_decl.specs.Plan.{as_plan}
 use Rattle.cs_refused.specs.Told.{told}
@@ -18,7 +18,7 @@ returns-then-have_reaches-clause-ok c =
 pub returns-in-None-clause-ok : goal.returns-in-None-clause-ok
 returns-in-None-clause-ok c =
     let d = c.args.case.now.plan.now in
-    let k = content c.args.case.now.certificate.now in
+    let k = said c.args.case.now.claim.now in
     let n = c.args.case.now.days in
     others_last d k n c.requires.case.long c.requires.case.due c.requires.stretches.complete
     ∙ (ap (λ (stretches : List Stretch). later_fault (as_plan d) (as_certificate k) n stretches) (sym c.requires.stretches.listed)
@@ -27,7 +27,7 @@ returns-in-None-clause-ok c =
 pub returns-in-Some-clause-fault : goal.returns-in-Some-clause-fault
 returns-in-Some-clause-fault c =
     let d = c.args.case.now.plan.now in
-    let k = content c.args.case.now.certificate.now in
+    let k = said c.args.case.now.claim.now in
     let n = c.args.case.now.days in
     others_last d k n c.requires.case.long c.requires.case.due c.requires.stretches.complete
     ∙ (ap (λ (stretches : List Stretch). later_fault (as_plan d) (as_certificate k) n stretches) (sym c.requires.stretches.listed)

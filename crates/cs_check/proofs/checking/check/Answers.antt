@@ -3,10 +3,10 @@ use Rattle.cs_check.proofs.Headline.{accepted, calm_throughout, length_of}
 use Rattle.cs_check.proofs.checking.check.Goals as goal
 
 pub returns-clause-rules : goal.returns-clause-rules
-returns-clause-rules c = accepted c.args.plan.now (content c.args.certificate) c.in_ok-judge.ensures.fit c.in_ok-judge.ensures.ok
+returns-clause-rules c = accepted c.args.plan.now (content c.args.certificate) c.look_at.ensures c.in_ok-judge.ensures.ok
 
 pub returns-clause-calm : goal.returns-clause-calm
-returns-clause-calm c = calm_throughout c.args.plan.now (content c.args.certificate) c.in_ok-judge.ensures.fit c.in_ok-judge.ensures.ok
+returns-clause-calm c = calm_throughout c.args.plan.now (content c.args.certificate) c.look_at.ensures c.in_ok-judge.ensures.ok
 
 pub returns-in_err-judge-clause-length : goal.returns-in_err-judge-clause-length
 returns-in_err-judge-clause-length c = length_of c.args.plan.now (content c.args.certificate) c.look_at.ensures

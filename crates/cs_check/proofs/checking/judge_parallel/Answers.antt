@@ -1,6 +1,14 @@
-use Rattle.std.proofs.Common.{subst, sym, ◌∙◌}
-use Rattle.cs_check.specs.Stretches.{AreGood}
+use Rattle.std.proofs.Common.{◌≡◌, Option, None, subst}
+use Rattle.std.specs.Prelude.{IfErr, OnOk}
+use Rattle.cs_accepted.specs.Faults.{Fault}
+use Rattle.cs_cert.specs.Certificate.{content}
+use Rattle.cs_cert.specs.Claim.{said}
+use Rattle.cs_check.specs.Checked.{Tells}
+use Rattle.cs_check.proofs.Headline.{same_fault}
 use Rattle.cs_check.proofs.checking.judge_parallel.Goals as goal
 
-pub answer-requires-clause-good : goal.answer-requires-clause-good
-answer-requires-clause-good g c good = subst (AreGood c.in_ok-case.case) (c.as_slice.ensures.value ∙ sym c.as_slice-2.ensures.value) (c.are_good_parallel-good.ensures good)
+pub returns-clause-ok : goal.returns-clause-ok
+returns-clause-ok g c = subst (λ (o : Option Fault). OnOk c.judge_claim_parallel.result (o ≡ None)) (same_fault c.args.plan.now (content c.args.certificate.now) (said c.claim_by.result) c.claim_by.ensures) c.judge_claim_parallel.ensures.ok
+
+pub returns-clause-fault : goal.returns-clause-fault
+returns-clause-fault g c = subst (λ (o : Option Fault). IfErr c.judge_claim_parallel.result (Tells o)) (same_fault c.args.plan.now (content c.args.certificate.now) (said c.claim_by.result) c.claim_by.ensures) c.judge_claim_parallel.ensures.fault

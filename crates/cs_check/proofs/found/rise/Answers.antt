@@ -1,7 +1,7 @@
 use Rattle.std.proofs.Common.{ℕ, ◌-◌, Some, option_map, sym, ap, ◌∙◌}
 use Rattle.cs_accepted.specs.Accepted.{nth}
 use Rattle.cs_accepted.specs.Faults.{Fault, BacklogRises, minute_of}
-use Rattle.cs_cert.specs.Certificate.{content}
+use Rattle.cs_cert.specs.Claim.{said}
 use Rattle.cs_cert.specs.declared.class.Class.{Class}
 use Rattle.cs_chains.specs.Used.{seen}
 use Rattle.cs_claim.specs.Claim.{as_certificate, class_at}
@@ -12,8 +12,8 @@ use Rattle.cs_check.proofs.found.rise.Goals as goal
 pub returns-in-Some : goal.returns-in-Some
 returns-in-Some c =
     let p = as_plan c.args.case.now.plan.now in
-    let k = content c.args.case.now.certificate.now in
-    let s = seen c.args.used.now in
+    let k = said c.args.case.now.claim.now in
+    let s = seen (said c.args.case.now.claim.now) c.args.used.now in
     let n = c.args.case.now.days in
     let f : ℕ × ℕ → Fault = λ f. BacklogRises f.1 (minute_of (as_certificate k) n s f.0 - 1440) in
     let eve = c.class_on-eve.ensures ∙ ap (λ (d : ℕ). class_at k.classes (nth s.of (d - 2))) c.days-days.ensures.value in
@@ -24,8 +24,8 @@ returns-in-Some c =
 pub returns-in-None : goal.returns-in-None
 returns-in-None c =
     let p = as_plan c.args.case.now.plan.now in
-    let k = content c.args.case.now.certificate.now in
-    let s = seen c.args.used.now in
+    let k = said c.args.case.now.claim.now in
+    let s = seen (said c.args.case.now.claim.now) c.args.used.now in
     let n = c.args.case.now.days in
     let f : ℕ × ℕ → Fault = λ f. BacklogRises f.1 (minute_of (as_certificate k) n s f.0 - 1440) in
     let eve = c.class_on-eve.ensures ∙ ap (λ (d : ℕ). class_at k.classes (nth s.of (d - 2))) c.days-days.ensures.value in

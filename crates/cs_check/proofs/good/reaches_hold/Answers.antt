@@ -1,5 +1,5 @@
 use Rattle.std.proofs.Common.{◌<◌, length, arith}
-use Rattle.cs_cert.specs.Certificate.{content}
+use Rattle.cs_cert.specs.Claim.{said}
 use Rattle.cs_chains.specs.Used.{seen}
 use Rattle.cs_decl.specs.Plan.{as_plan}
 use Rattle.cs_check.proofs.Clearing.{clears_alone}
@@ -8,7 +8,7 @@ use Rattle.cs_check.proofs.good.reaches_hold.Goals as goal
 
 pub returns-then-day_on : goal.returns-then-day_on
 returns-then-day_on c =
-    let k = content c.args.case.now.certificate.now in
+    let k = said c.args.case.now.claim.now in
     let long = long_as_kinds k c.args.case.now.days c.args.used.now.kinds.items c.args.used.now.stretch.now.of c.requires.in_use.kinds in
     let some : 0 < length c.args.used.now.stretch.now.of = omega (arith, long, c.days-days.ensures.range, c.days-days.ensures.value) in
-    λ _ j r lt waits reach. clears_alone (as_plan c.args.case.now.plan.now) c.requires.case.fit.plan k (seen c.args.used.now) j r some (c.day_on.ensures.settles c.if-day_on.true j lt waits r reach)
+    λ _ j r lt waits reach. clears_alone (as_plan c.args.case.now.plan.now) c.requires.case.fit.plan k (seen (said c.args.case.now.claim.now) c.args.used.now) j r some (c.day_on.ensures.settles c.if-day_on.true j lt waits r reach)

@@ -1,6 +1,6 @@
 use Rattle.std.proofs.Common.{ℕ, ◌-◌, List, sym, subst}
 use Rattle.cs_accepted.specs.Accepted.{nth}
-use Rattle.cs_cert.specs.Certificate.{content}
+use Rattle.cs_cert.specs.Claim.{said}
 use Rattle.cs_claim.specs.Claim.{class_at}
 use Rattle.cs_claim.specs.GroupDays.{AreGroupDays}
 use Rattle.cs_claim.specs.declared.group_day.GroupDay.{GroupDay}
@@ -10,7 +10,7 @@ use Rattle.cs_check.proofs.good.steps_hold.Goals as goal
 pub returns : goal.returns
 returns c =
     let p = as_plan c.args.case.now.plan.now in
-    let k = content c.args.case.now.certificate.now in
+    let k = said c.args.case.now.claim.now in
     let of = c.args.used.now.stretch.now.of in
     let eve = subst (λ (days : List GroupDay). AreGroupDays p (class_at k.classes (nth of (c.days-days.result - 2))) days) (sym c.as_slice.ensures.value) c.day_on-eve.ensures.groups in
     let last = subst (λ (days : List GroupDay). AreGroupDays p (class_at k.classes (nth of (c.days-days.result - 1))) days) (sym c.as_slice-2.ensures.value) c.day_on-last.ensures.groups in

@@ -1,7 +1,7 @@
 use Rattle.std.proofs.Common.{◌≡◌, None, map}
 use Rattle.std.specs.List.{range_with_len}
 use Rattle.cs_accepted.specs.Faults.{ReachTooShort, first_of, unless}
-use Rattle.cs_cert.specs.Certificate.{content}
+use Rattle.cs_cert.specs.Claim.{said}
 use Rattle.cs_chains.specs.Used.{seen}
 use Rattle.cs_claim.specs.Claim.{as_certificate}
 use Rattle.cs_decl.specs.Plan.{as_plan}
@@ -9,4 +9,4 @@ use Rattle.cs_check.specs.Stretches.{is_far}
 use Rattle.cs_check.proofs.late.first_late.Given as goal
 
 abbrev pub invariant-loop-job : goal.invariant-loop-job
-invariant-loop-job l = first_of (λ j. unless (is_far (as_plan l.case.plan.now) (as_certificate (content l.case.certificate.now)) (map seen l.stretches) j) (ReachTooShort j)) (range_with_len 0 l.job) ≡ None
+invariant-loop-job l = first_of (λ j. unless (is_far (as_plan l.case.plan.now) (as_certificate (said l.case.claim.now)) (map (seen (said l.case.claim.now)) l.stretches) j) (ReachTooShort j)) (range_with_len 0 l.job) ≡ None

@@ -1,6 +1,6 @@
 use Rattle.std.proofs.Common.{List, option_map, ap, sym, ◌∙◌, refl}
 use Rattle.cs_accepted.specs.Faults.{ClassNotDue}
-use Rattle.cs_cert.specs.Certificate.{content}
+use Rattle.cs_cert.specs.Claim.{said}
 use Rattle.cs_claim.specs.Planned.{planned}
 use Rattle.cs_windows.specs.declared.reach.JobReach.{JobReach}
 use Rattle.cs_check.proofs.Firsts.{unlike_first}
@@ -8,18 +8,19 @@ use Rattle.cs_check.proofs.Fitting.{fits}
 use Rattle.cs_check.proofs.prepare.basis_by.Goals as goal
 
 pub returns-in-Some-clause-fault : goal.returns-in-Some-clause-fault
-returns-in-Some-clause-fault c = unlike_first c.args.plan.now (content c.args.certificate.now) (ClassNotDue c.in-Some.kind) (sym c.requires.unlike ∙ ap (option_map ClassNotDue) c.in-Some.is)
+returns-in-Some-clause-fault c = unlike_first c.args.plan.now (said c.args.claim.now) (ClassNotDue c.in-Some.kind) (sym c.requires.unlike ∙ ap (option_map ClassNotDue) c.in-Some.is)
 
 pub returns-clause-ok : goal.returns-clause-ok
 returns-clause-ok c =
     let d = c.args.plan.now in
-    let k = content c.args.certificate.now in
+    let k = said c.args.claim.now in
     record {
       basis = record {
         fit = fits d k c.jobs-jobs.ensures.resolved c.jobs-jobs.ensures.limits c.reach.ensures.kept;
         keeps = c.reach.ensures.kept;
         due = sym c.requires.unlike ∙ ap (option_map ClassNotDue) c.in_default.is;
-        jobs = c.in_ok-occupied.ensures ∙ ap (λ (rs : List JobReach). planned d rs) c.reach.ensures.value;
+        few = c.in_ok-occupied.ensures.few;
+        jobs = c.in_ok-occupied.ensures.jobs ∙ ap (λ (rs : List JobReach). planned d rs) c.reach.ensures.value;
         nothing = c.requires.none;
       };
       plan = refl;

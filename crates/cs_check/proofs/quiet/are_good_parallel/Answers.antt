@@ -1,6 +1,6 @@
 use Rattle.std.proofs.Common.{ap, ◌∙◌, refl}
 use Rattle.rayon.proofs.ToStd.{slice-All}
-use Rattle.cs_cert.specs.Certificate.{content}
+use Rattle.cs_cert.specs.Claim.{said}
 use Rattle.cs_chains.specs.Used.{seen}
 use Rattle.cs_claim.specs.Claim.{as_certificate}
 use Rattle.cs_decl.specs.Plan.{as_plan}
@@ -11,4 +11,4 @@ pub returns-then-good : goal.returns-then-good
 returns-then-good g c t =
     let h = c.if-good.ensures in
     let slice = ap (λ it. it.slice.now) c.with_min_len.ensures.base ∙ c.par_iter.ensures in
-    slice-All h.0 c.args.stretches.now (h.1 ∙ slice) (λ u. IsGood (as_plan c.args.case.now.plan.now) (as_certificate (content c.args.case.now.certificate.now)) c.args.case.now.days (seen u)) (λ k d lt. h.2 k d lt refl)
+    slice-All h.0 c.args.stretches.now (h.1 ∙ slice) (λ u. IsGood (as_plan c.args.case.now.plan.now) (as_certificate (said c.args.case.now.claim.now)) c.args.case.now.days (seen (said c.args.case.now.claim.now) u)) (λ k d lt. h.2 k d lt refl)

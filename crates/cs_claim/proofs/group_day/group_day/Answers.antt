@@ -23,10 +23,10 @@ returns c =
     record {
       waited = λ q. record {
         within = (
-          λ t. within_same (at c.backlog_of-backlog.result.now) bound (slice_index c.arrivals_in-arrivals.result) arrive same c.arrivals_in-arrivals.ensures (c.steps_within.ensures.0 t),
-          λ h. c.steps_within.ensures.1 (within_same bound (at c.backlog_of-backlog.result.now) arrive (slice_index c.arrivals_in-arrivals.result) (λ t. sym (same t)) (λ t lt. sym (c.arrivals_in-arrivals.ensures t lt)) h),
+          λ t. within_same (at c.backlog_of-backlog.result.now) bound (slice_index c.arrivals_in-arrivals.result) arrive same c.arrivals_in-arrivals.ensures.each (c.steps_within.ensures.0 t),
+          λ h. c.steps_within.ensures.1 (within_same bound (at c.backlog_of-backlog.result.now) arrive (slice_index c.arrivals_in-arrivals.result) (λ t. sym (same t)) (λ t lt. sym (c.arrivals_in-arrivals.ensures.each t lt)) h),
         );
-        last = omega (arith, same 1439, c.arrivals_in-arrivals.ensures 1439 (omega arith));
+        last = omega (arith, same 1439, c.arrivals_in-arrivals.ensures.each 1439 (omega arith));
         start = c.at-3.ensures ∙ same 0;
       };
       free = λ q. absurd (both_ways c.has_waiter.result (c.has_waiter.ensures ∙ q) c.if-not-has_waiter.false);

@@ -1,4 +1,4 @@
-use Rattle.std.proofs.Common.{◌≡◌, ◌∙◌, sym}
+use Rattle.std.proofs.Common.{◌∙◌, sym}
 use Rattle.cs_judge.proofs.Starts.{starts}
 use Rattle.cs_judge.proofs.judging.show.Goals as goal
 

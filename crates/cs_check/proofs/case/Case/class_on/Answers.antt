@@ -1,6 +1,6 @@
 use Rattle.std.proofs.Common.{◌<◌, ℕ, List, length, slice_index_or, ap, ◌∙◌, arith}
 use Rattle.cs_accepted.specs.Accepted.{nth}
-use Rattle.cs_cert.specs.Certificate.{content}
+use Rattle.cs_cert.specs.Claim.{said}
 use Rattle.cs_cert.specs.declared.class.Class.{Class}
 use Rattle.cs_claim.specs.Claim.{class_at, no_class}
 use Rattle.cs_claim.proofs.Lists.{within}
@@ -9,16 +9,16 @@ use Rattle.cs_check.proofs.case.Case.class_on.Goals as goal
 
 pub bounds-classes-number : goal.bounds-classes-number
 bounds-classes-number c =
-    let lt = number_there (content c.args.self.now.certificate.now) c.args.self.now.days c.args.used.now.kinds.items c.args.used.now.stretch.now.of c.requires.case.keeps c.requires.in_use.kinds c.args.place c.requires.within in
+    let lt = number_there (said c.args.self.now.claim.now) c.args.self.now.days c.args.used.now.kinds.items c.args.used.now.stretch.now.of c.requires.case.keeps c.requires.in_use.kinds c.args.place c.requires.within in
     let same = ap (λ (xs : List ℕ). slice_index_or xs c.args.place 0) c.as_slice.ensures in
     let count = ap (λ (xs : List Class). length xs) c.classes.ensures.value in
     omega (arith, lt, same, count)
 
 pub returns : goal.returns
 returns c =
-    let k = content c.args.self.now.certificate.now in
+    let k = said c.args.self.now.claim.now in
     let number = slice_index_or c.as_slice.result.now c.args.place 0 in
-    let lt = number_there (content c.args.self.now.certificate.now) c.args.self.now.days c.args.used.now.kinds.items c.args.used.now.stretch.now.of c.requires.case.keeps c.requires.in_use.kinds c.args.place c.requires.within in
+    let lt = number_there (said c.args.self.now.claim.now) c.args.self.now.days c.args.used.now.kinds.items c.args.used.now.stretch.now.of c.requires.case.keeps c.requires.in_use.kinds c.args.place c.requires.within in
     let same = ap (λ (xs : List ℕ). slice_index_or xs c.args.place 0) c.as_slice.ensures in
     let count = ap (λ (xs : List Class). length xs) c.classes.ensures.value in
     let there : number < length c.classes.result.now = omega (arith, lt, same, count) in

@@ -1,7 +1,7 @@
 use Rattle.std.proofs.Common.{◌≡◌, length, map, take}
-use Rattle.cs_cert.specs.Certificate.{content}
+use Rattle.cs_cert.specs.Claim.{said}
 use Rattle.cs_claim.specs.Claim.{class_at}
 use Rattle.cs_check.proofs.case.Case.classes_of.Given as goal
 
 abbrev pub invariant-loop-place : goal.invariant-loop-place
-invariant-loop-place l = (length l.classes ≡ 4) × (map (λ class. class.now) (take l.place l.classes) ≡ map (class_at (content l.self.certificate.now).classes) (take l.place l.used.stretch.now.of))
+invariant-loop-place l = (length l.classes ≡ 4) × (map (λ class. class.now) (take l.place l.classes) ≡ map (class_at (said l.self.claim.now).classes) (take l.place l.used.stretch.now.of))

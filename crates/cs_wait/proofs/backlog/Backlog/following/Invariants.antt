@@ -1,0 +1,10 @@
+use Rattle.std.proofs.Common.{◌≡◌, ◌≤◌, ◌++◌, drop}
+use Rattle.cs_wait.specs.declared.backlog.TheConstants.{MAX_BACKLOG}
+use Rattle.cs_wait.specs.Bounds.{following, following_from}
+use Rattle.cs_wait.proofs.backlog.Backlog.following.Given as goal
+
+-- the pieces so far, and then those of what arrives from this minute on
+abbrev pub invariant-loop-minute : goal.invariant-loop-minute
+invariant-loop-minute l =
+    (l.bound ≤ MAX_BACKLOG)
+    × (l.list.items ++ following_from l.minute l.bound l.shown (drop l.minute l.sums) ≡ following l.first l.sums)

@@ -1,0 +1,45 @@
+ghost use Rattle.std.specs.Prelude.{◌≡◌, ◌+◌, ◌-◌, ◌<◌, ◌≤◌, ℕ, IfOk, min, slice_index};
+ghost use Rattle.cs_wait.specs.Bounds.{at, following};
+
+use crate::arrivals::Arrivals;
+use crate::backlog::{Backlog, MAX_BACKLOG, MINUTES_OF_DAY, Piece};
+use std::alloc::{AllocError, Global};
+
+impl Backlog {
+    /// The backlog that is `first` at minute 0 and then follows what arrives, both in minutes of runs: a minute later the
+    /// bound is what a minute has and what arrives at it, less one, not below 0 and at most `MAX_BACKLOG`. A piece is
+    /// written only where the bound isn't one less than a minute before.
+    ///
+    /// `AllocError` comes where there is no memory for the pieces.
+    pub fn following(alloc: Global, first: u32, arrivals: &Arrivals) -> Result<Backlog, AllocError>
+        requires { first ≤ MAX_BACKLOG }
+        ensures value { IfOk result (λ b. b ≡ following first arrivals.now) }
+        ensures begins { IfOk result (λ b. at b 0 ≡ first) }
+        ensures follows { IfOk result (λ b. (t : ℕ) → t + 1 < 1440
+            → at b (t + 1) ≡ min MAX_BACKLOG (at b t + slice_index arrivals.now t - 1)) }
+    {
+        let sums = arrivals.by_minute();
+        let mut list = Vec::new(alloc);
+        let mut bound = first;
+        let mut shown = 0;
+        for minute in 0..MINUTES_OF_DAY {
+            if bound != shown {
+                list.push(Piece {
+                    minute,
+                    value: bound,
+                })?;
+            }
+            shown = bound.saturating_sub(1);
+            bound = bound_after(bound, sums[usize::from(minute)]);
+        }
+        Ok(Backlog::of_pieces(list))
+    }
+}
+
+/// The bound a minute after one that has a bound, and at which so much arrives.
+fn bound_after(bound: u32, arrives: u32) -> u32
+    ensures { result ≡ min MAX_BACKLOG (bound + arrives - 1) }
+{
+    let left = bound.saturating_add(arrives).saturating_sub(1);
+    left.min(MAX_BACKLOG)
+}

@@ -31,7 +31,8 @@ fn read_carry(alloc: Global, value: &Value) -> Result<GroupBacklog, Misread>
 }
 
 fn read_carries(alloc: Global, list: &Vec<Value>) -> Result<Vec<GroupBacklog>, Misread>
-    ensures { Gives (λ v. v.items) result (all_as carry_said (list_of (items_view list.now.items))) }
+    ensures { Gives (λ v. v.items) result
+        (all_as carry_said (list_of (items_view list.now.items))) }
 {
     let mut found = Vec::with_capacity(alloc, list.len())?;
     for value in list {

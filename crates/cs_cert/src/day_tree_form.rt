@@ -58,7 +58,8 @@ fn read_tree(alloc: Global, value: &Value) -> Result<DayTree, Misread>
 #[cycle(day)]
 #[tactic(auto, unfolding(crate::specs::TreeSaid::day_split_said))]
 fn read_split(alloc: Global, value: &Value) -> Result<DayTree, Misread>
-    ensures { Gives tree_of result (day_split_said (member_as day_tree_said (codes "yes") (view value.now))
+    ensures { Gives tree_of result (day_split_said
+        (member_as day_tree_said (codes "yes") (view value.now))
         (member_as day_tree_said (codes "no") (view value.now)) (view value.now)) }
 {
     only_members(value, &["in", "no", "split", "yes"])?;

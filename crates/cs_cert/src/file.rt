@@ -170,7 +170,8 @@ fn to_value(alloc: Global, certificate: &Certificate) -> Result<Value, AllocErro
 ///
 /// A text of at most 16,777,216 bytes is read back as the same certificate.
 pub fn write_certificate(alloc: Global, certificate: &Certificate) -> Result<Vec<u8>, AllocError>
-    ensures text { IfOk result (λ b. b.items ≡ compact_text (certificate_data (content certificate.now))) }
+    ensures text { IfOk result (λ b.
+        b.items ≡ compact_text (certificate_data (content certificate.now))) }
     ensures reads_back { IfOk result (λ b. length b.items ≤ 16_777_216
         → certificate_by b.items ≡ Ok (content certificate.now)) }
 {

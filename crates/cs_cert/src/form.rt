@@ -61,13 +61,15 @@ impl<T: Form> Form for Sequence<T> {
 
 /// The items of a list.
 pub(crate) fn items(value: &Value) -> Result<&Vec<Value>, Misread>
-    ensures { Gives (λ l. items_view l.now.items) result (or_bad_shape (as_array (view value.now))) }
+    ensures { Gives (λ l. items_view l.now.items) result
+        (or_bad_shape (as_array (view value.now))) }
 {
     value.as_array().ok_or(BAD_SHAPE)
 }
 
 fn read_each<T: Form>(alloc: Global, list: &Vec<Value>) -> Result<Vec<T>, Misread>
-    ensures { Gives (λ v. map T.seen v.items) result (all_as T.said (list_of (items_view list.now.items))) }
+    ensures { Gives (λ v. map T.seen v.items) result
+        (all_as T.said (list_of (items_view list.now.items))) }
 {
     let mut found = Vec::with_capacity(alloc, list.len())?;
     for value in list {
@@ -97,7 +99,8 @@ pub(crate) fn member<T: Form>(alloc: Global, value: &Value, name: &str) -> Resul
 /// A list of exactly two.
 #[tactic(auto, using(cs_json::proofs::Items::not_two, cs_json::proofs::Items::two_items))]
 pub(crate) fn read_pair<A: Form, B: Form>(alloc: Global, value: &Value) -> Result<(A, B), Misread>
-    ensures { Gives (λ p. (A.seen p.0, B.seen p.1)) result (pair_as A.said B.said (view value.now)) }
+    ensures { Gives (λ p. (A.seen p.0, B.seen p.1)) result
+        (pair_as A.said B.said (view value.now)) }
 {
     let list = items(value)?;
     if list.len() != 2 {

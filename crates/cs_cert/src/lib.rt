@@ -1,4 +1,4 @@
-//! Certificates: what is claimed of the windows of each day, and its JSON text.
+//! Certificates: what is claimed of each kind of day, its JSON text, and the rules that a certificate keeps by itself.
 #![tactic(auto)]
 
 mod carry_form;

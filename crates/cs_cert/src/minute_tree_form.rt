@@ -39,7 +39,8 @@ fn read_tree(alloc: Global, value: &Value) -> Result<MinuteTree, Misread>
 #[cycle(minute)]
 #[tactic(auto, unfolding(crate::specs::TreeSaid::minute_split_said))]
 fn read_split(alloc: Global, value: &Value) -> Result<MinuteTree, Misread>
-    ensures { Gives tree_of result (minute_split_said (member_as minute_tree_said (codes "before") (view value.now))
+    ensures { Gives tree_of result (minute_split_said
+        (member_as minute_tree_said (codes "before") (view value.now))
         (member_as minute_tree_said (codes "after") (view value.now)) (view value.now)) }
 {
     only_members(value, &["after", "at", "before"])?;

@@ -13,7 +13,8 @@ fn jobs_rise(reach: &[JobReach]) -> bool
 }
 
 fn are_reaches(reach: &[JobReach], most: u16) -> bool
-    ensures { result ≡ list_all (λ r. nat_lt r.job MAX_JOBS && nat_lt 0 r.reach && nat_le r.reach most) reach.now }
+    ensures { result ≡ list_all (λ r.
+        nat_lt r.job MAX_JOBS && nat_lt 0 r.reach && nat_le r.reach most) reach.now }
 {
     reach.iter().all(|of_job| of_job.job < MAX_JOBS && 0 < of_job.reach && of_job.reach <= most)
 }

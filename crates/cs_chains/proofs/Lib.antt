@@ -4,6 +4,7 @@ pub mod Searched
 pub mod InUse
 pub mod Missed
 pub mod Alike
+pub mod Collected
 pub mod Ending
 pub mod Lasting
 pub mod ByClasses

@@ -10,13 +10,7 @@ use Rattle.cs_claim.specs.Claim.{class_at}
 use Rattle.cs_decl.specs.Plan.{Declared}
 use Rattle.cs_chains.specs.declared.likeness.Likeness.{Likeness}
 use Rattle.cs_chains.specs.Likeness.{AreLikenesses, IsRow}
-
--- what the answers have, where each is one
-of_answers : {X Y : Type 0} (P : X → Y → Type 0) (xs : List X) (ys : List Y) → AllZip (λ x (r : Result Y AllocError). IfOk r (P x)) xs (map Ok ys) → AllZip P xs ys
-of_answers P [] [] h = h
-of_answers P [] (y ∷ ys) h = absurd h
-of_answers P (x ∷ xs) [] h = absurd h
-of_answers P (x ∷ xs) (y ∷ ys) h = (h.0, of_answers P xs ys h.1)
+use Rattle.cs_chains.proofs.Collected.{of_answers}
 
 row_at : (d : Declared) (classes : List Class) (rows : List (List Likeness)) → AllZip (IsRow d) classes rows → (n : ℕ) → n < length classes → IsRow d (class_at classes n) (slice_index_or rows n [])
 row_at d [] rows zip n lt = absurd (omega (arith, lt))

@@ -12,6 +12,7 @@ use Rattle.cs_cert.specs.Content.{Content}
 use Rattle.cs_claim.specs.WorkedOut.{first_kind}
 use Rattle.cs_history.specs.Lists.{below}
 use Rattle.cs_chains.specs.WorkedOut.{classed_kind, first_classed}
+use Rattle.cs_chains.proofs.Collected.{of_answers}
 
 -- the first of these kinds that has the class, with their classes beside them
 first_of_these : (c : Content) (class : ℕ) (kinds : List Kind) → first_classed (map (classed_kind c) kinds) class ≡ find (λ kind. class_of c kind == class) kinds
@@ -25,13 +26,6 @@ first_of_these c class (kind ∷ kinds) = by (class_of c kind == class) refl (fi
 
 pub first_of_all : (c : Content) (class : ℕ) → first_classed (map (classed_kind c) all_kinds) class ≡ first_kind c class
 first_of_all c class = first_of_these c class all_kinds
-
--- what the answers have, where each is one
-of_answers : {X : Type 0} (P : ℕ → X → Type 0) (ns : List ℕ) (ys : List X) → AllZip (λ n (r : Result X AllocError). IfOk r (P n)) ns (map Ok ys) → AllZip P ns ys
-of_answers P [] [] h = h
-of_answers P [] (y ∷ ys) h = absurd h
-of_answers P (n ∷ ns) [] h = absurd h
-of_answers P (n ∷ ns) (y ∷ ys) h = (h.0, of_answers P ns ys h.1)
 
 -- what was worked out of each number below n, in order
 pub all_worked : {X : Type 0} (f : ℕ → X) (n : ℕ) (numbers : List ℕ) (answers : List (Result X AllocError)) (r : Result (Vec X Global) AllocError) → numbers ≡ range_with_len 0 n

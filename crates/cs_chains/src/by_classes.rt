@@ -16,15 +16,19 @@ pub(crate) type ByClasses<'a> = IndexMap<&'a [u32], &'a ClassedChain>;
 
 /// A chain that has these classes, if there is one.
 pub(crate) fn chain_with<'a>(chains: &ByClasses<'a>, classes: &[u32]) -> Option<&'a ClassedChain>
-    ensures found { (listed : List ClassedChain) → LeadTo listed chains.now → IfSome result (λ chain. Contains listed chain.now × (chain.now.classes.items ≡ classes.now)) }
-    ensures none { (listed : List ClassedChain) → LeadTo listed chains.now → IfNone result (list_any (has_classes classes.now) listed ≡ false) }
+    ensures found { (listed : List ClassedChain) → LeadTo listed chains.now
+        → IfSome result (λ chain.
+        Contains listed chain.now × (chain.now.classes.items ≡ classes.now)) }
+    ensures none { (listed : List ClassedChain) → LeadTo listed chains.now
+        → IfNone result (list_any (has_classes classes.now) listed ≡ false) }
 {
     chains.get(classes).copied()
 }
 
 /// Adds a chain, unless one with its classes is there.
 fn add<'a>(chains: &mut ByClasses<'a>, chain: &'a ClassedChain) -> Result<(), AllocError>
-    ensures { (listed : List ClassedChain) → LeadTo listed chains.old → OnOk result (LeadTo (listed ++ chain.now ∷ []) chains.new) }
+    ensures { (listed : List ClassedChain) → LeadTo listed chains.old
+        → OnOk result (LeadTo (listed ++ chain.now ∷ []) chains.new) }
 {
     let classes = chain.classes.as_slice();
     if chain_with(chains, classes).is_none() {
@@ -52,7 +56,8 @@ pub(crate) fn class_lists(
     alloc: Global,
     stretches: &[Stretch],
 ) -> Result<IndexSet<&[u32]>, AllocError>
-    ensures { IfOk result (λ lists. (classes : List ℕ) → is_among lists.keys classes ≡ list_any (λ s. same_list s.of classes) stretches.now) }
+    ensures { IfOk result (λ lists. (classes : List ℕ)
+        → is_among lists.keys classes ≡ list_any (λ s. same_list s.of classes) stretches.now) }
 {
     let mut lists = IndexSet::new(alloc);
     for stretch in stretches {

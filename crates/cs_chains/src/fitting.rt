@@ -52,7 +52,8 @@ fn cron_fits(schedule: &Schedule, reach: u16, days: u8) -> bool
 
 /// Whether the catch-up window that begins at this minute of each day ends within so many days.
 fn catch_up_fits(from: u16, reach: u16, days: u8) -> bool
-    ensures { result ≡ job_fits days (record { begins = λ kind minute. minute == from; lasts = reach }) }
+    ensures { result
+        ≡ job_fits days (record { begins = λ kind minute. minute == from; lasts = reach }) }
 {
     if from >= MINUTES_OF_DAY {
         return true;
@@ -88,7 +89,8 @@ fn all_fit(jobs: &[Occupied], days: u8) -> bool
 /// no window outlasts, counted from the start of the day on which it begins. Where one outlasts four days, 4.
 pub fn stretch_length(jobs: &[Occupied]) -> u8
     ensures range { (2 ≤ result) × (result ≤ 4) }
-    ensures value { (p : Plan) (on : ℕ → Kind → ℕ → Bool) (c : ℕ → ℕ) → map job_of jobs.now ≡ occupied p on c → result ≡ stretch_length p on c }
+    ensures value { (p : Plan) (on : ℕ → Kind → ℕ → Bool) (c : ℕ → ℕ)
+        → map job_of jobs.now ≡ occupied p on c → result ≡ stretch_length p on c }
 {
     if all_fit(jobs, 2) {
         return 2;

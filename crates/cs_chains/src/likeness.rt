@@ -120,7 +120,8 @@ pub(crate) fn likenesses_parallel<R: Threads + Sync>(
         .with_min_len(LEAST_ROWS)
         .map(
             |class: &Class| -> Result<Sequence<Likeness>, AllocError>
-                ensures { IfOk result (λ row. (d : Declared) → AreTimes d times.entry.now → IsRow d class.now row) }
+                ensures { IfOk result (λ row. (d : Declared) → AreTimes d times.entry.now
+                    → IsRow d class.now row) }
             { row_of(alloc, class, times) },
         )
         .collect::<Result<Vec<Sequence<Likeness>>, AllocError>>(rt, alloc)?

@@ -28,7 +28,8 @@ pub fn first_missing(
     days: u8,
 ) -> Result<Option<Chain>, AllocError>
     requires { (1 ≤ days) × (days ≤ 4) }
-    ensures { IfOk result (λ found. stretch_fault (as_certificate (said claim.now)) days ≡ option_map missing_chain found) }
+    ensures { IfOk result (λ found.
+        stretch_fault (as_certificate (said claim.now)) days ≡ option_map missing_chain found) }
 {
     let lists = class_lists(alloc, claim.stretches())?;
     for chain in chains(alloc, days)? {

@@ -29,7 +29,8 @@ fn is_job_alike(likeness: Likeness, line: &Line, kind: DayKind) -> bool
 /// Whether the class of this kind has the due minutes of each cron job, by the rows of the classes.
 fn is_alike(plan: &Plan, claim: &Claim<'_>, rows: &[Sequence<Likeness>], kind: DayKind) -> bool
     requires { AreLikenesses plan.now (said claim.now) rows.now }
-    ensures { result ≡ is_due_alike (as_plan plan.now) (due_on plan.now) (as_certificate (said claim.now)) kind }
+    ensures { result
+        ≡ is_due_alike (as_plan plan.now) (due_on plan.now) (as_certificate (said claim.now)) kind }
 {
     let class = claim.class_of(kind) as usize;
     let row = rows[class].as_slice();
@@ -45,7 +46,8 @@ fn is_alike(plan: &Plan, claim: &Claim<'_>, rows: &[Sequence<Likeness>], kind: D
 /// the classes.
 fn first_by_rows(plan: &Plan, claim: &Claim<'_>, rows: &[Sequence<Likeness>]) -> Option<DayKind>
     requires { AreLikenesses plan.now (said claim.now) rows.now }
-    ensures { option_map ClassNotDue result ≡ due_fault (as_plan plan.now) (due_on plan.now) (as_certificate (said claim.now)) }
+    ensures { option_map ClassNotDue result
+        ≡ due_fault (as_plan plan.now) (due_on plan.now) (as_certificate (said claim.now)) }
 {
     for kind in all_kinds() {
         if !is_alike(plan, claim, rows, kind) {
@@ -62,7 +64,9 @@ pub fn first_unlike(
     plan: &Plan,
     claim: &Claim<'_>,
 ) -> Result<Option<DayKind>, AllocError>
-    ensures { IfOk result (λ found. option_map ClassNotDue found ≡ due_fault (as_plan plan.now) (due_on plan.now) (as_certificate (said claim.now))) }
+    ensures { IfOk result (λ found.
+        option_map ClassNotDue found
+        ≡ due_fault (as_plan plan.now) (due_on plan.now) (as_certificate (said claim.now))) }
 {
     let rows = likenesses(alloc, plan, claim)?;
     Ok(first_by_rows(plan, claim, rows.as_slice()))
@@ -75,7 +79,9 @@ pub fn first_unlike_parallel<R: Threads + Sync>(
     plan: &Plan,
     claim: &Claim<'_>,
 ) -> Result<Option<DayKind>, AllocError>
-    ensures { IfOk result (λ found. option_map ClassNotDue found ≡ due_fault (as_plan plan.now) (due_on plan.now) (as_certificate (said claim.now))) }
+    ensures { IfOk result (λ found.
+        option_map ClassNotDue found
+        ≡ due_fault (as_plan plan.now) (due_on plan.now) (as_certificate (said claim.now))) }
 {
     let rows = likenesses_parallel(rt, alloc, plan, claim)?;
     Ok(first_by_rows(plan, claim, rows.as_slice()))

@@ -33,8 +33,11 @@ fn used_by<'a>(
     number: usize,
     stretch: &'a Stretch,
 ) -> Option<UsedStretch<'a>>
-    ensures used { (listed : List ClassedChain) → LeadTo listed chains.now → IfSome result (λ u. (u.stretch.now ≡ stretch.now) × (u.number ≡ number) × IsOneOf listed stretch.now.of u.kinds.items) }
-    ensures unused { (listed : List ClassedChain) → LeadTo listed chains.now → IfNone result (list_any (has_classes stretch.now.of) listed ≡ false) }
+    ensures used { (listed : List ClassedChain) → LeadTo listed chains.now
+        → IfSome result (λ u. (u.stretch.now ≡ stretch.now) × (u.number ≡ number)
+        × IsOneOf listed stretch.now.of u.kinds.items) }
+    ensures unused { (listed : List ClassedChain) → LeadTo listed chains.now
+        → IfNone result (list_any (has_classes stretch.now.of) listed ≡ false) }
 {
     let chain = chain_with(chains, stretch.of.as_slice())?;
     Some(UsedStretch {
@@ -51,9 +54,13 @@ pub fn used_stretches<'a>(
     days: u8,
 ) -> Result<Vec<UsedStretch<'a>>, AllocError>
     requires { (1 ≤ days) × (days ≤ 4) }
-    ensures listed { IfOk result (λ used. map (seen (said claim.now)) used.items ≡ used_stretches (as_certificate (said claim.now)) days) }
-    ensures kinds { IfOk result (λ used. All (λ u. HaveClasses (said claim.now) days u.stretch.now.of u.kinds.items) used.items) }
-    ensures numbers { IfOk result (λ used. All (λ u. slice_get (said claim.now).stretches u.number ≡ Some (stretch_of u.stretch.now)) used.items) }
+    ensures listed { IfOk result (λ used.
+        map (seen (said claim.now)) used.items
+        ≡ used_stretches (as_certificate (said claim.now)) days) }
+    ensures kinds { IfOk result (λ used.
+        All (λ u. HaveClasses (said claim.now) days u.stretch.now.of u.kinds.items) used.items) }
+    ensures numbers { IfOk result (λ used. All (λ u.
+        slice_get (said claim.now).stretches u.number ≡ Some (stretch_of u.stretch.now)) used.items) }
 {
     let listed = classed_chains(alloc, claim, days)?;
     let chains = by_classes(alloc, listed.as_slice())?;

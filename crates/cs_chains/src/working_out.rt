@@ -102,8 +102,10 @@ fn classes_of_kinds_parallel<R: Threads + Sync>(
         .with_min_len(1)
         .map(
             |number: usize| -> Result<Class, AllocError>
-                requires { (number < length (said claim.now).classes) × (kinds.now ≡ map (classed_kind (said claim.now)) all_kinds) }
-                ensures { IfOk result (λ worked. worked ≡ worked_of plan.entry.now (said claim.entry.now) number) }
+                requires { (number < length (said claim.now).classes)
+                    × (kinds.now ≡ map (classed_kind (said claim.now)) all_kinds) }
+                ensures { IfOk result (λ worked.
+                    worked ≡ worked_of plan.entry.now (said claim.entry.now) number) }
             { class_of_number(alloc, plan, claim, kinds, number) },
         )
         .collect::<Result<Vec<Class>, AllocError>>(rt, alloc)?
@@ -111,7 +113,8 @@ fn classes_of_kinds_parallel<R: Threads + Sync>(
 
 /// The lists of classes that the chains have, each once, where it comes first.
 fn distinct_lists(alloc: Global, chains: &[ClassedChain]) -> Result<IndexSet<&[u32]>, AllocError>
-    ensures { IfOk result (λ lists. map (λ list. list.now) lists.keys ≡ distinct (map classes_in chains.now)) }
+    ensures { IfOk result (λ lists.
+        map (λ list. list.now) lists.keys ≡ distinct (map classes_in chains.now)) }
 {
     let mut lists = IndexSet::new(alloc);
     for chain in chains {

@@ -8,6 +8,7 @@ use Rattle.cs_decl.specs.Plan.{Declared}
 use Rattle.cs_cert.specs.Content.{Content}
 use Rattle.cs_check.specs.ClassDays.{AreClassDays, IsClassDay}
 use Rattle.cs_check.specs.declared.class_day.ClassDay.{ClassDay}
+use Rattle.cs_chains.proofs.Collected.{of_answers}
 
 -- what holds of each element at its place still holds after one more that has it
 pub each_push : {X : Type 0} (P : ℕ → X → Type 0) (xs : List X) (x : X) → ((n : ℕ) (y : X) → slice_get xs n ≡ Some y → P n y) → P (length xs) x → (n : ℕ) (y : X) → slice_get (xs ++ x ∷ []) n ≡ Some y → P n y
@@ -28,13 +29,6 @@ at_number P a zero (z ∷ ys) h i y e = absurd h
 at_number P a (suc n) [] h i y e = absurd h
 at_number P a (suc n) (z ∷ ys) h zero y e = let same : a ≡ a + 0 = omega arith in subst (λ (k : ℕ). P k y) same (subst (P a) (cc) h.0)
 at_number P a (suc n) (z ∷ ys) h (suc i) y e = let same : (a + 1) + i ≡ a + suc i = omega arith in subst (λ (k : ℕ). P k y) same (at_number P (a + 1) n ys h.1 i y e)
-
--- what the answers have, where each is one
-of_answers : {X : Type 0} (P : ℕ → X → Type 0) (ns : List ℕ) (ys : List X) → AllZip (λ n (r : Result X AllocError). IfOk r (P n)) ns (map Ok ys) → AllZip P ns ys
-of_answers P [] [] h = h
-of_answers P [] (y ∷ ys) h = absurd h
-of_answers P (n ∷ ns) [] h = absurd h
-of_answers P (n ∷ ns) (y ∷ ys) h = (h.0, of_answers P ns ys h.1)
 
 -- the days of the classes, from what was answered for each number
 pub days_of_numbers : (d : Declared) (c : Content) (n : ℕ) (numbers : List ℕ) (answers : List (Result ClassDay AllocError)) (r : Result (Vec ClassDay Global) AllocError) → n ≡ length c.classes → numbers ≡ range_with_len 0 n

@@ -1,12 +1,10 @@
 //! What is known of a plan and a certificate before the stretches are looked at.
 ghost use Rattle.std.specs.Prelude.{◌≡◌, ◌<◌, ◌≤◌, IfOk, IsTrue, length, map, take};
-ghost use Rattle.cs_accepted.specs.Accepted.{ListsAll, nth, windows_of};
-ghost use Rattle.cs_chains.specs.Used.{seen};
+ghost use Rattle.cs_accepted.specs.Accepted.{ListsAll, nth};
 ghost use Rattle.cs_cert.specs.Claim.{said};
 ghost use Rattle.cs_check.specs.ClassDays.{IsClassDay};
-ghost use Rattle.cs_check.specs.Stretches.{IsCase, IsInUse};
-ghost use Rattle.cs_claim.specs.Claim.{as_certificate, class_at};
-ghost use Rattle.cs_decl.specs.Plan.{as_plan};
+ghost use Rattle.cs_check.specs.Stretches.{IsCase, IsInUse, claim_of, classes_in, seen_of, windows_in};
+ghost use Rattle.cs_claim.specs.Claim.{class_at};
 ghost use Rattle.cs_windows.specs.Window.{IsRising};
 
 use crate::class_day::ClassDay;
@@ -47,7 +45,7 @@ impl<'a> Case<'a> {
 
     /// The reach of a cron job, if it has one.
     pub(crate) fn reach_of(&self, number: usize) -> Option<u16>
-        ensures { result ≡ (as_certificate (said self.now.claim.now)).reach number }
+        ensures { result ≡ (claim_of self.now).reach number }
     {
         reach_of(self.claim.reach(), number)
     }
@@ -58,7 +56,8 @@ impl<'a> Case<'a> {
         requires case { IsCase self.now }
         requires in_use { IsInUse (said self.now.claim.now) self.now.days used.now }
         requires within { place < self.now.days }
-        ensures { result.now ≡ class_at (said self.now.claim.now).classes (nth used.now.stretch.now.of place) }
+        ensures { result.now
+            ≡ class_at (said self.now.claim.now).classes (nth used.now.stretch.now.of place) }
     {
         let number = used.stretch.of.as_slice()[place];
         &self.claim.classes()[number as usize]
@@ -69,7 +68,8 @@ impl<'a> Case<'a> {
         requires case { IsCase self.now }
         requires in_use { IsInUse (said self.now.claim.now) self.now.days used.now }
         ensures long { length result ≡ 4 }
-        ensures value { map (λ class. class.now) (take self.now.days result) ≡ map (class_at (said self.now.claim.now).classes) used.now.stretch.now.of }
+        ensures value { map (λ class. class.now) (take self.now.days result)
+            ≡ classes_in self.now used.now }
     {
         let days = self.days();
         let mut classes = [self.class_on(used, 0); 4];
@@ -84,7 +84,8 @@ impl<'a> Case<'a> {
         requires case { IsCase self.now }
         requires in_use { IsInUse (said self.now.claim.now) self.now.days used.now }
         requires within { place < self.now.days }
-        ensures { IsClassDay self.now.plan.now (said self.now.claim.now) (nth used.now.stretch.now.of place) result.now }
+        ensures { IsClassDay self.now.plan.now (said self.now.claim.now)
+            (nth used.now.stretch.now.of place) result.now }
     {
         let number = used.stretch.of.as_slice()[place];
         &self.class_days.as_slice()[number as usize]
@@ -93,7 +94,7 @@ impl<'a> Case<'a> {
     /// Whether the leaves of a stretch in use list all these windows, where the version of the certificate lists windows.
     pub(crate) fn covers(&self, used: &UsedStretch<'_>, windows: &[Window]) -> bool
         requires { IsInUse (said self.now.claim.now) self.now.days used.now }
-        ensures { IsTrue result → ListsAll (seen (said self.now.claim.now) used.now).tree windows.now }
+        ensures { IsTrue result → ListsAll (seen_of self.now used.now).tree windows.now }
     {
         if self.claim.version() == 3 {
             return true;
@@ -109,7 +110,7 @@ impl<'a> Case<'a> {
     ) -> Result<Vec<Window>, AllocError>
         requires case { IsCase self.now }
         requires in_use { IsInUse (said self.now.claim.now) self.now.days used.now }
-        ensures value { IfOk result (λ windows. windows.items ≡ windows_of (as_plan self.now.plan.now) (as_certificate (said self.now.claim.now)) used.now.stretch.now.of) }
+        ensures value { IfOk result (λ windows. windows.items ≡ windows_in self.now used.now) }
         ensures rising { IfOk result (λ windows. IsRising windows.items) }
     {
         let _days = self.days();

@@ -134,15 +134,18 @@ fn judge_parallel<R: Threads + Sync>(
 /// and never skips a due minute of a skip job. Who made the certificate doesn't matter.
 #[tactic(auto, using(crate::proofs::Headline::headline, crate::proofs::Headline::calm_throughout, crate::proofs::Headline::stays, crate::proofs::Headline::accepted, crate::proofs::Headline::broken, crate::proofs::Headline::length_of))]
 pub fn check(alloc: Global, plan: &Plan, certificate: Certificate) -> Result<Checked, CheckError>
-    ensures value { IfOk result (λ checked. (plan_in checked ≡ plan.now) × (certificate_in checked ≡ content certificate)) }
+    ensures value { IfOk result (λ checked.
+        (plan_in checked ≡ plan.now) × (certificate_in checked ≡ content certificate)) }
     ensures ok { IfOk result (λ checked. fault_of plan.now (content certificate) ≡ None) }
     ensures fault { IfErr result (Tells (fault_of plan.now (content certificate))) }
     ensures rules { IfOk result (λ checked. IsAcceptedWith plan.now (content certificate)) }
     ensures broken { IfErr result (IsBroken plan.now (content certificate)) }
     ensures length { IsLengthFor plan.now (content certificate)
         (length_for plan.now (content certificate)) }
-    ensures calm { IfOk result (λ checked. IsCalmThroughout (as_plan plan.now) (reach_for plan.now (content certificate))) }
-    ensures windows { IfOk result (λ checked. StayInWindows (as_plan plan.now) (reach_for plan.now (content certificate))) }
+    ensures calm { IfOk result (λ checked.
+        IsCalmThroughout (as_plan plan.now) (reach_for plan.now (content certificate))) }
+    ensures windows { IfOk result (λ checked.
+        StayInWindows (as_plan plan.now) (reach_for plan.now (content certificate))) }
     ensures headline { IfOk result (λ checked. IsHeadline (as_plan plan.now)) }
 {
     look_at(plan, &certificate);
@@ -160,15 +163,18 @@ pub fn check_parallel<R: Threads + Sync>(
     plan: &Plan,
     certificate: Certificate,
 ) -> Result<Checked, CheckError>
-    ensures value { IfOk result (λ checked. (plan_in checked ≡ plan.now) × (certificate_in checked ≡ content certificate)) }
+    ensures value { IfOk result (λ checked.
+        (plan_in checked ≡ plan.now) × (certificate_in checked ≡ content certificate)) }
     ensures ok { IfOk result (λ checked. fault_of plan.now (content certificate) ≡ None) }
     ensures fault { IfErr result (Tells (fault_of plan.now (content certificate))) }
     ensures rules { IfOk result (λ checked. IsAcceptedWith plan.now (content certificate)) }
     ensures broken { IfErr result (IsBroken plan.now (content certificate)) }
     ensures length { IsLengthFor plan.now (content certificate)
         (length_for plan.now (content certificate)) }
-    ensures calm { IfOk result (λ checked. IsCalmThroughout (as_plan plan.now) (reach_for plan.now (content certificate))) }
-    ensures windows { IfOk result (λ checked. StayInWindows (as_plan plan.now) (reach_for plan.now (content certificate))) }
+    ensures calm { IfOk result (λ checked.
+        IsCalmThroughout (as_plan plan.now) (reach_for plan.now (content certificate))) }
+    ensures windows { IfOk result (λ checked.
+        StayInWindows (as_plan plan.now) (reach_for plan.now (content certificate))) }
     ensures headline { IfOk result (λ checked. IsHeadline (as_plan plan.now)) }
 {
     look_at(plan, &certificate);

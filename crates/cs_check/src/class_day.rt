@@ -24,7 +24,8 @@ pub(crate) struct ClassDay {
 fn settles(basis: &Basis<'_>, class: &Class, number: usize) -> bool
     requires basis { IsBasis basis.now }
     requires cron { number < crons basis.now.plan.now }
-    ensures { IsTrue result → Settles basis.now.plan.now (said basis.now.claim.now) class.now number }
+    ensures { IsTrue result
+        → Settles basis.now.plan.now (said basis.now.claim.now) class.now number }
 {
     if !waits(basis.plan, number) {
         return true;
@@ -64,7 +65,8 @@ fn class_day(alloc: Global, basis: &Basis<'_>, number: usize) -> Result<ClassDay
 /// What each day of each class has, by the number of the class. The only error is want of memory.
 pub(crate) fn class_days(alloc: Global, basis: &Basis<'_>) -> Result<Vec<ClassDay>, AllocError>
     requires { IsBasis basis.now }
-    ensures { IfOk result (λ days. AreClassDays basis.now.plan.now (said basis.now.claim.now) days.items) }
+    ensures { IfOk result (λ days.
+        AreClassDays basis.now.plan.now (said basis.now.claim.now) days.items) }
 {
     let mut days = Vec::new(alloc);
     for number in 0..basis.claim.classes().len() {
@@ -80,7 +82,8 @@ pub(crate) fn class_days_parallel<R: Threads + Sync>(
     basis: &Basis<'_>,
 ) -> Result<Vec<ClassDay>, AllocError>
     requires { IsBasis basis.now }
-    ensures { IfOk result (λ days. AreClassDays basis.now.plan.now (said basis.now.claim.now) days.items) }
+    ensures { IfOk result (λ days.
+        AreClassDays basis.now.plan.now (said basis.now.claim.now) days.items) }
 {
     let classes = basis.claim.classes();
     (0..classes.len())
@@ -88,8 +91,10 @@ pub(crate) fn class_days_parallel<R: Threads + Sync>(
         .with_min_len(1)
         .map(
             |number: usize| -> Result<ClassDay, AllocError>
-                requires { (number < length (said basis.now.claim.now).classes) × IsBasis basis.now }
-                ensures { IfOk result (IsClassDay basis.entry.now.plan.now (said basis.entry.now.claim.now) number) }
+                requires { (number < length (said basis.now.claim.now).classes)
+                    × IsBasis basis.now }
+                ensures { IfOk result
+                    (IsClassDay basis.entry.now.plan.now (said basis.entry.now.claim.now) number) }
             { class_day(alloc, basis, number) },
         )
         .collect::<Result<Vec<ClassDay>, AllocError>>(rt, alloc)?

@@ -1,13 +1,10 @@
 //! The slow finders: the first fault of the stretches in use, by each rule.
-ghost use Rattle.std.specs.Prelude.{◌≡◌, ◌≤◌, ◌<◌, All, IfOk, map, option_map};
+ghost use Rattle.std.specs.Prelude.{◌≡◌, ◌≤◌, ◌<◌, All, IfOk, option_map};
 ghost use Rattle.cs_accepted.specs.Faults.{first_of, minute_of};
 ghost use Rattle.cs_cert.specs.Claim.{said};
-ghost use Rattle.cs_chains.specs.Used.{seen};
-ghost use Rattle.cs_check.specs.Stretches.{IsCase, IsInUse, fault_by};
+ghost use Rattle.cs_check.specs.Stretches.{IsCase, IsInUse, all_seen, claim_of, fault_by, fault_in, plan_of, seen_of};
 ghost use Rattle.cs_check.specs.declared.rule.Rule.TheVariants as rules;
 ghost use Rattle.cs_civil.specs.Calendar.{first_minute, last_minute};
-ghost use Rattle.cs_claim.specs.Claim.{as_certificate};
-ghost use Rattle.cs_decl.specs.Plan.{as_plan};
 ghost use Rattle.cs_refused.specs.Told.{told};
 
 use crate::case::Case;
@@ -34,7 +31,8 @@ fn civil(number: u64) -> Minute
 /// The civil minute at a minute of the day, on the first day that ends such days.
 fn minute_on(case: &Case<'_>, used: &UsedStretch<'_>, minute: u16) -> u64
     requires { IsCase case.now }
-    ensures value { result ≡ minute_of (as_certificate (said case.now.claim.now)) case.now.days (seen (said case.now.claim.now) used.now) minute }
+    ensures value { result
+        ≡ minute_of (claim_of case.now) case.now.days (seen_of case.now used.now) minute }
     ensures range { (2880 ≤ result) × (result < 20000000) }
 {
     let _days = case.days();
@@ -50,7 +48,8 @@ fn rise(
 ) -> Result<Option<CheckFault>, AllocError>
     requires case { IsCase case.now }
     requires in_use { IsInUse (said case.now.claim.now) case.now.days used.now }
-    ensures { IfOk result (λ found. option_map told found ≡ fault_by rules.Steps (as_plan case.now.plan.now) (as_certificate (said case.now.claim.now)) case.now.days (seen (said case.now.claim.now) used.now)) }
+    ensures { IfOk result (λ found.
+        option_map told found ≡ fault_in rules.Steps case.now used.now) }
 {
     let days = case.days();
     let eve = case.class_on(used, days - 2);
@@ -72,7 +71,8 @@ fn unlisted(
 ) -> Result<Option<CheckFault>, AllocError>
     requires case { IsCase case.now }
     requires in_use { IsInUse (said case.now.claim.now) case.now.days used.now }
-    ensures { IfOk result (λ found. option_map told found ≡ fault_by rules.Leaves (as_plan case.now.plan.now) (as_certificate (said case.now.claim.now)) case.now.days (seen (said case.now.claim.now) used.now)) }
+    ensures { IfOk result (λ found.
+        option_map told found ≡ fault_in rules.Leaves case.now used.now) }
 {
     if case.claim.version() == 3 {
         return Ok(None);
@@ -95,7 +95,8 @@ fn collision(
 ) -> Result<Option<CheckFault>, AllocError>
     requires case { IsCase case.now }
     requires in_use { IsInUse (said case.now.claim.now) case.now.days used.now }
-    ensures { IfOk result (λ found. option_map told found ≡ fault_by rules.Collisions (as_plan case.now.plan.now) (as_certificate (said case.now.claim.now)) case.now.days (seen (said case.now.claim.now) used.now)) }
+    ensures { IfOk result (λ found.
+        option_map told found ≡ fault_in rules.Collisions case.now used.now) }
 {
     let windows = case.windows(alloc, used)?;
     match case.roles.collision(alloc, windows.as_slice())? {
@@ -115,7 +116,8 @@ fn overload(
 ) -> Result<Option<CheckFault>, AllocError>
     requires case { IsCase case.now }
     requires in_use { IsInUse (said case.now.claim.now) case.now.days used.now }
-    ensures { IfOk result (λ found. option_map told found ≡ fault_by rules.Capacity (as_plan case.now.plan.now) (as_certificate (said case.now.claim.now)) case.now.days (seen (said case.now.claim.now) used.now)) }
+    ensures { IfOk result (λ found.
+        option_map told found ≡ fault_in rules.Capacity case.now used.now) }
 {
     let windows = case.windows(alloc, used)?;
     match case.roles.overload(alloc, windows.as_slice())? {
@@ -135,7 +137,8 @@ fn blocked(
 ) -> Result<Option<CheckFault>, AllocError>
     requires case { IsCase case.now }
     requires in_use { IsInUse (said case.now.claim.now) case.now.days used.now }
-    ensures { IfOk result (λ found. option_map told found ≡ fault_by rules.SkipJobs (as_plan case.now.plan.now) (as_certificate (said case.now.claim.now)) case.now.days (seen (said case.now.claim.now) used.now)) }
+    ensures { IfOk result (λ found.
+        option_map told found ≡ fault_in rules.SkipJobs case.now used.now) }
 {
     let windows = case.windows(alloc, used)?;
     match case.roles.blocked(alloc, windows.as_slice())? {
@@ -156,7 +159,7 @@ fn fault_by(
 ) -> Result<Option<CheckFault>, AllocError>
     requires case { IsCase case.now }
     requires in_use { IsInUse (said case.now.claim.now) case.now.days used.now }
-    ensures { IfOk result (λ found. option_map told found ≡ fault_by rule (as_plan case.now.plan.now) (as_certificate (said case.now.claim.now)) case.now.days (seen (said case.now.claim.now) used.now)) }
+    ensures { IfOk result (λ found. option_map told found ≡ fault_in rule case.now used.now) }
 {
     if passes(alloc, case, rule, used)? {
         return Ok(None);
@@ -179,7 +182,9 @@ pub(crate) fn first_by(
 ) -> Result<Option<CheckFault>, AllocError>
     requires case { IsCase case.now }
     requires in_use { All (IsInUse (said case.now.claim.now) case.now.days) stretches.now }
-    ensures { IfOk result (λ found. option_map told found ≡ first_of (fault_by rule (as_plan case.now.plan.now) (as_certificate (said case.now.claim.now)) case.now.days) (map (seen (said case.now.claim.now)) stretches.now)) }
+    ensures { IfOk result (λ found. option_map told found
+        ≡ first_of (fault_by rule (plan_of case.now) (claim_of case.now) case.now.days)
+        (all_seen case.now stretches.now)) }
 {
     for used in stretches {
         if let Some(fault) = fault_by(alloc, case, rule, used)? {

@@ -1,14 +1,8 @@
 //! A quick test of one stretch in use, by all the rules that are looked at stretch by stretch.
-ghost use Rattle.std.specs.Prelude.{◌≡◌, ℕ, ◌<◌, ◌-◌, true, IfOk, IsTrue, Some, map};
-ghost use Rattle.cs_accepted.specs.Accepted.{arrivals, nth};
-ghost use Rattle.cs_accepted.specs.Faults.{has_waiter};
+ghost use Rattle.std.specs.Prelude.{◌≡◌, ◌<◌, IfOk, IsTrue, map};
 ghost use Rattle.cs_cert.specs.Claim.{said};
-ghost use Rattle.cs_chains.specs.Used.{seen};
-ghost use Rattle.cs_check.specs.Stretches.{IsCase, IsGood, IsInUse, clears_on};
-ghost use Rattle.cs_claim.specs.Claim.{as_certificate, class_at};
-ghost use Rattle.cs_decl.specs.Plan.{as_plan, crons};
-ghost use Rattle.cs_history.specs.Plan.{waits};
-ghost use Rattle.cs_wait.specs.Bounds.{StepsHold};
+ghost use Rattle.cs_check.specs.Stretches.{AllClearIn, BoundsFollow, ClearsIn, IsCase, IsGoodIn, IsInUse, claim_of, classes_in, clears_in, plan_of, seen_of};
+ghost use Rattle.cs_decl.specs.Plan.{crons};
 
 use crate::case::Case;
 use cs_cert::{Class, reach_of};
@@ -20,7 +14,8 @@ use std::alloc::{AllocError, Global};
 pub(crate) fn steps_hold(case: &Case<'_>, used: &UsedStretch<'_>) -> bool
     requires case { IsCase case.now }
     requires in_use { IsInUse (said case.now.claim.now) case.now.days used.now }
-    ensures { IsTrue result → (g : ℕ) → g < (as_plan case.now.plan.now).groups → has_waiter (as_plan case.now.plan.now) g ≡ true → StepsHold ((as_certificate (said case.now.claim.now)).bound (nth used.now.stretch.now.of (case.now.days - 2)) g) (arrivals (as_plan case.now.plan.now) (as_certificate (said case.now.claim.now)) g (nth used.now.stretch.now.of (case.now.days - 2))) ((as_certificate (said case.now.claim.now)).bound (nth used.now.stretch.now.of (case.now.days - 1)) g) }
+    ensures { IsTrue result → BoundsFollow (plan_of case.now) (claim_of case.now) case.now.days
+        (seen_of case.now used.now) }
 {
     let days = case.days();
     let eve = case.day_on(used, days - 2);
@@ -38,9 +33,9 @@ pub(crate) fn clears_on<'a>(
 ) -> bool
     requires case { IsCase case.now }
     requires in_use { IsInUse (said case.now.claim.now) case.now.days used.now }
-    requires classes { map (λ class. class.now) classes.now ≡ map (class_at (said case.now.claim.now).classes) used.now.stretch.now.of }
+    requires classes { map (λ class. class.now) classes.now ≡ classes_in case.now used.now }
     requires cron { number < crons case.now.plan.now }
-    ensures { result ≡ clears_on (as_plan case.now.plan.now) (as_certificate (said case.now.claim.now)) number reach (seen (said case.now.claim.now) used.now) }
+    ensures { result ≡ clears_in case.now number reach used.now }
 {
     let _days = case.days();
     clears(case.plan, number, reach, classes, case.none)
@@ -55,9 +50,9 @@ fn reach_holds<'a>(
 ) -> bool
     requires case { IsCase case.now }
     requires in_use { IsInUse (said case.now.claim.now) case.now.days used.now }
-    requires classes { map (λ class. class.now) classes.now ≡ map (class_at (said case.now.claim.now).classes) used.now.stretch.now.of }
+    requires classes { map (λ class. class.now) classes.now ≡ classes_in case.now used.now }
     requires cron { number < crons case.now.plan.now }
-    ensures { IsTrue result → (r : ℕ) → waits (as_plan case.now.plan.now) number ≡ true → (as_certificate (said case.now.claim.now)).reach number ≡ Some r → clears_on (as_plan case.now.plan.now) (as_certificate (said case.now.claim.now)) number r (seen (said case.now.claim.now) used.now) ≡ true }
+    ensures { IsTrue result → ClearsIn case.now used.now number }
 {
     if !waits(case.plan, number) {
         return true;
@@ -72,7 +67,7 @@ fn reach_holds<'a>(
 fn all_reaches_hold(case: &Case<'_>, used: &UsedStretch<'_>) -> bool
     requires case { IsCase case.now }
     requires in_use { IsInUse (said case.now.claim.now) case.now.days used.now }
-    ensures { IsTrue result → (j r : ℕ) → j < crons case.now.plan.now → waits (as_plan case.now.plan.now) j ≡ true → (as_certificate (said case.now.claim.now)).reach j ≡ Some r → clears_on (as_plan case.now.plan.now) (as_certificate (said case.now.claim.now)) j r (seen (said case.now.claim.now) used.now) ≡ true }
+    ensures { IsTrue result → AllClearIn case.now used.now }
 {
     let classes = case.classes_of(used);
     for number in 0..case.plan.crons() {
@@ -87,7 +82,7 @@ fn all_reaches_hold(case: &Case<'_>, used: &UsedStretch<'_>) -> bool
 fn reaches_hold(case: &Case<'_>, used: &UsedStretch<'_>) -> bool
     requires case { IsCase case.now }
     requires in_use { IsInUse (said case.now.claim.now) case.now.days used.now }
-    ensures { IsTrue result → (j r : ℕ) → j < crons case.now.plan.now → waits (as_plan case.now.plan.now) j ≡ true → (as_certificate (said case.now.claim.now)).reach j ≡ Some r → clears_on (as_plan case.now.plan.now) (as_certificate (said case.now.claim.now)) j r (seen (said case.now.claim.now) used.now) ≡ true }
+    ensures { IsTrue result → AllClearIn case.now used.now }
 {
     let _days = case.days();
     if case.day_on(used, 0).settles {
@@ -105,7 +100,7 @@ pub(crate) fn is_good(
 ) -> Result<bool, AllocError>
     requires case { IsCase case.now }
     requires in_use { IsInUse (said case.now.claim.now) case.now.days used.now }
-    ensures { IfOk result (λ good. IsTrue good → IsGood (as_plan case.now.plan.now) (as_certificate (said case.now.claim.now)) case.now.days (seen (said case.now.claim.now) used.now)) }
+    ensures { IfOk result (λ good. IsTrue good → IsGoodIn case.now used.now) }
 {
     if !steps_hold(case, used) {
         return Ok(false);

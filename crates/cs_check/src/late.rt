@@ -1,13 +1,9 @@
 //! The first job whose reach is too short.
-ghost use Rattle.std.specs.Prelude.{◌≡◌, ◌<◌, All, Some, map, option_map, true};
+ghost use Rattle.std.specs.Prelude.{◌≡◌, ◌<◌, All, Some, option_map, true};
 ghost use Rattle.std.specs.List.{list_all};
-ghost use Rattle.cs_accepted.specs.Faults.{ReachTooShort, first_of, unless};
 ghost use Rattle.cs_cert.specs.Claim.{said};
-ghost use Rattle.cs_chains.specs.Used.{seen};
-ghost use Rattle.cs_check.specs.Stretches.{IsCase, IsInUse, clears_on, is_far};
-ghost use Rattle.cs_claim.specs.Claim.{as_certificate};
-ghost use Rattle.cs_decl.specs.Plan.{as_plan, crons};
-ghost use Rattle.cs_history.specs.Lists.{below};
+ghost use Rattle.cs_check.specs.Stretches.{IsCase, IsInUse, all_seen, claim_of, clears_in, clears_on, is_far, late_fault, plan_of};
+ghost use Rattle.cs_decl.specs.Plan.{crons};
 ghost use Rattle.cs_history.specs.Plan.{waits};
 ghost use Rattle.cs_refused.specs.Told.{told};
 
@@ -23,9 +19,9 @@ fn is_far_on(case: &Case<'_>, used: &UsedStretch<'_>, number: usize, reach: u16)
     requires case { IsCase case.now }
     requires in_use { IsInUse (said case.now.claim.now) case.now.days used.now }
     requires cron { number < crons case.now.plan.now }
-    requires waits { waits (as_plan case.now.plan.now) number ≡ true }
-    requires reach { (as_certificate (said case.now.claim.now)).reach number ≡ Some reach }
-    ensures { result ≡ clears_on (as_plan case.now.plan.now) (as_certificate (said case.now.claim.now)) number reach (seen (said case.now.claim.now) used.now) }
+    requires waits { waits (plan_of case.now) number ≡ true }
+    requires reach { (claim_of case.now).reach number ≡ Some reach }
+    ensures { result ≡ clears_in case.now number reach used.now }
 {
     let _days = case.days();
     if case.day_on(used, 0).settles {
@@ -40,9 +36,10 @@ fn is_far_on_all(case: &Case<'_>, stretches: &[UsedStretch<'_>], number: usize, 
     requires case { IsCase case.now }
     requires in_use { All (IsInUse (said case.now.claim.now) case.now.days) stretches.now }
     requires cron { number < crons case.now.plan.now }
-    requires waits { waits (as_plan case.now.plan.now) number ≡ true }
-    requires reach { (as_certificate (said case.now.claim.now)).reach number ≡ Some reach }
-    ensures { result ≡ list_all (clears_on (as_plan case.now.plan.now) (as_certificate (said case.now.claim.now)) number reach) (map (seen (said case.now.claim.now)) stretches.now) }
+    requires waits { waits (plan_of case.now) number ≡ true }
+    requires reach { (claim_of case.now).reach number ≡ Some reach }
+    ensures { result ≡ list_all (clears_on (plan_of case.now) (claim_of case.now) number reach)
+        (all_seen case.now stretches.now) }
 {
     for used in stretches {
         if !is_far_on(case, used, number, reach) {
@@ -57,7 +54,8 @@ fn is_far(case: &Case<'_>, stretches: &[UsedStretch<'_>], number: usize) -> bool
     requires case { IsCase case.now }
     requires in_use { All (IsInUse (said case.now.claim.now) case.now.days) stretches.now }
     requires cron { number < crons case.now.plan.now }
-    ensures { result ≡ is_far (as_plan case.now.plan.now) (as_certificate (said case.now.claim.now)) (map (seen (said case.now.claim.now)) stretches.now) number }
+    ensures { result
+        ≡ is_far (plan_of case.now) (claim_of case.now) (all_seen case.now stretches.now) number }
 {
     if !waits(case.plan, number) {
         return true;
@@ -72,7 +70,8 @@ fn is_far(case: &Case<'_>, stretches: &[UsedStretch<'_>], number: usize) -> bool
 pub(crate) fn first_late(case: &Case<'_>, stretches: &[UsedStretch<'_>]) -> Option<CheckFault>
     requires case { IsCase case.now }
     requires in_use { All (IsInUse (said case.now.claim.now) case.now.days) stretches.now }
-    ensures { option_map told result ≡ first_of (λ j. unless (is_far (as_plan case.now.plan.now) (as_certificate (said case.now.claim.now)) (map (seen (said case.now.claim.now)) stretches.now) j) (ReachTooShort j)) (below (as_plan case.now.plan.now).crons) }
+    ensures { option_map told result
+        ≡ late_fault (plan_of case.now) (claim_of case.now) (all_seen case.now stretches.now) }
 {
     for job in 0..case.plan.crons() {
         if !is_far(case, stretches, job) {

@@ -1,10 +1,7 @@
 //! The first fault of the stretches in use, in the order of the rules.
-ghost use Rattle.std.specs.Prelude.{◌≡◌, All, IfOk, map, option_map};
+ghost use Rattle.std.specs.Prelude.{◌≡◌, All, IfOk, option_map};
 ghost use Rattle.cs_cert.specs.Claim.{said};
-ghost use Rattle.cs_chains.specs.Used.{seen};
-ghost use Rattle.cs_check.specs.Stretches.{IsCase, IsInUse, fault_by_windows, later_fault};
-ghost use Rattle.cs_claim.specs.Claim.{as_certificate};
-ghost use Rattle.cs_decl.specs.Plan.{as_plan};
+ghost use Rattle.cs_check.specs.Stretches.{IsCase, IsInUse, all_seen, claim_of, fault_by_windows, later_fault, plan_of};
 ghost use Rattle.cs_refused.specs.Told.{told};
 
 use crate::case::Case;
@@ -24,7 +21,9 @@ fn first_by_windows(
 ) -> Result<Option<CheckFault>, AllocError>
     requires case { IsCase case.now }
     requires in_use { All (IsInUse (said case.now.claim.now) case.now.days) stretches.now }
-    ensures { IfOk result (λ found. option_map told found ≡ fault_by_windows (as_plan case.now.plan.now) (as_certificate (said case.now.claim.now)) case.now.days (map (seen (said case.now.claim.now)) stretches.now)) }
+    ensures { IfOk result (λ found. option_map told found
+        ≡ fault_by_windows (plan_of case.now) (claim_of case.now) case.now.days
+        (all_seen case.now stretches.now)) }
 {
     if let Some(fault) = first_by(alloc, case, Rule::Leaves, stretches)? {
         return Ok(Some(fault));
@@ -47,7 +46,9 @@ pub(crate) fn later_fault(
 ) -> Result<Option<CheckFault>, AllocError>
     requires case { IsCase case.now }
     requires in_use { All (IsInUse (said case.now.claim.now) case.now.days) stretches.now }
-    ensures { IfOk result (λ found. option_map told found ≡ later_fault (as_plan case.now.plan.now) (as_certificate (said case.now.claim.now)) case.now.days (map (seen (said case.now.claim.now)) stretches.now)) }
+    ensures { IfOk result (λ found. option_map told found
+        ≡ later_fault (plan_of case.now) (claim_of case.now) case.now.days
+        (all_seen case.now stretches.now)) }
 {
     if let Some(fault) = first_by(alloc, case, Rule::Steps, stretches)? {
         return Ok(Some(fault));

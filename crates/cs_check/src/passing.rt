@@ -1,12 +1,9 @@
 //! A quick test of one stretch in use by one rule.
 ghost use Rattle.std.specs.Prelude.{◌≡◌, IfOk, IsTrue, None};
-ghost use Rattle.cs_accepted.specs.Accepted.{AreApart, AreFree, AreWithin, windows_of};
+ghost use Rattle.cs_accepted.specs.Accepted.{AreApart, AreFree, AreWithin};
 ghost use Rattle.cs_cert.specs.Claim.{said};
-ghost use Rattle.cs_chains.specs.Used.{seen};
-ghost use Rattle.cs_check.specs.Stretches.{IsCase, IsInUse, fault_by};
+ghost use Rattle.cs_check.specs.Stretches.{IsCase, IsInUse, fault_in, plan_of, windows_in};
 ghost use Rattle.cs_check.specs.declared.rule.Rule.TheVariants as rules;
-ghost use Rattle.cs_claim.specs.Claim.{as_certificate};
-ghost use Rattle.cs_decl.specs.Plan.{as_plan};
 
 use crate::case::Case;
 use crate::good::steps_hold;
@@ -19,9 +16,12 @@ use std::alloc::{AllocError, Global};
 fn quiet_on(alloc: Global, case: &Case<'_>, used: &UsedStretch<'_>) -> Result<Quiet, AllocError>
     requires case { IsCase case.now }
     requires in_use { IsInUse (said case.now.claim.now) case.now.days used.now }
-    ensures apart { IfOk result (λ quiet. IsTrue quiet.is_apart → AreApart (as_plan case.now.plan.now) (windows_of (as_plan case.now.plan.now) (as_certificate (said case.now.claim.now)) used.now.stretch.now.of)) }
-    ensures within { IfOk result (λ quiet. IsTrue quiet.is_within → AreWithin (as_plan case.now.plan.now) case.now.days (windows_of (as_plan case.now.plan.now) (as_certificate (said case.now.claim.now)) used.now.stretch.now.of)) }
-    ensures free { IfOk result (λ quiet. IsTrue quiet.is_free → AreFree (as_plan case.now.plan.now) (windows_of (as_plan case.now.plan.now) (as_certificate (said case.now.claim.now)) used.now.stretch.now.of)) }
+    ensures apart { IfOk result (λ quiet. IsTrue quiet.is_apart
+        → AreApart (plan_of case.now) (windows_in case.now used.now)) }
+    ensures within { IfOk result (λ quiet. IsTrue quiet.is_within
+        → AreWithin (plan_of case.now) case.now.days (windows_in case.now used.now)) }
+    ensures free { IfOk result (λ quiet. IsTrue quiet.is_free
+        → AreFree (plan_of case.now) (windows_in case.now used.now)) }
 {
     let windows = case.windows(alloc, used)?;
     case.roles.quiet(alloc, windows.as_slice())
@@ -31,7 +31,7 @@ fn quiet_on(alloc: Global, case: &Case<'_>, used: &UsedStretch<'_>) -> Result<Qu
 fn lists_all(alloc: Global, case: &Case<'_>, used: &UsedStretch<'_>) -> Result<bool, AllocError>
     requires case { IsCase case.now }
     requires in_use { IsInUse (said case.now.claim.now) case.now.days used.now }
-    ensures { IfOk result (λ lists. IsTrue lists → fault_by rules.Leaves (as_plan case.now.plan.now) (as_certificate (said case.now.claim.now)) case.now.days (seen (said case.now.claim.now) used.now) ≡ None) }
+    ensures { IfOk result (λ lists. IsTrue lists → fault_in rules.Leaves case.now used.now ≡ None) }
 {
     let windows = case.windows(alloc, used)?;
     Ok(case.covers(used, windows.as_slice()))
@@ -47,7 +47,7 @@ pub(crate) fn passes(
 ) -> Result<bool, AllocError>
     requires case { IsCase case.now }
     requires in_use { IsInUse (said case.now.claim.now) case.now.days used.now }
-    ensures { IfOk result (λ passes. IsTrue passes → fault_by rule (as_plan case.now.plan.now) (as_certificate (said case.now.claim.now)) case.now.days (seen (said case.now.claim.now) used.now) ≡ None) }
+    ensures { IfOk result (λ passes. IsTrue passes → fault_in rule case.now used.now ≡ None) }
 {
     match rule {
         Rule::Steps => Ok(steps_hold(case, used)),

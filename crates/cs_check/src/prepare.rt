@@ -36,7 +36,8 @@ fn basis_by<'a>(
     unlike: Option<DayKind>,
 ) -> Result<Basis<'a>, CheckError>
     requires none { none.now ≡ [] }
-    requires unlike { option_map ClassNotDue unlike ≡ due_fault (as_plan plan.now) (due_on plan.now) (as_certificate (said claim.now)) }
+    requires unlike { option_map ClassNotDue unlike
+        ≡ due_fault (as_plan plan.now) (due_on plan.now) (as_certificate (said claim.now)) }
     ensures ok { IfOk result (IsBasisOf plan.now (said claim.now)) }
     ensures fault { IfErr result (Tells (claim_fault plan.now (said claim.now))) }
 {

@@ -27,8 +27,10 @@ impl Checked {
     /// What was accepted is safe, whatever happens. The call does nothing; who holds a checked plan may cite what it ensures.
     pub fn is_safe(&self)
         ensures rules { IsAcceptedWith (plan_in self.now) (certificate_in self.now) }
-        ensures calm { IsCalmThroughout (as_plan (plan_in self.now)) (reach_for (plan_in self.now) (certificate_in self.now)) }
-        ensures windows { StayInWindows (as_plan (plan_in self.now)) (reach_for (plan_in self.now) (certificate_in self.now)) }
+        ensures calm { IsCalmThroughout (as_plan (plan_in self.now))
+            (reach_for (plan_in self.now) (certificate_in self.now)) }
+        ensures windows { StayInWindows (as_plan (plan_in self.now))
+            (reach_for (plan_in self.now) (certificate_in self.now)) }
         ensures headline { IsHeadline (as_plan (plan_in self.now)) }
         // No more runs run at once than the capacity, since each weighs something.
         ensures few { AreFew (as_plan (plan_in self.now)) }

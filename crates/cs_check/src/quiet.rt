@@ -1,10 +1,8 @@
 //! The quick test of all stretches in use.
 ghost use Rattle.std.specs.Prelude.{◌≡◌, ◌<◌, ℕ, All, IfOk, IsTrue, Some, true};
 ghost use Rattle.cs_cert.specs.Claim.{said};
-ghost use Rattle.cs_chains.specs.Used.{seen};
-ghost use Rattle.cs_check.specs.Stretches.{AreGood, HaveReaches, IsCase, IsGood, IsInUse};
-ghost use Rattle.cs_claim.specs.Claim.{as_certificate};
-ghost use Rattle.cs_decl.specs.Plan.{as_plan, crons};
+ghost use Rattle.cs_check.specs.Stretches.{AreGood, HaveReaches, IsCase, IsGoodIn, IsInUse, claim_of, plan_of};
+ghost use Rattle.cs_decl.specs.Plan.{crons};
 ghost use Rattle.cs_history.specs.Plan.{waits};
 
 use crate::case::Case;
@@ -18,7 +16,8 @@ use std::thread::Threads;
 /// Whether a cron job, if it waits, has a reach.
 fn has_reach(case: &Case<'_>, number: usize) -> bool
     requires { number < crons case.now.plan.now }
-    ensures { IsTrue result → waits (as_plan case.now.plan.now) number ≡ true → (r : ℕ) × ((as_certificate (said case.now.claim.now)).reach number ≡ Some r) }
+    ensures { IsTrue result → waits (plan_of case.now) number ≡ true
+        → (r : ℕ) × ((claim_of case.now).reach number ≡ Some r) }
 {
     if !waits(case.plan, number) {
         return true;
@@ -28,7 +27,7 @@ fn has_reach(case: &Case<'_>, number: usize) -> bool
 
 /// Whether each job that waits has a reach.
 pub(crate) fn have_reaches(case: &Case<'_>) -> bool
-    ensures { IsTrue result → HaveReaches (as_plan case.now.plan.now) (as_certificate (said case.now.claim.now)) }
+    ensures { IsTrue result → HaveReaches (plan_of case.now) (claim_of case.now) }
 {
     for number in 0..case.plan.crons() {
         if !has_reach(case, number) {
@@ -71,7 +70,7 @@ pub(crate) fn are_good_parallel<R: Threads + Sync>(
         rt,
         |used: &UsedStretch<'_>| -> bool
             requires { IsCase case.now × IsInUse (said case.now.claim.now) case.now.days used.now }
-            ensures { IsTrue result → IsGood (as_plan case.entry.now.plan.now) (as_certificate (said case.entry.now.claim.now)) case.entry.now.days (seen (said case.entry.now.claim.now) used.now) }
+            ensures { IsTrue result → IsGoodIn case.entry.now used.now }
         { is_good(alloc, case, used).unwrap_or(false) },
     );
     if good {

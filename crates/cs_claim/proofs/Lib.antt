@@ -1,4 +1,5 @@
 pub mod DayMinutes
+pub mod Distinct
 pub mod GroupDays
 pub mod Lists
 pub mod Midnight

@@ -9,6 +9,10 @@ use Rattle.cs_windows.specs.Windows.{day_minutes}
 use Rattle.cs_accepted.specs.Faults.{first_of, has_waiter, unless}
 use Rattle.cs_claim.specs.declared.steps.Work.{Work}
 
+-- what a job brings for the lock of a group at a minute of a class, in minutes
+abbrev pub brought : Plan → Class → ℕ → ℕ → ℕ → ℕ
+brought p class g j m = if is_due_in class j m then (if locks p g j then p.limit j else 0) else 0
+
 -- what the lock takers of a group that are due at a minute of a class bring
 abbrev pub arrivals_in : Plan → Class → ℕ → ℕ → ℕ
 arrivals_in p class g m = total (λ j. if locks p g j then p.limit j else 0) (filter (λ j. is_due_in class j m) (below p.crons))

@@ -21,7 +21,8 @@ fn add_minute(minutes: &mut MinuteSet, minute: u16)
 
 /// Adds those of the numbers that are minutes of a day.
 fn add_minutes(minutes: &mut MinuteSet, listed: &[u16])
-    ensures has { (m : ℕ) → m < 1440 → has minutes.new m ≡ (has minutes.old m || is_listed listed.now m) }
+    ensures has { (m : ℕ) → m < 1440
+        → has minutes.new m ≡ (has minutes.old m || is_listed listed.now m) }
     ensures rising { AreRising minutes.old → AreRising minutes.new }
 {
     for minute in listed {
@@ -32,7 +33,9 @@ fn add_minutes(minutes: &mut MinuteSet, listed: &[u16])
 /// Adds the minutes that are listed, if they are those of the job.
 fn add_list(minutes: &mut MinuteSet, list: &DueList, job: u16)
     requires { AreRising minutes.old }
-    ensures has { (m : ℕ) → m < 1440 → has minutes.new m ≡ (has minutes.old m || (nat_eq list.now.job job && is_listed list.now.minutes m)) }
+    ensures has { (m : ℕ) → m < 1440
+        → has minutes.new m
+        ≡ (has minutes.old m || (nat_eq list.now.job job && is_listed list.now.minutes m)) }
     ensures rising { AreRising minutes.new }
 {
     if list.job == job {
@@ -42,7 +45,8 @@ fn add_list(minutes: &mut MinuteSet, list: &DueList, job: u16)
 
 /// The minutes of the day that are listed for a job.
 fn minutes_among(due: &[DueList], job: u16) -> MinuteSet
-    ensures has { (m : ℕ) → m < 1440 → has result m ≡ list_any (λ d. nat_eq d.job job && is_listed d.minutes m) due.now }
+    ensures has { (m : ℕ) → m < 1440
+        → has result m ≡ list_any (λ d. nat_eq d.job job && is_listed d.minutes m) due.now }
     ensures rising { AreRising result }
 {
     let mut minutes = MinuteSet::new();
@@ -82,7 +86,9 @@ fn empty_sets(alloc: Global, jobs: usize) -> Result<Vec<MinuteSet>, AllocError>
 /// Adds the minutes that are listed to the set of their job, if it has one.
 fn add_to_job(sets: &mut [MinuteSet], list: &DueList)
     ensures long { length sets.new ≡ length sets.old }
-    ensures each { (j m : ℕ) → j < length sets.old → m < 1440 → has (slice_index_or sets.new j []) m ≡ (has (slice_index_or sets.old j []) m || (nat_eq list.now.job j && is_listed list.now.minutes m)) }
+    ensures each { (j m : ℕ) → j < length sets.old → m < 1440
+        → has (slice_index_or sets.new j []) m ≡ (has (slice_index_or sets.old j []) m
+        || (nat_eq list.now.job j && is_listed list.now.minutes m)) }
 {
     let job = usize::from(list.job);
     if job < sets.len() {
@@ -93,7 +99,9 @@ fn add_to_job(sets: &mut [MinuteSet], list: &DueList)
 /// Adds each list to the set of its job.
 fn add_to_jobs(sets: &mut [MinuteSet], due: &[DueList])
     ensures long { length sets.new ≡ length sets.old }
-    ensures each { (j m : ℕ) → j < length sets.old → m < 1440 → has (slice_index_or sets.new j []) m ≡ (has (slice_index_or sets.old j []) m || list_any (λ d. nat_eq d.job j && is_listed d.minutes m) due.now) }
+    ensures each { (j m : ℕ) → j < length sets.old → m < 1440
+        → has (slice_index_or sets.new j []) m ≡ (has (slice_index_or sets.old j []) m
+        || list_any (λ d. nat_eq d.job j && is_listed d.minutes m) due.now) }
 {
     for list in due {
         add_to_job(sets, list);

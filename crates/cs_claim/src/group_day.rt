@@ -67,7 +67,8 @@ fn leads(eve: &GroupDay, day: &GroupDay) -> bool
 
 /// Whether the same holds of each group.
 fn each_leads(eve: &[GroupDay], day: &[GroupDay]) -> bool
-    ensures { IsTrue result ↔ ((g : ℕ) → g < length eve.now → g < length day.now → Leads (slice_index_or eve.now g no_day) (slice_index_or day.now g no_day)) }
+    ensures { IsTrue result ↔ ((g : ℕ) → g < length eve.now → g < length day.now
+        → Leads (slice_index_or eve.now g no_day) (slice_index_or day.now g no_day)) }
 {
     for (eve, day) in eve.iter().zip(day) {
         if !leads(eve, day) {
@@ -81,7 +82,8 @@ fn each_leads(eve: &[GroupDay], day: &[GroupDay]) -> bool
 /// first class to the next minute, the last being the step over midnight to a day of the second class. Both slices are
 /// what [`group_days`] answered for one plan.
 pub fn is_steady_over(eve: &[GroupDay], day: &[GroupDay]) -> bool
-    ensures { (p : TheoryPlan) (e d : Class) → AreGroupDays p e eve.now → AreGroupDays p d day.now → (IsTrue result ↔ IsSteady p e d) }
+    ensures { (p : TheoryPlan) (e d : Class) → AreGroupDays p e eve.now → AreGroupDays p d day.now
+        → (IsTrue result ↔ IsSteady p e d) }
 {
     each_leads(eve, day)
 }

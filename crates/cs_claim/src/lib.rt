@@ -4,6 +4,7 @@
 
 mod due;
 mod group_day;
+mod laws;
 mod locks;
 mod planned;
 mod reach;
@@ -12,6 +13,7 @@ mod worked;
 
 pub use due::{due_minutes, due_sets};
 pub use group_day::{GroupDay, group_days, is_steady_over};
+pub use laws::stretches_of_version_3;
 pub use planned::occupied;
 pub use reach::{clears, waits};
 pub use steps::first_rise;

@@ -49,7 +49,8 @@ pub(crate) fn cron_job(plan: &Plan, number: usize) -> Job
     ensures limit { result.max ≡ (as_plan plan.now).limit number }
     ensures waits { waits_in result.mode ≡ waits (as_plan plan.now) number }
     ensures group { result.group ≡ (as_plan plan.now).group number }
-    ensures locks { (g : ℕ) → (takes result.mode && is_group g result.group) ≡ locks (as_plan plan.now) g number }
+    ensures locks { (g : ℕ) → (takes result.mode && is_group g result.group)
+        ≡ locks (as_plan plan.now) g number }
 {
     plan.jobs()[number]
 }

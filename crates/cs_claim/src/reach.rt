@@ -39,7 +39,8 @@ fn bounds_of<'a>(days: &[&'a Class], group: usize, none: &'a Backlog) -> [&'a Ba
     requires few { length days.now ≤ 4 }
     requires none { none.now ≡ [] }
     ensures long { length result ≡ 4 }
-    ensures value { map (λ b. at b.now) (take (length days.now) result) ≡ map (λ class. bound_in class.now group) days.now }
+    ensures value { map (λ b. at b.now) (take (length days.now) result)
+        ≡ map (λ class. bound_in class.now group) days.now }
 {
     let mut bounds = [none; 4];
     for (place, day) in days.iter().enumerate() {
@@ -50,7 +51,8 @@ fn bounds_of<'a>(days: &[&'a Class], group: usize, none: &'a Backlog) -> [&'a Ba
 
 /// Whether the bound is zero within the reach of each of the minutes.
 fn clears_each(bounds: &[&Backlog], minutes: &MinuteSet, reach: u16) -> bool
-    ensures { IsTrue result ↔ All (λ m. ClearsBy (map (λ b. at b.now) bounds.now) m reach) minutes.now }
+    ensures { IsTrue result
+        ↔ All (λ m. ClearsBy (map (λ b. at b.now) bounds.now) m reach) minutes.now }
 {
     for minute in minutes.iter() {
         if !clears_by(bounds, minute, reach) {
@@ -74,7 +76,8 @@ pub fn clears<'a>(
     requires cron { number < crons plan.now }
     requires some { 1 ≤ length days.now }
     requires few { length days.now ≤ 4 }
-    ensures { IsTrue result ↔ Clears (as_plan plan.now) (map (λ class. class.now) days.now) number reach }
+    ensures { IsTrue result
+        ↔ Clears (as_plan plan.now) (map (λ class. class.now) days.now) number reach }
 {
     let bounds = bounds_of(days, group_of(plan, number), none);
     let minutes = due_in_order(days[0], number as u16);

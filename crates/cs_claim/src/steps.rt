@@ -1,10 +1,10 @@
 //! What arrives for the locks of the groups, and the first step from one day to the next at which a bound doesn't follow it.
 ghost use Rattle.std.specs.Prelude.{◌≡◌, ◌≤◌, ◌<◌, ◌+◌, ◌*◌, ◌^◌, ℕ, [], IfOk, if◌then◌else◌, length, slice_index};
-ghost use Rattle.cs_cert.specs.Certificate.{is_due_in, pieces_of};
+ghost use Rattle.cs_cert.specs.Certificate.{pieces_of};
 ghost use Rattle.cs_cert.specs.declared.class.Class.{Class};
-ghost use Rattle.cs_history.specs.Plan.{Plan as TheoryPlan, locks};
+ghost use Rattle.cs_history.specs.Plan.{Plan as TheoryPlan};
 ghost use Rattle.cs_claim.specs.DayMinutes.{AreRising};
-ghost use Rattle.cs_claim.specs.Work.{AreWorks, IsWork, arrivals_in, rise_at, rise_between, rise_of};
+ghost use Rattle.cs_claim.specs.Work.{AreWorks, IsWork, arrivals_in, brought, rise_at, rise_between, rise_of};
 ghost use Rattle.cs_decl.specs.Plan.{as_plan, crons};
 ghost use Rattle.cs_schedule.specs.Numbers.{has};
 
@@ -22,7 +22,9 @@ fn add_job(arrivals: &mut Arrivals, minutes: &MinuteSet, max: u16)
     requires long { length arrivals.old ≡ 1440 }
     requires fits { (m : ℕ) → m < 1440 → slice_index arrivals.old m + max < 2 ^ 32 }
     ensures long { length arrivals.new ≡ 1440 }
-    ensures each { (m : ℕ) → m < 1440 → slice_index arrivals.new m ≡ slice_index arrivals.old m + (if has minutes.now m then max else 0) }
+    ensures each { (m : ℕ) → m < 1440
+        → slice_index arrivals.new m
+        ≡ slice_index arrivals.old m + (if has minutes.now m then max else 0) }
 {
     for minute in minutes.iter() {
         arrivals.add(minute, max);
@@ -36,7 +38,9 @@ fn add_locker(arrivals: &mut Arrivals, plan: &Plan, class: &Class, group: usize,
     requires small { (m : ℕ) → m < 1440 → slice_index arrivals.old m ≤ 4320 * number }
     ensures long { length arrivals.new ≡ 1440 }
     ensures small { (m : ℕ) → m < 1440 → slice_index arrivals.new m ≤ 4320 * number + 4320 }
-    ensures each { (m : ℕ) → m < 1440 → slice_index arrivals.new m ≡ slice_index arrivals.old m + (if is_due_in class.now number m then (if locks (as_plan plan.now) group number then (as_plan plan.now).limit number else 0) else 0) }
+    ensures each { (m : ℕ) → m < 1440
+        → slice_index arrivals.new m
+        ≡ slice_index arrivals.old m + brought (as_plan plan.now) class.now group number m }
 {
     let job = cron_job(plan, number);
     if locks(job, group) {
@@ -47,7 +51,8 @@ fn add_locker(arrivals: &mut Arrivals, plan: &Plan, class: &Class, group: usize,
 /// What the lock takers of a group that are due on a day of a class bring.
 pub(crate) fn arrivals_in(plan: &Plan, class: &Class, group: usize) -> Arrivals
     ensures long { length result ≡ 1440 }
-    ensures each { (m : ℕ) → m < 1440 → slice_index result m ≡ arrivals_in (as_plan plan.now) class.now group m }
+    ensures each { (m : ℕ) → m < 1440
+        → slice_index result m ≡ arrivals_in (as_plan plan.now) class.now group m }
 {
     let mut arrivals = Arrivals::none();
     for number in 0..plan.crons() {
@@ -127,7 +132,8 @@ fn works<'a>(
 /// The group and the minute, where its bound doesn't follow what arrives at that minute of the eve.
 fn rise_of(work: &Option<Work<'_>>, minute: u16, group: usize) -> Option<(u16, usize)>
     requires { minute < MINUTES_OF_DAY }
-    ensures { (p : TheoryPlan) (eve day : Class) → IsWork p eve day group work.now → result ≡ rise_of p eve day minute group }
+    ensures { (p : TheoryPlan) (eve day : Class) → IsWork p eve day group work.now
+        → result ≡ rise_of p eve day minute group }
 {
     match work {
         Some(work) => {
@@ -144,7 +150,8 @@ fn rise_of(work: &Option<Work<'_>>, minute: u16, group: usize) -> Option<(u16, u
 /// The first group whose bound doesn't follow what arrives at a minute of the eve.
 fn rise_at(works: &[Option<Work<'_>>], minute: u16) -> Option<(u16, usize)>
     requires { minute < MINUTES_OF_DAY }
-    ensures { (p : TheoryPlan) (eve day : Class) → AreWorks p eve day works.now → result ≡ rise_at p eve day minute }
+    ensures { (p : TheoryPlan) (eve day : Class) → AreWorks p eve day works.now
+        → result ≡ rise_at p eve day minute }
 {
     for (group, work) in works.iter().enumerate() {
         if let Some(found) = rise_of(work, minute, group) {

@@ -5,11 +5,11 @@ ghost use Rattle.cs_maker.specs.Form.{IsInForm};
 use crate::form::Form;
 use crate::made::Reason;
 use crate::stretches::{Stretches, days_of, stretches_by};
-use crate::subject::Subject;
 use cs_bound::Bounds;
 use cs_cert::{Certificate, MAX_CERTIFICATE, MAX_CLASSES, Stretch};
 use cs_civil::Sequence;
 use cs_claim::occupied;
+use cs_decl::Plan;
 use cs_encode::{certificate, compact_certificate, least_text, stretch};
 use cs_profile::{Classing, Facts};
 use cs_windows::{Occupied, windows_on};
@@ -66,7 +66,8 @@ fn with_windows(
 /// The certificate that lists the windows of these bounds, if a file can hold it.
 fn listed_certificate(
     alloc: Global,
-    subject: &Subject<'_>,
+    plan: &Plan,
+    facts: &Facts,
     bounds: &Bounds,
 ) -> Result<Option<Certificate>, AllocError> {
     let classing = &bounds.classing;
@@ -74,14 +75,14 @@ fn listed_certificate(
         return Ok(None);
     }
     let reaches = bounds.reaches.as_slice();
-    let occupied = occupied(alloc, subject.plan, reaches)?;
+    let occupied = occupied(alloc, plan, reaches)?;
     let days = days_of(occupied.as_slice());
     let in_use = stretches_by(alloc, days, classing.class_of.as_slice())?;
-    if least_entries(subject.facts, classing, &in_use) >= MAX_CERTIFICATE as u64 {
+    if least_entries(facts, classing, &in_use) >= MAX_CERTIFICATE as u64 {
         return Ok(None);
     }
     let stretches = with_windows(alloc, occupied.as_slice(), &in_use)?;
-    match certificate(alloc, subject.facts, classing, stretches, reaches)? {
+    match certificate(alloc, facts, classing, stretches, reaches)? {
         Ok(listed) if least_text(&listed) < MAX_CERTIFICATE as u64 => Ok(Some(listed)),
         _ => Ok(None),
     }
@@ -90,13 +91,15 @@ fn listed_certificate(
 /// The certificate that claims these bounds, in the form that is wanted, or why there is none. The only error is want of memory.
 pub(crate) fn certificate_of(
     alloc: Global,
-    subject: &Subject<'_>,
+    plan: &Plan,
+    facts: &Facts,
     bounds: &Bounds,
+    form: Form,
 ) -> Result<Result<Certificate, Reason>, AllocError>
-    ensures { IfOk result (λ made. IfOk made (IsInForm subject.now.form)) }
+    ensures { IfOk result (λ made. IfOk made (IsInForm form)) }
 {
-    if subject.form == Form::Listed {
-        if let Some(listed) = listed_certificate(alloc, subject, bounds)? {
+    if form == Form::Listed {
+        if let Some(listed) = listed_certificate(alloc, plan, facts, bounds)? {
             return Ok(Ok(listed));
         }
     }

@@ -14,4 +14,4 @@ mod sweep;
 
 pub use form::Form;
 pub use made::{Made, Reason};
-pub use making::make;
+pub use making::{make, propose};

@@ -1,6 +1,6 @@
 //! The way from a plan to what is made for it: bounds first, then windows that break a rule, then the certificate.
 ghost use Rattle.std.specs.Prelude.{IfOk, IfSome};
-ghost use Rattle.cs_maker.specs.Form.{IsMadeIn};
+ghost use Rattle.cs_maker.specs.Form.{IsInForm, IsMadeIn};
 
 use crate::encoding::certificate_of;
 use crate::exact::{exact_story, greatest_reaches};
@@ -9,6 +9,7 @@ use crate::made::{Made, Reason};
 use crate::subject::Subject;
 use crate::sweep::first_breach;
 use cs_bound::{Bounds, least_bounds};
+use cs_cert::Certificate;
 use cs_decl::Plan;
 use cs_profile::{Calendar, Facts};
 use cs_story::{Breach, tell};
@@ -49,10 +50,12 @@ fn made_in_doubt(alloc: Global, subject: &Subject<'_>, bounds: &Bounds) -> Resul
     if let Some(script) = exact_story(alloc, subject, bounds.reaches.as_slice())? {
         return Ok(Made::Unsafe(script));
     }
-    Ok(match certificate_of(alloc, subject, bounds)? {
-        Ok(certificate) => Made::Refused(certificate, Reason::NoScript),
-        Err(_) => Made::Unknown(Reason::NoScript),
-    })
+    Ok(
+        match certificate_of(alloc, subject.plan, subject.facts, bounds, subject.form)? {
+            Ok(certificate) => Made::Refused(certificate, Reason::NoScript),
+            Err(_) => Made::Unknown(Reason::NoScript),
+        },
+    )
 }
 
 /// What is made where windows break a rule though no job waits, if there is such a breach.
@@ -71,10 +74,12 @@ fn made_of_bounds(alloc: Global, subject: &Subject<'_>, bounds: &Bounds) -> Resu
     ensures { IfOk result (IsMadeIn subject.now.form) }
 {
     if first_breach(alloc, subject, bounds.reaches.as_slice())?.is_none() {
-        return Ok(match certificate_of(alloc, subject, bounds)? {
-            Ok(certificate) => Made::Safe(certificate),
-            Err(reason) => Made::Unknown(reason),
-        });
+        return Ok(
+            match certificate_of(alloc, subject.plan, subject.facts, bounds, subject.form)? {
+                Ok(certificate) => Made::Safe(certificate),
+                Err(reason) => Made::Unknown(reason),
+            },
+        );
     }
     match made_of_plain_breach(alloc, subject)? {
         Some(made) => Ok(made),
@@ -110,6 +115,21 @@ fn made_of_plan(alloc: Global, plan: &Plan, form: Form) -> Result<Made, AllocErr
         form,
     };
     made_of(alloc, &subject)
+}
+
+/// The certificate in this form that the least bounds of a plan give, whether or not windows break a rule then: who asks for it
+/// has it checked. None where nothing bounds for how long jobs wait. The only error is want of memory.
+pub fn propose(alloc: Global, plan: &Plan, form: Form) -> Result<Option<Certificate>, AllocError>
+    ensures { IfOk result (λ made. IfSome made (IsInForm form)) }
+{
+    let facts = Facts::of(alloc, plan)?;
+    let Some(bounds) = least_bounds(alloc, plan, &facts)? else {
+        return Ok(None);
+    };
+    match certificate_of(alloc, plan, &facts, &bounds, form)? {
+        Ok(certificate) => Ok(Some(certificate)),
+        Err(_) => Ok(None),
+    }
 }
 
 /// A certificate for the plan in this form, or a script that breaks it, or why neither is known. `NoMemory` is the reason where

@@ -176,7 +176,8 @@ fn push_both(
     one: &Window,
     other: &Window,
 ) -> Result<(), AllocError>
-    ensures { OnOk result (text.new.items ≡ text.old.items ++ both_text plan.now at one.now other.now) }
+    ensures { OnOk result (text.new.items
+        ≡ text.old.items ++ both_text plan.now at one.now other.now) }
 {
     push_window(alloc, text, plan, at, one)?;
     text.extend_from_slice(b" and ")?;
@@ -213,7 +214,8 @@ fn push_unlisted(
     window: &Window,
     at: Minute,
 ) -> Result<(), AllocError>
-    ensures { OnOk result (text.new.items ≡ text.old.items ++ unlisted_text plan.now window.now at) }
+    ensures { OnOk result (text.new.items
+        ≡ text.old.items ++ unlisted_text plan.now window.now at) }
 {
     push_window(alloc, text, plan, at, window)?;
     push_at(text, at)
@@ -229,7 +231,8 @@ fn push_collision(
     one: &Window,
     other: &Window,
 ) -> Result<(), AllocError>
-    ensures { OnOk result (text.new.items ≡ text.old.items ++ collision_text plan.now at one.now other.now) }
+    ensures { OnOk result (text.new.items
+        ≡ text.old.items ++ collision_text plan.now at one.now other.now) }
 {
     push_both(alloc, text, plan, at, one, other)?;
     text.extend_from_slice(b" meet")?;
@@ -284,7 +287,8 @@ fn push_place(
     plan: &Plan,
     fault: &CheckFault,
 ) -> Result<(), AllocError>
-    ensures { OnOk result (text.new.items ≡ text.old.items ++ place_text plan.now (told fault.now)) }
+    ensures { OnOk result (text.new.items
+        ≡ text.old.items ++ place_text plan.now (told fault.now)) }
 {
     match fault {
         CheckFault::ClassNotDue(kind) => push_kind(alloc, text, *kind),

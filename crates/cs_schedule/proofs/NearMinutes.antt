@@ -4,8 +4,8 @@ use Rattle.std.specs.Prelude.{min}
 use Rattle.std.specs.Int.{bit_at, w64, trailing_zeros}
 use Rattle.std.specs.Int.Count.{trailing_of_zero}
 use Rattle.std.proofs.lemmas.Bool.{cases_lt, both_ways}
-use Rattle.std.proofs.lemmas.Nat.{shr-shr}
-use Rattle.std.proofs.lemmas.Nat.Bits.{bit_at-zero, bit_at-trailing_zeros}
+use Rattle.std.proofs.lemmas.Nat.{and_mask, shr-shr}
+use Rattle.std.proofs.lemmas.Nat.Bits.{bit_at-lt, bit_at-trailing_zeros, bit_at-zero, bit_at_and, bit_at_ones}
 use Rattle.cs_schedule.specs.Numbers.{has}
 use Rattle.cs_schedule.specs.Minutes.{is_in, minutes_in, minutes_where, minutes_from}
 use Rattle.cs_schedule.proofs.Ranges.{has-filter, has-filter_past}
@@ -62,17 +62,18 @@ in_day words set e k h =
       | inr le ↦ absurd (both_ways (has set k) (ap (λ (s : List ℕ). has s k) (sym e) ∙ has-filter_past (is_in words) 0 1440 k (omega arith)) h)
     ]
 
--- where a minute of the block is in the set, the first that is lies in the block
-pub near_block : (words set : List ℕ) → minutes_in words ≡ set → (first found : ℕ) → first % 32 ≡ 0 → ((k : ℕ) → first ≤ k → k < found → is_in words k ≡ false)
-    → ((k : ℕ) → first ≤ k → k < 1440 → k / 64 ≡ first / 64 → is_in words k ≡ true → is_in words found ≡ true)
-    → (k : ℕ) → first ≤ k → k < first + 32 → has set k ≡ true → (found < first + 32) × (is_in words found ≡ true)
-near_block words set e first found begins out some k low high h =
-    let day = in_day words set e k h in
-    let is : is_in words k ≡ true = sym (in_set words set e k day) ∙ h in
-    elim (cases_lt k found) [
-      | inl lt ↦ absurd (both_ways (is_in words k) (out k low lt) is)
-      | inr le ↦ (omega arith, some k low day (omega arith) is)
-    ]
+-- no minute past the day is in the set
+pub out_of_day : (words set : List ℕ) → minutes_in words ≡ set → (k : ℕ) → 1440 ≤ k → has set k ≡ false
+unfolding minutes_where
+out_of_day words set e k past = ap (λ (s : List ℕ). has s k) (sym e) ∙ has-filter_past (is_in words) 0 1440 k (omega arith)
+
+-- the bits of a number that is cut off above
+pub low_bit : (n k i : ℕ) → i < k → bit_at (n % 2 ^ k) i ≡ bit_at n i
+low_bit n k i low =
+    ap (λ (m : ℕ). bit_at m i) (sym (and_mask n k)) ∙ bit_at_and n (2 ^ k - 1) i ∙ ap (min (bit_at n i)) (bit_at_ones k i low) ∙ at_most_one
+  where
+    at_most_one : min (bit_at n i) 1 ≡ bit_at n i
+    at_most_one = let lt = bit_at-lt n i in omega (arith, lt)
 
 -- minutes that are out may be passed over
 pub minutes_skip : (words : List ℕ) (n gap k : ℕ) → n + gap ≡ k → k ≤ 1440 → ((j : ℕ) → n ≤ j → j < k → is_in words j ≡ false) → minutes_from words n ≡ minutes_from words k

@@ -1,7 +1,7 @@
 ghost use Rattle.std.specs.Prelude.{◌≡◌, ◌<◌, ◌≤◌, ◌+◌, ◌*◌, ◌/◌, ◌%◌, [], ℕ, length, nat_eq, true, false, ◌||◌, ◌&&◌, ◌↔◌, IsTrue};
 ghost use Rattle.std.specs.Iterator.{YieldsFirst, item_count};
 ghost use Rattle.std.specs.Int.{bit_at};
-ghost use Rattle.cs_schedule.specs.Numbers.{has};
+ghost use Rattle.cs_schedule.specs.Numbers.{has, has_bit};
 ghost use Rattle.cs_schedule.specs.Minutes.{is_in, minutes_in, minutes_where};
 
 use crate::numbers::Numbers;
@@ -38,7 +38,8 @@ fn put(words: &mut [u64; 23], minute: u16)
 /// Sets the bits of the minutes of an hour that are among the numbers.
 fn put_hour(words: &mut [u64; 23], hour: u8, numbers: &Numbers)
     requires { hour < 24 }
-    ensures { (k : ℕ) → k < 1440 → is_in words.new k ≡ (is_in words.old k || (nat_eq (k / 60) hour && has numbers.now (k % 60))) }
+    ensures { (k : ℕ) → k < 1440
+        → is_in words.new k ≡ (is_in words.old k || (nat_eq (k / 60) hour && has numbers.now (k % 60))) }
 {
     for minute in 0..60 {
         if numbers.has(minute) {
@@ -70,7 +71,8 @@ fn near(words: &[u64; 23], minute: u16) -> u16
     ensures word { result / 64 ≡ minute / 64 }
     ensures day { result < 1440 }
     ensures out { (k : ℕ) → minute ≤ k → k < result → is_in words.now k ≡ false }
-    ensures set { (k : ℕ) → minute ≤ k → k < 1440 → k / 64 ≡ minute / 64 → is_in words.now k ≡ true → is_in words.now result ≡ true }
+    ensures set { (k : ℕ) → minute ≤ k → k < 1440 → k / 64 ≡ minute / 64
+        → is_in words.now k ≡ true → is_in words.now result ≡ true }
 {
     let last = (minute / 64 * 64 + 63).min(1439);
     let clear = lowest_bit(words[(minute / 64) as usize] >> (minute % 64));
@@ -80,7 +82,8 @@ fn near(words: &[u64; 23], minute: u16) -> u16
 /// Whether the words at this place have the same minutes of a day.
 fn is_alike(words: &[u64; 23], others: &[u64; 23], place: u16) -> bool
     requires { place < 23 }
-    ensures { IsTrue result ↔ ((m : ℕ) → m < 1440 → m / 64 ≡ place → is_in words.now m ≡ is_in others.now m) }
+    ensures { IsTrue result
+        ↔ ((m : ℕ) → m < 1440 → m / 64 ≡ place → is_in words.now m ≡ is_in others.now m) }
 {
     let unlike = lowest_bit(words[place as usize] ^ others[place as usize]);
     unlike == 64 || 64 * place + unlike >= 1440
@@ -122,17 +125,19 @@ impl MinuteSet {
         minute < 1_440 && is_set(&self.words, minute)
     }
 
-    /// Whether some minute of this block of a day is one of the set: of those from `MINUTES_OF_BLOCK * block` on, false from block 45 on.
-    pub fn meets_block(&self, block: u16) -> bool
-        ensures { IsTrue result ↔ ((minute : ℕ) × (MINUTES_OF_BLOCK * block ≤ minute) × (minute < MINUTES_OF_BLOCK * block + MINUTES_OF_BLOCK) × IsTrue (has self.now minute)) }
+    /// The minutes of this block of a day that are in the set, one bit each, the lowest for the minute `MINUTES_OF_BLOCK * block`:
+    /// 0 from block 45 on.
+    pub fn bits_of_block(&self, block: u16) -> u32
+        ensures { (place : ℕ) → place < MINUTES_OF_BLOCK
+            → has_bit result place ≡ has self.now (MINUTES_OF_BLOCK * block + place) }
     {
         let words = &self.words;
         if block >= 45 {
-            return false;
+            return 0;
         }
         let first = MINUTES_OF_BLOCK * block;
-        let minute = near(words, first);
-        minute < first + MINUTES_OF_BLOCK && is_set(words, minute)
+        let rest = words[(first / 64) as usize] >> (first % 64);
+        (rest % (1 << MINUTES_OF_BLOCK)) as u32
     }
 
     /// How many minutes there are, at most 1,440.

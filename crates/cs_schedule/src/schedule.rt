@@ -2,7 +2,7 @@ ghost use Rattle.std.specs.Prelude.{◌≡◌, ◌/◌, ◌%◌, ◌<◌};
 ghost use Rattle.cs_civil.specs.Calendar.{kind};
 ghost use Rattle.cs_schedule.specs.declared.part.Part.TheVariants as part;
 ghost use Rattle.cs_schedule.specs.Minutes.{minutes_where};
-ghost use Rattle.cs_schedule.specs.Times.{IsWithin, choice_of, is_day_due, is_due, is_time_due};
+ghost use Rattle.cs_schedule.specs.Times.{IsWithin, choice_of, is_day_due, is_due, is_time_due, times};
 
 use crate::field::Field;
 use crate::minute_set::MinuteSet;
@@ -21,13 +21,13 @@ pub struct Schedule {
 }
 
 impl Model for Schedule {
-    ghost use Rattle.cs_schedule.specs.Times.{Times, IsPossible};
+    ghost use Rattle.cs_schedule.specs.Times.{Times, IsPossible, times};
 
     ghost Value = { Times };
 
-    ghost view = { λ s. record { minute = s.minute; hour = s.hour; dom = s.dom; month = s.month; dow = s.dow } };
+    ghost view = { λ s. times s.minute s.hour s.dom s.month s.dow };
 
-    ghost invariant = { λ s. IsPossible (record { minute = s.minute; hour = s.hour; dom = s.dom; month = s.month; dow = s.dow }) };
+    ghost invariant = { λ s. IsPossible (times s.minute s.hour s.dom s.month s.dow) };
 }
 
 impl Schedule {
@@ -38,7 +38,7 @@ impl Schedule {
         requires dom { IsWithin part.Dom dom.numbers }
         requires month { IsWithin part.Month month.numbers }
         requires dow { IsWithin part.Dow dow.numbers }
-        ensures { result ≡ record { minute = minute; hour = hour; dom = dom; month = month; dow = dow } }
+        ensures { result ≡ times minute hour dom month dow }
     {
         Schedule {
             minute,

@@ -122,7 +122,8 @@ fn overload_at(
 ) -> Result<Option<(u16, u128)>, AllocError>
     requires few { groups ≤ 64 }
     requires day { minute < 1440 }
-    ensures { IfOk result (λ found. found ≡ overload_at roles.now groups capacity windows.now minute) }
+    ensures { IfOk result (λ found.
+        found ≡ overload_at roles.now groups capacity windows.now minute) }
 {
     let held = holders(alloc, windows, minute)?;
     let weight = load(roles, groups, held.as_slice());

@@ -67,7 +67,8 @@ fn catch_load(roles: &[Role], windows: &[Window]) -> u8
 /// The greatest weight of the windows of each group that hold its lock alone.
 fn alone_loads(roles: &[Role], windows: &[Window]) -> [u8; GROUPS]
     ensures long { length result ≡ 64 }
-    ensures each { (g : ℕ) → g < 64 → slice_index result g ≡ greatest (alone_weight roles.now g) windows.now }
+    ensures each { (g : ℕ) → g < 64
+        → slice_index result g ≡ greatest (alone_weight roles.now g) windows.now }
 {
     let mut table = [0u8; GROUPS];
     for window in windows {
@@ -86,7 +87,8 @@ fn alone_loads(roles: &[Role], windows: &[Window]) -> [u8; GROUPS]
 /// The weights of the windows of each group that share its lock, added up.
 fn shared_loads(roles: &[Role], windows: &[Window]) -> [u128; GROUPS]
     ensures long { length result ≡ 64 }
-    ensures each { (g : ℕ) → g < 64 → slice_index result g ≡ total (shared_weight roles.now g) windows.now }
+    ensures each { (g : ℕ) → g < 64
+        → slice_index result g ≡ total (shared_weight roles.now g) windows.now }
     ensures small { (g : ℕ) → g < 64 → slice_index result g < 2 ^ 100 }
 {
     let mut table = [0u128; GROUPS];
@@ -108,7 +110,8 @@ fn group_load(alone: &[u8; GROUPS], shared: &[u128; GROUPS], groups: usize) -> u
     requires few { groups ≤ 64 }
     requires long { (length alone.now ≡ 64) × (length shared.now ≡ 64) }
     requires small { (g : ℕ) → g < 64 → slice_index shared.now g < 2 ^ 100 }
-    ensures sum { result ≡ total (λ g. max (slice_index alone.now g) (slice_index shared.now g)) (below groups) }
+    ensures sum { result
+        ≡ total (λ g. max (slice_index alone.now g) (slice_index shared.now g)) (below groups) }
     ensures small { result < 2 ^ 110 }
 {
     let mut sum = 0u128;

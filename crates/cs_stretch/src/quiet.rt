@@ -110,8 +110,10 @@ pub(crate) fn quiet_by_rule(
 ) -> Result<Quiet, AllocError>
     requires few { groups ≤ 64 }
     requires rising { IsRising windows.now }
-    ensures apart { IfOk result (λ quiet. IsTrue quiet.is_apart → MeetApartBy roles.now windows.now) }
-    ensures within { IfOk result (λ quiet. IsTrue quiet.is_within → MeetLightBy roles.now groups capacity windows.now) }
+    ensures apart { IfOk result (λ quiet. IsTrue quiet.is_apart
+        → MeetApartBy roles.now windows.now) }
+    ensures within { IfOk result (λ quiet. IsTrue quiet.is_within
+        → MeetLightBy roles.now groups capacity windows.now) }
     ensures free { IfOk result (λ quiet. IsTrue quiet.is_free → MeetFreeBy roles.now windows.now) }
 {
     let mut active = Vec::new(alloc);

@@ -116,9 +116,12 @@ impl Roles {
     /// answers false, the rule's finder tells whether something is wrong. The only error is want of memory.
     pub fn quiet(&self, alloc: Global, windows: &[Window]) -> Result<Quiet, AllocError>
         requires rising { IsRising windows.now }
-        ensures apart { IfOk result (λ quiet. IsTrue quiet.is_apart → (p : TheoryPlan) → IsOf p self.now → AreApart p windows.now) }
-        ensures within { IfOk result (λ quiet. IsTrue quiet.is_within → (p : TheoryPlan) (n : ℕ) → IsOf p self.now → AreWithin p n windows.now) }
-        ensures free { IfOk result (λ quiet. IsTrue quiet.is_free → (p : TheoryPlan) → IsOf p self.now → AreFree p windows.now) }
+        ensures apart { IfOk result (λ quiet. IsTrue quiet.is_apart
+            → (p : TheoryPlan) → IsOf p self.now → AreApart p windows.now) }
+        ensures within { IfOk result (λ quiet. IsTrue quiet.is_within
+            → (p : TheoryPlan) (n : ℕ) → IsOf p self.now → AreWithin p n windows.now) }
+        ensures free { IfOk result (λ quiet. IsTrue quiet.is_free
+            → (p : TheoryPlan) → IsOf p self.now → AreFree p windows.now) }
     {
         if windows.len() < MANY_WINDOWS {
             quiet::quiet_by_rule(alloc, self.jobs(), self.groups(), self.capacity(), windows)
@@ -135,7 +138,8 @@ impl Roles {
         alloc: Global,
         windows: &[Window],
     ) -> Result<Option<(u16, Window, Window)>, AllocError>
-        ensures { IfOk result (λ found. (p : TheoryPlan) → IsOf p self.now → found ≡ collision_in p windows.now) }
+        ensures { IfOk result (λ found.
+            (p : TheoryPlan) → IsOf p self.now → found ≡ collision_in p windows.now) }
     {
         found::collision(alloc, self.jobs(), self.groups(), windows)
     }
@@ -147,7 +151,8 @@ impl Roles {
         alloc: Global,
         windows: &[Window],
     ) -> Result<Option<(u16, u128)>, AllocError>
-        ensures { IfOk result (λ found. (p : TheoryPlan) (n : ℕ) → IsOf p self.now → found ≡ overload_in p n windows.now) }
+        ensures { IfOk result (λ found.
+            (p : TheoryPlan) (n : ℕ) → IsOf p self.now → found ≡ overload_in p n windows.now) }
     {
         found::overload(alloc, self.jobs(), self.groups(), self.capacity(), windows)
     }
@@ -159,7 +164,8 @@ impl Roles {
         alloc: Global,
         windows: &[Window],
     ) -> Result<Option<(u16, Window, Window)>, AllocError>
-        ensures { IfOk result (λ found. (p : TheoryPlan) → IsOf p self.now → found ≡ blocked_in p windows.now) }
+        ensures { IfOk result (λ found.
+            (p : TheoryPlan) → IsOf p self.now → found ≡ blocked_in p windows.now) }
     {
         found::blocked(alloc, self.jobs(), windows)
     }

@@ -58,7 +58,8 @@ fn is_of(roles: &[Role], group: usize, window: &Window) -> bool
 
 /// Whether one of the windows is of an exclusive group.
 fn any_exclusive(roles: &[Role], windows: &[Window]) -> bool
-    ensures { result ≡ false → AllByRecursion (λ w. (role_at roles.now w.job).is_exclusive ≡ false) windows.now }
+    ensures { result ≡ false
+        → AllByRecursion (λ w. (role_at roles.now w.job).is_exclusive ≡ false) windows.now }
 {
     for window in windows {
         if role_of(roles, window).is_exclusive {
@@ -123,7 +124,8 @@ fn are_lone(roles: &[Role], takers: &[u16], windows: &[Window]) -> bool
 
 /// Whether one of the windows is of a skip job.
 fn any_skips(roles: &[Role], windows: &[Window]) -> bool
-    ensures { result ≡ false → AllByRecursion (λ w. is_skip (role_at roles.now w.job).mode ≡ false) windows.now }
+    ensures { result ≡ false
+        → AllByRecursion (λ w. is_skip (role_at roles.now w.job).mode ≡ false) windows.now }
 {
     for window in windows {
         if role_of(roles, window).skips() {
@@ -202,8 +204,10 @@ pub(crate) fn quiet_by_sums(
     windows: &[Window],
 ) -> Result<Quiet, AllocError>
     requires grouped { AreGrouped roles.now groups }
-    ensures apart { IfOk result (λ quiet. IsTrue quiet.is_apart → AreApartBy roles.now windows.now) }
-    ensures within { IfOk result (λ quiet. IsTrue quiet.is_within → AreWithinBy roles.now groups capacity windows.now) }
+    ensures apart { IfOk result (λ quiet. IsTrue quiet.is_apart
+        → AreApartBy roles.now windows.now) }
+    ensures within { IfOk result (λ quiet. IsTrue quiet.is_within
+        → AreWithinBy roles.now groups capacity windows.now) }
     ensures free { IfOk result (λ quiet. IsTrue quiet.is_free → AreFreeBy roles.now windows.now) }
 {
     let mut load = free_load(roles, windows);

@@ -36,7 +36,7 @@ fn minutes_of_a_day(rt: HostRuntime) {
     let minutes = noon().minutes_of(friday);
     assert!(rt; minutes.len() == 1 && minutes.iter().next() == Some(720));
     assert!(rt; minutes.has(720) && !minutes.has(1_440));
-    assert!(rt; minutes.meets_block(22) && !minutes.meets_block(23));
+    assert!(rt; minutes.bits_of_block(22) == 1 << 16 && minutes.bits_of_block(23) == 0);
 }
 
 #[test]

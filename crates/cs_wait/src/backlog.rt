@@ -115,7 +115,9 @@ struct Walk {
 fn turn(list: &[Piece], walk: Walk, minute: u16) -> Walk
     requires { IsBacklogFrom minute (drop walk.place list.now) }
     ensures left { IsBacklogFrom (minute + 1) (drop result.place list.now) }
-    ensures same { (t : ℕ) → minute ≤ t → fold (decided t) (result.bound - (t - minute)) (drop result.place list.now) ≡ fold (decided t) (walk.bound - (t - minute)) (drop walk.place list.now) }
+    ensures same { (t : ℕ) → minute ≤ t
+        → fold (decided t) (result.bound - (t - minute)) (drop result.place list.now)
+        ≡ fold (decided t) (walk.bound - (t - minute)) (drop walk.place list.now) }
 {
     if walk.place < list.len() && list[walk.place].minute == minute {
         return Walk {

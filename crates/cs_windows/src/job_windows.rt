@@ -31,7 +31,8 @@ impl Occupied<'_> {
 
     /// The minutes of the day at which a window begins.
     pub(crate) fn starts_on(&self, day: DayKind) -> MinuteSet
-        ensures { (minute : ℕ) → minute < MINUTES_OF_DAY → has result minute ≡ (job_of self.now).begins day minute }
+        ensures { (minute : ℕ) → minute < MINUTES_OF_DAY
+            → has result minute ≡ (job_of self.now).begins day minute }
     {
         match self {
             Occupied::Cron { schedule, reach: _ } => schedule.minutes_of(day),

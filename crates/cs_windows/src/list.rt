@@ -1,12 +1,11 @@
-ghost use Rattle.std.specs.Prelude.{◌≡◌, ℕ, [], ◌∷◌, ◌+◌, ◌-◌, ◌*◌, ◌<◌, ◌≤◌, ◌++◌, ◌↔◌, IfNone, IfOk, IfSome, OnOk, Contains, filter, flat_map, length, map};
-ghost use Rattle.std.specs.List.{range_with_len};
+ghost use Rattle.std.specs.Prelude.{◌≡◌, [], ◌∷◌, ◌≤◌, ◌++◌, ◌↔◌, IfNone, IfOk, IfSome, OnOk, Contains, filter, length, map};
 ghost use Rattle.cs_windows.specs.Occupied.{job_of};
-ghost use Rattle.cs_windows.specs.Starter.{begun, begun_by};
+ghost use Rattle.cs_windows.specs.Starter.{BeginAlike, BeginOn, begun_between, begun_near};
 ghost use Rattle.cs_windows.specs.Window.{IsRising, reaches};
-ghost use Rattle.cs_windows.specs.Windows.{IsWindowOn, starting, windows_from, windows_on};
+ghost use Rattle.cs_windows.specs.Windows.{IsWindowOn, windows_from, windows_on};
 
 use crate::job_windows::Occupied;
-use crate::starter::Starter;
+use crate::starter::{Near, Starter};
 use crate::window::{MINUTES_OF_DAY, Window, may_reach};
 use cs_civil::DayKind;
 use cs_schedule::MINUTES_OF_BLOCK;
@@ -20,8 +19,9 @@ const BLOCKS_OF_DAY: u16 = MINUTES_OF_DAY / MINUTES_OF_BLOCK;
 
 /// The starts of a job on a day, if one of its windows may reach the day so many days after it.
 fn starter_on(job: u16, own: &Occupied<'_>, day: DayKind, day_back: u8) -> Option<Starter>
-    ensures kept { IfSome result (λ starter. (minute : ℕ) → minute < MINUTES_OF_DAY → begun minute (starter ∷ []) ≡ begun_by day day_back minute job (job_of own.now)) }
-    ensures left_out { IfNone result ((minute : ℕ) → minute < MINUTES_OF_DAY → begun_by day day_back minute job (job_of own.now) ≡ []) }
+    ensures kept { IfSome result (λ starter.
+        BeginOn (starter ∷ []) day day_back job (job_of own.now ∷ [])) }
+    ensures left_out { IfNone result (BeginOn [] day day_back job (job_of own.now ∷ [])) }
 {
     let reach = own.reach();
     if !may_reach(day_back, reach) {
@@ -43,7 +43,8 @@ fn starters_on(
     day_back: u8,
 ) -> Result<Vec<Starter>, AllocError>
     requires { length occupied.now ≤ MOST_OCCUPIED }
-    ensures { IfOk result (λ starters. (minute : ℕ) → minute < MINUTES_OF_DAY → begun minute starters.items ≡ filter reaches (starting day day_back minute 0 (map job_of occupied.now))) }
+    ensures { IfOk result (λ starters.
+        BeginOn starters.items day day_back 0 (map job_of occupied.now)) }
 {
     let mut starters = Vec::new(alloc);
     for (job, own) in occupied.iter().enumerate() {
@@ -54,29 +55,25 @@ fn starters_on(
     Ok(starters)
 }
 
-/// Keeps, in place of what was kept before, the starters of which a window may begin in a block of minutes.
-fn keep_near<'a>(
-    near: &mut Vec<&'a Starter>,
-    starters: &'a [Starter],
-    block: u16,
-) -> Result<(), AllocError>
-    ensures { OnOk result ((minute : ℕ) → MINUTES_OF_BLOCK * block ≤ minute → minute < MINUTES_OF_BLOCK * block + MINUTES_OF_BLOCK → begun minute (map (λ starter. starter.now) near.new.items) ≡ begun minute starters.now) }
+/// Keeps, in place of what was kept before, the starts in a block of minutes of the jobs of which a window may begin there.
+fn keep_near(near: &mut Vec<Near>, starters: &[Starter], block: u16) -> Result<(), AllocError>
+    ensures { OnOk result (BeginAlike block near.new.items starters.now) }
 {
     near.clear();
     for starter in starters {
-        if starter.may_begin_in(block) {
-            near.push(starter)?;
+        if let Some(own) = starter.near(block) {
+            near.push(own)?;
         }
     }
     Ok(())
 }
 
 /// Adds the windows that begin at one minute and reach the day looked at.
-fn add_begun(windows: &mut Vec<Window>, near: &[&Starter], minute: u16) -> Result<(), AllocError>
-    ensures { OnOk result (windows.new.items ≡ windows.old.items ++ begun minute (map (λ starter. starter.now) near.now)) }
+fn add_begun(windows: &mut Vec<Window>, near: &[Near], minute: u16) -> Result<(), AllocError>
+    ensures { OnOk result (windows.new.items ≡ windows.old.items ++ begun_near minute near.now) }
 {
-    for starter in near {
-        if let Some(window) = starter.window_at(minute) {
+    for own in near {
+        if let Some(window) = own.window_at(minute) {
             windows.push(window)?;
         }
     }
@@ -86,12 +83,12 @@ fn add_begun(windows: &mut Vec<Window>, near: &[&Starter], minute: u16) -> Resul
 /// Adds the windows that begin at the minutes `[from, to)` and reach the day looked at.
 fn add_minutes(
     windows: &mut Vec<Window>,
-    near: &[&Starter],
+    near: &[Near],
     from: u16,
     to: u16,
 ) -> Result<(), AllocError>
     requires { from ≤ to }
-    ensures { OnOk result (windows.new.items ≡ windows.old.items ++ flat_map (λ minute. begun minute (map (λ starter. starter.now) near.now)) (range_with_len from (to - from))) }
+    ensures { OnOk result (windows.new.items ≡ windows.old.items ++ begun_between near.now from to) }
 {
     for minute in from..to {
         add_begun(windows, near, minute)?;
@@ -108,7 +105,8 @@ fn add_day(
     day_back: u8,
 ) -> Result<(), AllocError>
     requires { length occupied.now ≤ MOST_OCCUPIED }
-    ensures { OnOk result (windows.new.items ≡ windows.old.items ++ filter reaches (windows_from (map job_of occupied.now) day day_back)) }
+    ensures { OnOk result (windows.new.items
+        ≡ windows.old.items ++ filter reaches (windows_from (map job_of occupied.now) day day_back)) }
 {
     let starters = starters_on(alloc, occupied, day, day_back)?;
     let mut near = Vec::new(alloc);
@@ -132,9 +130,11 @@ pub fn windows_on(
 ) -> Result<Vec<Window>, AllocError>
     requires days { length days.now ≤ 4 }
     requires few { length occupied.now ≤ MOST_OCCUPIED }
-    ensures listed { IfOk result (λ windows. windows.items ≡ windows_on (map job_of occupied.now) days.now) }
+    ensures listed { IfOk result (λ windows.
+        windows.items ≡ windows_on (map job_of occupied.now) days.now) }
     ensures rising { IfOk result (λ windows. IsRising windows.items) }
-    ensures exact { IfOk result (λ windows. (w : Window) → Contains windows.items w ↔ IsWindowOn (map job_of occupied.now) days.now w) }
+    ensures exact { IfOk result (λ windows.
+        (w : Window) → Contains windows.items w ↔ IsWindowOn (map job_of occupied.now) days.now w) }
 {
     let mut windows = Vec::new(alloc);
     for (place, day) in days.iter().enumerate() {

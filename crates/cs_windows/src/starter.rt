@@ -1,5 +1,3 @@
-ghost use Rattle.std.specs.Prelude.{◌≡◌};
-
 use crate::window::{Window, first_minute, reaches};
 use cs_schedule::{MINUTES_OF_BLOCK, MinuteSet};
 
@@ -15,23 +13,45 @@ pub(crate) struct Starter {
     pub(crate) starts: MinuteSet,
 }
 
+/// The starts of such a job in one block of minutes, one bit each, the lowest for the block's first.
+#[derive(Clone, Copy, Debug)]
+pub(crate) struct Near {
+    job: u16,
+    day_back: u8,
+    reach: u16,
+    starts: u32,
+}
+
 impl Starter {
-    ghost use Rattle.std.specs.Prelude.{ℕ, ◌+◌, ◌*◌, ◌<◌, ◌≤◌, None, false};
-    ghost use Rattle.cs_windows.specs.Starter.{window_at};
+    ghost use Rattle.std.specs.Prelude.{[], ◌∷◌, IfNone, IfSome};
+    ghost use Rattle.cs_windows.specs.Starter.{BeginAlike};
 
-    /// Whether a window may begin in this block of minutes of its day and reach the day looked at.
-    pub(crate) fn may_begin_in(&self, block: u16) -> bool
-        ensures { result ≡ false → (minute : ℕ) → MINUTES_OF_BLOCK * block ≤ minute
-            → minute < MINUTES_OF_BLOCK * block + MINUTES_OF_BLOCK → window_at self.now minute ≡ None }
+    /// The starts in this block of minutes, if a window may begin there and reach the day looked at.
+    pub(crate) fn near(&self, block: u16) -> Option<Near>
+        ensures kept { IfSome result (λ near. BeginAlike block (near ∷ []) (self.now ∷ [])) }
+        ensures left_out { IfNone result (BeginAlike block [] (self.now ∷ [])) }
     {
-        let reach = self.reach;
+        let starts = self.starts.bits_of_block(block);
         let next = BLOCK * (u32::from(block) + 1);
-        self.starts.meets_block(block) && first_minute(self.day_back) + 1 < next + u32::from(reach)
+        if starts == 0 || next + u32::from(self.reach) <= first_minute(self.day_back) + 1 {
+            return None;
+        }
+        Some(Near {
+            job: self.job,
+            day_back: self.day_back,
+            reach: self.reach,
+            starts,
+        })
     }
+}
 
-    /// The window that begins at this minute of its day, if there is one and it reaches the day looked at.
+impl Near {
+    ghost use Rattle.std.specs.Prelude.{◌≡◌};
+    ghost use Rattle.cs_windows.specs.Starter.{window_near};
+
+    /// The window that begins at this minute of the block, if there is one and it reaches the day looked at.
     pub(crate) fn window_at(&self, minute: u16) -> Option<Window>
-        ensures { result ≡ window_at self.now minute }
+        ensures { result ≡ window_near self.now minute }
     {
         let window = Window {
             job: self.job,
@@ -39,7 +59,7 @@ impl Starter {
             from: minute,
             reach: self.reach,
         };
-        if self.starts.has(minute) && reaches(&window) {
+        if (self.starts >> (minute % MINUTES_OF_BLOCK)) & 1 == 1 && reaches(&window) {
             Some(window)
         } else {
             None

@@ -99,7 +99,8 @@ impl MinuteTree {
         requires splits { SplitsInside (tree_of self.now) 0 MINUTES_OF_DAY }
         ensures from { result.lo ≤ minute }
         ensures to { minute < result.hi }
-        ensures leaf { Contains (leaves (tree_of self.now) 0 MINUTES_OF_DAY) (leaf_over result.lo result.hi result.entries.now) }
+        ensures leaf { Contains (leaves (tree_of self.now) 0 MINUTES_OF_DAY)
+            (leaf_over result.lo result.hi result.entries.now) }
         ensures entries { result.entries.now ≡ entries_at (tree_of self.now) minute }
     {
         let mut lo = 0;
@@ -132,7 +133,8 @@ impl MinuteTree {
     /// among its entries a leaf is looked at first.
     fn keeps(&self, window: &Window, place: usize, lo: u16, hi: u16, inside: bool) -> bool
         requires { IsTrue inside → SplitsInside (tree_of self.now) lo hi }
-        ensures { result ≡ list_all (λ leaf. keeps_to leaf window.now) (leaves (tree_of self.now) lo hi) }
+        ensures { result
+            ≡ list_all (λ leaf. keeps_to leaf window.now) (leaves (tree_of self.now) lo hi) }
     {
         if inside && !touches(window, lo, hi) {
             return true;
@@ -170,7 +172,8 @@ impl MinuteTree {
     pub fn covers(&self, windows: &[Window]) -> bool
         ensures value { result ≡ covers (tree_of self.now) windows.now }
 
-        ensures complete { SplitsInside (tree_of self.now) 0 MINUTES_OF_DAY → (IsTrue result ↔ IsComplete (tree_of self.now) windows.now) }
+        ensures complete { SplitsInside (tree_of self.now) 0 MINUTES_OF_DAY
+            → (IsTrue result ↔ IsComplete (tree_of self.now) windows.now) }
     {
         self.keeps_all(windows, self.splits_inside())
     }

@@ -29,7 +29,8 @@ pub(crate) fn reaches(window: &Window) -> bool
 /// An empty range or a window of reach 0 holds none.
 pub fn touches(window: &Window, lo: u16, hi: u16) -> bool
     ensures value { result ≡ touches window.now lo hi }
-    ensures held { IsTrue result ↔ ((minute : ℕ) × (lo ≤ minute) × (minute < hi) × Holds window.now minute) }
+    ensures held { IsTrue result
+        ↔ ((minute : ℕ) × (lo ≤ minute) × (minute < hi) × Holds window.now minute) }
 {
     let day = first_minute(window.day_back);
     let first = (u32::from(lo) + day).max(u32::from(window.from));
@@ -52,7 +53,8 @@ fn end(window: &Window) -> u32
 
 /// Whether a window of this reach that begins on some minute of its day may reach the day looked at.
 pub(crate) fn may_reach(day_back: u8, reach: u16) -> bool
-    ensures { IsTrue result ↔ ((0 < reach) × (MINUTES_OF_DAY * day_back + 1 < MINUTES_OF_DAY + reach)) }
+    ensures { IsTrue result
+        ↔ ((0 < reach) × (MINUTES_OF_DAY * day_back + 1 < MINUTES_OF_DAY + reach)) }
 {
     0 < reach && first_minute(day_back) + 1 < u32::from(MINUTES_OF_DAY) + u32::from(reach)
 }

@@ -1,0 +1,18 @@
+ghost use Rattle.std.specs.Prelude.{◌≡◌, None};
+ghost use Rattle.cs_accepted.specs.Faults.{leaf_fault, stretch_fault, used_stretches};
+ghost use Rattle.cs_cert.specs.Content.{Content};
+ghost use Rattle.cs_claim.specs.Claim.{as_certificate};
+ghost use Rattle.cs_claim.specs.WorkedOut.{claimed, days_for};
+ghost use Rattle.cs_decl.specs.Plan.{Declared, as_plan};
+
+/// The stretches that a certificate of version 3 stands for are those that successive days have, and no others, and none of their
+/// leaves leaves out a window: no fault of stretches and none of leaves is found in it. The call does nothing.
+pub fn stretches_of_version_3()
+    ensures complete { (d : Declared) (c : Content) → c.version ≡ 3
+        → stretch_fault (as_certificate (claimed d c)) (days_for d c) ≡ None }
+    ensures used { (d : Declared) (c : Content) → c.version ≡ 3
+        → used_stretches (as_certificate (claimed d c)) (days_for d c)
+        ≡ (as_certificate (claimed d c)).stretches }
+    ensures listed { (d : Declared) (c : Content) → c.version ≡ 3
+        → leaf_fault (as_plan d) (as_certificate (claimed d c)) (days_for d c) ≡ None }
+{}

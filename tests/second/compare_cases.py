@@ -1,0 +1,86 @@
+#!/usr/bin/env python3
+"""Compares the second reading with what the worked cases of the folder above want.
+
+usage: tests/second/compare_cases.py [NAME..]
+
+All cases of `day`, `check`, `judge`, `make` and `replay` are looked at, or those that are named as
+SUBCOMMAND/NAME. Where the wanted answer is one that this reading knows, it has to be the same:
+status and both outputs. Where it comes later, as the verdict of `check`, what is read before has to
+read well, with the wanted warnings. Cases of help are left out. Prints each case in which the two
+differ, with both answers, and last 'N passed, M failed'. Ends with status 0 where none fails.
+"""
+import sys
+from pathlib import Path
+
+sys.dont_write_bytecode = True
+TESTS = Path(__file__).resolve().parent.parent
+sys.path.insert(0, str(TESTS))
+
+from second.call import Answer, answer_of, asks_help  # noqa: E402
+
+SUBCOMMANDS = ("day", "check", "judge", "make", "replay")
+OWN_FILES = ("args", "stdin", "status", "stdout", "stderr", "then")
+# What standard error says behind the warnings where the text of a certificate holds a fault.
+OF_CERTIFICATES = b"cronsafe: certificate: "
+
+
+class Case:
+    """The words and files of a case, and what it wants."""
+
+    def __init__(self, folder):
+        self.name = f"{folder.parent.name}/{folder.name}"
+        found = {it.name: it.read_bytes() for it in folder.iterdir() if it.is_file()}
+        args = found["args"]
+        self.words = args.removesuffix(b"\n").split(b"\n") if args else []
+        self.files = {it.encode(): text for it, text in found.items() if it not in OWN_FILES}
+        self.stdin = found.get("stdin", b"")
+        wanted = int(found["status"]), found["stdout"], found.get("stderr", b"")
+        self.wanted = Answer(*wanted)
+
+
+def is_met(wanted, got):
+    """Returns whether an answer is the wanted one, in what of it is told."""
+    if got.status is None:
+        behind = wanted.err.removeprefix(got.err)
+        is_warned = wanted.err.startswith(got.err) and b"warning: " not in behind
+        if wanted.status == 3:
+            return is_warned and behind.startswith(OF_CERTIFICATES)
+        return is_warned and behind == b"" and wanted.status in (0, 1, 2)
+    is_told = got.err is None or got.err == wanted.err
+    return got.status == wanted.status and got.out == wanted.out and is_told
+
+
+def printed(answer):
+    """Returns the lines of an answer, of long outputs the beginning."""
+    if answer.status is None:
+        return [f"    all reads well, warnings {answer.err!r}"]
+    out = answer.out[:300] if answer.out is not None else answer.out
+    return [f"    status {answer.status}", f"    output {out!r}", f"    error {answer.err!r}"]
+
+
+def folders_of(names):
+    if names:
+        return [TESTS / name for name in names]
+    return [it for name in SUBCOMMANDS for it in sorted((TESTS / name).iterdir())]
+
+
+def main(names):
+    passed = failed = left_out = 0
+    for case in map(Case, folders_of(names)):
+        if asks_help(case.words):
+            left_out += 1
+            continue
+        got = answer_of(case.words, case.files, case.stdin)
+        if is_met(case.wanted, got):
+            passed += 1
+            continue
+        failed += 1
+        print(f"{case.name} differs", "  wanted", *printed(case.wanted), sep="\n")
+        print("  second reading", *printed(got), sep="\n")
+    print(f"{left_out} of help left out")
+    print(f"{passed} passed, {failed} failed")
+    return 1 if failed else 0
+
+
+if __name__ == "__main__":
+    sys.exit(main(sys.argv[1:]))

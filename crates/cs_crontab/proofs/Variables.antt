@@ -1,44 +1,38 @@
 -- The environment: each name once with its last value.
-use Rattle.std.proofs.Common.{◌≡◌, ◌≢◌, ℕ, zero, suc, ◌+◌, ◌<◌, ◌≤◌, Bool, true, false, cond, not, ◌&&◌, ◌||◌, nat_lt, List, [], ◌∷◌, ◌++◌, length, get_or, set, drop, map, filter, Some, None, All, refl, sym, ap, subst, ◌∙◌, append_assoc, arith}
-use Rattle.std.specs.Prelude.{position}
-use Rattle.std.specs.List.{list_any, position_from}
+use Rattle.std.proofs.Common.{◌≡◌, ◌≢◌, ℕ, suc, ◌+◌, ◌<◌, ◌≤◌, Bool, true, false, cond, not, ◌&&◌, ◌||◌, nat_lt, List, [], ◌∷◌, ◌++◌, length, get_or, drop, map, filter, All, refl, sym, ap, subst, ◌∙◌, append_assoc, arith, Bor}
+use Rattle.std.specs.List.{list_any}
 use Rattle.std.specs.Str.{bytes_eq}
 use Rattle.std.proofs.Math.Seq.{drop-cons}
 use Rattle.std.proofs.Math.ListN.{drop_of_length-le}
 use Rattle.std.proofs.lemmas.Bool.{lt-ltb, le-ltb}
 use Rattle.std.proofs.lemmas.List.{append-nil}
 use Rattle.std.proofs.lemmas.List.Elements.{All-nil, All-cons, All-head, All-tail, All-push, filter_agree}
-use Rattle.std.proofs.lemmas.List.Quantifiers.{position-Some}
-use Rattle.std.proofs.lemmas.Iterator.Adapters.{position_from-zero}
 use Rattle.std.proofs.lemmas.Slice.Eq.{bytes_eq-Decides}
 use Rattle.cs_crontab.specs.Crontab.{SettingLine}
-use Rattle.cs_crontab.specs.Environment.{Variable, above, names_of, first_places, IsLast, put, put_all}
+use Rattle.cs_crontab.specs.Environment.{Variable, above, names_of, first_places, IsLast, put, put_all, shown}
+use Rattle.indexmap.specs.IndexMap.{insert_entry}
 
 -- ---- a value that is put in
 
-put_here : (name value : List ℕ) (vs : List Variable) (k : ℕ) (d : Variable) → k < length vs → bytes_eq (get_or vs k d).0 name ≡ true → ((j : ℕ) → j < k → bytes_eq (get_or vs j d).0 name ≡ false)
-    → put name value vs ≡ set vs k ((get_or vs k d).0, value)
-unfolding put
-put_here name value [] k d below is none = absurd (omega arith)
-put_here name value (v ∷ vs) zero d below is none = rw is refl
-put_here name value (v ∷ vs) (suc k) d below is none =
-    rw (none 0 (omega arith)) (ap (λ (us : List Variable). v ∷ us) (put_here name value vs k d (omega arith) is (λ j lt. none (suc j) (omega arith))))
-
-pub put_at : (name value : List ℕ) (vs : List Variable) (k : ℕ) (d : Variable) → position (λ v. bytes_eq v.0 name) vs ≡ Some k → put name value vs ≡ set vs k ((get_or vs k d).0, value)
-put_at name value vs k d found = let at = position-Some (λ v. bytes_eq v.0 name) vs k d found in put_here name value vs k d at.0 at.1 at.2
-
-put_end : (name value : List ℕ) (i : ℕ) (vs : List Variable) → position_from (λ v. bytes_eq v.0 name) i vs ≡ None → put name value vs ≡ vs ++ (name, value) ∷ []
-unfolding put
-put_end name value i [] none = refl
-put_end name value i (v ∷ vs) none = by_test (bytes_eq v.0 name) (put_end name value (i + 1) vs) none
+even_so : (a b : List ℕ) → bytes_eq a b ≡ bytes_eq b a
+even_so a b = by (bytes_eq a b) (bytes_eq b a) refl refl
   where
-    by_test : (t : Bool) → (position_from (λ v. bytes_eq v.0 name) (i + 1) vs ≡ None → put name value vs ≡ vs ++ (name, value) ∷ []) → cond t (Some i) (position_from (λ v. bytes_eq v.0 name) (i + 1) vs) ≡ None
-        → cond t ((v.0, value) ∷ vs) (v ∷ put name value vs) ≡ v ∷ (vs ++ (name, value) ∷ [])
-    by_test true more none = absurd cc
-    by_test false more none = ap (λ (us : List Variable). v ∷ us) (more none)
+    by : (t u : Bool) → bytes_eq a b ≡ t → bytes_eq b a ≡ u → t ≡ u
+    by true true e f = refl
+    by false false e f = refl
+    by true false e f = sym ((bytes_eq-Decides b a).1 (sym ((bytes_eq-Decides a b).0 e))) ∙ f
+    by false true e f = sym e ∙ (bytes_eq-Decides a b).1 (sym ((bytes_eq-Decides b a).0 f))
 
-pub put_new : (name value : List ℕ) (vs : List Variable) → position (λ v. bytes_eq v.0 name) vs ≡ None → put name value vs ≡ vs ++ (name, value) ∷ []
-put_new name value vs none = put_end name value 0 vs (sym (position_from-zero (λ (v : Variable). bytes_eq v.0 name) vs) ∙ none)
+pub put_shown : (es : List (Bor (List ℕ) × Bor (List ℕ))) (name value : Bor (List ℕ)) → map shown (insert_entry (λ k l. bytes_eq k.now l.now) es name value) ≡ put name.now value.now (map shown es)
+unfolding put
+put_shown [] name value = refl
+put_shown (e ∷ es) name value = by (bytes_eq name.now e.0.now) (even_so name.now e.0.now) (put_shown es name value)
+  where
+    by : (t : Bool) → t ≡ bytes_eq e.0.now name.now → map shown (insert_entry (λ k l. bytes_eq k.now l.now) es name value) ≡ put name.now value.now (map shown es)
+        → map shown (cond t ((e.0, value) ∷ es) (e ∷ insert_entry (λ k l. bytes_eq k.now l.now) es name value))
+        ≡ cond (bytes_eq e.0.now name.now) ((e.0.now, value.now) ∷ map shown es) (shown e ∷ put name.now value.now (map shown es))
+    by true is rest = ap (λ t. cond t ((e.0.now, value.now) ∷ map shown es) (shown e ∷ put name.now value.now (map shown es))) is
+    by false is rest = ap (λ vs. shown e ∷ vs) rest ∙ ap (λ t. cond t ((e.0.now, value.now) ∷ map shown es) (shown e ∷ put name.now value.now (map shown es))) is
 
 -- ---- the loop
 

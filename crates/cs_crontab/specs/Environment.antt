@@ -1,5 +1,6 @@
 -- The environment of a command: the settings of the lines above its own (crontab(5)).
 use Rattle.std.specs.Prelude.{◌≡◌, ◌≢◌, ℕ, not, nat_lt, if◌then◌else◌, List, [], ◌∷◌, ◌++◌, filter, map, All}
+use Rattle.std.specs.Borrow.{Bor}
 use Rattle.std.specs.Str.{bytes_eq}
 use Rattle.cs_crontab.specs.Crontab.{SettingLine}
 
@@ -33,3 +34,7 @@ put name value (v ∷ vs) = if bytes_eq v.0 name then (v.0, value) ∷ vs else v
 unfoldable pub put_all : ℕ → List Variable → List SettingLine → List Variable
 put_all line variables [] = variables
 put_all line variables (s ∷ ss) = put_all line (if nat_lt s.number line then put s.name s.value variables else variables) ss
+
+-- a name and its value where they are lent
+abbrev pub shown : Bor (List ℕ) × Bor (List ℕ) → Variable
+shown e = (e.0.now, e.1.now)

@@ -1,51 +1,43 @@
-ghost use Rattle.std.specs.Prelude.{◌≡◌, ◌<◌, [], length, map, position, All, IfOk, IfSome, OnOk};
-ghost use Rattle.std.specs.Str.{bytes_eq};
-ghost use Rattle.cs_crontab.specs.Environment.{above, names_of, first_places, IsLast, put, put_all};
+ghost use Rattle.std.specs.Prelude.{◌≡◌, [], map, All, IfOk};
+ghost use Rattle.cs_crontab.specs.Environment.{above, names_of, first_places, IsLast, put_all, shown};
 
 use crate::table::{Crontab, Setting};
 use cs_civil::{Bytes, Sequence};
+use indexmap::IndexMap;
 use std::alloc::{AllocError, Global};
 
-fn place_of(variables: &[(Bytes, Bytes)], name: &[u8]) -> Option<usize>
-    ensures value { result ≡ position (λ v. bytes_eq v.0 name.now) variables.now }
-    ensures within { IfSome result (λ place. place < length variables.now) }
-{
-    variables
-        .iter()
-        .position(|variable| variable.0.as_slice() == name)
-}
+/// Settings by name, each name once: in the place of its first, with the value of its last.
+type Variables<'a> = IndexMap<&'a [u8], &'a [u8]>;
 
-/// Gives the name the value, at the end if it is new.
-fn put(
+/// The settings above the line of that number, by name.
+fn by_name<'a>(
     alloc: Global,
-    variables: &mut Vec<(Bytes, Bytes)>,
-    name: &[u8],
-    value: &[u8],
-) -> Result<(), AllocError>
-    ensures { OnOk result (variables.new.items ≡ put name.now value.now variables.old.items) }
-{
-    let value = Bytes::from_slice(alloc, value)?;
-    match place_of(variables.as_slice(), name) {
-        Some(place) => variables[place].1 = value,
-        None => variables.push((Bytes::from_slice(alloc, name)?, value))?,
-    }
-    Ok(())
-}
-
-fn put_all(
-    alloc: Global,
-    settings: &[Setting],
+    settings: &'a [Setting],
     line: u32,
-) -> Result<Vec<(Bytes, Bytes)>, AllocError>
-    ensures { IfOk result (λ variables. variables.items ≡ put_all line [] settings.now) }
+) -> Result<Variables<'a>, AllocError>
+    ensures { IfOk result (λ variables.
+        map shown variables.entries ≡ put_all line [] settings.now) }
 {
-    let mut variables = Vec::new(alloc);
+    let mut variables = IndexMap::new(alloc);
     for setting in settings {
         if setting.number() < line {
-            put(alloc, &mut variables, setting.name(), setting.value())?;
+            variables.insert(setting.name(), setting.value())?;
         }
     }
     Ok(variables)
+}
+
+fn copied(alloc: Global, variables: &Variables<'_>) -> Result<Vec<(Bytes, Bytes)>, AllocError>
+    ensures { IfOk result (λ copies. copies.items ≡ map shown variables.now.entries) }
+{
+    let mut copies = Vec::new(alloc);
+    for (name, value) in variables.iter() {
+        copies.push((
+            Bytes::from_slice(alloc, name)?,
+            Bytes::from_slice(alloc, value)?,
+        ))?;
+    }
+    Ok(copies)
 }
 
 /// The environment that settings give to the line of that number: the names of the settings above it with their values (crontab(5)).
@@ -60,7 +52,8 @@ pub fn env_of(
     ensures names { IfOk result (λ env. map (λ v. v.0) env ≡ first_places (names_of (above line settings.now))) }
     ensures values { IfOk result (All (IsLast (above line settings.now))) }
 {
-    Ok(Sequence::from_vec(put_all(alloc, settings, line)?))
+    let variables = by_name(alloc, settings, line)?;
+    Ok(Sequence::from_vec(copied(alloc, &variables)?))
 }
 
 impl Crontab {

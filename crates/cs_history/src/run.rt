@@ -2,7 +2,7 @@
 /// which the run started.
 ///
 /// Jobs are counted from 0, those of the crontab first. Minutes are civil minutes.
-#[derive(Clone, Copy, Debug, PartialEq, Eq)]
+#[derive(Clone, Copy, Debug, PartialEq, Eq, Hash)]
 pub struct Run {
     pub job: u16,
     pub at: u64,

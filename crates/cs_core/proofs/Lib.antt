@@ -1,5 +1,7 @@
-pub mod Locks
 pub mod Order
-pub mod Namable
+pub mod Runs
+pub mod Counted
+pub mod Ends
+pub mod Kept
 pub mod Stamps
 pub mod Members

@@ -30,6 +30,11 @@ abbrev pub Takes : Plan → State → Event → Result Reply Refusal → State �
 Takes p s e (Ok r) n = (r ≡ reply p s e) × (n ≡ after p s e)
 Takes p s e (Err f) n = (f ≡ OutOfMemory) × (n ≡ s)
 
+-- the same, where want of memory is the only error
+abbrev pub TakesRun : {E : Type 0} → Plan → State → Event → Result Reply E → State → Type 0
+TakesRun p s e (Ok r) n = (r ≡ reply p s e) × (n ≡ after p s e)
+TakesRun p s e (Err f) n = n ≡ s
+
 -- whether the Begin of a job comes to a start
 abbrev pub is_start : Answer → Bool
 is_start Starts = true

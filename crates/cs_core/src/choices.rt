@@ -1,13 +1,15 @@
 ghost use Rattle.std.specs.Prelude.{◌≡◌, ◌≤◌, ◌++◌, IfOk, OnOk, fold, length, map};
 ghost use Rattle.std.specs.List.{insert};
 ghost use Rattle.cs_core.specs.Choices.{by_name, candidates, choices, is_before};
+ghost use Rattle.cs_core.specs.Standing.{names};
 ghost use Rattle.cs_decl.specs.Plan.{as_plan};
 ghost use Rattle.cs_history.specs.Lists.{placed};
 ghost use Rattle.cs_history.specs.declared.event.Event.TheVariants as event;
 
 use crate::event_core::Core;
 use cs_civil::Sequence;
-use cs_history::{Event, Going, Run};
+use cs_history::{Event, Run};
+use cs_roster::Roster;
 use std::alloc::{AllocError, Global};
 
 impl Core {
@@ -31,8 +33,8 @@ impl Core {
         ensures { IfOk result (λ events. events ≡ candidates self.now.state) }
     {
         let now = self.minute.number();
-        let waiting = by_name(alloc, self.waiting.as_slice())?;
-        let running = by_name(alloc, names(alloc, self.running.as_slice())?.as_slice())?;
+        let waiting = by_name(alloc, names(alloc, &self.waiting)?.as_slice())?;
+        let running = by_name(alloc, names(alloc, &self.running)?.as_slice())?;
         let mut events = Sequence::new(alloc);
         events.push(Event::Minute(now + 1))?;
         add_begins(&mut events, self.due.as_slice())?;
@@ -81,15 +83,15 @@ fn add_ends(events: &mut Sequence<Event>, runs: &[Run]) -> Result<(), AllocError
     Ok(())
 }
 
-/// The names of the runs that run, in order of start.
-fn names(alloc: Global, running: &[Going]) -> Result<Vec<Run>, AllocError>
-    ensures { IfOk result (λ runs. runs.items ≡ map (λ r. r.run) running.now) }
+/// The names of runs, in their order.
+fn names(alloc: Global, runs: &Roster) -> Result<Vec<Run>, AllocError>
+    ensures { IfOk result (λ listed. listed.items ≡ names runs.now) }
 {
-    let mut runs = Vec::new(alloc);
-    for going in running {
-        runs.push(going.run)?;
+    let mut listed = Vec::new(alloc);
+    for going in runs.iter() {
+        listed.push(going.run)?;
     }
-    Ok(runs)
+    Ok(listed)
 }
 
 /// Whether the one run comes before the other by job, then minute.

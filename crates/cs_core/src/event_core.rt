@@ -1,20 +1,23 @@
-ghost use Rattle.std.specs.Prelude.{◌≡◌, ◌≤◌, IfOk, IfErr, MatchResult, None, Some, true, ◌-◌, [], ◌++◌, length, replicate, take};
+ghost use Rattle.std.specs.Prelude.{◌≡◌, ◌≤◌, ◌↔◌, IfOk, IfErr, MatchResult, None, Some, true, ◌-◌, [], ◌++◌, length, replicate, take};
 ghost use Rattle.std.specs.Option.{option_map};
-ghost use Rattle.cs_core.specs.Standing.{Standing};
+ghost use Rattle.cs_core.specs.Standing.{Standing, names};
 ghost use Rattle.cs_core.specs.Steps.{Takes, is_start, needs_memory};
 ghost use Rattle.cs_decl.specs.Plan.{as_plan};
-ghost use Rattle.cs_history.specs.History.{From, History, answer};
+ghost use Rattle.cs_history.specs.History.{From, History, answer, is_free};
 ghost use Rattle.cs_history.specs.Names.{jobs_left};
 ghost use Rattle.cs_history.specs.Plan.{first_start};
 ghost use Rattle.cs_history.specs.Step.{Follows, Steps, after, refusal, state_of};
 ghost use Rattle.cs_history.specs.declared.refusal.Refusal.TheVariants.{OutOfMemory};
+ghost use Rattle.cs_roster.specs.Roster.{others};
 
-use crate::lists::{count_others, stamp_at};
+use crate::lists::stamp_at;
 use crate::rules::Rules;
 use arrayvec::ArrayVec;
 use cs_civil::{Day, Minute};
 use cs_decl::Plan;
-use cs_history::{Event, Going, Mode, Refusal, Reply, Run, Start};
+use cs_history::{Event, Mode, Refusal, Reply, Run, Start};
+use cs_locks::LockTable;
+use cs_roster::Roster;
 use std::alloc::{AllocError, Global};
 use std::marker::Model;
 
@@ -26,22 +29,36 @@ pub struct Core {
     pub(crate) minute: Minute,
     pub(crate) up: bool,
     pub(crate) due: ArrayVec<u16, 256>,
-    pub(crate) waiting: Vec<Run>,
-    pub(crate) running: Vec<Going>,
+    pub(crate) waiting: Roster,
+    pub(crate) running: Roster,
+    /// How many of those that run have each lock.
+    pub(crate) held: LockTable,
+    /// How many of those that wait want each lock.
+    pub(crate) wanted: LockTable,
+    /// The anacron job of which a run runs: there is one at most.
+    pub(crate) lone: Option<u16>,
     pub(crate) stamps: ArrayVec<Option<Day>, 64>,
     pub(crate) begun: Minute,
     pub(crate) left: ArrayVec<u16, 64>,
 }
 
 impl Model for Core {
-    ghost use Rattle.cs_core.specs.Standing.{Standing, AreNamable};
+    ghost use Rattle.cs_core.specs.Standing.{Standing, IsKept, state_in};
+    ghost use Rattle.cs_decl.specs.Plan.{as_plan};
     ghost use Rattle.cs_history.specs.History.{pass_of};
 
     ghost Value = { Standing };
 
-    ghost view = { λ c. record { plan = c.rules; state = record { now = c.minute; up = c.up; pending = c.due.items; waiting = c.waiting.items; running = c.running.items; stamps = c.stamps.items; pass = pass_of c.begun c.left.items } } };
+    ghost view = { λ c. record {
+      plan = c.rules;
+      state = state_in c.minute c.up c.due.items c.waiting c.running c.stamps.items
+          (pass_of c.begun c.left.items);
+    } };
 
-    ghost invariant = { λ c. AreNamable c.waiting.items c.running.items };
+    ghost invariant = { λ c. IsKept (as_plan c.rules)
+        (state_in c.minute c.up c.due.items c.waiting c.running c.stamps.items
+        (pass_of c.begun c.left.items))
+        c.held c.wanted c.lone };
 }
 
 impl Core {
@@ -52,13 +69,17 @@ impl Core {
         ensures plan { IfOk result (λ core. core.plan ≡ plan.now) }
         ensures state { IfOk result (λ core. core.state ≡ state_of (as_plan plan.now) (From start)) }
     {
+        let _jobs = plan.jobs();
         Ok(Core {
             rules: Rules::new(alloc, plan)?,
             minute: start.now(),
             up: start.is_up(),
             due: ArrayVec::new(),
-            waiting: Vec::new(alloc),
-            running: Vec::new(alloc),
+            waiting: Roster::new(alloc),
+            running: Roster::new(alloc),
+            held: LockTable::new(),
+            wanted: LockTable::new(),
+            lone: None,
             stamps: stamps_of(plan, &start),
             begun: start.now(),
             left: ArrayVec::new(),
@@ -109,47 +130,67 @@ impl Core {
         self.due.as_slice()
     }
 
-    /// The runs that wait for a lock, in order of Begin.
-    pub fn waiting(&self) -> &[Run]
-        ensures { result.now ≡ self.now.state.waiting }
+    /// The runs that wait for a lock, in order of Begin, each with the minute of its Begin.
+    pub fn waiting(&self) -> &Roster
+        ensures value { names result.now ≡ self.now.state.waiting }
+        ensures count { length result.now ≡ length self.now.state.waiting }
+        ensures none { (result.now ≡ []) ↔ (self.now.state.waiting ≡ []) }
     {
-        self.waiting.as_slice()
+        &self.waiting
     }
 
     /// The runs that run, in order of start.
-    pub fn running(&self) -> &[Going]
+    pub fn running(&self) -> &Roster
         ensures { result.now ≡ self.now.state.running }
     {
-        self.running.as_slice()
+        &self.running
     }
 
     /// How many runs run after the event, where it is accepted.
     pub fn runs_after(&self, event: &Event) -> usize
         ensures { result ≡ length (after (as_plan self.now.plan) self.now.state event.now).running }
     {
-        let running = self.running.as_slice();
+        let running = self.running.len();
         match *event {
-            Event::Minute(_) => running.len(),
+            Event::Minute(_) => running,
             Event::Begin(job) => {
                 if self.starts(job) {
-                    running.len() + 1
+                    running + 1
                 } else {
-                    running.len()
+                    running
                 }
             }
-            Event::Got(_, _) => running.len() + 1,
-            Event::Catch(_) => running.len() + 1,
-            Event::End(run) => count_others(running, run),
-            Event::Down => running.len(),
-            Event::Up(_) => running.len(),
+            Event::Got(_, _) => running + 1,
+            Event::Catch(_) => running + 1,
+            Event::End(run) => self.runs_without(run),
+            Event::Down => running,
+            Event::Up(_) => running,
         }
+    }
+
+    /// How many runs go on when this one ends.
+    fn runs_without(&self, run: Run) -> usize
+        ensures { result ≡ length (others self.now.state.running run) }
+    {
+        if self.running.contains(run) {
+            self.running.len() - 1
+        } else {
+            self.running.len()
+        }
+    }
+
+    /// Whether the lock of the job is free for it.
+    pub(crate) fn is_free(&self, job: u16) -> bool
+        ensures { result ≡ is_free (as_plan self.now.plan) self.now.state.running job }
+    {
+        self.held.is_free(self.rules.hold(job))
     }
 
     /// Whether the Begin of the job starts its run.
     fn starts(&self, job: u16) -> bool
         ensures { result ≡ is_start (answer (as_plan self.now.plan) self.now.state.running job) }
     {
-        if self.rules.is_free(self.running.as_slice(), job) {
+        if self.is_free(job) {
             return true;
         }
         match self.rules.mode(job) {

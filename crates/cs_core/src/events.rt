@@ -1,17 +1,25 @@
-ghost use Rattle.std.specs.Prelude.{◌≡◌, ◌-◌, ◌/◌, ◌≤◌, IfErr, IfOk, None, OnErr, OnOk, Some, [], ◌++◌, ◌∷◌, set, true};
+ghost use Rattle.std.specs.Prelude.{◌≡◌, ◌/◌, ◌≤◌, IfErr, None, OnErr, OnOk, Some, [], ◌++◌, ◌∷◌, false, set, true};
 ghost use Rattle.cs_civil.specs.Calendar.{last_minute};
-ghost use Rattle.cs_core.specs.Steps.{Takes, needs_memory};
-ghost use Rattle.cs_decl.specs.Plan.{as_plan, crons};
-ghost use Rattle.cs_history.specs.History.{opened, owed_at, pass_of, run_of};
+ghost use Rattle.cs_core.specs.Standing.{going_holds, owed_beside};
+ghost use Rattle.cs_core.specs.Steps.{Takes, TakesRun, needs_memory};
+ghost use Rattle.cs_decl.specs.Plan.{as_plan};
+ghost use Rattle.cs_history.specs.History.{Skips, Starts, Waits, answer, opened, pass_of, same_run};
+ghost use Rattle.cs_history.specs.Lists.{number_of};
+ghost use Rattle.cs_history.specs.Plan.{is_cron};
 ghost use Rattle.cs_history.specs.Step.{Steps, after, is_in_time, refusal, reply};
 ghost use Rattle.cs_history.specs.declared.event.Event.TheVariants as event;
-ghost use Rattle.cs_history.specs.declared.reply.Reply.TheVariants.{Started, Waiting};
 ghost use Rattle.cs_history.specs.declared.refusal.Refusal.TheVariants.{OutOfMemory};
+ghost use Rattle.cs_locks.specs.Locks.{IsCounted, hold_of, is_listed};
+ghost use Rattle.cs_roster.specs.Roster.{has, others};
 
 use crate::event_core::Core;
-use crate::lists::{is_same_run, take_job, take_running, take_waiting};
+use crate::lists::take_job;
+use crate::rules::Rules;
+use arrayvec::ArrayVec;
 use cs_civil::{Day, Minute};
 use cs_history::{Event, Going, Mode, Refusal, Reply, Run};
+use cs_locks::LockTable;
+use cs_roster::Roster;
 use std::alloc::AllocError;
 
 impl Core {
@@ -50,155 +58,175 @@ impl Core {
     fn take_minute(&mut self, minute: u64) -> Reply
         requires { refusal (as_plan self.old.plan) self.old.state (event.Minute minute) ≡ None }
         ensures reply { result ≡ reply (as_plan self.old.plan) self.old.state (event.Minute minute) }
-        ensures state { self.new.state ≡ after (as_plan self.old.plan) self.old.state (event.Minute minute) }
+        ensures state { self.new.state
+            ≡ after (as_plan self.old.plan) self.old.state (event.Minute minute) }
         ensures plan { self.new.plan ≡ self.old.plan }
     {
         let minute = Minute::new(minute).unwrap();
         self.minute = minute;
         self.rules.list_due(minute, &mut self.due);
         if self.rules.is_pass_minute(minute) {
-            self.open_pass();
+            open_pass(
+                &self.rules,
+                minute,
+                self.stamps.as_slice(),
+                self.lone,
+                &mut self.begun,
+                &mut self.left,
+            );
         }
         Reply::Clock
     }
 
-    /// Begins a pass now, unless one is open.
-    fn open_pass(&mut self)
-        ensures state { self.new.state ≡ record self.old.state { pass = opened self.old.state.pass true (pass_of self.old.state.now (owed_at (as_plan self.old.plan) self.old.state.stamps self.old.state.running self.old.state.now)) } }
-        ensures plan { self.new.plan ≡ self.old.plan }
-    {
-        if self.left.is_empty() {
-            self.begun = self.minute;
-            self.rules.list_owed(
-                self.minute,
-                self.stamps.as_slice(),
-                self.running.as_slice(),
-                &mut self.left,
-            );
-        }
-    }
-
     fn take_begin(&mut self, job: u16) -> Result<Reply, AllocError>
-        ensures reply { IfOk result (λ r. r ≡ reply (as_plan self.old.plan) self.old.state (event.Begin job)) }
-        ensures state { OnOk result (self.new.state ≡ after (as_plan self.old.plan) self.old.state (event.Begin job)) }
-        ensures same { OnErr result (self.new.state ≡ self.old.state) }
+        requires { refusal (as_plan self.old.plan) self.old.state (event.Begin job) ≡ None }
+        ensures takes { TakesRun (as_plan self.old.plan) self.old.state (event.Begin job)
+            result self.new.state }
         ensures plan { self.new.plan ≡ self.old.plan }
         ensures memory { OnErr result (needs_memory (as_plan self.old.plan) self.old.state
             (event.Begin job) ≡ true) }
     {
-        let run = Run {
-            job,
-            at: self.minute.number(),
-        };
-        let reply = if self.rules.is_free(self.running.as_slice(), job) {
-            self.start(run)?
-        } else {
-            match self.rules.mode(job) {
-                Mode::Plain => self.start(run)?,
-                Mode::Skip => Reply::Skipped,
-                Mode::Wait => self.wait(run)?,
-                Mode::Shared => self.wait(run)?,
-            }
-        };
-        take_job(&mut self.due, job);
-        Ok(reply)
+        if self.is_free(job) {
+            return self.begin_run(job);
+        }
+        match self.rules.mode(job) {
+            Mode::Plain => self.begin_run(job),
+            Mode::Skip => Ok(self.begin_skipped(job)),
+            Mode::Wait => self.begin_waiting(job),
+            Mode::Shared => self.begin_waiting(job),
+        }
     }
 
-    /// The run starts now.
-    fn start(&mut self, run: Run) -> Result<Reply, AllocError>
-        requires { run.at ≤ last_minute }
-        ensures reply { IfOk result (λ r. r ≡ Started run) }
-        ensures state { OnOk result (self.new.state ≡ record self.old.state { running = self.old.state.running ++ record { run = run; since = self.old.state.now } ∷ [] }) }
-        ensures same { OnErr result (self.new.state ≡ self.old.state) }
+    /// The job's run starts now.
+    fn begin_run(&mut self, job: u16) -> Result<Reply, AllocError>
+        requires may { refusal (as_plan self.old.plan) self.old.state (event.Begin job) ≡ None }
+        requires starts { answer (as_plan self.old.plan) self.old.state.running job ≡ Starts }
+        ensures takes { TakesRun (as_plan self.old.plan) self.old.state (event.Begin job)
+            result self.new.state }
         ensures plan { self.new.plan ≡ self.old.plan }
     {
-        self.running.push(Going {
-            run,
-            since: self.minute.number(),
-        })?;
+        let at = self.minute.number();
+        let run = Run { job, at };
+        let going = Going { run, since: at };
+        add_run(&self.rules, &mut self.running, &mut self.held, going)?;
+        take_job(&mut self.due, job);
         Ok(Reply::Started(run))
     }
 
-    /// The run waits.
-    fn wait(&mut self, run: Run) -> Result<Reply, AllocError>
-        requires { run.at ≤ last_minute }
-        ensures reply { IfOk result (λ r. r ≡ Waiting) }
-        ensures state { OnOk result (self.new.state ≡ record self.old.state { waiting = self.old.state.waiting ++ run ∷ [] }) }
-        ensures same { OnErr result (self.new.state ≡ self.old.state) }
+    /// The job's run waits from now on.
+    fn begin_waiting(&mut self, job: u16) -> Result<Reply, AllocError>
+        requires may { refusal (as_plan self.old.plan) self.old.state (event.Begin job) ≡ None }
+        requires waits { answer (as_plan self.old.plan) self.old.state.running job ≡ Waits }
+        ensures takes { TakesRun (as_plan self.old.plan) self.old.state (event.Begin job)
+            result self.new.state }
         ensures plan { self.new.plan ≡ self.old.plan }
     {
-        self.waiting.push(run)?;
+        let at = self.minute.number();
+        let going = Going {
+            run: Run { job, at },
+            since: at,
+        };
+        add_run(&self.rules, &mut self.waiting, &mut self.wanted, going)?;
+        take_job(&mut self.due, job);
         Ok(Reply::Waiting)
     }
 
-    #[tactic(auto, using(crate::proofs::Namable::got_namable, crate::proofs::Namable::with_run, crate::proofs::Namable::without_waiter))]
+    /// The job's run is given up.
+    fn begin_skipped(&mut self, job: u16) -> Reply
+        requires may { refusal (as_plan self.old.plan) self.old.state (event.Begin job) ≡ None }
+        requires skips { answer (as_plan self.old.plan) self.old.state.running job ≡ Skips }
+        ensures reply { result ≡ reply (as_plan self.old.plan) self.old.state (event.Begin job) }
+        ensures state { self.new.state
+            ≡ after (as_plan self.old.plan) self.old.state (event.Begin job) }
+        ensures plan { self.new.plan ≡ self.old.plan }
+    {
+        take_job(&mut self.due, job);
+        Reply::Skipped
+    }
+
     fn take_got(&mut self, run: Run) -> Result<Reply, AllocError>
         requires { refusal (as_plan self.old.plan) self.old.state (event.Got run.job run.at) ≡ None }
-        ensures reply { IfOk result (λ r. r ≡ reply (as_plan self.old.plan) self.old.state (event.Got run.job run.at)) }
-        ensures state { OnOk result (self.new.state ≡ after (as_plan self.old.plan) self.old.state (event.Got run.job run.at)) }
-        ensures same { OnErr result (self.new.state ≡ self.old.state) }
+        ensures takes { TakesRun (as_plan self.old.plan) self.old.state (event.Got run.job run.at)
+            result self.new.state }
         ensures plan { self.new.plan ≡ self.old.plan }
     {
         let since = self.minute.number();
-        self.running.push(Going { run, since })?;
-        take_waiting(&mut self.waiting, run);
+        add_run(
+            &self.rules,
+            &mut self.running,
+            &mut self.held,
+            Going { run, since },
+        )?;
+        take_run(&self.rules, &mut self.waiting, &mut self.wanted, run);
         Ok(Reply::Started(run))
     }
 
     fn take_catch(&mut self, job: u16) -> Result<Reply, AllocError>
         requires { refusal (as_plan self.old.plan) self.old.state (event.Catch job) ≡ None }
-        ensures reply { IfOk result (λ r. r ≡ reply (as_plan self.old.plan) self.old.state (event.Catch job)) }
-        ensures state { OnOk result (self.new.state ≡ after (as_plan self.old.plan) self.old.state (event.Catch job)) }
-        ensures same { OnErr result (self.new.state ≡ self.old.state) }
+        ensures takes { TakesRun (as_plan self.old.plan) self.old.state (event.Catch job)
+            result self.new.state }
         ensures plan { self.new.plan ≡ self.old.plan }
     {
         let at = self.minute.number();
-        let reply = self.start(Run { job, at })?;
+        let run = Run { job, at };
+        let going = Going { run, since: at };
+        add_run(&self.rules, &mut self.running, &mut self.held, going)?;
+        self.lone = Some(job);
         self.left.remove(0);
-        Ok(reply)
+        Ok(Reply::Started(run))
     }
 
-    #[tactic(auto, using(crate::proofs::Namable::end_namable, crate::proofs::Namable::without_run))]
     fn take_end(&mut self, run: Run) -> Reply
         requires { refusal (as_plan self.old.plan) self.old.state (event.End run) ≡ None }
         ensures reply { result ≡ reply (as_plan self.old.plan) self.old.state (event.End run) }
         ensures state { self.new.state ≡ after (as_plan self.old.plan) self.old.state (event.End run) }
         ensures plan { self.new.plan ≡ self.old.plan }
     {
-        let in_time = self.is_in_time(run);
-        if !self.rules.is_cron(run.job) {
-            self.set_stamp(run);
+        let in_time = self.is_in_time(self.minute.number(), run);
+        if self.rules.is_cron(run.job) {
+            self.end_cron(run);
+        } else {
+            self.end_anacron(run);
         }
-        take_running(&mut self.running, run);
         Reply::Ended(in_time)
     }
 
-    /// Whether the run is within its declared time now.
-    fn is_in_time(&self, run: Run) -> bool
-        ensures { result ≡ is_in_time (as_plan self.now.plan) self.now.state.now run self.now.state.running }
-    {
-        let present = self.minute.number();
-        for going in self.running.as_slice() {
-            if is_same_run(run, going.run) {
-                return present < going.since || present - going.since < self.rules.limit(run.job);
-            }
-        }
-        true
-    }
-
-    /// Sets the stamp of the run's job to the day on which the run started.
-    fn set_stamp(&mut self, run: Run)
-        requires { run.at ≤ last_minute }
-        ensures state { self.new.state ≡ record self.old.state { stamps = set self.old.state.stamps (run.job - crons self.old.plan) (Some (run.at / 1440)) } }
+    fn end_cron(&mut self, run: Run)
+        requires may { refusal (as_plan self.old.plan) self.old.state (event.End run) ≡ None }
+        requires cron { is_cron (as_plan self.old.plan) run.job ≡ true }
+        ensures state { self.new.state ≡ after (as_plan self.old.plan) self.old.state (event.End run) }
         ensures plan { self.new.plan ≡ self.old.plan }
     {
-        let place = usize::from(run.job).saturating_sub(usize::from(self.rules.crons()));
-        if place < self.stamps.len() {
-            self.stamps.as_mut_slice()[place] = Day::new(run.at / 1_440);
+        take_run(&self.rules, &mut self.running, &mut self.held, run);
+    }
+
+    /// Beside, the stamp of the run's job is the day on which the run started.
+    fn end_anacron(&mut self, run: Run)
+        requires may { refusal (as_plan self.old.plan) self.old.state (event.End run) ≡ None }
+        requires anacron { is_cron (as_plan self.old.plan) run.job ≡ false }
+        requires civil { self.old.state.now ≤ last_minute }
+        ensures state { self.new.state ≡ after (as_plan self.old.plan) self.old.state (event.End run) }
+        ensures plan { self.new.plan ≡ self.old.plan }
+    {
+        let crons = usize::from(self.rules.crons());
+        take_run(&self.rules, &mut self.running, &mut self.held, run);
+        set_stamp(&mut self.stamps, usize::from(run.job) - crons, run.at);
+        self.lone = None;
+    }
+
+    /// Whether the run is within its declared time at this minute.
+    fn is_in_time(&self, minute: u64, run: Run) -> bool
+        ensures { result
+            ≡ is_in_time (as_plan self.now.plan) minute run self.now.state.running }
+    {
+        match self.running.since(run) {
+            Some(since) => minute < since || minute - since < self.rules.limit(run.job),
+            None => true,
         }
     }
 
     fn take_down(&mut self) -> Reply
+        requires { refusal (as_plan self.old.plan) self.old.state event.Down ≡ None }
         ensures reply { result ≡ reply (as_plan self.old.plan) self.old.state event.Down }
         ensures state { self.new.state ≡ after (as_plan self.old.plan) self.old.state event.Down }
         ensures plan { self.new.plan ≡ self.old.plan }
@@ -206,6 +234,7 @@ impl Core {
         self.up = false;
         self.due.clear();
         self.waiting.clear();
+        self.wanted.clear();
         self.left.clear();
         Reply::Went
     }
@@ -216,11 +245,81 @@ impl Core {
         ensures state { self.new.state ≡ after (as_plan self.old.plan) self.old.state (event.Up minute) }
         ensures plan { self.new.plan ≡ self.old.plan }
     {
-        self.minute = Minute::new(minute).unwrap();
+        let minute = Minute::new(minute).unwrap();
+        self.minute = minute;
         self.up = true;
         self.due.clear();
         self.waiting.clear();
-        self.open_pass();
+        self.wanted.clear();
+        open_pass(
+            &self.rules,
+            minute,
+            self.stamps.as_slice(),
+            self.lone,
+            &mut self.begun,
+            &mut self.left,
+        );
         Reply::Came
+    }
+}
+
+/// Begins a pass at a minute, unless one is open.
+fn open_pass(
+    rules: &Rules,
+    minute: Minute,
+    stamps: &[Option<Day>],
+    lone: Option<u16>,
+    begun: &mut Minute,
+    left: &mut ArrayVec<u16, 64>,
+)
+    ensures { pass_of begun.new left.new.items ≡ opened (pass_of begun.old left.old.items) true
+        (pass_of minute (owed_beside (as_plan rules.now) stamps.now lone minute)) }
+{
+    if left.is_empty() {
+        *begun = minute;
+        rules.list_owed(minute, stamps, lone, left);
+    }
+}
+
+/// Adds a run to those that run, or wait, and counts what it has to do with a lock. The only error is want of memory, and
+/// then nothing changes.
+fn add_run(
+    rules: &Rules,
+    runs: &mut Roster,
+    locks: &mut LockTable,
+    going: Going,
+) -> Result<(), AllocError>
+    requires new { has runs.old going.run ≡ false }
+    requires listed { is_listed (hold_of (as_plan rules.now) going.run.job) ≡ true }
+    requires counted { IsCounted (going_holds (as_plan rules.now) runs.old) locks.old }
+    ensures more { OnOk result (runs.new ≡ runs.old ++ going ∷ []) }
+    ensures same { OnErr result ((runs.new ≡ runs.old) × (locks.new ≡ locks.old)) }
+    ensures counted { IsCounted (going_holds (as_plan rules.now) runs.new) locks.new }
+{
+    runs.push(going)?;
+    locks.add(rules.hold(going.run.job));
+    Ok(())
+}
+
+/// Takes a run from those that run, or wait, and counts it no longer.
+fn take_run(rules: &Rules, runs: &mut Roster, locks: &mut LockTable, run: Run)
+    requires there { has runs.old run ≡ true }
+    requires once { number_of (λ x. same_run run x.run) runs.old ≤ 1 }
+    requires listed { is_listed (hold_of (as_plan rules.now) run.job) ≡ true }
+    requires counted { IsCounted (going_holds (as_plan rules.now) runs.old) locks.old }
+    ensures others { runs.new ≡ others runs.old run }
+    ensures counted { IsCounted (going_holds (as_plan rules.now) runs.new) locks.new }
+{
+    runs.remove(run);
+    locks.take(rules.hold(run.job));
+}
+
+/// Sets the stamp at this place to the day of a minute.
+fn set_stamp(stamps: &mut ArrayVec<Option<Day>, 64>, place: usize, minute: u64)
+    requires { minute ≤ last_minute }
+    ensures { stamps.new.items ≡ set stamps.old.items place (Some (minute / 1440)) }
+{
+    if place < stamps.len() {
+        stamps.as_mut_slice()[place] = Day::new(minute / 1_440);
     }
 }

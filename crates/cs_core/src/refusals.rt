@@ -1,13 +1,13 @@
 ghost use Rattle.std.specs.Prelude.{◌≡◌, None, not};
 ghost use Rattle.std.specs.List.{list_any};
 ghost use Rattle.cs_decl.specs.Plan.{as_plan};
-ghost use Rattle.cs_history.specs.History.{is_free};
+ghost use Rattle.cs_history.specs.History.{is_free, same_run};
 ghost use Rattle.cs_history.specs.Plan.{is_cron};
 ghost use Rattle.cs_history.specs.Step.{is_catchable, is_turn, is_settled, refusal};
 ghost use Rattle.cs_history.specs.declared.event.Event.TheVariants as event;
 
 use crate::event_core::Core;
-use crate::lists::{has_job, is_running, is_waiting};
+use crate::lists::has_job;
 use cs_civil::Minute;
 use cs_history::{Event, Refusal, Run};
 
@@ -53,13 +53,10 @@ impl Core {
     }
 
     fn has_free_waiter(&self) -> bool
-        ensures { result ≡ list_any (λ w. is_free (as_plan self.now.plan) self.now.state.running w.job) self.now.state.waiting }
+        ensures { result ≡ list_any
+            (λ w. is_free (as_plan self.now.plan) self.now.state.running w.job) self.now.state.waiting }
     {
-        let running = self.running.as_slice();
-        self.waiting
-            .as_slice()
-            .iter()
-            .any(|run| self.rules.is_free(running, run.job))
+        self.held.frees(&self.wanted)
     }
 
     fn refusal_of_begin(&self, job: u16) -> Option<Refusal>
@@ -80,13 +77,20 @@ impl Core {
         if !self.up {
             return Some(Refusal::NotUp);
         }
-        if !is_waiting(self.waiting.as_slice(), run) {
+        if !self.is_waiting(run) {
             return Some(Refusal::NotWaiting);
         }
-        if !self.rules.is_free(self.running.as_slice(), run.job) {
+        if !self.is_free(run.job) {
             return Some(Refusal::LockHeld);
         }
         None
+    }
+
+    /// Whether the run waits.
+    fn is_waiting(&self, run: Run) -> bool
+        ensures { result ≡ list_any (same_run run) self.now.state.waiting }
+    {
+        self.waiting.contains(run)
     }
 
     fn refusal_of_catch(&self, job: u16) -> Option<Refusal>
@@ -108,7 +112,7 @@ impl Core {
         let hours = self.rules.plan().hours();
         let minute_of_day = self.minute.minute_of_day();
         self.is_turn(job)
-            && !self.runs_anacron()
+            && self.lone.is_none()
             && hours.from() <= minute_of_day
             && minute_of_day < hours.to()
     }
@@ -127,20 +131,10 @@ impl Core {
         }
     }
 
-    /// Whether a run of an anacron job is running.
-    fn runs_anacron(&self) -> bool
-        ensures { result ≡ list_any (λ r. not (is_cron (as_plan self.now.plan) r.run.job)) self.now.state.running }
-    {
-        self.running
-            .as_slice()
-            .iter()
-            .any(|going| !self.rules.is_cron(going.run.job))
-    }
-
     fn refusal_of_end(&self, run: Run) -> Option<Refusal>
         ensures { result ≡ refusal (as_plan self.now.plan) self.now.state (event.End run) }
     {
-        if !is_running(self.running.as_slice(), run) {
+        if !self.running.contains(run) {
             return Some(Refusal::NotRunning);
         }
         None

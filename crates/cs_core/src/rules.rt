@@ -1,19 +1,21 @@
-ghost use Rattle.std.specs.Prelude.{◌≡◌, ◌<◌, ◌≤◌, ◌-◌, ◌%◌, ◌/◌, ℕ, length, [], get_or, None, IfOk};
-ghost use Rattle.std.specs.List.{insert, list_any};
+ghost use Rattle.std.specs.Prelude.{◌≡◌, ◌<◌, ◌≤◌, ◌-◌, ◌%◌, ◌/◌, ℕ, length, [], get_or, None, Some, IfOk};
+ghost use Rattle.std.specs.List.{insert};
+ghost use Rattle.cs_core.specs.Standing.{is_job, owed_beside};
 ghost use Rattle.cs_crontab.specs.declared.limits.TheConstants.{MAX_COMMANDS};
 ghost use Rattle.cs_civil.specs.Calendar.{kind};
 ghost use Rattle.cs_decl.specs.Plan.{as_plan, command_of, crons, is_due, line_of};
-ghost use Rattle.cs_history.specs.History.{is_free, owed_at};
-ghost use Rattle.cs_history.specs.Plan.{by_delay, due_at, in_the_way, is_cron, is_pass_minute, is_sooner, placed_below, same_group, shares_in, takes, takes_lock};
+ghost use Rattle.cs_history.specs.Plan.{by_delay, due_at, is_cron, is_pass_minute, is_sooner, placed_below, shares_in, takes};
 ghost use Rattle.cs_history.specs.Lists.{placed};
+ghost use Rattle.cs_locks.specs.Locks.{hold_in, hold_of};
 
-use crate::lists::{runs_job, stamp_at};
+use crate::lists::stamp_at;
 use arrayvec::ArrayVec;
 use cs_anacrontab::{Period, is_due};
 use cs_civil::{Day, DayKind, Minute, kind_of};
 use cs_crontab::When;
 use cs_decl::Plan;
-use cs_history::{Going, Mode};
+use cs_history::Mode;
+use cs_locks::Hold;
 use std::alloc::{AllocError, Global};
 use std::marker::Model;
 
@@ -36,27 +38,15 @@ impl Model for Rules {
     ghost invariant = { λ r. r.order.items ≡ by_delay (as_plan r.plan) };
 }
 
-/// Whether the mode takes the lock of its group.
-fn takes(mode: Mode) -> bool
-    ensures { result ≡ takes mode }
+/// What a run of a job of this mode has to do with the lock of this group.
+fn hold_in(mode: Mode, group: u8) -> Hold
+    ensures { result ≡ hold_in (takes mode) (shares_in mode) (Some group) }
 {
     match mode {
-        Mode::Plain => false,
-        Mode::Skip => true,
-        Mode::Wait => true,
-        Mode::Shared => true,
-    }
-}
-
-/// Whether the mode shares the lock of its group.
-fn shares(mode: Mode) -> bool
-    ensures { result ≡ shares_in mode }
-{
-    match mode {
-        Mode::Plain => false,
-        Mode::Skip => false,
-        Mode::Wait => false,
-        Mode::Shared => true,
+        Mode::Plain => Hold::Nothing,
+        Mode::Skip => Hold::Alone(group),
+        Mode::Wait => Hold::Alone(group),
+        Mode::Shared => Hold::Shared(group),
     }
 }
 
@@ -120,41 +110,14 @@ impl Rules {
         }
     }
 
-    fn is_same_group(&self, one: u16, other: u16) -> bool
-        ensures { result ≡ same_group (as_plan self.now) one other }
+    /// What a run of the job has to do with the lock of its group.
+    pub(crate) fn hold(&self, job: u16) -> Hold
+        ensures { result ≡ hold_of (as_plan self.now) job }
     {
-        match (self.group(one), self.group(other)) {
-            (Some(group), Some(other)) => group == other,
-            _ => false,
+        match self.group(job) {
+            Some(group) => hold_in(self.mode(job), group),
+            None => Hold::Nothing,
         }
-    }
-
-    /// Whether a running run of the one job is in the way of the other.
-    fn is_in_the_way(&self, job: u16, running: u16) -> bool
-        ensures { result ≡ in_the_way (as_plan self.now) job running }
-    {
-        let (mode, held) = (self.mode(job), self.mode(running));
-        takes(mode)
-            && takes(held)
-            && self.is_same_group(job, running)
-            && !(shares(mode) && shares(held))
-    }
-
-    /// Whether the lock of the job is free for it where these run.
-    #[tactic(auto, using(crate::proofs::Locks::free_without_lock))]
-    pub(crate) fn is_free(&self, running: &[Going], job: u16) -> bool
-        ensures { result ≡ is_free (as_plan self.now) running.now job }
-    {
-        !takes(self.mode(job)) || !self.is_held(running, job)
-    }
-
-    /// Whether one of these is in the way of the job.
-    fn is_held(&self, running: &[Going], job: u16) -> bool
-        ensures { result ≡ list_any (λ r. in_the_way (as_plan self.now) job r.run.job) running.now }
-    {
-        running
-            .iter()
-            .any(|going| self.is_in_the_way(job, going.run.job))
     }
 
     /// Whether the cron job is due at this minute of a day of this kind.
@@ -213,24 +176,35 @@ impl Rules {
         }
     }
 
-    /// Writes the jobs that a pass has which begins at a minute into an empty list.
+    /// Writes the jobs that a pass has which begins at a minute into an empty list: none of which a run
+    /// runs, and of anacron jobs one runs at most.
     pub(crate) fn list_owed(
         &self,
         minute: Minute,
         stamps: &[Option<Day>],
-        running: &[Going],
+        lone: Option<u16>,
         left: &mut ArrayVec<u16, 64>,
     )
         requires { left.old.items ≡ [] }
-        ensures { left.new.items ≡ owed_at (as_plan self.now) stamps.now running.now minute }
+        ensures { left.new.items ≡ owed_beside (as_plan self.now) stamps.now lone minute }
     {
         let today = minute.day();
         for job in self.order.as_slice() {
             let place = usize::from(*job).saturating_sub(self.plan.crons());
-            if self.is_owed(*job, stamp_at(stamps, place), today) && !runs_job(running, *job) {
+            if self.is_owed(*job, stamp_at(stamps, place), today) && !is_job(lone, *job) {
                 left.push(*job);
             }
         }
+    }
+}
+
+/// Whether it is this job.
+fn is_job(lone: Option<u16>, job: u16) -> bool
+    ensures { result ≡ is_job lone job }
+{
+    match lone {
+        Some(other) => other == job,
+        None => false,
     }
 }
 

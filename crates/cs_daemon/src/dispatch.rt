@@ -143,7 +143,7 @@ impl<J: PlanLedger> Dispatch<J> {
     /// Which runs that run are late at the minute, and were not at the last one.
     fn note_overruns(&mut self, notices: &mut Notices, last: Minute, minute: Minute) {
         let core = self.keep.core();
-        for going in core.running() {
+        for going in core.running().iter() {
             let deadline = deadline(core, going.run.job, going.since);
             if last.number() < deadline && deadline <= minute.number() {
                 notices.add(Line::Overrun(going.run));

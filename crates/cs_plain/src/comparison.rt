@@ -9,7 +9,7 @@ use crate::tally::{Tally, outcome};
 use arrayvec::ArrayVec;
 use cs_civil::{Day, Minute};
 use cs_core::Core;
-use cs_history::{Event, Refusal, Reply, Run, Start};
+use cs_history::{Event, Going, Refusal, Reply, Run, Start};
 use std::alloc::{AllocError, Global};
 use std::test::Fail;
 
@@ -221,14 +221,32 @@ fn has_pass(alloc: Global, core: &Core, story: &Story) -> Result<bool, AllocErro
     Ok(core.pass().map(Minute::number) == begun && core.left() == pass.left.as_slice())
 }
 
+/// Whether these runs wait, in this order.
+fn are_waiting(core: &Core, runs: &[Run]) -> bool {
+    let mut is_same = core.waiting().len() == runs.len();
+    for (going, run) in core.waiting().iter().zip(runs) {
+        is_same = is_same && going.run == *run;
+    }
+    is_same
+}
+
+/// Whether these run, in this order.
+fn are_running(core: &Core, runs: &[Going]) -> bool {
+    let mut is_same = core.running().len() == runs.len();
+    for (going, other) in core.running().iter().zip(runs) {
+        is_same = is_same && going == *other;
+    }
+    is_same
+}
+
 /// Whether each reader of the core answers what the history says.
 fn is_in_state(alloc: Global, core: &Core, story: &Story) -> Result<bool, AllocError> {
     Ok(
         core.now().number() == story.now()
             && core.is_up() == story.is_up()
             && core.pending() == story.pending(alloc)?.as_slice()
-            && core.waiting() == story.waiting(alloc)?.as_slice()
-            && core.running() == story.running(alloc)?.as_slice()
+            && are_waiting(core, story.waiting(alloc)?.as_slice())
+            && are_running(core, story.running(alloc)?.as_slice())
             && has_stamps(core, story)
             && has_pass(alloc, core, story)?,
     )

@@ -8,7 +8,8 @@ ghost use Rattle.cs_shown.specs.Trial.{break_by_reply, break_by_run, clash_befor
 use crate::rules::{clash, weight};
 use crate::shown::Shown;
 use cs_decl::Plan;
-use cs_history::{Event, Going, Reply, Run};
+use cs_history::{Event, Reply, Run};
+use cs_roster::Roster;
 
 /// The run that the event may start at this minute.
 pub(crate) fn run_by(event: &Event, now: u64) -> Option<Run>
@@ -26,10 +27,10 @@ pub(crate) fn run_by(event: &Event, now: u64) -> Option<Run>
 }
 
 /// The first of these with which the run may not go on.
-fn clash_before(plan: &Plan, earlier: &[Going], run: Run) -> Option<Shown>
+fn clash_before(plan: &Plan, earlier: &Roster, run: Run) -> Option<Shown>
     ensures { result ≡ clash_before (as_plan plan.now) earlier.now run }
 {
-    for going in earlier {
+    for going in earlier.iter() {
         if clash(plan, going.run.job, run.job) {
             return Some(Shown::Together(going.run, run));
         }
@@ -38,19 +39,19 @@ fn clash_before(plan: &Plan, earlier: &[Going], run: Run) -> Option<Shown>
 }
 
 /// What the runs weigh together.
-fn weigh(plan: &Plan, running: &[Going]) -> u64
+fn weigh(plan: &Plan, running: &Roster) -> u64
     requires { weight_of (as_plan plan.now) running.now < 256 }
     ensures { result ≡ weight_of (as_plan plan.now) running.now }
 {
     let mut sum = 0;
-    for going in running {
+    for going in running.iter() {
         sum += u64::from(weight(plan, going.run.job));
     }
     sum
 }
 
 /// What it breaks that the run starts behind these, which break nothing.
-pub(crate) fn break_by_run(plan: &Plan, earlier: &[Going], run: Run) -> Option<Shown>
+pub(crate) fn break_by_run(plan: &Plan, earlier: &Roster, run: Run) -> Option<Shown>
     requires { weight_of (as_plan plan.now) earlier.now ≤ (as_plan plan.now).capacity }
     ensures { result ≡ break_by_run (as_plan plan.now) earlier.now run }
 {

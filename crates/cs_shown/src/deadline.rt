@@ -7,6 +7,7 @@ ghost use Rattle.cs_shown.specs.Trial.{IsDeadline, IsNextDeadline, any_over};
 use crate::rules::limit;
 use cs_decl::Plan;
 use cs_history::{Going, Reply};
+use cs_roster::Roster;
 
 /// The first minute at which the run is over its declared time, if that is one of a `u64`.
 fn end_of(plan: &Plan, job: u16, since: u64) -> u64
@@ -16,11 +17,11 @@ fn end_of(plan: &Plan, job: u16, since: u64) -> u64
 }
 
 /// A deadline of these runs.
-pub(crate) fn first_deadline(plan: &Plan, running: &[Going]) -> u64
+pub(crate) fn first_deadline(plan: &Plan, running: &Roster) -> u64
     ensures { IsDeadline (as_plan plan.now) result running.now }
 {
     let mut first = u64::MAX;
-    for going in running {
+    for going in running.iter() {
         first = first.min(end_of(plan, going.run.job, going.since));
     }
     first
@@ -49,8 +50,13 @@ fn is_over(plan: &Plan, going: Going, minute: u64) -> bool
 }
 
 /// Whether one of these is over its declared time.
-pub(crate) fn any_over(plan: &Plan, running: &[Going], minute: u64) -> bool
+pub(crate) fn any_over(plan: &Plan, running: &Roster, minute: u64) -> bool
     ensures { result ≡ any_over (as_plan plan.now) running.now minute }
 {
-    running.iter().any(|going| is_over(plan, *going, minute))
+    for going in running.iter() {
+        if is_over(plan, going, minute) {
+            return true;
+        }
+    }
+    false
 }

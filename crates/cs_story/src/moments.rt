@@ -15,12 +15,10 @@ fn unwanted_job(play: &Play, plot: &Plot<'_>) -> Option<u16> {
     None
 }
 
-/// Ends the run, if it is the one that started last.
+/// Ends the run, if it started.
 fn end_if_started(play: &mut Play, run: Run) -> Result<(), Ending> {
-    if let Some(going) = play.core().running().last() {
-        if going.run == run {
-            play.take(Event::End(run))?;
-        }
+    if play.core().running().contains(run) {
+        play.take(Event::End(run))?;
     }
     Ok(())
 }
@@ -51,10 +49,10 @@ fn is_in_last_minute(plot: &Plot<'_>, going: Going, now: u64) -> bool {
 /// A run of a chain that has to end in this minute.
 fn held_out(play: &Play, plot: &Plot<'_>, chain: Chain) -> Option<Run> {
     let now = play.now();
-    for going in play.core().running() {
+    for going in play.core().running().iter() {
         let run = going.run;
         let is_link = plot.takes_lock_of(run.job, chain.group) && !plot.wants(run.job, run.at);
-        if is_link && (now >= chain.to || is_in_last_minute(plot, *going, now)) {
+        if is_link && (now >= chain.to || is_in_last_minute(plot, going, now)) {
             return Some(run);
         }
     }
@@ -73,13 +71,14 @@ fn end_links(play: &mut Play, plot: &Plot<'_>, chain: Chain) -> Result<(), Endin
 
 /// The first run of this mode that waits for the lock of a chain's group and can have it, but no wanted one.
 fn next_link(play: &Play, plot: &Plot<'_>, chain: Chain, mode: Mode) -> Option<Run> {
-    for run in play.core().waiting() {
+    for going in play.core().waiting().iter() {
+        let run = going.run;
         let is_mode = match task_of(plot.facts, run.job) {
             Some(task) => task.mode == mode && task.group == Some(chain.group),
             None => false,
         };
         if is_mode && !plot.wants(run.job, run.at) && play.can(Event::Got(run.job, run.at)) {
-            return Some(*run);
+            return Some(run);
         }
     }
     None
@@ -150,9 +149,10 @@ fn catch_up(play: &mut Play, plot: &Plot<'_>) -> Result<(), Ending> {
 
 /// The first run that can have the lock that it waits for, but no wanted one.
 fn unwanted_waiter(play: &Play, plot: &Plot<'_>) -> Option<Run> {
-    for run in play.core().waiting() {
+    for going in play.core().waiting().iter() {
+        let run = going.run;
         if !plot.wants(run.job, run.at) && play.can(Event::Got(run.job, run.at)) {
-            return Some(*run);
+            return Some(run);
         }
     }
     None

@@ -5,5 +5,7 @@ pub mod PlanRoles
 pub mod QuietLemmas
 pub mod RoleLemmas
 pub mod RolesSay
+pub mod SplitLemmas
 pub mod SumLemmas
+pub mod TallyLemmas
 pub mod Weights

@@ -15,10 +15,10 @@ use Rattle.cs_accepted.specs.Accepted.{is_skip}
 use Rattle.cs_accepted.proofs.Elements.{all_has, pair_has}
 use Rattle.cs_accepted.proofs.Says.{all_from_has}
 use Rattle.cs_stretch.specs.declared.role.Role.{Role}
-use Rattle.cs_stretch.specs.declared.table.Amount.TheVariants.{AloneWeight, SharedWeight, Run, PlainRun, CronRun, LockRun}
-use Rattle.cs_stretch.specs.Roles.{role_at, share_group, roles_clash, alone_weight, shared_weight, group_weight}
+use Rattle.cs_stretch.specs.declared.table.Amount.TheVariants.{FreeWeight, CatchWeight, AloneWeight, SharedWeight, Run, PlainRun, CronRun, LockRun}
+use Rattle.cs_stretch.specs.Roles.{role_at, share_group, roles_clash, alone_weight, shared_weight, catch_weight, group_weight}
 use Rattle.cs_stretch.specs.Found.{role_blocks}
-use Rattle.cs_stretch.specs.Sums.{amount_in, is_of, AreGrouped, AreApartBy, AreFreeBy, AreWithinBy, has_group, IsSum, IsLone, IsLoad, IsAdded}
+use Rattle.cs_stretch.specs.Sums.{amount_in, is_of, AreGrouped, AreApartBy, AreFreeBy, AreWithinBy, has_group_or_catches, IsSum, IsGreatest, IsGreaterAdded, IsLone, IsLoad, IsAdded}
 use Rattle.cs_stretch.proofs.QuietLemmas.{same_itself, not_true, filter_within}
 use Rattle.cs_stretch.proofs.Weights.{total_below}
 
@@ -174,9 +174,14 @@ module _ (roles : List Role) where
   has_of g None e = cc
   has_of g (Some h) e = refl
 
+  or_true : (a : Bool) → (a || true) ≡ true
+  or_true true = refl
+  or_true false = refl
+
   -- those of a group are among those that have one
-  pub of_grouped : (g : ℕ) (ws : List Window) → filter (is_of roles g) (filter (has_group roles) ws) ≡ filter (is_of roles g) ws
-  of_grouped g ws = filter_within (is_of roles g) (has_group roles) ws (λ w e. has_of g (role_at roles w.job).group e)
+  pub of_grouped : (g : ℕ) (ws : List Window) → filter (is_of roles g) (filter (has_group_or_catches roles) ws) ≡ filter (is_of roles g) ws
+  of_grouped g ws = filter_within (is_of roles g) (has_group_or_catches roles) ws
+      (λ w e. ap (λ (b : Bool). not (role_at roles w.job).is_cron || b) (has_of g (role_at roles w.job).group e) ∙ or_true (not (role_at roles w.job).is_cron))
 
   pub free_all : (n m : ℕ) (xs : List Window) → AreGrouped roles n → ((g : ℕ) → g < n → AllByRecursion (λ v. AllByRecursion (λ w. role_blocks roles m v w ≡ false) (filter (is_of roles g) xs)) (filter (is_of roles g) xs)) → AllByRecursion (λ v. AllByRecursion (λ w. role_blocks roles m v w ≡ false) xs) xs
   free_all n m xs grouped each = all_from_has (λ v. AllByRecursion (λ w. role_blocks roles m v w ≡ false) xs) xs (λ v hv. all_from_has (λ w. role_blocks roles m v w ≡ false) xs (λ w hw.
@@ -219,6 +224,9 @@ module _ (roles : List Role) where
   pub apart_none : (ws : List Window) → AllByRecursion (λ w. (role_at roles w.job).is_exclusive ≡ false) ws → AreApartBy roles ws
   apart_none ws all m lt = apart_not_exclusive (holders m ws) (all-filter (λ w. (role_at roles w.job).is_exclusive ≡ false) (λ w. touches w m (m + 1)) ws all)
 
+  pub apart_lockers : (ws : List Window) → AllByRecursion (λ w. takes (role_at roles w.job).mode ≡ true) ws → AreApartBy roles ws
+  apart_lockers ws all m lt = pairs_of (λ w. takes (role_at roles w.job).mode ≡ true) Apart (holders m ws) apart_takers (all-filter (λ w. takes (role_at roles w.job).mode ≡ true) (λ w. touches w m (m + 1)) ws all)
+
   -- no skip job, none that is barred
   pub free_none : (ws : List Window) → AllByRecursion (λ w. is_skip (role_at roles w.job).mode ≡ false) ws → AreFreeBy roles ws
   free_none ws all m lt = all_map (λ v. is_skip (role_at roles v.job).mode ≡ false) (λ v. AllByRecursion (λ w. role_blocks roles m v w ≡ false) (holders m ws)) (holders m ws)
@@ -235,6 +243,20 @@ module _ (roles : List Role) where
 
   swapped : (g m : ℕ) (ws : List Window) → holders m (filter (is_of roles g) ws) ≡ filter (is_of roles g) (holders m ws)
   swapped g m ws = filter_swap (λ w. touches w m (m + 1)) (is_of roles g) ws
+
+  -- all of catch-up are among those that have a group or are of catch-up
+  catch_counts : (c b : Bool) (k : ℕ) → (if not c then k else 0) ≡ (if not c || b then (if not c then k else 0) else 0)
+  catch_counts true true k = refl
+  catch_counts true false k = refl
+  catch_counts false b k = refl
+
+  pub catch_among : (m : ℕ) (ws : List Window) → greatest (amount_in roles CatchWeight) (holders m (filter (has_group_or_catches roles) ws)) ≡ greatest (catch_weight roles) (holders m ws)
+  catch_among m ws = ap (greatest (amount_in roles CatchWeight)) (filter_swap (λ w. touches w m (m + 1)) (has_group_or_catches roles) ws)
+      ∙ greatest_part (has_group_or_catches roles) (catch_weight roles) (amount_in roles CatchWeight) (λ w. catch_counts (role_at roles w.job).is_cron (is_some (role_at roles w.job).group) (role_at roles w.job).weight) (holders m ws)
+
+  pub free_from : (ws : List Window) (free catch load : List ℕ) → IsSum (amount_in roles FreeWeight) ws free → IsGreatest (amount_in roles CatchWeight) (filter (has_group_or_catches roles) ws) catch
+      → IsGreaterAdded catch catch free load → IsLoad roles ws 0 load
+  free_from ws free catch load f c added m lt = omega (arith, f m lt, c m lt, added m lt, catch_among m ws)
 
   pub apart_groups : (n : ℕ) (ws : List Window) → AreGrouped roles n → ((g : ℕ) → g < n → AreApartBy roles (filter (is_of roles g) ws)) → AreApartBy roles ws
   apart_groups n ws grouped each m lt = apart_all n (holders m ws) grouped (λ g gl. subst (λ (xs : List Window). EachPair Apart xs) (swapped g m ws) (each g gl m lt))

@@ -1,4 +1,5 @@
 pub mod Found
 pub mod Quietness
 pub mod Roles
+pub mod Split
 pub mod Sums

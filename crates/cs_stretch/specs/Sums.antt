@@ -1,7 +1,7 @@
 -- What the windows that hold a minute of the day looked at have together, or at most.
-use Rattle.std.specs.Prelude.{◌≡◌, ℕ, ◌+◌, ◌<◌, ◌≤◌, ◌⊎◌, max, min, nat_le, nat_lt, Bool, true, false, not, ◌&&◌, List, length, Some, if◌then◌else◌, is_some, slice_index}
+use Rattle.std.specs.Prelude.{◌≡◌, ℕ, ◌+◌, ◌<◌, ◌≤◌, ◌⊎◌, max, min, nat_le, nat_lt, Bool, true, false, not, ◌&&◌, ◌||◌, List, length, Some, if◌then◌else◌, is_some, slice_index}
 use Rattle.std.specs.List.{AllByRecursion}
-use Rattle.cs_history.specs.Lists.{total, greatest, EachPair}
+use Rattle.cs_history.specs.Lists.{total, greatest, below, EachPair}
 use Rattle.cs_history.specs.Plan.{takes, shares_in, is_group}
 use Rattle.cs_windows.specs.declared.window.Window.{Window}
 use Rattle.cs_windows.specs.Window.{touches}
@@ -57,8 +57,9 @@ IsGreatest f ws table = EachMinute (λ m. slice_index table m ≡ greatest f (ho
 abbrev pub is_of : List Role → ℕ → Window → Bool
 is_of roles g w = is_group g (role_at roles w.job).group
 
-abbrev pub has_group : List Role → Window → Bool
-has_group roles w = is_some (role_at roles w.job).group
+-- the windows of catch-up and those of the jobs that have a group
+abbrev pub has_group_or_catches : List Role → Window → Bool
+has_group_or_catches roles w = not (role_at roles w.job).is_cron || is_some (role_at roles w.job).group
 
 -- ---- the three rules by the roles of jobs
 
@@ -107,3 +108,27 @@ IsGreaterAdded one other old new = EachMinute (λ m. slice_index new m ≡ cappe
 -- a number for each minute of the day
 abbrev pub IsDay : List ℕ → Type 0
 IsDay table = length table ≡ 1440
+
+-- ---- tables of what begins and of what ends at each minute
+
+-- the numbers at the first so many places, added up
+abbrev pub up_to : List ℕ → ℕ → ℕ
+up_to table k = total (slice_index table) (below k)
+
+-- each number is at most so much
+abbrev pub AreAtMost : ℕ → List ℕ → Type 0
+AreAtMost most table = (k : ℕ) → slice_index table k ≤ most
+
+-- at one place there is so much more, at the others what there was
+pub record IsRaisedAt (place more : ℕ) (old new : List ℕ) : Type 0 where
+  pub long : length new ≡ length old
+  pub here : slice_index new place ≡ slice_index old place + more
+  pub others : (k : ℕ) → (k ≡ place → ⊥) → slice_index new k ≡ slice_index old k
+
+-- at each minute of the day what has begun by then is what has ended by then and what the windows that hold it have
+abbrev pub IsTally : (Window → ℕ) → List Window → List ℕ → List ℕ → Type 0
+IsTally f ws begun ended = EachMinute (λ m. up_to begun (m + 1) ≡ up_to ended (m + 1) + total f (holders m ws))
+
+-- at each minute of the day the table has what has begun by then and not ended
+abbrev pub IsRunning : List ℕ → List ℕ → List ℕ → Type 0
+IsRunning begun ended table = (m n : ℕ) → m < 1440 → up_to begun (m + 1) ≡ up_to ended (m + 1) + n → slice_index table m ≡ capped n

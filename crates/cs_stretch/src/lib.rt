@@ -7,6 +7,7 @@ mod load;
 mod quiet;
 mod role;
 mod roles;
+mod split;
 mod sums;
 mod table;
 

@@ -1,12 +1,15 @@
 //! A quick test of the windows of one stretch by sums over the minutes of the day looked at.
-ghost use Rattle.std.specs.Prelude.{◌≡◌, ◌≤◌, IfOk, IsTrue, false, filter, slice_index};
+ghost use Rattle.std.specs.Prelude.{◌≡◌, ◌≤◌, IfOk, IsTrue, false, filter, slice_index, true};
 ghost use Rattle.std.specs.List.{AllByRecursion};
 ghost use Rattle.cs_accepted.specs.Accepted.{is_skip};
+ghost use Rattle.cs_history.specs.Plan.{takes};
 ghost use Rattle.cs_stretch.specs.Roles.{role_at};
-ghost use Rattle.cs_stretch.specs.Sums.{AreApartBy, AreFreeBy, AreGrouped, AreWithinBy, EachMinute, IsAdded, IsDay, IsGreaterAdded, IsLoad, IsLone, NoneClash, has_group, is_of};
+ghost use Rattle.cs_stretch.specs.Sums.{AreApartBy, AreFreeBy, AreGrouped, AreWithinBy, EachMinute, IsAdded, IsDay, IsGreaterAdded, IsLoad, IsLone, IsSum, NoneClash, amount_in, has_group_or_catches, is_of};
+ghost use Rattle.cs_stretch.specs.declared.table.Amount.TheVariants.{FreeWeight};
 
 use crate::quiet::Quiet;
 use crate::role::{Role, role_of};
+use crate::split::free_and_others;
 use crate::table::{Amount, MINUTES, greatest, sums};
 use cs_windows::Window;
 use std::alloc::{AllocError, Global};
@@ -23,23 +26,6 @@ fn windows_of(
     let mut found = Vec::new(alloc);
     for window in windows {
         if is_of(roles, group, window) {
-            found.push(*window)?;
-        }
-    }
-    Ok(found)
-}
-
-/// The windows of the jobs that have a group, in order.
-fn windows_in_groups(
-    alloc: Global,
-    roles: &[Role],
-    windows: &[Window],
-) -> Result<Vec<Window>, AllocError>
-    ensures { IfOk result (λ found. found.items ≡ filter (has_group roles.now) windows.now) }
-{
-    let mut found = Vec::new(alloc);
-    for window in windows {
-        if role_of(roles, window).group.is_some() {
             found.push(*window)?;
         }
     }
@@ -69,6 +55,19 @@ fn any_exclusive(roles: &[Role], windows: &[Window]) -> bool
     false
 }
 
+/// Whether one of the windows is of a job that takes no lock.
+fn any_plain(roles: &[Role], windows: &[Window]) -> bool
+    ensures { result ≡ false
+        → AllByRecursion (λ w. takes (role_at roles.now w.job).mode ≡ true) windows.now }
+{
+    for window in windows {
+        if !role_of(roles, window).takes_lock() {
+            return true;
+        }
+    }
+    false
+}
+
 /// Whether each minute has one run at most, or none that takes no lock, or none of a cron job.
 fn none_clash(runs: &[u16], plain: &[u16], cron: &[u16]) -> bool
     requires { IsDay runs.now × IsDay plain.now × IsDay cron.now }
@@ -87,6 +86,9 @@ fn are_apart(roles: &[Role], windows: &[Window]) -> bool
     ensures { IsTrue result → AreApartBy roles.now windows.now }
 {
     if !any_exclusive(roles, windows) {
+        return true;
+    }
+    if !any_plain(roles, windows) {
         return true;
     }
     let runs = sums(roles, Amount::Run, windows);
@@ -170,15 +172,16 @@ fn is_within(load: &[u16], capacity: u8) -> bool
     true
 }
 
-/// What the windows without a lock and those of catch-up weigh at each minute.
-fn free_load(roles: &[Role], windows: &[Window]) -> [u16; MINUTES]
-    ensures day { IsDay result }
-    ensures each { IsLoad roles.now windows.now 0 result }
+/// Adds what the windows of catch-up weigh at each minute, all of which are among the others, to what those
+/// without a lock weigh.
+fn add_catch_up(free: &mut [u16], roles: &[Role], windows: &[Window], others: &[Window])
+    requires free { IsDay free.old × IsSum (amount_in roles.now FreeWeight) windows.now free.old }
+    requires others { others.now ≡ filter (has_group_or_catches roles.now) windows.now }
+    ensures day { IsDay free.new }
+    ensures each { IsLoad roles.now windows.now 0 free.new }
 {
-    let mut load = sums(roles, Amount::FreeWeight, windows);
-    let catch_up = greatest(roles, Amount::CatchWeight, windows);
-    add_greater(&mut load, &catch_up, &catch_up);
-    load
+    let catch_up = greatest(roles, Amount::CatchWeight, others);
+    add_greater(free, &catch_up, &catch_up);
 }
 
 /// Adds what the windows of one group weigh at each minute, of which these are all.
@@ -210,12 +213,13 @@ pub(crate) fn quiet_by_sums(
         → AreWithinBy roles.now groups capacity windows.now) }
     ensures free { IfOk result (λ quiet. IsTrue quiet.is_free → AreFreeBy roles.now windows.now) }
 {
-    let mut load = free_load(roles, windows);
-    let grouped = windows_in_groups(alloc, roles, windows)?;
+    let (mut load, others) = free_and_others(alloc, roles, windows)?;
+    let others = others.as_slice();
+    add_catch_up(&mut load, roles, windows, others);
     let mut is_apart = true;
     let mut is_free = true;
     for group in 0..groups {
-        let found = windows_of(alloc, roles, group, grouped.as_slice())?;
+        let found = windows_of(alloc, roles, group, others)?;
         let found = found.as_slice();
         add_group(&mut load, roles, found);
         is_apart = is_apart && are_apart(roles, found);

@@ -1,7 +1,7 @@
 //! Tables over the minutes of the day looked at: what the windows that hold a minute have together, or
 //! at most.
-ghost use Rattle.std.specs.Prelude.{◌≡◌, ◌+◌, ◌≤◌, if◌then◌else◌, max};
-ghost use Rattle.cs_stretch.specs.Sums.{HoldsFrom, IsChanged, IsDay, IsGreatest, IsSum, amount_in, amount_of, capped};
+ghost use Rattle.std.specs.Prelude.{◌≡◌, ◌+◌, ◌*◌, ◌<◌, ◌≤◌, ℕ, if◌then◌else◌, length, max, slice_index};
+ghost use Rattle.cs_stretch.specs.Sums.{AreAtMost, EachMinute, HoldsFrom, IsChanged, IsDay, IsGreatest, IsRaisedAt, IsRunning, IsSum, amount_in, amount_of, capped, up_to};
 
 use crate::quiet::day_start;
 use crate::role::{Role, role_of};
@@ -9,6 +9,13 @@ use cs_windows::{MINUTES_OF_DAY, Window};
 
 /// The minutes of a day: a table has a place for each.
 pub(crate) const MINUTES: usize = 1_440;
+
+/// A place for each minute of a day, and one for its end.
+pub(crate) const PLACES: usize = MINUTES + 1;
+
+/// The most windows that are counted by where they begin and end: their amounts, each 255 at most, add up to
+/// less than 2^32.
+pub(crate) const MOST_TALLIED: usize = 16_777_216;
 
 /// What of a run counts: its weight, or that it is one.
 #[derive(Clone, Copy, Debug)]
@@ -39,7 +46,7 @@ fn counted(is_counted: bool, number: u8) -> u8
 }
 
 /// How much of this a run of such a job has.
-fn amount_of(amount: Amount, role: Role) -> u8
+pub(crate) fn amount_of(amount: Amount, role: Role) -> u8
     ensures { result ≡ amount_of amount role }
 {
     match amount {
@@ -54,13 +61,18 @@ fn amount_of(amount: Amount, role: Role) -> u8
     }
 }
 
-/// The minutes of the day looked at that a window holds: from the first on, below the second.
-fn minutes_held(window: &Window) -> (usize, usize)
+/// The minutes of the day looked at that a window holds: from the first on, below the second. Most begin
+/// on that day, and then no day is taken off.
+pub(crate) fn minutes_held(window: &Window) -> (usize, usize)
     ensures range { (result.0 ≤ result.1) × (result.1 ≤ 1440) }
     ensures held { HoldsFrom window.now result.0 result.1 }
 {
-    let day = day_start(window);
     let from = u32::from(window.from);
+    if window.day_back == 0 {
+        let end = (from + u32::from(window.reach)).min(u32::from(MINUTES_OF_DAY));
+        return (from.min(end) as usize, end as usize);
+    }
+    let day = day_start(window);
     let end = (from + u32::from(window.reach))
         .saturating_sub(day)
         .min(u32::from(MINUTES_OF_DAY));
@@ -125,6 +137,34 @@ pub(crate) fn greatest(roles: &[Role], amount: Amount, windows: &[Window]) -> [u
             window,
             amount_of(amount, role_of(roles, window)),
         );
+    }
+    table
+}
+
+/// Adds a number at one place.
+pub(crate) fn raise_at(table: &mut [u32], place: usize, number: u8)
+    requires long { length table.old ≡ 1441 }
+    requires inside { place ≤ 1440 }
+    requires room { slice_index table.old place + 255 < 4294967296 }
+    ensures raised { IsRaisedAt place number table.old table.new }
+    ensures bound { (most : ℕ) → AreAtMost most table.old → AreAtMost (most + 255) table.new }
+{
+    table[place] += u32::from(number);
+}
+
+/// Of two tables, one of what begins at each minute and one of what has ended by it, the table of what
+/// goes on at each.
+pub(crate) fn running(begun: &[u32], ended: &[u32]) -> [u16; MINUTES]
+    requires long { (length begun.now ≡ 1441) × (length ended.now ≡ 1441) }
+    requires order { EachMinute (λ m. up_to ended.now (m + 1) ≤ up_to begun.now (m + 1)) }
+    ensures day { IsDay result }
+    ensures each { IsRunning begun.now ended.now result }
+{
+    let mut table = [0u16; MINUTES];
+    let mut open = 0u64;
+    for minute in 0..MINUTES {
+        open = open + u64::from(begun[minute]) - u64::from(ended[minute]);
+        table[minute] = open.min(u64::from(u16::MAX)) as u16;
     }
     table
 }

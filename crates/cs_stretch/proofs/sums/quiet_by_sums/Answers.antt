@@ -14,7 +14,7 @@ loop-group-preserved c =
     let old : List ℕ = c.loop-group.load in
     let new : List ℕ = c.add_group.new.load in
     let found : c.in_ok-found.found.items ≡ filter (is_of roles g) ws =
-    c.in_ok-found.ensures ∙ (ap (λ (xs : List Window). filter (is_of roles g) xs) (c.as_slice.ensures.value ∙ c.in_ok-grouped.ensures) ∙ of_grouped roles g ws) in
+    c.in_ok-found.ensures ∙ (ap (λ (xs : List Window). filter (is_of roles g) xs) (c.as_slice-others.ensures.value ∙ c.in_ok-load.ensures.others) ∙ of_grouped roles g ws) in
     let added : IsAdded roles (filter (is_of roles g) ws) old new = subst (λ (xs : List Window). IsAdded roles xs old new) (c.as_slice-found.ensures.value ∙ found) c.add_group.ensures.each in
     record {
       long = c.add_group.ensures.day;

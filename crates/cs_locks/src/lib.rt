@@ -1,0 +1,11 @@
+//! Of each group of jobs, how many runs have its lock or wait for it: so whether a lock is free is told at a cost that
+//! doesn't grow with the runs.
+#![tactic(auto)]
+
+mod hold;
+mod laws;
+mod table;
+
+pub use hold::Hold;
+pub use laws::holds_say_what_is_free;
+pub use table::LockTable;

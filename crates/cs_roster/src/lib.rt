@@ -1,0 +1,8 @@
+//! Runs by name in the order in which they came, at a cost that doesn't grow with their number.
+#![tactic(auto)]
+
+mod roster;
+mod runs;
+
+pub use roster::Roster;
+pub use runs::Runs;

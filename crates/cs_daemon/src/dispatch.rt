@@ -91,7 +91,7 @@ impl<J: PlanLedger> Dispatch<J> {
         ensures parts { seat.new.parts ≡ seat.old.parts }
     {
         let from = self.keep.journal().len();
-        let ticked = self.tick(alloc, seat, last, minute);
+        let ticked = self.tick(seat, last, minute);
         let mut notices = Notices::none(alloc);
         self.note_replies(&mut notices, from, last);
         self.note_overruns(&mut notices, last, minute);
@@ -106,18 +106,12 @@ impl<J: PlanLedger> Dispatch<J> {
         }
     }
 
-    fn tick(
-        &mut self,
-        alloc: Global,
-        seat: &mut Seat<J>,
-        last: Minute,
-        minute: Minute,
-    ) -> Result<(), TickFault>
+    fn tick(&mut self, seat: &mut Seat<J>, last: Minute, minute: Minute) -> Result<(), TickFault>
         ensures rises { OnOk result (last < minute → seat.old.share < seat.new.share) }
         ensures grows { seat.old.share ≤ seat.new.share }
         ensures parts { seat.new.parts ≡ seat.old.parts }
     {
-        self.keep.tick(alloc, seat, last, minute)
+        self.keep.tick(seat, last, minute)
     }
 
     /// Whether a run started, by the entries from a place on.

@@ -3,4 +3,5 @@ pub mod Entry
 pub mod Invariant
 pub mod Keeping
 pub mod Seat
+pub mod FirstToGet
 pub mod Tick

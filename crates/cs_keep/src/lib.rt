@@ -7,6 +7,7 @@ mod keep;
 mod kept;
 mod laws;
 mod limits;
+mod next;
 mod readers;
 mod seat;
 mod starts;

@@ -1,16 +1,16 @@
 //! The events of a minute.
-ghost use Rattle.std.specs.Prelude.{◌≡◌, ◌≤◌, ◌<◌, ◌+◌, IfOk, OnOk, None, true, false, filter, [], ◌∷◌};
+ghost use Rattle.std.specs.Prelude.{◌≡◌, ◌≤◌, ◌<◌, ◌+◌, OnOk, None, true, false, [], ◌∷◌};
 ghost use Rattle.cs_history.specs.Plan.{IsCivil};
 ghost use Rattle.cs_history.specs.Step.{refusal};
 ghost use Rattle.cs_history.specs.declared.event.Event.TheVariants as event;
 ghost use Rattle.cs_keep.specs.Keeping.{plan_of};
-ghost use Rattle.cs_keep.specs.Tick.{Makes, Ticks, advancing, choosing, coming, first, is_of, moving_on, next_of, settling_catching, skipping, tick_events};
+ghost use Rattle.cs_keep.specs.Tick.{Makes, Ticks, advancing, choosing, coming, moving_on, next_of, settling_catching, skipping, tick_events};
 
 use crate::keep::Keep;
+use crate::next::{next_to_catch, next_to_settle};
 use crate::seat::Seat;
 use cs_civil::Minute;
 use cs_history::{Event, Refusal};
-use std::alloc::{AllocError, Global};
 use std::sync::ledger::Ledger;
 
 /// Why a tick ended early.
@@ -33,31 +33,6 @@ pub(crate) enum Kind {
     Catching,
 }
 
-impl Kind {
-    fn takes(self, event: &Event) -> bool
-        ensures { result ≡ is_of self event.now }
-    {
-        match (self, *event) {
-            (Kind::Settling, Event::Begin(_)) => true,
-            (Kind::Settling, Event::Got(_, _)) => true,
-            (Kind::Catching, Event::Catch(_)) => true,
-            _ => false,
-        }
-    }
-}
-
-/// The first event of the kind.
-fn first_of(events: &[Event], kind: Kind) -> Option<Event>
-    ensures { result ≡ first (filter (is_of kind) events.now) }
-{
-    for event in events {
-        if kind.takes(event) {
-            return Some(*event);
-        }
-    }
-    None
-}
-
 impl<L: Ledger> Keep<L> {
     /// Goes on to a minute. A core that is down comes up in it. One that is up settles, moves on where
     /// the minute is the next one, and settles again; past that it goes down and comes up. In the end
@@ -65,11 +40,9 @@ impl<L: Ledger> Keep<L> {
     /// choices until there is none.
     ///
     /// `last` is the present minute. `ClockBack` changes nothing; where the journal is full or memory
-    /// runs out the earlier events stay. Memory may run out behind the last event, in the look at what
-    /// could follow.
+    /// runs out the earlier events stay.
     pub fn tick(
         &mut self,
-        alloc: Global,
         seat: &mut Seat<L>,
         last: Minute,
         minute: Minute,
@@ -82,12 +55,11 @@ impl<L: Ledger> Keep<L> {
         ensures parts { seat.new.parts ≡ seat.old.parts }
         ensures plan { self.new.core.plan ≡ self.old.core.plan }
     {
-        self.tick_unless_back(alloc, seat, last, minute)
+        self.tick_unless_back(seat, last, minute)
     }
 
     fn tick_unless_back(
         &mut self,
-        alloc: Global,
         seat: &mut Seat<L>,
         last: Minute,
         minute: Minute,
@@ -97,14 +69,14 @@ impl<L: Ledger> Keep<L> {
         if self.core().now().number() != last.number() || minute.number() < last.number() {
             return Err(TickFault::ClockBack);
         }
-        if let Err(fault) = self.go_on(alloc, seat, minute) {
+        if let Err(fault) = self.go_on(seat, minute) {
             return Err(fault);
         }
         Ok(())
     }
 
     /// Goes on to a minute that is not below the present one.
-    fn go_on(&mut self, alloc: Global, seat: &mut Seat<L>, minute: Minute) -> Result<(), TickFault>
+    fn go_on(&mut self, seat: &mut Seat<L>, minute: Minute) -> Result<(), TickFault>
         requires { self.old.core.state.now ≤ minute }
         ensures { Makes (tick_events minute) (self.old, seat.old) result (self.new, seat.new) }
     {
@@ -112,19 +84,19 @@ impl<L: Ledger> Keep<L> {
         let (up, present) = (core.is_up(), core.now().number());
         let number = minute.number();
         if !up {
-            return self.come(alloc, seat, number);
+            return self.come(seat, number);
         }
         if number == present {
-            return self.settle_and_catch_up(alloc, seat);
+            return self.settle_and_catch_up(seat);
         }
         if number == present + 1 {
-            return self.move_on(alloc, seat, number);
+            return self.move_on(seat, number);
         }
-        self.skip(alloc, seat, number)
+        self.skip(seat, number)
     }
 
     /// Goes down and comes up in a later minute.
-    fn skip(&mut self, alloc: Global, seat: &mut Seat<L>, minute: u64) -> Result<(), TickFault>
+    fn skip(&mut self, seat: &mut Seat<L>, minute: u64) -> Result<(), TickFault>
         requires up { self.old.core.state.up ≡ true }
         requires civil { IsCivil minute }
         requires later { self.old.core.state.now ≤ minute }
@@ -133,11 +105,11 @@ impl<L: Ledger> Keep<L> {
         if let Err(fault) = self.make(seat, Event::Down) {
             return Err(fault);
         }
-        self.come(alloc, seat, minute)
+        self.come(seat, minute)
     }
 
     /// Comes up, and catches up.
-    fn come(&mut self, alloc: Global, seat: &mut Seat<L>, minute: u64) -> Result<(), TickFault>
+    fn come(&mut self, seat: &mut Seat<L>, minute: u64) -> Result<(), TickFault>
         requires down { self.old.core.state.up ≡ false }
         requires civil { IsCivil minute }
         requires later { self.old.core.state.now ≤ minute }
@@ -146,53 +118,49 @@ impl<L: Ledger> Keep<L> {
         if let Err(fault) = self.make(seat, Event::Up(minute)) {
             return Err(fault);
         }
-        self.choose(alloc, seat, Kind::Catching)
+        self.choose(seat, Kind::Catching)
     }
 
     /// Settles, and goes on to the next minute.
-    fn move_on(&mut self, alloc: Global, seat: &mut Seat<L>, minute: u64) -> Result<(), TickFault>
+    fn move_on(&mut self, seat: &mut Seat<L>, minute: u64) -> Result<(), TickFault>
         requires up { self.old.core.state.up ≡ true }
         requires civil { IsCivil minute }
         requires next { minute ≡ self.old.core.state.now + 1 }
         requires present { IsCivil self.old.core.state.now }
         ensures { Makes (moving_on minute) (self.old, seat.old) result (self.new, seat.new) }
     {
-        if let Err(fault) = self.choose(alloc, seat, Kind::Settling) {
+        if let Err(fault) = self.choose(seat, Kind::Settling) {
             return Err(fault);
         }
-        self.advance(alloc, seat, minute)
+        self.advance(seat, minute)
     }
 
     /// Goes on to the next minute, settles and catches up.
-    fn advance(&mut self, alloc: Global, seat: &mut Seat<L>, minute: u64) -> Result<(), TickFault>
+    fn advance(&mut self, seat: &mut Seat<L>, minute: u64) -> Result<(), TickFault>
         requires { refusal (plan_of self.old) self.old.core.state (event.Minute minute) ≡ None }
         ensures { Makes (advancing minute) (self.old, seat.old) result (self.new, seat.new) }
     {
         if let Err(fault) = self.make(seat, Event::Minute(minute)) {
             return Err(fault);
         }
-        self.settle_and_catch_up(alloc, seat)
+        self.settle_and_catch_up(seat)
     }
 
-    fn settle_and_catch_up(&mut self, alloc: Global, seat: &mut Seat<L>) -> Result<(), TickFault>
+    fn settle_and_catch_up(&mut self, seat: &mut Seat<L>) -> Result<(), TickFault>
         ensures { Makes settling_catching (self.old, seat.old) result (self.new, seat.new) }
     {
-        if let Err(fault) = self.choose(alloc, seat, Kind::Settling) {
+        if let Err(fault) = self.choose(seat, Kind::Settling) {
             return Err(fault);
         }
-        self.choose(alloc, seat, Kind::Catching)
+        self.choose(seat, Kind::Catching)
     }
 
     /// Makes the first choice of the kind until there is none.
-    fn choose(&mut self, alloc: Global, seat: &mut Seat<L>, kind: Kind) -> Result<(), TickFault>
+    fn choose(&mut self, seat: &mut Seat<L>, kind: Kind) -> Result<(), TickFault>
         ensures { Makes (choosing kind) (self.old, seat.old) result (self.new, seat.new) }
     {
         loop {
-            let next = match self.next(alloc, kind) {
-                Ok(next) => next,
-                Err(_) => return Err(TickFault::OutOfMemory),
-            };
-            let Some(event) = next else {
+            let Some(event) = self.next(kind) else {
                 return Ok(());
             };
             if let Err(fault) = self.make(seat, event) {
@@ -202,11 +170,13 @@ impl<L: Ledger> Keep<L> {
     }
 
     /// The first choice of the kind.
-    fn next(&self, alloc: Global, kind: Kind) -> Result<Option<Event>, AllocError>
-        ensures { IfOk result (λ e. e ≡ next_of kind (plan_of self.now) self.now.core.state) }
+    fn next(&self, kind: Kind) -> Option<Event>
+        ensures { result ≡ next_of kind (plan_of self.now) self.now.core.state }
     {
-        let choices = self.core().choices(alloc)?;
-        Ok(first_of(choices.as_slice(), kind))
+        match kind {
+            Kind::Settling => next_to_settle(self.core()),
+            Kind::Catching => next_to_catch(self.core()),
+        }
     }
 
     /// Makes an event that the core does not refuse.

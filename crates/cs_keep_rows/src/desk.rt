@@ -48,13 +48,8 @@ impl<L: Ledger> Desk<L> {
         self.keep.step(&mut self.seat, event)
     }
 
-    pub(crate) fn tick(
-        &mut self,
-        alloc: Global,
-        last: Minute,
-        minute: Minute,
-    ) -> Result<(), TickFault> {
-        self.keep.tick(alloc, &mut self.seat, last, minute)
+    pub(crate) fn tick(&mut self, last: Minute, minute: Minute) -> Result<(), TickFault> {
+        self.keep.tick(&mut self.seat, last, minute)
     }
 
     pub(crate) fn cut(&mut self) -> bool {

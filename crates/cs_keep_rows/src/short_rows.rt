@@ -112,14 +112,9 @@ fn refused_steps(rt: HostRuntime) {
 }
 
 /// Whether memory runs out for a tick to this minute. The earlier events stay.
-fn is_cut_short<L: Ledger, R: Abort>(
-    rt: &R,
-    alloc: Global,
-    desk: &mut Desk<L>,
-    minute: Minute,
-) -> bool {
+fn is_cut_short<L: Ledger, R: Abort>(rt: &R, desk: &mut Desk<L>, minute: Minute) -> bool {
     let (present, total) = (desk.now(), desk.keep.total());
-    match desk.tick(alloc, present, minute) {
+    match desk.tick(present, minute) {
         Ok(()) => false,
         Err(fault) => {
             assert!(rt; fault == TickFault::OutOfMemory && total <= desk.keep.total());
@@ -133,14 +128,13 @@ fn is_cut_short<L: Ledger, R: Abort>(
 /// many there were.
 fn refused_ticks<L: Ledger, R: Abort>(
     rt: &R,
-    alloc: Global,
     desk: &mut Desk<L>,
     hoard: &mut Hoard,
     count: u64,
 ) -> u32 {
     let minute = minute(count).expect(rt, "a minute");
     for refused in 0..MOST {
-        if !is_cut_short(rt, alloc, desk, minute) {
+        if !is_cut_short(rt, desk, minute) {
             return refused;
         }
         assert!(rt; hoard.give_back(STEP));
@@ -158,8 +152,8 @@ fn tick_short<L: Ledger, R: Abort>(rt: &R, alloc: Global, blank: Blank)
     let mut desk = opened.expect(rt, "memory");
     let mut hoard = Hoard::new(alloc, 64).expect(rt, "memory");
     hoard.take_rest();
-    let before = refused_ticks(rt, alloc, &mut desk, &mut hoard, 59);
-    let refused = refused_ticks(rt, alloc, &mut desk, &mut hoard, 60);
+    let before = refused_ticks(rt, &mut desk, &mut hoard, 59);
+    let refused = refused_ticks(rt, &mut desk, &mut hoard, 60);
     hoard.free_all();
     assert!(rt;
         1 < before && before < MOST && 1 < refused && refused < MOST,

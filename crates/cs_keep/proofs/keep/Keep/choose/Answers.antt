@@ -9,22 +9,22 @@ use Rattle.cs_keep.proofs.keep.Keep.choose.Goals as goal
 
 pub make-requires : goal.make-requires
 make-requires g c =
-    let next : next_of c.args.kind (plan_of c.loop-next.self) c.loop-next.self.core.state ≡ Some c.in-Some.event = sym c.in-Ok.ensures ∙ c.in-Some.is in
-    (next_is c.args.kind (plan_of c.loop-next.self) c.loop-next.self.core.state c.in-Some.event next).1
+    let next : next_of c.args.kind (plan_of c.loop-event.self) c.loop-event.self.core.state ≡ Some c.in-Some.event = sym c.next.ensures ∙ c.in-Some.is in
+    (next_is c.args.kind (plan_of c.loop-event.self) c.loop-event.self.core.state c.in-Some.event next).1
 
-pub returns-in-Err-make : goal.returns-in-Err-make
-returns-in-Err-make g c =
-    let next : next_of c.args.kind (plan_of c.loop-next.self) c.loop-next.self.core.state ≡ Some c.in-Some.event = sym c.in-Ok.ensures ∙ c.in-Some.is in
-    stopped_at c.args.kind (c.args.self.now, c.args.seat.now) (c.loop-next.self, c.loop-next.seat) c.loop-next.invariant.underway c.in-Some.event c.in-Err-make.fault (c.make.new.self, c.make.new.seat) next c.in-Err-make.ensures
+pub returns-in-Err : goal.returns-in-Err
+returns-in-Err g c =
+    let next : next_of c.args.kind (plan_of c.loop-event.self) c.loop-event.self.core.state ≡ Some c.in-Some.event = sym c.next.ensures ∙ c.in-Some.is in
+    stopped_at c.args.kind (c.args.self.now, c.args.seat.now) (c.loop-event.self, c.loop-event.seat) c.loop-event.invariant.underway c.in-Some.event c.in-Err.fault (c.make.new.self, c.make.new.seat) next c.in-Err.ensures
 
-pub loop-next-smaller : goal.loop-next-smaller
-loop-next-smaller g c =
-    let next : next_of c.args.kind (plan_of c.loop-next.self) c.loop-next.self.core.state ≡ Some c.in-Some.event = sym c.in-Ok.ensures ∙ c.in-Some.is in
-    let less = fewer c.args.kind (plan_of c.loop-next.self) c.loop-next.self.core.state c.in-Some.event next in
-    let state : c.make.new.self.core.state ≡ after (plan_of c.loop-next.self) c.loop-next.self.core.state c.in-Some.event = ap (λ (x : Keeping × Place). x.0.core.state) c.in_default-make.ensures in
+pub loop-event-smaller : goal.loop-event-smaller
+loop-event-smaller g c =
+    let next : next_of c.args.kind (plan_of c.loop-event.self) c.loop-event.self.core.state ≡ Some c.in-Some.event = sym c.next.ensures ∙ c.in-Some.is in
+    let less = fewer c.args.kind (plan_of c.loop-event.self) c.loop-event.self.core.state c.in-Some.event next in
+    let state : c.make.new.self.core.state ≡ after (plan_of c.loop-event.self) c.loop-event.self.core.state c.in-Some.event = ap (λ (x : Keeping × Place). x.0.core.state) c.in_default-make.ensures in
     omega (arith, less, ap (λ (s : State). most c.args.kind s) state)
 
-pub loop-next-preserved : goal.loop-next-preserved
-loop-next-preserved g c =
-    let next : next_of c.args.kind (plan_of c.loop-next.self) c.loop-next.self.core.state ≡ Some c.in-Some.event = sym c.in-Ok.ensures ∙ c.in-Some.is in
-    record { kind = refl; underway = one_more_made c.args.kind (c.args.self.now, c.args.seat.now) (c.loop-next.self, c.loop-next.seat) c.loop-next.invariant.underway c.in-Some.event (c.make.new.self, c.make.new.seat) next c.in_default-make.ensures }
+pub loop-event-preserved : goal.loop-event-preserved
+loop-event-preserved g c =
+    let next : next_of c.args.kind (plan_of c.loop-event.self) c.loop-event.self.core.state ≡ Some c.in-Some.event = sym c.next.ensures ∙ c.in-Some.is in
+    record { kind = refl; underway = one_more_made c.args.kind (c.args.self.now, c.args.seat.now) (c.loop-event.self, c.loop-event.seat) c.loop-event.invariant.underway c.in-Some.event (c.make.new.self, c.make.new.seat) next c.in_default-make.ensures }

@@ -150,15 +150,13 @@ fn tick_short<L: Ledger, R: Abort>(rt: &R, alloc: Global, blank: Blank)
     let checked = checked(rt, alloc, &HOURLY);
     let opened: Option<Desk<L>> = Desk::open(alloc, blank, 1, &checked, false);
     let mut desk = opened.expect(rt, "memory");
+    let before = minute(59).expect(rt, "a minute");
+    assert!(rt; !is_cut_short(rt, &mut desk, before));
     let mut hoard = Hoard::new(alloc, 64).expect(rt, "memory");
     hoard.take_rest();
-    let before = refused_ticks(rt, &mut desk, &mut hoard, 59);
     let refused = refused_ticks(rt, &mut desk, &mut hoard, 60);
     hoard.free_all();
-    assert!(rt;
-        1 < before && before < MOST && 1 < refused && refused < MOST,
-        "{before} {refused}"
-    );
+    assert!(rt; 1 < refused && refused < MOST, "{refused}");
     assert!(rt; desk.counts() == (3, 3, 3) && desk.keep.core().running().len() == 1);
 }
 

@@ -15,11 +15,11 @@ from hostile_calls.worked import worked_certificates
 
 # The number of the rule that each leaf lists its windows.
 LEAVES = 5
-# So many entries are taken out of certificates of so many bytes, by the seed, and of those by which
-# this rule or an earlier one is broken already; of others each one.
-LONG, OF_A_LONG_ONE = 600, 4
-VERY_LONG, OF_A_VERY_LONG_ONE = 30_000, 1
-OF_A_BROKEN_ONE = 2
+# Of certificates of so many bytes as many entries are taken out, by the seed; so many too of those
+# by which this rule or an earlier one is broken already; of others each one.
+LONG, OF_A_LONG_ONE, OF_A_BROKEN_ONE = 600, 4, 2
+# Of those of so many bytes one is taken.
+VERY_LONG = 30_000
 
 
 def leaves(tree, place, first=0, end=DAY):
@@ -77,21 +77,24 @@ class Judged:
 
 def how_many(it, judged, entries_there):
     """Returns how many entries of a certificate are taken out, one after the other."""
-    if len(it.text) > VERY_LONG:
-        return OF_A_VERY_LONG_ONE
     if judged.broken:
         return min(OF_A_BROKEN_ONE, entries_there)
     return OF_A_LONG_ONE if len(it.text) > LONG else entries_there
 
 
+def listing_ones(chance):
+    """Returns the worked certificates that list entries, of the very long ones one by the seed."""
+    found = [it for it in worked_certificates() if all_entries(json.loads(it.text))]
+    very_long = [it for it in found if len(it.text) > VERY_LONG]
+    one = chance.sample(very_long, min(1, len(very_long)))
+    return [it for it in found if it not in very_long] + one
+
+
 def entries(chance):
     """Yields worked certificates without each of their entries, of some without a few."""
-    for it in worked_certificates():
+    for it in listing_ones(chance):
         value = json.loads(it.text)
-        found = all_entries(value)
-        if not found:
-            continue
-        judged = Judged(it, value)
+        found, judged = all_entries(value), Judged(it, value)
         for place, of, leaf in chance.sample(found, how_many(it, judged, len(found))):
             call = check_of(f"no {place}", it, text_of(taken_out(value, place)))
             yield call._replace(is_missed=judged.is_missed_without(place, of, leaf))

@@ -80,9 +80,7 @@ def long_texts(chance):
         for length in (MOST_BYTES, MOST_BYTES + 1):
             blanks = b" " * (length - len(text))
             yield check_of(f"{length} bytes, blank behind", it, text + blanks)
-            yield check_of(f"{length} bytes, blank before", it, blanks + text)
             yield check_of(f"{length} bytes, blank within", it, text[:1] + blanks + text[1:])
-            yield check_of(f"{length} bytes and no end", it, text[:-1] + blanks)
 
 
 def limits(chance):

@@ -10,15 +10,11 @@ NAMES = {
     "backlog": [],
     "carry": [],
     "class": 0,
-    "split": "day",
-    "of": [0, 0],
-    "tree": {"list": []},
     "list": [],
-    "at": 720,
     "capacity": 1,
     "": None,
 }
-DOUBLES = (b"null", b"0", b"2", b"[]")
+DOUBLES = (b"null", b"1", b"[]")
 RENAMED = 1
 DOUBLED = b'"%s":"%s"' % (MARK.encode(), MARK.encode())
 

@@ -1,10 +1,10 @@
 """Certificates with other values, first of all numbers, at each sort of place."""
 from hostile_calls.parts import check_of, part_of, places_by_sort, text_with
 
-OTHERS = b'0 1.5 1e400 "0" "month" null [] {} [0] {"class":0}'.split()
+OTHERS = b'0 1.5 "0" null [] {} [0]'.split()
 NUMBERS = (
-    b"0 -1 1 2 3 -0 01 1.5 1e3 1e400 64 320 1440 1441 4320 4321 1000000 1000001 4294967296"
-    b' 9223372036854775808 18446744073709551615 18446744073709551616 "0" null []'
+    b"0 -1 1 2 3 -0 01 1.5 1e3 1e400 64 320 1440 4321 1000001 4294967296 18446744073709551615"
+    b' 18446744073709551616 "0" null []'
 ).split()
 
 

@@ -212,6 +212,7 @@ def refused_certificate(room):
     For a daemon that runs what wasn't accepted, before or after it says so, and for one that says
     it in other words or with another status than `check`.
     """
+    absent = "cronsafe: can't read certificate: there is no such file\n"
     empty_leaf = (
         '{"classes":[{"backlog":[],"due":[]}],"kinds":{"class":0},'
         '"pairs":[{"of":[0,0],"tree":{"list":[]}}],"reach":[],"version":1}'
@@ -221,7 +222,7 @@ def refused_certificate(room):
     cases = [
         ("", plan, empty_leaf, (1, f"refused 5 WindowMissing: {window}\n", "")),
         ("", plan, empty_leaf[:-1], (3, "", "cronsafe: certificate: 2 NotJson\n")),
-        ("", plan, None, (6, "", "cronsafe: can't read certificate\n")),
+        ("", plan, None, (6, "", absent)),
         ("", declared(1), empty_leaf, (3, "", "cronsafe: declarations: 4 Undeclared at job a\n")),
         ("60 * * * * x\n", plan, empty_leaf, (3, "", "cronsafe: crontab line 1: 7 OutOfField\n")),
     ]

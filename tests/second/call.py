@@ -155,7 +155,9 @@ class Call:
         except Fault as fault:
             return Answer(3, b"", self.warned + b"cronsafe: %s\n" % fault.text())
         except Unread as unread:
-            return Answer(6, b"", self.warned + b"cronsafe: can't read %s\n" % unread.args[0])
+            why = b"it is a folder" if unread.args[0] == b"." else b"there is no such file"
+            told = b"cronsafe: can't read %s: %s\n" % (unread.args[0], why)
+            return Answer(6, b"", self.warned + told)
         except NoCall:
             return Answer(4, b"", None)
 

@@ -5,6 +5,11 @@ use Rattle.clap.specs.declared.error.Error.{Error}
 use Rattle.clap.specs.declared.error.kind.ErrorKind.TheVariants.{DisplayHelp, DisplayVersion}
 use Rattle.clap.specs.declared.error.kind.ErrorKind.TheVariants as kind
 use Rattle.cs_call.specs.CommandLine.{Asked, AskedCheck, AskedReplay, Asking, Asks, AsksHelp, AsksVersion, Check, Day, Help as HelpAsking, IsNoCall, Replay, asked_by, asked_in, check_in, help_in, replay_in}
+use Rattle.cs_call.specs.CommandLine.{AskedChart, AskedDraft, AskedLint, Chart, Draft, Explain, Lint}
+use Rattle.cs_call.specs.CommandLine.{chart_in, draft_in, lint_in}
+use Rattle.cs_call.specs.declared.request.ChartWords.{ChartWords}
+use Rattle.cs_call.specs.declared.request.DraftWords.{DraftWords}
+use Rattle.cs_call.specs.declared.request.LintWords.{LintWords}
 use Rattle.cs_call.specs.declared.request.CheckWords.{CheckWords}
 use Rattle.cs_call.specs.CommandLine.{AskedJudge, AskedMake, AskedRun, Judge, Make, Run, judge_in, make_in, run_in}
 use Rattle.cs_call.specs.declared.request.JudgeWords.{JudgeWords}
@@ -45,6 +50,27 @@ asked_judge j = record {
 abbrev pub asked_make : MakeWords → AskedMake
 asked_make m = record { judge = asked_judge m.judge; compact = m.compact }
 
+abbrev pub asked_draft : DraftWords → AskedDraft
+asked_draft d = record {
+  table = d.table.now;
+  max = d.max;
+  anacrontab = option_map (λ path. path.now) d.anacrontab;
+}
+
+abbrev pub asked_lint : LintWords → AskedLint
+asked_lint l = record {
+  table = l.table.now;
+  declarations = option_map (λ path. path.now) l.declarations;
+  anacrontab = option_map (λ path. path.now) l.anacrontab;
+}
+
+abbrev pub asked_chart : ChartWords → AskedChart
+asked_chart c = record {
+  day = asked c.day;
+  days = c.days;
+  declarations = option_map (λ path. path.now) c.declarations;
+}
+
 abbrev pub asking : Request → Asking
 asking (request.Day d) = Day (asked d)
 asking (request.Replay r) = Replay (asked_replay r)
@@ -52,6 +78,10 @@ asking (request.Check c) = Check (asked_check c)
 asking (request.Run r) = Run (asked_run r)
 asking (request.Judge j) = Judge (asked_judge j)
 asking (request.Make m) = Make (asked_make m)
+asking (request.Draft d) = Draft (asked_draft d)
+asking (request.Lint l) = Lint (asked_lint l)
+asking (request.Chart c) = Chart (asked_chart c)
+asking (request.Explain name) = Explain (option_map (λ name. name.now) name)
 
 -- the words ask what is answered; help and the version are answered where they are asked for, and a
 -- fault of the words where there is one
@@ -62,69 +92,48 @@ Parses words (Err Version) = AsksVersion words
 Parses words (Err (NoCall text)) = IsNoCall words
 Parses words (Err OutOfMemory) = ⊤
 
--- a number is answered where there is one, and a fault of the words where there is none
+-- what is asked is answered, and a fault of the words where nothing is
+abbrev pub AnswersFor : {W A : Type 0} → (W → A) → Option A → Result W UsageFault → Type 0
+AnswersFor view wanted (Ok words) = wanted ≡ Some (view words)
+AnswersFor view wanted (Err (Help text)) = ⊥
+AnswersFor view wanted (Err Version) = ⊥
+AnswersFor view wanted (Err (NoCall text)) = wanted ≡ None
+AnswersFor view wanted (Err OutOfMemory) = ⊤
+
+-- so of a number, and of one that may be left out
 abbrev pub NumberAsked : Option ℕ → Result ℕ UsageFault → Type 0
-NumberAsked written (Ok n) = written ≡ Some n
-NumberAsked written (Err (Help text)) = ⊥
-NumberAsked written (Err Version) = ⊥
-NumberAsked written (Err (NoCall text)) = written ≡ None
-NumberAsked written (Err OutOfMemory) = ⊤
+NumberAsked = AnswersFor (λ n. n)
 
--- the same of the entries that follow `day`
-abbrev pub DayAsked : List Row → Result DayWords UsageFault → Type 0
-DayAsked rows (Ok d) = asked_in rows ≡ Some (asked d)
-DayAsked rows (Err (Help text)) = ⊥
-DayAsked rows (Err Version) = ⊥
-DayAsked rows (Err (NoCall text)) = asked_in rows ≡ None
-DayAsked rows (Err OutOfMemory) = ⊤
-
--- and of those that follow `replay`
-abbrev pub ReplayAsked : List Row → Result ReplayWords UsageFault → Type 0
-ReplayAsked rows (Ok r) = replay_in rows ≡ Some (asked_replay r)
-ReplayAsked rows (Err (Help text)) = ⊥
-ReplayAsked rows (Err Version) = ⊥
-ReplayAsked rows (Err (NoCall text)) = replay_in rows ≡ None
-ReplayAsked rows (Err OutOfMemory) = ⊤
-
--- and of those that follow `check`
-abbrev pub CheckAsked : List Row → Result CheckWords UsageFault → Type 0
-CheckAsked rows (Ok c) = check_in rows ≡ Some (asked_check c)
-CheckAsked rows (Err (Help text)) = ⊥
-CheckAsked rows (Err Version) = ⊥
-CheckAsked rows (Err (NoCall text)) = check_in rows ≡ None
-CheckAsked rows (Err OutOfMemory) = ⊤
-
--- the same of a number that may be left out
 abbrev pub MinutesAsked : Option (Option ℕ) → Result (Option ℕ) UsageFault → Type 0
-MinutesAsked written (Ok n) = written ≡ Some n
-MinutesAsked written (Err (Help text)) = ⊥
-MinutesAsked written (Err Version) = ⊥
-MinutesAsked written (Err (NoCall text)) = written ≡ None
-MinutesAsked written (Err OutOfMemory) = ⊤
+MinutesAsked = AnswersFor (λ n. n)
 
--- and of the entries that follow `run`
+-- and of the entries that follow a subcommand
+abbrev pub DayAsked : List Row → Result DayWords UsageFault → Type 0
+DayAsked rows = AnswersFor asked (asked_in rows)
+
+abbrev pub ReplayAsked : List Row → Result ReplayWords UsageFault → Type 0
+ReplayAsked rows = AnswersFor asked_replay (replay_in rows)
+
+abbrev pub CheckAsked : List Row → Result CheckWords UsageFault → Type 0
+CheckAsked rows = AnswersFor asked_check (check_in rows)
+
 abbrev pub RunAsked : List Row → Result RunWords UsageFault → Type 0
-RunAsked rows (Ok r) = run_in rows ≡ Some (asked_run r)
-RunAsked rows (Err (Help text)) = ⊥
-RunAsked rows (Err Version) = ⊥
-RunAsked rows (Err (NoCall text)) = run_in rows ≡ None
-RunAsked rows (Err OutOfMemory) = ⊤
+RunAsked rows = AnswersFor asked_run (run_in rows)
 
--- and of those that follow `judge`, and of `make` the same of them
 abbrev pub JudgeAsked : List Row → Result JudgeWords UsageFault → Type 0
-JudgeAsked rows (Ok j) = judge_in rows ≡ Some (asked_judge j)
-JudgeAsked rows (Err (Help text)) = ⊥
-JudgeAsked rows (Err Version) = ⊥
-JudgeAsked rows (Err (NoCall text)) = judge_in rows ≡ None
-JudgeAsked rows (Err OutOfMemory) = ⊤
+JudgeAsked rows = AnswersFor asked_judge (judge_in rows)
 
--- and of those that follow `make`
 abbrev pub MakeAsked : List Row → Result MakeWords UsageFault → Type 0
-MakeAsked rows (Ok m) = make_in rows ≡ Some (asked_make m)
-MakeAsked rows (Err (Help text)) = ⊥
-MakeAsked rows (Err Version) = ⊥
-MakeAsked rows (Err (NoCall text)) = make_in rows ≡ None
-MakeAsked rows (Err OutOfMemory) = ⊤
+MakeAsked rows = AnswersFor asked_make (make_in rows)
+
+abbrev pub DraftAsked : List Row → Result DraftWords UsageFault → Type 0
+DraftAsked rows = AnswersFor asked_draft (draft_in rows)
+
+abbrev pub LintAsked : List Row → Result LintWords UsageFault → Type 0
+LintAsked rows = AnswersFor asked_lint (lint_in rows)
+
+abbrev pub ChartAsked : List Row → Result ChartWords UsageFault → Type 0
+ChartAsked rows = AnswersFor asked_chart (chart_in rows)
 
 -- and of those that follow `help`: a text of it
 abbrev pub HelpAsked : {T : Type 0} → List Row → Result T UsageFault → Type 0

@@ -38,7 +38,7 @@ abbrev pub with_hours : App → App
 with_hours app = with_rule (with_rule (with_rule app (option_rule (codes "anacrontab"))) (option_rule (codes "from"))) (option_rule (codes "to"))
 
 -- `day TABLE DATE MAX [--anacrontab FILE] [--from M] [--to M]`
-abbrev pub day_app : App
+unfoldable pub day_app : App
 day_app = with_hours (with_words (new_app (codes "day")))
 
 -- `[--max N] [--anacrontab FILE] [--declarations FILE]`
@@ -46,7 +46,7 @@ abbrev pub with_terms : App → App
 with_terms app = with_rule (with_rule (with_rule app (option_rule (codes "max"))) (option_rule (codes "anacrontab"))) (option_rule (codes "declarations"))
 
 -- `replay TABLE SCRIPT [--max N] [--anacrontab FILE] [--declarations FILE]`
-abbrev pub replay_app : App
+unfoldable pub replay_app : App
 replay_app = with_terms (with_rule (with_rule (new_app (codes "replay")) (required_rule (codes "TABLE"))) (required_rule (codes "SCRIPT")))
 
 -- `TABLE DECLS CERT`
@@ -56,11 +56,11 @@ with_certificate app =
     (required_rule (codes "DECLS"))) (required_rule (codes "CERT"))
 
 -- `check TABLE DECLS CERT [--anacrontab FILE]`
-abbrev pub check_app : App
+unfoldable pub check_app : App
 check_app = with_rule (with_certificate (new_app (codes "check"))) (option_rule (codes "anacrontab"))
 
 -- `run TABLE DECLS CERT STAMPS [--anacrontab FILE] [--minutes N]`
-abbrev pub run_app : App
+unfoldable pub run_app : App
 run_app =
     with_rule (with_rule (with_rule (with_certificate (new_app (codes "run")))
     (required_rule (codes "STAMPS"))) (option_rule (codes "anacrontab")))
@@ -73,37 +73,67 @@ plan_app name =
     (required_rule (codes "DECLS"))) (option_rule (codes "anacrontab"))
 
 -- `judge TABLE DECLS [--anacrontab FILE]`
-abbrev pub judge_app : App
+unfoldable pub judge_app : App
 judge_app = plan_app (codes "judge")
 
 -- `make TABLE DECLS [--anacrontab FILE] [--compact]`
-abbrev pub make_app : App
+unfoldable pub make_app : App
 make_app = with_rule (plan_app (codes "make")) (flag_rule (codes "compact"))
 
+-- `draft TABLE [--anacrontab FILE] [--max N]`
+unfoldable pub draft_app : App
+draft_app =
+    with_rule (with_rule (with_rule (new_app (codes "draft")) (required_rule (codes "TABLE")))
+    (option_rule (codes "anacrontab"))) (option_rule (codes "max"))
+
+-- `lint TABLE [DECLS] [--anacrontab FILE]`
+unfoldable pub lint_app : App
+lint_app =
+    with_rule (with_rule (with_rule (new_app (codes "lint")) (required_rule (codes "TABLE")))
+    (new_rule (codes "DECLS"))) (option_rule (codes "anacrontab"))
+
+-- `chart TABLE DATE MAX [--anacrontab FILE] [--from M] [--to M] [--days N] [--declarations FILE]`
+unfoldable pub chart_app : App
+chart_app =
+    with_rule (with_rule (with_hours (with_words (new_app (codes "chart"))))
+    (option_rule (codes "days"))) (option_rule (codes "declarations"))
+
+-- `explain [NAME]`
+unfoldable pub explain_app : App
+explain_app = with_rule (new_app (codes "explain")) (new_rule (codes "NAME"))
+
 -- `help [COMMAND]`
-abbrev pub help_app : App
+unfoldable pub help_app : App
 help_app = with_rule (new_app (codes "help")) (new_rule (codes "COMMAND"))
 
 -- what `cronsafe` says of itself: it has a version, and wants a subcommand, of which `help` is its own
-abbrev pub top_app : App
+unfoldable pub top_app : App
 top_app = on_top (λ s. record s { disable_help_subcommand = true; subcommand_required = true; has_version = true })
     (new_app (codes "cronsafe"))
 
 -- `cronsafe` with the subcommands `judge` and `make`
-abbrev pub judge_and_make_app : App
+unfoldable pub judge_and_make_app : App
 judge_and_make_app = with_subcommand (with_subcommand top_app judge_app.top) make_app.top
 
 -- and with `check` and `run`
-abbrev pub up_to_run_app : App
+unfoldable pub up_to_run_app : App
 up_to_run_app = with_subcommand (with_subcommand judge_and_make_app check_app.top) run_app.top
 
 -- and with `day` and `replay`
-abbrev pub up_to_replay_app : App
+unfoldable pub up_to_replay_app : App
 up_to_replay_app = with_subcommand (with_subcommand up_to_run_app day_app.top) replay_app.top
 
+-- and with `draft` and `lint`
+unfoldable pub up_to_lint_app : App
+up_to_lint_app = with_subcommand (with_subcommand up_to_replay_app draft_app.top) lint_app.top
+
+-- and with `chart` and `explain`
+unfoldable pub up_to_explain_app : App
+up_to_explain_app = with_subcommand (with_subcommand up_to_lint_app chart_app.top) explain_app.top
+
 -- and with `help`
-abbrev pub cronsafe_app : App
-cronsafe_app = with_subcommand up_to_replay_app help_app.top
+unfoldable pub cronsafe_app : App
+cronsafe_app = with_subcommand up_to_explain_app help_app.top
 
 -- the number that digits write, where it is below 2 ^ 64
 abbrev pub number_of : Text → Option ℕ
@@ -156,6 +186,24 @@ pub record AskedMake : Type 0 where
   pub judge : AskedJudge
   pub compact : Bool
 
+-- what `draft` is asked: the paths of a table and of an anacrontab, and a longest time in minutes
+pub record AskedDraft : Type 0 where
+  pub table : Text
+  pub max : ℕ
+  pub anacrontab : Option Text
+
+-- what `lint` is asked: the paths of a table, of declarations and of an anacrontab
+pub record AskedLint : Type 0 where
+  pub table : Text
+  pub declarations : Option Text
+  pub anacrontab : Option Text
+
+-- what `chart` is asked: what `day` is, for how many days, and the path of declarations
+pub record AskedChart : Type 0 where
+  pub day : Asked
+  pub days : ℕ
+  pub declarations : Option Text
+
 -- what words may ask: a subcommand, or, by the subcommand `help`, how the program is called
 pub data Asking : Type 0 where
   Day : Asked → Asking
@@ -164,6 +212,10 @@ pub data Asking : Type 0 where
   Run : AskedRun → Asking
   Judge : AskedJudge → Asking
   Make : AskedMake → Asking
+  Draft : AskedDraft → Asking
+  Lint : AskedLint → Asking
+  Chart : AskedChart → Asking
+  Explain : Option Text → Asking
   Help : Asking
 
 -- the first value of an argument, and this text where it has none
@@ -261,13 +313,65 @@ make_in rows =
     option_map (λ judge. record { judge = judge; compact = has_flag (codes "compact") rows })
     (judge_in rows)
 
+-- what the entries of `draft` ask, where `--max` has this number
+abbrev pub draft_with : List Row → ℕ → Option AskedDraft
+draft_with rows max =
+    let table = value_or [] (codes "TABLE") rows in
+    let anacrontab = first_of (codes "anacrontab") rows in
+    if is_twice_standard table anacrontab then None
+    else Some (record { table = table; max = max; anacrontab = anacrontab })
+
+-- what the entries of `draft` ask: `--max` has to be a number, by default 60, and standard input is named
+-- once at most
+abbrev pub draft_in : List Row → Option AskedDraft
+draft_in rows =
+    option_and_then (λ max. draft_with rows max)
+    (number_of (value_or (codes "60") (codes "max") rows))
+
+-- what the entries of `lint` ask: standard input is named once at most
+abbrev pub lint_in : List Row → Option AskedLint
+lint_in rows =
+    let table = value_or [] (codes "TABLE") rows in
+    let declarations = first_of (codes "DECLS") rows in
+    let anacrontab = first_of (codes "anacrontab") rows in
+    if are_dashes table [] anacrontab declarations then None
+    else Some (record { table = table; declarations = declarations; anacrontab = anacrontab })
+
+-- so many days are from one to a week
+abbrev pub is_up_to_a_week : ℕ → Bool
+is_up_to_a_week days = nat_lt 0 days && nat_lt days 8
+
+-- what the entries of `chart` ask, where those of `day` ask this and `--days` has this number
+abbrev pub chart_with : List Row → Asked → ℕ → Option AskedChart
+chart_with rows day days =
+    let declarations = first_of (codes "declarations") rows in
+    if are_dashes day.table [] day.anacrontab declarations then None
+    else if is_up_to_a_week days
+    then Some (record { day = day; days = days; declarations = declarations })
+    else None
+
+-- what the entries of `chart` ask: those of `day` ask something, `--days` has to be a number from 1 to 7,
+-- by default 1, and standard input is named once at most
+abbrev pub chart_in : List Row → Option AskedChart
+chart_in rows =
+    option_and_then (λ day. option_and_then (λ days. chart_with rows day days)
+    (number_of (value_or (codes "1") (codes "days") rows))) (asked_in rows)
+
 -- the names of the subcommands
+abbrev pub is_planned_name : Text → Bool
+is_planned_name name =
+    bytes_eq name (codes "check") || (bytes_eq name (codes "run")
+    || (bytes_eq name (codes "judge") || bytes_eq name (codes "make")))
+
+abbrev pub is_shown_name : Text → Bool
+is_shown_name name =
+    bytes_eq name (codes "draft") || (bytes_eq name (codes "lint")
+    || (bytes_eq name (codes "chart") || bytes_eq name (codes "explain")))
+
 abbrev pub is_subcommand : Text → Bool
 is_subcommand name =
     bytes_eq name (codes "day") || (bytes_eq name (codes "replay")
-    || (bytes_eq name (codes "check") || (bytes_eq name (codes "run")
-    || (bytes_eq name (codes "judge")
-    || (bytes_eq name (codes "make") || bytes_eq name (codes "help"))))))
+    || (is_planned_name name || (is_shown_name name || bytes_eq name (codes "help"))))
 
 -- what the entries of `help` ask: help, but of no other subcommand
 abbrev pub help_in : List Row → Option Asking
@@ -281,6 +385,10 @@ asked_by name rows =
     else if bytes_eq name (codes "run") then option_map Run (run_in rows)
     else if bytes_eq name (codes "judge") then option_map Judge (judge_in rows)
     else if bytes_eq name (codes "make") then option_map Make (make_in rows)
+    else if bytes_eq name (codes "draft") then option_map Draft (draft_in rows)
+    else if bytes_eq name (codes "lint") then option_map Lint (lint_in rows)
+    else if bytes_eq name (codes "chart") then option_map Chart (chart_in rows)
+    else if bytes_eq name (codes "explain") then Some (Explain (first_of (codes "NAME") rows))
     else if bytes_eq name (codes "help") then help_in rows
     else option_map Day (asked_in rows)
 

@@ -4,14 +4,18 @@ ghost use Rattle.clap.specs.Words.{app_of, rule_of, with_rule};
 ghost use Rattle.cs_call.specs.CommandLine.{IsLocal, check_app, cronsafe_app, day_app, help_app, judge_and_make_app};
 ghost use Rattle.cs_call.specs.CommandLine.{judge_app, make_app, plan_app, replay_app, run_app};
 ghost use Rattle.cs_call.specs.CommandLine.{up_to_replay_app, up_to_run_app, with_certificate};
+ghost use Rattle.cs_call.specs.CommandLine.{chart_app, draft_app, explain_app, lint_app};
+ghost use Rattle.cs_call.specs.CommandLine.{up_to_explain_app, up_to_lint_app};
+ghost use Rattle.cs_call.specs.CommandLine.{is_planned_name, is_shown_name};
 ghost use Rattle.cs_call.specs.CommandLine.{flag_rule, is_subcommand, option_rule, required_rule, with_hours, with_terms, with_words};
 
 use crate::texts::{
-    ABOUT, ANACRONTAB_HELP, CERTIFICATE_HELP, CHECK_ABOUT, CHECK_EXAMPLE, COMMAND_HELP,
-    COMPACT_HELP, DATE_HELP, DAY_ABOUT, DAY_EXAMPLE, DECLARATIONS_HELP, EXAMPLE, FROM_HELP,
-    HELP_ABOUT, JUDGE_ABOUT, JUDGE_EXAMPLE, MAKE_ABOUT, MAKE_EXAMPLE, MAX_HELP, MINUTES_HELP,
-    REPLAY_ABOUT, REPLAY_EXAMPLE, REPLAY_MAX_HELP, RUN_ABOUT, RUN_EXAMPLE, SCRIPT_HELP,
-    STAMPS_HELP, TABLE_HELP, TO_HELP,
+    ABOUT, ANACRONTAB_HELP, CERTIFICATE_HELP, CHART_ABOUT, CHART_EXAMPLE, CHECK_ABOUT,
+    CHECK_EXAMPLE, COMMAND_HELP, COMPACT_HELP, DATE_HELP, DAY_ABOUT, DAY_EXAMPLE, DAYS_HELP,
+    DECLARATIONS_HELP, DRAFT_ABOUT, DRAFT_EXAMPLE, DRAFT_MAX_HELP, EXAMPLE, EXPLAIN_ABOUT,
+    EXPLAIN_EXAMPLE, FROM_HELP, HELP_ABOUT, JUDGE_ABOUT, JUDGE_EXAMPLE, LINT_ABOUT, LINT_EXAMPLE,
+    MAKE_ABOUT, MAKE_EXAMPLE, MAX_HELP, MINUTES_HELP, NAME_HELP, REPLAY_ABOUT, REPLAY_EXAMPLE,
+    REPLAY_MAX_HELP, RUN_ABOUT, RUN_EXAMPLE, SCRIPT_HELP, STAMPS_HELP, TABLE_HELP, TO_HELP,
 };
 use crate::version::version_text;
 use clap::error::ErrorKind;
@@ -85,6 +89,7 @@ fn with_hours<'a>(alloc: Global, command: Command<'a>) -> Result<Command<'a>, Al
 }
 
 /// `day TABLE DATE MAX [--anacrontab FILE] [--from M] [--to M]`.
+#[tactic(auto, unfolding(crate::specs::CommandLine::day_app))]
 fn day_command<'a>(alloc: Global) -> Result<Command<'a>, AllocError>
     ensures app { IfOk result (λ c. app_of c ≡ day_app) }
     ensures local { IfOk result IsLocal }
@@ -106,6 +111,7 @@ fn with_terms<'a>(alloc: Global, command: Command<'a>) -> Result<Command<'a>, Al
 }
 
 /// `replay TABLE SCRIPT [--max N] [--anacrontab FILE] [--declarations FILE]`.
+#[tactic(auto, unfolding(crate::specs::CommandLine::replay_app))]
 fn replay_command<'a>(alloc: Global) -> Result<Command<'a>, AllocError>
     ensures app { IfOk result (λ c. app_of c ≡ replay_app) }
     ensures local { IfOk result IsLocal }
@@ -130,6 +136,7 @@ fn with_certificate<'a>(alloc: Global, command: Command<'a>) -> Result<Command<'
 }
 
 /// `check TABLE DECLS CERT [--anacrontab FILE]`.
+#[tactic(auto, unfolding(crate::specs::CommandLine::check_app))]
 fn check_command<'a>(alloc: Global) -> Result<Command<'a>, AllocError>
     ensures app { IfOk result (λ c. app_of c ≡ check_app) }
     ensures local { IfOk result IsLocal }
@@ -142,6 +149,7 @@ fn check_command<'a>(alloc: Global) -> Result<Command<'a>, AllocError>
 }
 
 /// `run TABLE DECLS CERT STAMPS [--anacrontab FILE] [--minutes N]`.
+#[tactic(auto, unfolding(crate::specs::CommandLine::run_app))]
 fn run_command<'a>(alloc: Global) -> Result<Command<'a>, AllocError>
     ensures app { IfOk result (λ c. app_of c ≡ run_app) }
     ensures local { IfOk result IsLocal }
@@ -177,6 +185,7 @@ fn plan_command<'a>(
 }
 
 /// `judge TABLE DECLS [--anacrontab FILE]`.
+#[tactic(auto, unfolding(crate::specs::CommandLine::judge_app))]
 fn judge_command<'a>(alloc: Global) -> Result<Command<'a>, AllocError>
     ensures app { IfOk result (λ c. app_of c ≡ judge_app) }
     ensures local { IfOk result IsLocal }
@@ -185,6 +194,7 @@ fn judge_command<'a>(alloc: Global) -> Result<Command<'a>, AllocError>
 }
 
 /// `make TABLE DECLS [--anacrontab FILE] [--compact]`.
+#[tactic(auto, unfolding(crate::specs::CommandLine::make_app))]
 fn make_command<'a>(alloc: Global) -> Result<Command<'a>, AllocError>
     ensures app { IfOk result (λ c. app_of c ≡ make_app) }
     ensures local { IfOk result IsLocal }
@@ -193,7 +203,62 @@ fn make_command<'a>(alloc: Global) -> Result<Command<'a>, AllocError>
     command.arg(flag_arg(alloc, "compact", COMPACT_HELP))
 }
 
+/// `draft TABLE [--anacrontab FILE] [--max N]`.
+#[tactic(auto, unfolding(crate::specs::CommandLine::draft_app))]
+fn draft_command<'a>(alloc: Global) -> Result<Command<'a>, AllocError>
+    ensures app { IfOk result (λ c. app_of c ≡ draft_app) }
+    ensures local { IfOk result IsLocal }
+{
+    let command = Command::new(alloc, "draft")
+        .about(DRAFT_ABOUT)
+        .after_help(DRAFT_EXAMPLE)
+        .arg(required_arg(alloc, "TABLE", TABLE_HELP))?;
+    let command = with_option(alloc, command, "anacrontab", "FILE", ANACRONTAB_HELP)?;
+    with_option(alloc, command, "max", "N", DRAFT_MAX_HELP)
+}
+
+/// `lint TABLE [DECLS] [--anacrontab FILE]`.
+#[tactic(auto, unfolding(crate::specs::CommandLine::lint_app))]
+fn lint_command<'a>(alloc: Global) -> Result<Command<'a>, AllocError>
+    ensures app { IfOk result (λ c. app_of c ≡ lint_app) }
+    ensures local { IfOk result IsLocal }
+{
+    let command = Command::new(alloc, "lint")
+        .about(LINT_ABOUT)
+        .after_help(LINT_EXAMPLE)
+        .arg(required_arg(alloc, "TABLE", TABLE_HELP))?
+        .arg(Arg::new(alloc, "DECLS").help(DECLARATIONS_HELP))?;
+    with_option(alloc, command, "anacrontab", "FILE", ANACRONTAB_HELP)
+}
+
+/// `chart TABLE DATE MAX [--anacrontab FILE] [--from M] [--to M] [--days N] [--declarations FILE]`.
+#[tactic(auto, unfolding(crate::specs::CommandLine::chart_app))]
+fn chart_command<'a>(alloc: Global) -> Result<Command<'a>, AllocError>
+    ensures app { IfOk result (λ c. app_of c ≡ chart_app) }
+    ensures local { IfOk result IsLocal }
+{
+    let command = Command::new(alloc, "chart")
+        .about(CHART_ABOUT)
+        .after_help(CHART_EXAMPLE);
+    let command = with_hours(alloc, with_words(alloc, command)?)?;
+    let command = with_option(alloc, command, "days", "N", DAYS_HELP)?;
+    with_option(alloc, command, "declarations", "FILE", DECLARATIONS_HELP)
+}
+
+/// `explain [NAME]`.
+#[tactic(auto, unfolding(crate::specs::CommandLine::explain_app))]
+fn explain_command<'a>(alloc: Global) -> Result<Command<'a>, AllocError>
+    ensures app { IfOk result (λ c. app_of c ≡ explain_app) }
+    ensures local { IfOk result IsLocal }
+{
+    Command::new(alloc, "explain")
+        .about(EXPLAIN_ABOUT)
+        .after_help(EXPLAIN_EXAMPLE)
+        .arg(Arg::new(alloc, "NAME").help(NAME_HELP))
+}
+
 /// `help [COMMAND]`.
+#[tactic(auto, unfolding(crate::specs::CommandLine::help_app))]
 fn help_command<'a>(alloc: Global) -> Result<Command<'a>, AllocError>
     ensures app { IfOk result (λ c. app_of c ≡ help_app) }
     ensures local { IfOk result IsLocal }
@@ -204,6 +269,7 @@ fn help_command<'a>(alloc: Global) -> Result<Command<'a>, AllocError>
 }
 
 /// The program with the subcommands `judge` and `make`.
+#[tactic(auto, unfolding(crate::specs::CommandLine::top_app, crate::specs::CommandLine::judge_and_make_app))]
 fn judge_and_make<'a>(alloc: Global) -> Result<Command<'a>, AllocError>
     ensures { IfOk result (λ c. app_of c ≡ judge_and_make_app) }
 {
@@ -219,6 +285,7 @@ fn judge_and_make<'a>(alloc: Global) -> Result<Command<'a>, AllocError>
 }
 
 /// And with `check` and `run`.
+#[tactic(auto, unfolding(crate::specs::CommandLine::up_to_run_app))]
 fn up_to_run<'a>(alloc: Global) -> Result<Command<'a>, AllocError>
     ensures { IfOk result (λ c. app_of c ≡ up_to_run_app) }
 {
@@ -228,6 +295,7 @@ fn up_to_run<'a>(alloc: Global) -> Result<Command<'a>, AllocError>
 }
 
 /// And with `day` and `replay`.
+#[tactic(auto, unfolding(crate::specs::CommandLine::up_to_replay_app))]
 fn up_to_replay<'a>(alloc: Global) -> Result<Command<'a>, AllocError>
     ensures { IfOk result (λ c. app_of c ≡ up_to_replay_app) }
 {
@@ -236,11 +304,32 @@ fn up_to_replay<'a>(alloc: Global) -> Result<Command<'a>, AllocError>
         .subcommand(replay_command(alloc)?)
 }
 
+/// And with `draft` and `lint`.
+#[tactic(auto, unfolding(crate::specs::CommandLine::up_to_lint_app))]
+fn up_to_lint<'a>(alloc: Global) -> Result<Command<'a>, AllocError>
+    ensures { IfOk result (λ c. app_of c ≡ up_to_lint_app) }
+{
+    up_to_replay(alloc)?
+        .subcommand(draft_command(alloc)?)?
+        .subcommand(lint_command(alloc)?)
+}
+
+/// And with `chart` and `explain`.
+#[tactic(auto, unfolding(crate::specs::CommandLine::up_to_explain_app))]
+fn up_to_explain<'a>(alloc: Global) -> Result<Command<'a>, AllocError>
+    ensures { IfOk result (λ c. app_of c ≡ up_to_explain_app) }
+{
+    up_to_lint(alloc)?
+        .subcommand(chart_command(alloc)?)?
+        .subcommand(explain_command(alloc)?)
+}
+
 /// The command line of the program.
+#[tactic(auto, unfolding(crate::specs::CommandLine::cronsafe_app))]
 pub(crate) fn command<'a>(alloc: Global) -> Result<Command<'a>, AllocError>
     ensures { IfOk result (λ c. app_of c ≡ cronsafe_app) }
 {
-    up_to_replay(alloc)?.subcommand(help_command(alloc)?)
+    up_to_explain(alloc)?.subcommand(help_command(alloc)?)
 }
 
 /// A subcommand by its name.
@@ -252,7 +341,37 @@ pub(crate) enum Subcommand {
     Run,
     Judge,
     Make,
+    Draft,
+    Lint,
+    Chart,
+    Explain,
     Help,
+}
+
+/// The subcommand of a name, if it takes declarations and wants a verdict or a run.
+fn planned_by(name: &str) -> Option<Subcommand>
+    ensures { is_some result ≡ is_planned_name name.now }
+{
+    match name {
+        "check" => Some(Subcommand::Check),
+        "run" => Some(Subcommand::Run),
+        "judge" => Some(Subcommand::Judge),
+        "make" => Some(Subcommand::Make),
+        _ => None,
+    }
+}
+
+/// The subcommand of a name, if it helps to write the files or to read them.
+fn shown_by(name: &str) -> Option<Subcommand>
+    ensures { is_some result ≡ is_shown_name name.now }
+{
+    match name {
+        "draft" => Some(Subcommand::Draft),
+        "lint" => Some(Subcommand::Lint),
+        "chart" => Some(Subcommand::Chart),
+        "explain" => Some(Subcommand::Explain),
+        _ => None,
+    }
 }
 
 impl Subcommand {
@@ -263,12 +382,8 @@ impl Subcommand {
         match name {
             "day" => Some(Subcommand::Day),
             "replay" => Some(Subcommand::Replay),
-            "check" => Some(Subcommand::Check),
-            "run" => Some(Subcommand::Run),
-            "judge" => Some(Subcommand::Judge),
-            "make" => Some(Subcommand::Make),
             "help" => Some(Subcommand::Help),
-            _ => None,
+            _ => planned_by(name).or(shown_by(name)),
         }
     }
 
@@ -281,6 +396,10 @@ impl Subcommand {
             Subcommand::Run => run_command(alloc)?.bin_name("cronsafe run"),
             Subcommand::Judge => judge_command(alloc)?.bin_name("cronsafe judge"),
             Subcommand::Make => make_command(alloc)?.bin_name("cronsafe make"),
+            Subcommand::Draft => draft_command(alloc)?.bin_name("cronsafe draft"),
+            Subcommand::Lint => lint_command(alloc)?.bin_name("cronsafe lint"),
+            Subcommand::Chart => chart_command(alloc)?.bin_name("cronsafe chart"),
+            Subcommand::Explain => explain_command(alloc)?.bin_name("cronsafe explain"),
             Subcommand::Help => help_command(alloc)?.bin_name("cronsafe help"),
         }
     }

@@ -8,11 +8,11 @@ use Rattle.cs_check.specs.Checked.{certificate_in, plan_in}
 use Rattle.cs_check.specs.declared.checked.Checked.{Checked}
 use Rattle.cs_call.specs.CommandLine.{AskedCheck}
 use Rattle.cs_cli.specs.Check.{AreRead, IsProofOf, ReadsCertificate, safe_text}
-use Rattle.cs_cli.specs.Reads.{ReadsDeclared, ReadsTables}
-use Rattle.cs_cli.specs.Response.{Ending, done}
-use Rattle.cs_cli.specs.Trouble.{Trouble, ends, trouble_status}
+use Rattle.cs_reads.specs.Reads.{ReadsDeclared, ReadsTables}
+use Rattle.cs_reads.specs.Response.{Ending, done}
+use Rattle.cs_reads.specs.Trouble.{Trouble, ends, trouble_status}
 use Rattle.cs_io.specs.Files.{Failed}
-use Rattle.cs_cli.specs.Trouble.{InAnacrontab, InCertificate, InCrontab, InDeclarations, InScript, InWords, Unread}
+use Rattle.cs_reads.specs.Trouble.{InAnacrontab, InCertificate, InCrontab, InDeclarations, InScript, InWords, Unread}
 
 -- what was accepted is what was read
 pub are_read : (files : List ℕ → Option (List ℕ)) (a : AskedCheck) (tables : Table × JobTable) (before : Failed) (plan : Declared) (x : Content) (o : Option Checked)
@@ -40,7 +40,7 @@ safe_behind r s w safe is = is_safe s w (is ∙ ap (λ (x : Ending). record x { 
 -- a fault never has status 0
 fails : (t : Trouble) → trouble_status t ≢ 0
 fails (InWords fault) = λ e. absurd (cc)
-fails (Unread path) = λ e. absurd (cc)
+fails (Unread path reason) = λ e. absurd (cc)
 fails (InCrontab fault) = λ e. absurd (cc)
 fails (InAnacrontab fault) = λ e. absurd (cc)
 fails (InDeclarations fault) = λ e. absurd (cc)

@@ -1,14 +1,19 @@
 -- What is answered to the words of a call.
 use Rattle.std.specs.Prelude.{◌≡◌, ◌⊎◌, ℕ, Bool, true, false, List, [], Option}
 use Rattle.clap.specs.Words.{Text}
-use Rattle.cs_call.specs.CommandLine.{Asking, Check, Day, Help, Judge, Make, Replay, Run, Asks}
+use Rattle.cs_call.specs.CommandLine.{Asking, Asks, Chart, Check, Day, Draft, Explain, Help, Judge}
+use Rattle.cs_call.specs.CommandLine.{Lint, Make, Replay, Run}
 use Rattle.cs_call.specs.CommandLine.{AskedCheck, AsksHelp, AsksVersion, IsNoCall}
 use Rattle.cs_call.specs.Version.{version_text}
 use Rattle.cs_io.specs.Files.{Failed}
 use Rattle.cs_cli.specs.Answer.{AnswersRun, EndsAs}
-use Rattle.cs_cli.specs.DayAnswer.{AnswersDay}
-use Rattle.cs_cli.specs.Response.{Ending, done}
-use Rattle.cs_cli.specs.Replayed.{AnswersReplay}
+use Rattle.cs_views.specs.ChartAnswer.{AnswersChart}
+use Rattle.cs_views.specs.DayAnswer.{AnswersDay}
+use Rattle.cs_views.specs.DraftAnswer.{AnswersDraft}
+use Rattle.cs_views.specs.ExplainAnswer.{AnswersExplain}
+use Rattle.cs_views.specs.LintAnswer.{AnswersLint}
+use Rattle.cs_reads.specs.Response.{Ending, done}
+use Rattle.cs_views.specs.Replayed.{AnswersReplay}
 use Rattle.cs_cli.specs.Check.{AnswersCheck}
 use Rattle.cs_cli.specs.Safe.{AreSafe}
 use Rattle.cs_cli.specs.Judge.{AnswersJudge}
@@ -40,6 +45,10 @@ AnswersAsked (Run a) files before failed = AnswersRun a files before failed
 AnswersAsked (Judge a) files before failed = EndsAs (AnswersJudge Verdict a files before failed)
 AnswersAsked (Make a) files before failed =
     EndsAs (AnswersJudge (wanted_of a.compact) a.judge files before failed)
+AnswersAsked (Draft a) files before failed = EndsAs (AnswersDraft a files before failed)
+AnswersAsked (Lint a) files before failed = EndsAs (AnswersLint before failed)
+AnswersAsked (Chart a) files before failed = EndsAs (AnswersChart a files before failed)
+AnswersAsked (Explain name) files before failed = EndsAs (AnswersExplain before failed)
 AnswersAsked Help files before failed = EndsAs (ShowsHelp before failed)
 
 -- the version is shown

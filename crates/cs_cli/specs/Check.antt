@@ -18,9 +18,9 @@ use Rattle.cs_check.specs.declared.checked.Checked.{Checked}
 use Rattle.cs_refused.specs.Refused.{fault_text}
 use Rattle.cs_call.specs.CommandLine.{AskedCheck}
 use Rattle.cs_io.specs.Files.{Failed}
-use Rattle.cs_cli.specs.Response.{Ending, done}
-use Rattle.cs_cli.specs.Reads.{AndThen, Answered, Gives, ReadsAs, ReadsDeclared, ReadsTables}
-use Rattle.cs_cli.specs.Trouble.{InCertificate, Trouble}
+use Rattle.cs_reads.specs.Response.{Ending, done}
+use Rattle.cs_reads.specs.Reads.{AndThen, Answered, Gives, ReadsAs, ReadsDeclared, ReadsTables}
+use Rattle.cs_reads.specs.Trouble.{InCertificate, Trouble}
 
 -- what a certificate says that was read, wherever it lies in memory
 abbrev pub said : {E : Type 0} → Result Certificate E → Result Content E

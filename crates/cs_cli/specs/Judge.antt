@@ -11,9 +11,9 @@ use Rattle.cs_judge.specs.declared.answers.Outcome.TheVariants.{NoMemory, Safe, 
 use Rattle.cs_judge.specs.declared.answers.Wanted.{Wanted}
 use Rattle.cs_call.specs.CommandLine.{AskedJudge}
 use Rattle.cs_io.specs.Files.{Failed}
-use Rattle.cs_cli.specs.Response.{Ending}
-use Rattle.cs_cli.specs.Reads.{AndThen, Answered, GivesSome, ReadsDeclared, ReadsTables}
-use Rattle.cs_cli.specs.Trouble.{Trouble}
+use Rattle.cs_reads.specs.Response.{Ending}
+use Rattle.cs_reads.specs.Reads.{AndThen, Answered, GivesSome, ReadsDeclared, ReadsTables}
+use Rattle.cs_reads.specs.Trouble.{Trouble}
 
 -- the status of a call by how the plan was found
 abbrev pub outcome_status : Outcome → ℕ

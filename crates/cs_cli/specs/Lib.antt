@@ -1,14 +1,5 @@
-pub mod DayText
-pub mod Response
-pub mod Replay
-pub mod Trouble
-pub mod RanOut
-pub mod Reads
-pub mod DayAnswer
-pub mod Replayed
 pub mod Check
 pub mod Safe
 pub mod Answer
 pub mod Judge
 pub mod Call
-pub mod Turn

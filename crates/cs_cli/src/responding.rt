@@ -4,23 +4,23 @@ ghost use Rattle.cs_io.specs.Files.{IsFresh};
 ghost use Rattle.cs_cli.specs.Answer.{IfEnds};
 ghost use Rattle.cs_cli.specs.Call.{Answers, wanted_of};
 ghost use Rattle.cs_call.specs.Version.{version_text};
-ghost use Rattle.cs_cli.specs.RanOut.{RanOutOn};
-ghost use Rattle.cs_cli.specs.Response.{done};
-ghost use Rattle.cs_cli.specs.Trouble.{IsHonest};
-ghost use Rattle.cs_cli.specs.Turn.{ReadsInTurn};
+ghost use Rattle.cs_reads.specs.RanOut.{RanOutOn};
+ghost use Rattle.cs_reads.specs.Response.{done};
+ghost use Rattle.cs_reads.specs.Trouble.{IsHonest};
+ghost use Rattle.cs_reads.specs.Turn.{ReadsInTurn};
 
 use crate::answer::Answer;
 use crate::check::check_certificate;
-use crate::day::day;
 use crate::judge::judge_plan;
 use crate::order::order;
-use crate::ran_out::RanOut;
-use crate::replay::replay;
-use crate::response::Response;
 use cs_call::{Request, UsageFault, parse_words, version_text};
 use cs_civil::Bytes;
 use cs_io::Inputs;
 use cs_judge::Wanted;
+use cs_reads::{RanOut, Response};
+use cs_views::{
+    answer_chart, answer_day, answer_draft, answer_explain, answer_lint, answer_replay,
+};
 use std::alloc::{AllocError, Global};
 use std::convert::AsStr;
 use std::thread::Threads;
@@ -57,8 +57,8 @@ pub fn respond<'a, R: Threads + Sync, S: AsStr, I: Inputs>(
         (I.reads inputs.old) (I.reads inputs.new) }
 {
     match parse_words(alloc, words) {
-        Ok(Request::Day(request)) => Ok(Answer::Ends(day(alloc, &request, inputs)?)),
-        Ok(Request::Replay(request)) => Ok(Answer::Ends(replay(alloc, &request, inputs)?)),
+        Ok(Request::Day(request)) => Ok(Answer::Ends(answer_day(alloc, &request, inputs)?)),
+        Ok(Request::Replay(request)) => Ok(Answer::Ends(answer_replay(alloc, &request, inputs)?)),
         Ok(Request::Check(request)) => {
             Ok(Answer::Ends(check_certificate(rt, alloc, &request, inputs)?))
         }
@@ -71,6 +71,10 @@ pub fn respond<'a, R: Threads + Sync, S: AsStr, I: Inputs>(
             let wanted = wanted_of(request.compact);
             Ok(Answer::Ends(judge_plan(rt, alloc, &request.judge, wanted, inputs)?))
         }
+        Ok(Request::Draft(request)) => Ok(Answer::Ends(answer_draft(alloc, &request, inputs)?)),
+        Ok(Request::Lint(request)) => Ok(Answer::Ends(answer_lint(alloc, &request, inputs)?)),
+        Ok(Request::Chart(request)) => Ok(Answer::Ends(answer_chart(alloc, &request, inputs)?)),
+        Ok(Request::Explain(name)) => Ok(Answer::Ends(answer_explain(alloc, name)?)),
         Err(UsageFault::Help(text)) => {
             let shown = Response::done(text.into_bytes(), Bytes::new(alloc));
             Ok(Answer::Ends(shown))

@@ -3,13 +3,18 @@ ghost use Rattle.std.specs.Prelude.{◌≡◌, ◌≤◌, ◌<◌, ◌+◌, ◌^
 ghost use Rattle.std.specs.Prelude.{true, false, IfOk, IfErr, IfSome, OnErr, OnOk, length};
 ghost use Rattle.cs_io.specs.Files.{Gives, IsFresh, IsNextOf, IsReadAlone, IsReadOn, IsReadOut};
 ghost use Rattle.cs_io.specs.Files.{IsTooLong};
+ghost use Rattle.cs_io.specs.Reasons.{IsCannotRead};
 ghost use Rattle.cs_io.specs.declared.inputs.ReadFault.TheVariants.{CannotRead as cannot_read, OutOfMemory as no_memory};
 
+use crate::reason::Reason;
 use std::alloc::{AllocError, AllocFailed, Global};
 
-/// A path that cannot be read.
+/// A path that cannot be read, and why.
 #[derive(Clone, Copy, Debug, PartialEq, Eq)]
-pub struct CannotRead;
+pub struct CannotRead {
+    /// What the machine tells of it.
+    pub reason: Reason,
+}
 
 /// Files by their paths, read from front to back. The path `-` is standard input.
 pub trait Inputs {
@@ -39,17 +44,17 @@ pub trait Inputs {
 /// Why an input was not read.
 #[derive(Clone, Copy, Debug, PartialEq, Eq)]
 pub enum ReadFault {
-    /// A read of it failed.
-    CannotRead,
+    /// A read of it failed, or it has no end.
+    CannotRead(Reason),
     /// There was no room for its bytes.
     OutOfMemory,
 }
 
 impl From<CannotRead> for ReadFault {
-    ghost from_gives = { λ _ e. e ≡ cannot_read };
+    ghost from_gives = { λ c e. e ≡ cannot_read c.reason };
 
-    fn from(_error: CannotRead) -> ReadFault {
-        ReadFault::CannotRead
+    fn from(error: CannotRead) -> ReadFault {
+        ReadFault::CannotRead(error.reason)
     }
 }
 
@@ -86,14 +91,14 @@ pub fn read_up_to<I: Inputs>(
 
     // a path that was read to its end, and each other one, is to be read from its front again
     ensures fresh { IfOk result (λ v. length v.items ≤ limit → IsFresh (I.whole inputs.old) (I.left inputs.old) → IsFresh (I.whole inputs.new) (I.left inputs.new)) }
-    ensures fails { IfErr result (λ e. e ≡ cannot_read → I.failed inputs.new path.now ≡ true) }
+    ensures fails { IfErr result (λ e. IsCannotRead e → I.failed inputs.new path.now ≡ true) }
     ensures alone { IsReadAlone path.now (I.reads inputs.old) (I.reads inputs.new) }
 {
     let mut bytes = Vec::new(alloc);
     let mut buf = [0u8; 4096];
     for _reads in 0..u64::from(limit) + 1 {
         match inputs.read(path, buf.as_mut_slice()) {
-            Err(CannotRead) => return Err(ReadFault::CannotRead),
+            Err(error) => return Err(ReadFault::CannotRead(error.reason)),
             Ok(0) => return Ok(bytes),
             Ok(n) => bytes.extend_from_slice(&buf[..n])?,
         }
@@ -117,7 +122,7 @@ pub fn read_whole<I: Inputs>(
     // this path too is to be read from its front again
     ensures fresh { OnOk result (IsFresh (I.whole inputs.old) (I.left inputs.old)
         → IsFresh (I.whole inputs.new) (I.left inputs.new)) }
-    ensures fails { IfErr result (λ e. e ≡ cannot_read
+    ensures fails { IfErr result (λ e. IsCannotRead e
         → (I.failed inputs.new path.now ≡ true)
         ⊎ ((I.failed inputs.new ≡ I.failed inputs.old)
         × IsReadOut path.now (I.reads inputs.old) (I.reads inputs.new)
@@ -132,5 +137,5 @@ pub fn read_whole<I: Inputs>(
             n => bytes.extend_from_slice(&buf[..n])?,
         }
     }
-    Err(ReadFault::CannotRead)
+    Err(ReadFault::CannotRead(Reason::Endless))
 }

@@ -4,7 +4,9 @@
 mod inputs;
 mod machine;
 mod outputs;
+mod reason;
 
 pub use inputs::{CannotRead, Inputs, MOST_READS, ReadFault, read_up_to, read_whole};
 pub use machine::Machine;
 pub use outputs::{CannotWrite, Output, Printer};
+pub use reason::Reason;

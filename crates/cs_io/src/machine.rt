@@ -1,10 +1,11 @@
 //! The machine's files and its standard input.
-ghost use Rattle.std.specs.Prelude.{◌≡◌, ◌≤◌, IfSome, false, length};
+ghost use Rattle.std.specs.Prelude.{◌≡◌, ◌≤◌, IfOk, false, length};
 
 use crate::inputs::{CannotRead, Inputs};
-use std::fs;
+use crate::reason::Reason;
 use std::io::Read;
 use std::rt::Files;
+use std::{fs, io};
 
 /// The machine's files and its standard input. A path is read to its end before another is.
 #[derive(Drop)]
@@ -26,25 +27,25 @@ impl<'a, R: Files + Input> Machine<'a, R> {
         }
     }
 
-    fn read_file(&mut self, path: &str, buf: &mut [u8]) -> Option<usize>
-        ensures bound { IfSome result (λ n. n ≤ length buf.new) }
+    fn read_file(&mut self, path: &str, buf: &mut [u8]) -> io::Result<usize>
+        ensures bound { IfOk result (λ n. n ≤ length buf.new) }
         ensures flag { self.new.has_failed ≡ self.old.has_failed }
     {
         let mut file = match self.open.take() {
             Some(file) => file,
-            None => fs::open(self.rt, path).ok()?,
+            None => fs::open(self.rt, path)?,
         };
-        let n = file.read(buf).ok()?;
+        let n = file.read(buf)?;
         if n != 0 {
             self.open = Some(file);
         }
-        Some(n)
+        Ok(n)
     }
 
-    fn read_standard(&self, buf: &mut [u8]) -> Option<usize>
-        ensures { IfSome result (λ n. n ≤ length buf.new) }
+    fn read_standard(&self, buf: &mut [u8]) -> io::Result<usize>
+        ensures { IfOk result (λ n. n ≤ length buf.new) }
     {
-        self.rt.reader().read(buf).ok()
+        self.rt.reader().read(buf)
     }
 }
 
@@ -59,10 +60,12 @@ impl<'a, R: Files + Input> Inputs for Machine<'a, R> {
             self.read_file(path, buf)
         };
         match given {
-            Some(n) => Ok(n),
-            None => {
+            Ok(n) => Ok(n),
+            Err(error) => {
                 self.has_failed = true;
-                Err(CannotRead)
+                Err(CannotRead {
+                    reason: Reason::of(&error),
+                })
             }
         }
     }

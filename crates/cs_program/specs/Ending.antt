@@ -1,7 +1,7 @@
 -- How a call of the program ends: what it writes, and the status that it answers.
 use Rattle.std.specs.Prelude.{◌≡◌, ◌⊎◌, ℕ, Bool, true, List, Option, Some, None, codes}
 use Rattle.std.specs.Io.KnownBytes.{Appends}
-use Rattle.cs_cli.specs.Response.{Ending}
+use Rattle.cs_reads.specs.Response.{Ending}
 
 -- an output: the bytes that it holds, where they are known, and whether a write has failed
 pub record Sink : Type 0 where

@@ -9,7 +9,7 @@ use Rattle.cs_daemon.specs.declared.end.Cause.TheVariants.{LastMinute, NoMemory,
 use Rattle.cs_daemon.specs.declared.end.DaemonEnd.{DaemonEnd}
 use Rattle.cs_keep.specs.Closed.{checked_in, keeping_in}
 use Rattle.cs_keep.specs.Keeping.{IsKept}
-use Rattle.cs_cli.specs.Response.{Ending, complaint}
+use Rattle.cs_reads.specs.Response.{Ending, complaint}
 use Rattle.cs_cli.specs.declared.answer.Order.{Order}
 use Rattle.cs_program.specs.Ending.{Ends, RunsOut, Sink, Tries}
 

@@ -1,10 +1,10 @@
 //! How a call ends.
 ghost use Rattle.std.specs.Prelude.{◌≡◌, codes};
-ghost use Rattle.cs_cli.specs.Response.{status_of};
+ghost use Rattle.cs_reads.specs.Response.{status_of};
 ghost use Rattle.cs_program.specs.Ending.{Ends, Sink, Tries, Warns, sink};
 
-use cs_cli::{RanOut, Response, Status};
 use cs_io::{CannotWrite, Output};
+use cs_reads::{RanOut, Response, Status};
 
 /// Writes a text to standard error. What it does not take is lost.
 pub(crate) fn tell<E: Output>(err: &mut E, text: &[u8])

@@ -1,8 +1,8 @@
 //! The program over the machine's words, files and clock.
 use crate::run::run_words;
-use cs_cli::Status;
 use cs_device::Runner;
 use cs_io::{Machine, Output};
+use cs_reads::Status;
 use std::io::{ErrorKind, Write};
 use std::process::ExitCode;
 use std::rt::{Clock, Env, Files};

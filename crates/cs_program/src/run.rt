@@ -2,15 +2,16 @@
 ghost use Rattle.std.specs.Prelude.{map};
 ghost use Rattle.cs_io.specs.Files.{IsFresh};
 ghost use Rattle.cs_program.specs.Ending.{sink};
-ghost use Rattle.cs_cli.specs.Response.{status_of};
-ghost use Rattle.cs_cli.specs.Turn.{ReadsInTurn};
+ghost use Rattle.cs_reads.specs.Response.{status_of};
+ghost use Rattle.cs_reads.specs.Turn.{ReadsInTurn};
 ghost use Rattle.cs_program.specs.Run.{CarriesOut, Runs};
 
 use crate::ending::{finish, run_out_behind};
 use crate::serve::serve;
-use cs_cli::{Answer, Status, respond};
+use cs_cli::{Answer, respond};
 use cs_device::Runner;
 use cs_io::{Inputs, Output};
+use cs_reads::Status;
 use std::alloc::Global;
 use std::convert::AsStr;
 use std::io::Write;

@@ -1,16 +1,17 @@
 //! Runs of checked tables on this machine.
 ghost use Rattle.std.specs.Prelude.{◌≡◌, IfOk, vec_len};
-ghost use Rattle.cs_cli.specs.Response.{status_of};
+ghost use Rattle.cs_reads.specs.Response.{status_of};
 ghost use Rattle.cs_program.specs.Ending.{sink};
 ghost use Rattle.cs_program.specs.Serve.{Serves, cause_status, farewell};
 
 use crate::ending::{finish, run_out, tell};
-use cs_cli::{Order, Status};
+use cs_cli::Order;
 use cs_daemon::{Cause, run_daemon};
 use cs_device::{Gate, Point, Runner};
 use cs_history::Run;
 use cs_io::Output;
 use cs_machine::{MachineClock, StampsFolder};
+use cs_reads::Status;
 use std::alloc::{AllocError, Global};
 use std::io::Write;
 use std::rt::{Clock, Files};

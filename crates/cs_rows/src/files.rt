@@ -2,7 +2,7 @@
 ghost use Rattle.std.specs.Prelude.{◌≡◌, ◌≤◌, IfOk, IfSome, Some, length, map, option_map};
 ghost use Rattle.cs_rows.specs.Held.{held, left_of};
 
-use cs_io::{CannotRead, Inputs};
+use cs_io::{CannotRead, Inputs, Reason};
 
 /// A file: its path, its bytes, and whether a read behind its last byte fails.
 #[derive(Clone, Copy)]
@@ -94,7 +94,9 @@ impl<'a> Inputs for Files<'a> {
     fn read(&mut self, path: &str, buf: &mut [u8]) -> Result<usize, CannotRead> {
         let Some(file) = self.next_of(path) else {
             self.has_failed = true;
-            return Err(CannotRead);
+            return Err(CannotRead {
+                reason: Reason::Unknown,
+            });
         };
         let n = file
             .bytes

@@ -64,7 +64,7 @@ fn length_of_certificates(rt: HostRuntime) -> Result<(), Fail> {
 #[test]
 fn length_of_declarations(rt: HostRuntime) -> Result<(), Fail> {
     let words = ["cronsafe", "judge", "table", "terms"];
-    let unread = b"cronsafe: can't read terms\n".as_slice();
+    let unread = b"cronsafe: can't read terms: it has no end\n".as_slice();
     let rows = [
         (16_777_217, 4_096, 0, b"safe\n".as_slice(), b"".as_slice()),
         (16_777_216, 1, 0, b"safe\n".as_slice(), b"".as_slice()),

@@ -1,15 +1,15 @@
 use Rattle.std.proofs.Common.{◌≡◌, [], ◌∷◌, IfSome, Ok, Err, Some, option_map, subst}
 use Rattle.cs_call.specs.Asked.{asked_check}
 use Rattle.cs_cli.specs.Check.{AreRead, Judges}
-use Rattle.cs_cli.specs.Reads.{ReadsTables}
-use Rattle.cs_cli.specs.Trouble.{CameTo, ends, trouble}
+use Rattle.cs_reads.specs.Reads.{ReadsTables}
+use Rattle.cs_reads.specs.Trouble.{CameTo, ends, trouble}
 use Rattle.cs_cli.proofs.CheckLemmas.{is_proof}
-use Rattle.cs_cli.proofs.TroubleLemmas.{answered, answered_fault, answered_stop, honest_answer, honest_fault, moved}
+use Rattle.cs_reads.proofs.TroubleLemmas.{answered, answered_fault, answered_stop, honest_answer, honest_fault, moved}
 use Rattle.cs_io.specs.Files.{Failed}
-use Rattle.cs_cli.specs.Turn.{table_paths}
-use Rattle.cs_cli.proofs.DayLemmas.{behind_warned}
+use Rattle.cs_reads.specs.Turn.{table_paths}
+use Rattle.cs_reads.proofs.WarnedLemmas.{behind_warned}
 use Rattle.std.proofs.lemmas.Result.{err_from_is_err_and}
-use Rattle.cs_cli.proofs.TurnLemmas.{some_read, then_read}
+use Rattle.cs_reads.proofs.TurnLemmas.{some_read, then_read}
 use Rattle.cs_cli.proofs.check.checked_answer.Goals as goal
 
 pub returns-in-Ok-judged-clause-value : goal.returns-in-Ok-judged-clause-value
@@ -100,3 +100,7 @@ returns-in-Err-clause-value g c = λ fresh.
     let r = c.in_ok-response-in-Err.field-0 in
     answered_stop (ReadsTables files a.table a.anacrontab) (λ b. Judges files a b) before after fault r (c.in-Err.ensures.step fresh)
     (subst (λ v. option_map (ends v) (trouble fault) ≡ Some r) c.as_slice.ensures c.in_ok-response-in-Err.ensures)
+
+pub returns-in-Err-clause-status : goal.returns-in-Err-clause-status
+returns-in-Err-clause-status g c =
+    honest_fault (g.I.Inputs.failed c.read_tables.new.inputs) (g.I.Inputs.reads c.read_tables.new.inputs) c.as_slice.result.now c.in-Err.fault c.in_ok-response-in-Err.field-0 c.in-Err.ensures.status c.in_ok-response-in-Err.ensures

@@ -2,13 +2,13 @@ use Rattle.std.proofs.Common.{◌≡◌, [], ◌∷◌, Ok, Err, Some, option_ma
 use Rattle.std.proofs.lemmas.Result.{IfErr-weaker, IfOk-weaker}
 use Rattle.cs_call.specs.Asked.{asked_judge}
 use Rattle.cs_cli.specs.Judge.{JudgesPlan}
-use Rattle.cs_cli.specs.Reads.{ReadsTables}
-use Rattle.cs_cli.specs.Trouble.{CameTo, ends, trouble}
-use Rattle.cs_cli.proofs.TroubleLemmas.{answered, answered_fault, answered_stop, honest_answer, honest_fault, moved}
+use Rattle.cs_reads.specs.Reads.{ReadsTables}
+use Rattle.cs_reads.specs.Trouble.{CameTo, ends, trouble}
+use Rattle.cs_reads.proofs.TroubleLemmas.{answered, answered_fault, answered_stop, honest_answer, honest_fault, moved}
 use Rattle.cs_io.specs.Files.{Failed}
-use Rattle.cs_cli.specs.Turn.{table_paths}
-use Rattle.cs_cli.proofs.DayLemmas.{behind_warned}
-use Rattle.cs_cli.proofs.TurnLemmas.{first_read, some_read, then_read}
+use Rattle.cs_reads.specs.Turn.{table_paths}
+use Rattle.cs_reads.proofs.WarnedLemmas.{behind_warned}
+use Rattle.cs_reads.proofs.TurnLemmas.{first_read, some_read, then_read}
 use Rattle.cs_cli.proofs.judge.judge_plan.Goals as goal
 
 pub returns-in-Ok-told-clause-value : goal.returns-in-Ok-told-clause-value
@@ -83,3 +83,7 @@ returns-in-Err-clause-value g c = λ fresh.
     let r = c.in_ok-response-in-Err.field-0 in
     answered_stop (ReadsTables files a.table a.anacrontab) (λ b. JudgesPlan c.args.wanted files a b) before after fault r (c.in-Err.ensures.step fresh)
     (subst (λ v. option_map (ends v) (trouble fault) ≡ Some r) c.as_slice.ensures c.in_ok-response-in-Err.ensures)
+
+pub returns-in-Err-clause-status : goal.returns-in-Err-clause-status
+returns-in-Err-clause-status g c =
+    honest_fault (g.I.Inputs.failed c.read_tables.new.inputs) (g.I.Inputs.reads c.read_tables.new.inputs) c.as_slice.result.now c.in-Err.fault c.in_ok-response-in-Err.field-0 c.in-Err.ensures.status c.in_ok-response-in-Err.ensures

@@ -1,5 +1,5 @@
 use Rattle.std.proofs.Common.{rules, ◌≡◌, ◌∙◌, codes, inl, inr, subst}
-use Rattle.cs_cli.specs.Response.{status_of}
+use Rattle.cs_reads.specs.Response.{status_of}
 use Rattle.cs_program.specs.Ending.{Ends, RunsOut, Tries, sink}
 use Rattle.cs_program.specs.Serve.{HasRun, cause_status, farewell, without_folder}
 use Rattle.cs_program.proofs.serve.serve.Goals.{in-Ok-without_folder, in-Err}

@@ -1,0 +1,100 @@
+//! The bars of a job: its windows, joined where they touch.
+ghost use Rattle.std.specs.Prelude.{◌≡◌, ◌*◌, ◌<◌, ◌≤◌, ◌||◌, ℕ, [], ◌∷◌, IfOk, OnOk, IsTrue};
+ghost use Rattle.cs_windows.specs.Occupied.{job_of};
+ghost use Rattle.cs_chart.specs.Bars.{covers, four_days, is_covered, is_held_on, is_occupied};
+
+use crate::span::Span;
+use cs_civil::{Day, DayKind, kind_of};
+use cs_windows::{MINUTES_OF_DAY, Occupied, Window, windows_on};
+use std::alloc::{AllocError, Global};
+
+/// Minutes of the picture, from one on and below another, counted from the start of its first day.
+#[derive(Clone, Copy, Debug, PartialEq, Eq)]
+pub(crate) struct Bar {
+    pub(crate) from: u32,
+    pub(crate) to: u32,
+}
+
+/// Adds the minutes of a bar; to the last bar, where both touch.
+fn add_bar(bars: &mut Vec<Bar>, bar: Bar) -> Result<(), AllocError>
+    ensures { OnOk result ((minute : ℕ) → is_covered bars.new.items minute
+        ≡ (is_covered bars.old.items minute || covers bar minute)) }
+{
+    let Some(last) = bars.pop() else {
+        bars.push(bar)?;
+        return Ok(());
+    };
+    if last.from <= bar.to && bar.from <= last.to {
+        bars.push(Bar {
+            from: last.from.min(bar.from),
+            to: last.to.max(bar.to),
+        })?;
+        return Ok(());
+    }
+    bars.push(last)?;
+    bars.push(bar)?;
+    Ok(())
+}
+
+/// The minutes that a window holds of its day, whose first is this minute of the picture.
+fn bar_on(window: &Window, start: u32) -> Bar
+    requires { start ≤ 100_000 }
+    ensures { (minute : ℕ) → covers result minute ≡ is_held_on start (window.now ∷ []) minute }
+{
+    let before = u32::from(MINUTES_OF_DAY) * u32::from(window.day_back);
+    let from = u32::from(window.from);
+    let to = from + u32::from(window.reach);
+    Bar {
+        from: start + from.saturating_sub(before),
+        to: start + to.saturating_sub(before).min(u32::from(MINUTES_OF_DAY)),
+    }
+}
+
+/// Adds the minutes that windows hold of their day, whose first is this minute of the picture.
+fn add_windows(bars: &mut Vec<Bar>, windows: &[Window], start: u32) -> Result<(), AllocError>
+    requires { start ≤ 100_000 }
+    ensures { OnOk result ((minute : ℕ) → is_covered bars.new.items minute
+        ≡ (is_covered bars.old.items minute || is_held_on start windows.now minute)) }
+{
+    for window in windows {
+        add_bar(bars, bar_on(window, start))?;
+    }
+    Ok(())
+}
+
+/// The kinds of a day and of the three days before it, eldest first.
+#[tactic(auto, unfolding(crate::specs::Bars::four_days))]
+fn four_days(day: Day) -> [DayKind; 4]
+    requires { 3 ≤ day }
+    ensures { result ≡ four_days day }
+{
+    let number = day.number();
+    [
+        kind_of(Day::new(number - 3).unwrap()),
+        kind_of(Day::new(number - 2).unwrap()),
+        kind_of(Day::new(number - 1).unwrap()),
+        kind_of(day),
+    ]
+}
+
+/// The bars of a job over the days of the picture: they cover the very minutes that its windows
+/// hold, those that began up to three days before among them. Windows that touch make one bar. The
+/// only error is want of memory.
+#[tactic(auto, using(crate::proofs::Shown::next_day))]
+pub(crate) fn bars_of(
+    alloc: Global,
+    occupied: Occupied<'_>,
+    span: Span,
+) -> Result<Vec<Bar>, AllocError>
+    ensures { IfOk result (λ bars. (minute : ℕ) → minute < MINUTES_OF_DAY * span.days
+        → is_covered bars.items minute ≡ is_occupied (job_of occupied.entry) span.first minute) }
+{
+    let mut bars = Vec::new(alloc);
+    for place in 0..span.days() {
+        let days = four_days(span.day(place));
+        let windows = windows_on(alloc, [occupied].as_slice(), days.as_slice())?;
+        let start = u32::from(MINUTES_OF_DAY) * u32::from(place);
+        add_windows(&mut bars, windows.as_slice(), start)?;
+    }
+    Ok(bars)
+}

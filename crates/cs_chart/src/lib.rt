@@ -1,0 +1,19 @@
+//! The picture of two tables over some days, in SVG: a row for each job, its windows as bars and its
+//! due minutes as marks.
+#![tactic(auto)]
+
+mod axis;
+mod bar;
+mod heading;
+mod job;
+mod load;
+mod look;
+mod marks;
+mod picture;
+mod row;
+mod sheet;
+mod span;
+mod text;
+
+pub use picture::{chart, plan_chart};
+pub use row::Terms;

@@ -1,0 +1,112 @@
+//! The load: what the jobs that may run weigh together, minute by minute.
+use crate::axis::push_grid;
+use crate::bar::Bar;
+use crate::sheet::{MARGIN, PLOT_LEFT, PLOT_WIDTH, Sheet};
+use std::alloc::{AllocError, Global};
+use std::fmt::Write;
+
+/// How high the part of the load is.
+const HEIGHT: u32 = 100;
+
+/// The load of each minute of the picture.
+#[derive(Debug, Drop)]
+pub(crate) struct Load {
+    minutes: Vec<u32>,
+}
+
+impl Load {
+    /// None yet, over so many minutes.
+    pub(crate) fn new(alloc: Global, minutes: u32) -> Result<Load, AllocError> {
+        Ok(Load {
+            minutes: vec![in alloc; 0; minutes as usize]?,
+        })
+    }
+
+    /// Adds a job of this weight over the minutes of a bar.
+    fn add_bar(&mut self, bar: Bar, weight: u8) {
+        for minute in bar.from..bar.to {
+            if let Some(load) = self.minutes.get_mut(minute as usize) {
+                *load = load.saturating_add(u32::from(weight));
+            }
+        }
+    }
+
+    /// Adds a job of this weight over its bars, which have no minute in common.
+    pub(crate) fn add(&mut self, bars: &[Bar], weight: u8) {
+        for bar in bars {
+            self.add_bar(*bar, weight);
+        }
+    }
+
+    /// The greatest.
+    fn most(&self) -> u32 {
+        let mut most = 0;
+        for load in self.minutes.as_slice() {
+            most = most.max(*load);
+        }
+        most
+    }
+
+    /// Adds the area under the load, or of what is above a floor.
+    fn push_area(
+        &self,
+        sheet: &mut Sheet,
+        top: u32,
+        floor: u32,
+        class: &str,
+        colour: &str,
+    ) -> Result<(), AllocError> {
+        let foot = top.saturating_sub(floor);
+        write!(
+            sheet.svg,
+            "<path class=\"{class}\" fill=\"{colour}\" d=\"M0 {foot}"
+        )?;
+        let mut last = foot;
+        for (minute, load) in self.minutes.as_slice().iter().enumerate() {
+            let height = top.saturating_sub((*load).max(floor));
+            if height != last {
+                write!(sheet.svg, "H{minute}V{height}")?;
+                last = height;
+            }
+        }
+        let end = self.minutes.len();
+        write!(sheet.svg, "H{end}V{foot}z\"/>")
+    }
+
+    /// Adds the words beside the load.
+    fn push_words(&self, sheet: &mut Sheet, capacity: u8, line: u32) -> Result<(), AllocError> {
+        let most = self.most();
+        let beside = PLOT_LEFT - 6;
+        let y = line.saturating_add(4);
+        let (first, second) = (sheet.below(12), sheet.below(26));
+        write!(
+            sheet.svg,
+            "<text x=\"{MARGIN}\" y=\"{first}\">load: the weights of jobs</text>\n\
+             <text x=\"{MARGIN}\" y=\"{second}\">that may run, at most {most}</text>\n\
+             <text x=\"{beside}\" y=\"{y}\" text-anchor=\"end\">capacity {capacity}</text>\n"
+        )
+    }
+
+    /// Adds the load with the line of the capacity, what is above it in another colour, and goes below.
+    pub(crate) fn push(&self, sheet: &mut Sheet, capacity: u8) -> Result<(), AllocError> {
+        let capacity_line = u32::from(capacity);
+        let most = self.most().max(capacity_line).max(1);
+        let top = most.saturating_add(most / 8).saturating_add(1);
+        let up = u64::from(HEIGHT) * u64::from(capacity) / u64::from(top);
+        let line = sheet.below(HEIGHT).saturating_sub(up as u32);
+        push_grid(sheet, HEIGHT)?;
+        sheet.begin_plot(HEIGHT, top)?;
+        self.push_area(sheet, top, 0, "load", "#999999")?;
+        self.push_area(sheet, top, capacity_line, "over", "#D55E00")?;
+        sheet.end_plot()?;
+        let foot = sheet.below(HEIGHT);
+        write!(
+            sheet.svg,
+            "<path stroke=\"#888\" d=\"M{PLOT_LEFT} {foot}h{PLOT_WIDTH}\"/>\n\
+             <path class=\"capacity\" stroke=\"#000\" stroke-dasharray=\"6 3\" d=\"M{PLOT_LEFT} {line}h{PLOT_WIDTH}\"/>\n"
+        )?;
+        self.push_words(sheet, capacity, line)?;
+        sheet.down(HEIGHT);
+        Ok(())
+    }
+}

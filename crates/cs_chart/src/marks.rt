@@ -1,0 +1,79 @@
+//! What a picture can show of bars and of due minutes.
+use crate::bar::Bar;
+use crate::span::Span;
+use cs_civil::kind_of;
+use cs_schedule::{MinuteSet, Schedule};
+use cs_windows::MINUTES_OF_DAY;
+use std::alloc::{AllocError, Global};
+
+/// Bars or marks as they are drawn.
+#[derive(Debug, Drop)]
+pub(crate) struct Drawn {
+    pub(crate) bars: Vec<Bar>,
+    /// Whether some of them were nearer than the picture can show, and are drawn as one.
+    pub(crate) is_coarse: bool,
+}
+
+impl Drawn {
+    fn new(alloc: Global) -> Drawn {
+        Drawn {
+            bars: Vec::new(alloc),
+            is_coarse: false,
+        }
+    }
+
+    /// Adds a bar behind the others, or makes the last longer, where there are less than `gap`
+    /// minutes between both.
+    fn push(&mut self, bar: Bar, gap: u32) -> Result<(), AllocError> {
+        let Some(last) = self.bars.pop() else {
+            self.bars.push(bar)?;
+            return Ok(());
+        };
+        if bar.from < last.to.saturating_add(gap) {
+            self.is_coarse = true;
+            self.bars.push(Bar {
+                from: last.from,
+                to: last.to.max(bar.to),
+            })?;
+            return Ok(());
+        }
+        self.bars.push(last)?;
+        self.bars.push(bar)?;
+        Ok(())
+    }
+
+    /// Adds the due minutes of a day, whose first is this minute of the picture.
+    fn push_day(&mut self, due: &MinuteSet, start: u32, gap: u32) -> Result<(), AllocError> {
+        for minute in due.iter() {
+            let at = start.saturating_add(u32::from(minute));
+            self.push(Bar { from: at, to: at }, gap)?;
+        }
+        Ok(())
+    }
+}
+
+/// The bars, with no gap of less than so many minutes.
+pub(crate) fn without_gaps(alloc: Global, bars: &[Bar], gap: u32) -> Result<Drawn, AllocError> {
+    let mut drawn = Drawn::new(alloc);
+    for bar in bars {
+        drawn.push(*bar, gap)?;
+    }
+    Ok(drawn)
+}
+
+/// The due minutes of a schedule over the days of the picture: a bar from a minute to itself, or to the
+/// last of several of which each is less than `gap` minutes behind the one before.
+pub(crate) fn marks_of(
+    alloc: Global,
+    schedule: &Schedule,
+    span: Span,
+    gap: u32,
+) -> Result<Drawn, AllocError> {
+    let mut drawn = Drawn::new(alloc);
+    for place in 0..span.days() {
+        let due = schedule.minutes_of(kind_of(span.day(place)));
+        let start = u32::from(MINUTES_OF_DAY) * u32::from(place);
+        drawn.push_day(&due, start, gap)?;
+    }
+    Ok(drawn)
+}

@@ -1,0 +1,125 @@
+//! The rows of a picture: what is drawn of each job.
+use cs_anacrontab::{Anacrontab, Job};
+use cs_crontab::{Crontab, Line, When};
+use cs_decl::{Job as PlanJob, Plan};
+use cs_history::Mode;
+use cs_windows::Occupied;
+use std::alloc::{AllocError, Global};
+
+/// What holds of all jobs of two tables of which nothing is declared.
+#[derive(Clone, Copy, Debug, PartialEq, Eq)]
+pub struct Terms {
+    /// The longest time that a run takes, in minutes from 1 to 4,320.
+    pub max: u16,
+    /// The catch-up hours: the minutes of a day from this one on at which an anacron job may be started,
+    pub from: u16,
+    /// and below this one, up to 1,440.
+    pub to: u16,
+}
+
+/// What names a job.
+#[derive(Clone, Copy, Debug)]
+pub(crate) enum Name<'a> {
+    /// The number of a crontab's line, and its command.
+    Line(u32, &'a [u8]),
+    /// The identifier of an anacron job.
+    Job(&'a [u8]),
+}
+
+/// What is declared of a job, beside its longest time.
+#[derive(Clone, Copy, Debug)]
+pub(crate) struct Declared {
+    pub(crate) weight: u8,
+    /// The place of its group among the plan's, if it is in one.
+    pub(crate) group: Option<u8>,
+    pub(crate) mode: Mode,
+}
+
+/// What is drawn of a job.
+#[derive(Clone, Copy, Debug)]
+pub(crate) struct Row<'a> {
+    pub(crate) name: Name<'a>,
+    /// What its runs occupy; nothing where it is started once, at reboot.
+    pub(crate) occupied: Option<Occupied<'a>>,
+    /// The longest time of a run, in minutes.
+    pub(crate) max: u16,
+    /// What is declared of it, if anything is.
+    pub(crate) declared: Option<Declared>,
+}
+
+/// What a plan says of a job.
+fn declared_of(job: &PlanJob) -> Declared {
+    Declared {
+        weight: job.weight(),
+        group: job.group(),
+        mode: job.mode(),
+    }
+}
+
+/// The row of a command line.
+fn line_row(line: &Line, max: u16, declared: Option<Declared>) -> Row<'_> {
+    let occupied = match line.when() {
+        When::At(schedule) => Some(Occupied::Cron {
+            schedule,
+            reach: max,
+        }),
+        When::Reboot => None,
+    };
+    Row {
+        name: Name::Line(line.number(), line.command()),
+        occupied,
+        max,
+        declared,
+    }
+}
+
+/// The row of an anacron job: from the first minute at which it may be started on, up to where a run
+/// ends that starts in the last.
+fn job_row(job: &Job, terms: Terms, declared: Option<Declared>) -> Row<'_> {
+    let hours = terms.to.saturating_sub(1).saturating_sub(terms.from);
+    Row {
+        name: Name::Job(job.identifier()),
+        occupied: Some(Occupied::CatchUp {
+            from: terms.from,
+            reach: hours.saturating_add(terms.max),
+        }),
+        max: terms.max,
+        declared,
+    }
+}
+
+/// The rows of two tables of which nothing is declared.
+pub(crate) fn table_rows<'a>(
+    alloc: Global,
+    table: &'a Crontab,
+    jobs: &'a Anacrontab,
+    terms: Terms,
+) -> Result<Vec<Row<'a>>, AllocError> {
+    let mut rows = Vec::new(alloc);
+    for line in table.lines() {
+        rows.push(line_row(line, terms.max, None))?;
+    }
+    for job in jobs.lines() {
+        rows.push(job_row(job, terms, None))?;
+    }
+    Ok(rows)
+}
+
+/// The rows of the jobs of a plan.
+pub(crate) fn plan_rows(alloc: Global, plan: &Plan) -> Result<Vec<Row<'_>>, AllocError> {
+    let hours = plan.hours();
+    let mut rows = Vec::new(alloc);
+    for (line, job) in plan.crontab().lines().iter().zip(plan.jobs()) {
+        rows.push(line_row(line, job.max(), Some(declared_of(job))))?;
+    }
+    let behind = plan.jobs().iter().skip(plan.crons());
+    for (line, job) in plan.anacrontab().lines().iter().zip(behind) {
+        let terms = Terms {
+            max: job.max(),
+            from: hours.from(),
+            to: hours.to(),
+        };
+        rows.push(job_row(line, terms, Some(declared_of(job))))?;
+    }
+    Ok(rows)
+}

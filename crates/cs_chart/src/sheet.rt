@@ -1,0 +1,98 @@
+//! The sheet that a picture is drawn on, from its top to its foot.
+use crate::span::Span;
+use cs_windows::MINUTES_OF_DAY;
+use std::alloc::{AllocError, Global};
+use std::fmt::Write;
+
+/// Where the names of rows begin, in pixels from the left, as all lengths here.
+pub(crate) const MARGIN: u32 = 10;
+
+/// Where the first day begins.
+pub(crate) const PLOT_LEFT: u32 = 256;
+
+/// How wide all days are together.
+pub(crate) const PLOT_WIDTH: u32 = 840;
+
+/// Where the last day ends.
+pub(crate) const PLOT_RIGHT: u32 = PLOT_LEFT + PLOT_WIDTH;
+
+/// How many cells of a name have room before the first day.
+pub(crate) const NAME_CELLS: usize = 36;
+
+/// How high a row is.
+pub(crate) const ROW: u32 = 18;
+
+/// A picture that is being drawn: what has been written of it, and how far down it has come.
+#[derive(Debug, Drop)]
+pub(crate) struct Sheet {
+    pub(crate) svg: String,
+    /// The top of what is drawn next.
+    pub(crate) y: u32,
+    pub(crate) span: Span,
+}
+
+impl Sheet {
+    ghost use Rattle.std.specs.Prelude.{◌≤◌};
+
+    pub(crate) fn new(alloc: Global, span: Span) -> Sheet {
+        Sheet {
+            svg: String::new(alloc),
+            y: 0,
+            span,
+        }
+    }
+
+    /// Goes down so far.
+    pub(crate) fn down(&mut self, by: u32) {
+        self.y = self.y.saturating_add(by);
+    }
+
+    /// The place so far below the top of what is drawn next.
+    pub(crate) fn below(&self, by: u32) -> u32 {
+        self.y.saturating_add(by)
+    }
+
+    /// How many minutes the picture shows.
+    pub(crate) fn minutes(&self) -> u32
+        ensures { result ≤ 10_080 }
+    {
+        u32::from(MINUTES_OF_DAY) * u32::from(self.span.days())
+    }
+
+    /// So many minutes are a little more than half a pixel wide: seven days are as wide as one.
+    pub(crate) fn fine(&self) -> u32
+        ensures { result ≤ 7 }
+    {
+        u32::from(self.span.days())
+    }
+
+    /// Begins a part as wide as the days, in which a place from the left is a minute of the picture,
+    /// and a place from the top one of so many steps.
+    pub(crate) fn begin_plot(&mut self, height: u32, steps: u32) -> Result<(), AllocError> {
+        let y = self.y;
+        let minutes = self.minutes();
+        write!(
+            self.svg,
+            "<svg x=\"{PLOT_LEFT}\" y=\"{y}\" width=\"{PLOT_WIDTH}\" height=\"{height}\" \
+             viewBox=\"0 0 {minutes} {steps}\" preserveAspectRatio=\"none\">"
+        )
+    }
+
+    /// Ends what [`begin_plot`](Sheet::begin_plot) began.
+    pub(crate) fn end_plot(&mut self) -> Result<(), AllocError> {
+        self.svg.push_str("</svg>\n")
+    }
+
+    /// Adds a line of text at the margin, so far below.
+    pub(crate) fn push_line(&mut self, below: u32, text: &str) -> Result<(), AllocError> {
+        let y = self.below(below);
+        write!(self.svg, "<text x=\"{MARGIN}\" y=\"{y}\">{text}</text>\n")
+    }
+}
+
+/// The place of a minute of the picture from the left.
+pub(crate) fn place_of(minute: u32, span: Span) -> u32 {
+    let minutes = u32::from(MINUTES_OF_DAY) * u32::from(span.days());
+    let along = u64::from(PLOT_WIDTH) * u64::from(minute.min(minutes)) / u64::from(minutes.max(1));
+    PLOT_LEFT + (along as u32)
+}

@@ -1,0 +1,71 @@
+//! The days of a picture.
+ghost use Rattle.std.specs.Prelude.{◌≡◌, ◌+◌, ◌<◌, ◌≤◌};
+ghost use Rattle.cs_civil.specs.Calendar.{last_day};
+
+use cs_civil::Day;
+use std::marker::Model;
+
+/// The first day of which windows can be told, 1970-01-04: they may begin three days before it.
+const FIRST_DAY: u64 = 3;
+
+/// 9999-12-31, the last day.
+const LAST_DAY: u64 = 2_932_896;
+
+/// The most days of a picture.
+pub(crate) const MOST_DAYS: u8 = 7;
+
+/// Successive days, one to seven, from 1970-01-04 on and none past 9999-12-31.
+#[derive(Clone, Copy, Debug, PartialEq, Eq)]
+pub(crate) struct Span {
+    start: Day,
+    count: u8,
+}
+
+impl Model for Span {
+    ghost use Rattle.cs_chart.specs.Bars.{Days, AreShown};
+
+    ghost Value = { Days };
+
+    ghost view = { λ s. record { first = s.start; days = s.count } };
+
+    ghost invariant = { λ s. AreShown (record { first = s.start; days = s.count }) };
+
+    ghost inverse = { λ v. record { start = v.first; count = v.days } };
+}
+
+impl Span {
+    ghost use Rattle.cs_chart.specs.Bars.{AreShown};
+
+    /// So many days from one on, as far as they can be shown; at least one, and at most seven.
+    pub(crate) fn new(from: Day, days: u8) -> Span {
+        let first = from.number().max(FIRST_DAY);
+        let left = LAST_DAY - first + 1;
+        let count = u64::from(days.clamp(1, MOST_DAYS)).min(left) as u8;
+        Span {
+            start: Day::new(first).unwrap(),
+            count,
+        }
+    }
+
+    /// How many days.
+    pub(crate) fn days(self) -> u8
+        ensures value { result ≡ self.days }
+        ensures shown { AreShown self }
+    {
+        self.count
+    }
+
+    /// The day so many days after the first.
+    pub(crate) fn day(self, place: u8) -> Day
+        requires { place < self.days }
+        ensures value { result ≡ self.first + place }
+        ensures late { 3 ≤ result }
+    {
+        Day::new(self.start.number() + u64::from(place)).unwrap()
+    }
+
+    /// The last day.
+    pub(crate) fn last(self) -> Day {
+        self.day(self.count - 1)
+    }
+}

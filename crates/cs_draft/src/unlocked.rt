@@ -1,0 +1,48 @@
+/// Why a command that begins with flock(1) is declared without a lock.
+#[derive(Clone, Copy)]
+pub(crate) enum Unlocked {
+    /// The option `-w`: no mode waits for a limited time.
+    Timed,
+    /// The option `-E`: no mode has an exit status of its own.
+    OwnStatus,
+    /// The option `-u`: the lock is given back.
+    Unlocking,
+    /// The options `-h` and `-V`, with which no command is run.
+    Telling,
+    /// Another option than those of flock(1), or one that isn't written out.
+    UnknownOption,
+    /// `-s` with `-n`: no mode is shared and gives up at once.
+    SharedAtOnce,
+    /// No word stands behind the options.
+    NoFile,
+    /// A number stands in place of a file.
+    Descriptor,
+    /// The word of the file isn't the file's name: a shell reads some of its bytes in its own way.
+    ShellWord,
+    /// The file's name isn't UTF-8, so no declarations can name it.
+    NotUtf8,
+    /// No command stands behind the file.
+    NoCommand,
+    /// The file would be one group more than [`MAX_GROUPS`](cs_decl::MAX_GROUPS).
+    TooManyGroups,
+}
+
+impl Unlocked {
+    /// The reason, as a warning tells it.
+    pub(crate) fn text(self) -> &'static str {
+        match self {
+            Unlocked::Timed => "no mode waits for a limited time, as flock -w does",
+            Unlocked::OwnStatus => "no mode has an exit status of its own, as flock -E has",
+            Unlocked::Unlocking => "flock -u gives a lock back",
+            Unlocked::Telling => "flock -h and flock -V run no command",
+            Unlocked::UnknownOption => "its flock has an option that isn't known here",
+            Unlocked::SharedAtOnce => "no mode is shared and gives up at once, as flock -s -n does",
+            Unlocked::NoFile => "its flock has no lock file",
+            Unlocked::Descriptor => "its flock has a descriptor in place of a lock file",
+            Unlocked::ShellWord => "the name of its lock file is left to the shell",
+            Unlocked::NotUtf8 => "the name of its lock file isn't UTF-8",
+            Unlocked::NoCommand => "its flock runs no command",
+            Unlocked::TooManyGroups => "its lock file would be the 65th group",
+        }
+    }
+}

@@ -1,0 +1,177 @@
+//! What the faults of declarations mean, of their bytes and beside the tables.
+use crate::meaning::Meaning;
+
+/// In the order of their numbers.
+pub(crate) static MEANINGS: [Meaning; 15] = [
+    Meaning {
+        name: "NotJson",
+        short: "the bytes aren't JSON",
+        text: r#"Often there is a comma behind a last entry, a comment, or a bracket too few.
+crontab:
+  30 23 * * * /usr/bin/backup
+wrong:
+  {"capacity": 1, "cron": [{"line": 1, "max": 30},]}
+right:
+  {"capacity": 1, "cron": [{"line": 1, "max": 30}]}"#,
+    },
+    Meaning {
+        name: "BadShape",
+        short: "a member is unknown or absent, or has no value of its kind",
+        text: r#"Members are capacity, offset, hours, pass, groups, cron and anacron; of a cron
+entry line, max, weight, group and mode. Numbers are whole and have no quotes;
+offset is -1439 to 1439.
+crontab:
+  30 23 * * * /usr/bin/backup
+wrong:
+  {"capacity": 1, "cron": [{"line": 1, "max": "30"}]}
+right:
+  {"capacity": 1, "cron": [{"line": 1, "max": 30}]}"#,
+    },
+    Meaning {
+        name: "NoSuchLine",
+        short: "no command on that line, or no such identifier",
+        text: r#"Lines are counted from 1, with comments, settings and empty lines.
+crontab:
+  MAILTO=root
+  30 23 * * * /usr/bin/backup
+wrong:
+  {"capacity": 1, "cron": [{"line": 1, "max": 30}]}
+right:
+  {"capacity": 1, "cron": [{"line": 2, "max": 30}]}"#,
+    },
+    Meaning {
+        name: "Undeclared",
+        short: "a job that isn't @reboot has no entry",
+        text: r#"Each command line has an entry in cron, each job of the anacrontab in anacron.
+crontab:
+  30 23 * * * /usr/bin/backup
+  0 1 * * * /usr/bin/report
+wrong:
+  {"capacity": 1, "cron": [{"line": 1, "max": 30}]}
+right:
+  {"capacity": 1, "cron": [{"line": 1, "max": 30}, {"line": 2, "max": 10}]}"#,
+    },
+    Meaning {
+        name: "TwiceDeclared",
+        short: "a group, line or identifier comes a second time",
+        text: r#"Join the two entries, or mend the number of one.
+crontab:
+  30 23 * * * /usr/bin/backup
+  0 1 * * * /usr/bin/report
+wrong:
+  {"capacity": 1, "cron": [{"line": 1, "max": 30}, {"line": 1, "max": 10}]}
+right:
+  {"capacity": 1, "cron": [{"line": 1, "max": 30}, {"line": 2, "max": 10}]}"#,
+    },
+    Meaning {
+        name: "BadMax",
+        short: "max is outside 1 to 4320",
+        text: r#"It is the longest time of a run in minutes, of three days at most.
+crontab:
+  30 23 * * * /usr/bin/backup
+wrong:
+  {"capacity": 1, "cron": [{"line": 1, "max": 0}]}
+right:
+  {"capacity": 1, "cron": [{"line": 1, "max": 30}]}"#,
+    },
+    Meaning {
+        name: "BadWeight",
+        short: "weight is outside 1 to 64",
+        text: r#"It is what a run takes of the capacity, 1 where it is left out.
+crontab:
+  30 23 * * * /usr/bin/backup
+wrong:
+  {"capacity": 64, "cron": [{"line": 1, "max": 30, "weight": 100}]}
+right:
+  {"capacity": 64, "cron": [{"line": 1, "max": 30, "weight": 64}]}"#,
+    },
+    Meaning {
+        name: "BadCapacity",
+        short: "capacity is outside 1 to 64",
+        text: r#"It is what all runs at one minute may weigh together.
+crontab:
+  30 23 * * * /usr/bin/backup
+wrong:
+  {"capacity": 0, "cron": [{"line": 1, "max": 30}]}
+right:
+  {"capacity": 1, "cron": [{"line": 1, "max": 30}]}"#,
+    },
+    Meaning {
+        name: "ModeNeedsGroup",
+        short: "mode skip, wait or shared without a group",
+        text: r#"The mode says what a job does with its group's lock. Name the group, or leave
+out the mode.
+crontab:
+  30 23 * * * /usr/bin/backup
+wrong:
+  {"capacity": 1, "cron": [{"line": 1, "max": 30, "mode": "skip"}]}
+right:
+  {"capacity": 1, "groups": [{"name": "disk", "exclusive": true}],
+   "cron": [{"line": 1, "max": 30, "mode": "skip", "group": "disk"}]}"#,
+    },
+    Meaning {
+        name: "UnknownGroup",
+        short: "a group that isn't listed",
+        text: r#"Each group stands in groups, written in the same letters.
+crontab:
+  30 23 * * * /usr/bin/backup
+wrong:
+  {"capacity": 1, "groups": [{"name": "disk", "exclusive": true}],
+   "cron": [{"line": 1, "max": 30, "group": "Disk"}]}
+right:
+  {"capacity": 1, "groups": [{"name": "disk", "exclusive": true}],
+   "cron": [{"line": 1, "max": 30, "group": "disk"}]}"#,
+    },
+    Meaning {
+        name: "TooManyGroups",
+        short: "it is the 65th group",
+        text: "There may be 64. Leave out groups of which no job is.",
+    },
+    Meaning {
+        name: "BadHours",
+        short: "not 0 <= from < to <= 1440",
+        text: r#"hours is [from, to], minutes of the day: catch-up may start a job from the first
+up to, and without, the second. They don't go over midnight.
+crontab:
+  30 23 * * * /usr/bin/backup
+wrong:
+  {"capacity": 1, "hours": [1320, 120], "cron": [{"line": 1, "max": 30}]}
+right:
+  {"capacity": 1, "hours": [0, 120], "cron": [{"line": 1, "max": 30}]}"#,
+    },
+    Meaning {
+        name: "ModeOnAnacron",
+        short: "an anacron entry has mode, whatever it is",
+        text: r#"Catch-up takes no lock. Leave out the mode.
+anacrontab:
+  7 10 cron.weekly /usr/bin/weekly
+wrong:
+  {"capacity": 1, "anacron": [{"id": "cron.weekly", "max": 9, "mode": "none"}]}
+right:
+  {"capacity": 1, "anacron": [{"id": "cron.weekly", "max": 9}]}"#,
+    },
+    Meaning {
+        name: "RebootLine",
+        short: "an @reboot line, which outages would start without bound",
+        text: r#"Nothing can be said of how many of its runs go on at once. Start such a command
+as a service, and take its line out of the table.
+declarations:
+  {"capacity": 1, "cron": [{"line": 1, "max": 30}]}
+wrong crontab:
+  30 23 * * * /usr/bin/backup
+  @reboot /usr/bin/warm-up
+right crontab:
+  30 23 * * * /usr/bin/backup"#,
+    },
+    Meaning {
+        name: "BadPassMinute",
+        short: "pass is outside 0 to 1439",
+        text: r#"It is the minute of the day at which catch-up begins, beside each coming up.
+crontab:
+  30 23 * * * /usr/bin/backup
+wrong:
+  {"capacity": 1, "pass": 1440, "cron": [{"line": 1, "max": 30}]}
+right:
+  {"capacity": 1, "pass": 0, "cron": [{"line": 1, "max": 30}]}"#,
+    },
+];

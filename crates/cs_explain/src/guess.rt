@@ -1,0 +1,61 @@
+//! The name that a name with a slip in it may be meant for.
+use crate::kind::{KINDS, Kind};
+use crate::meaning::Meaning;
+use std::alloc::{AllocError, Global};
+use strsim::levenshtein;
+
+/// By how many edits a name may be off at most.
+const MOST_EDITS: usize = 3;
+
+/// The length in bytes past which a name is near to none.
+const LONGEST_NAME: usize = 40;
+
+/// The best guess so far: the fewest edits that lead to a name, and the name.
+#[derive(Clone, Copy, Debug)]
+struct Guess {
+    edits: usize,
+    name: Option<&'static str>,
+}
+
+impl Guess {
+    /// The better one of this guess and that name. The name that is sought is in small letters.
+    fn or(self, alloc: Global, sought: &str, meaning: &Meaning) -> Result<Guess, AllocError> {
+        let name = meaning.name.to_ascii_lowercase(alloc)?;
+        let edits = levenshtein(alloc, sought, name.as_str())?;
+        if edits < self.edits {
+            return Ok(Guess {
+                edits,
+                name: Some(meaning.name),
+            });
+        }
+        Ok(self)
+    }
+}
+
+/// The better one of a guess and the names of a kind.
+fn guess_among(alloc: Global, sought: &str, kind: Kind, first: Guess) -> Result<Guess, AllocError> {
+    let mut guess = first;
+    for meaning in kind.meanings() {
+        guess = guess.or(alloc, sought, meaning)?;
+    }
+    Ok(guess)
+}
+
+/// The name that at most 3 edits lead to from this one, each of which puts, takes or changes a
+/// letter: of several the one with the fewest, of those the first in the order of
+/// [`names`](crate::names). None where there is none, or the name is longer than 40 bytes. Capital
+/// and small letters are alike. The only error is want of memory.
+pub fn nearest(alloc: Global, name: &str) -> Result<Option<&'static str>, AllocError> {
+    if name.len() > LONGEST_NAME {
+        return Ok(None);
+    }
+    let sought = name.to_ascii_lowercase(alloc)?;
+    let mut guess = Guess {
+        edits: MOST_EDITS + 1,
+        name: None,
+    };
+    for kind in KINDS {
+        guess = guess_among(alloc, sought.as_str(), kind, guess)?;
+    }
+    Ok(guess.name)
+}

@@ -1,0 +1,64 @@
+//! The kinds of inputs and answers that have names of their own.
+use crate::meaning::Meaning;
+use crate::{
+    anacrontab, call, certificate, crontab, declarations, event, refused, script, unknown,
+};
+
+/// A kind of input or answer. Each has names of its own; some of them other kinds have too.
+#[derive(Clone, Copy, Debug)]
+pub(crate) enum Kind {
+    Crontab,
+    Anacrontab,
+    Declarations,
+    Script,
+    Call,
+    Certificate,
+    Refused,
+    Event,
+    Unknown,
+}
+
+/// All kinds, in the order in which they are told.
+pub(crate) const KINDS: [Kind; 9] = [
+    Kind::Crontab,
+    Kind::Anacrontab,
+    Kind::Declarations,
+    Kind::Script,
+    Kind::Call,
+    Kind::Certificate,
+    Kind::Refused,
+    Kind::Event,
+    Kind::Unknown,
+];
+
+impl Kind {
+    /// The line above its names.
+    pub(crate) fn heading(self) -> &'static str {
+        match self {
+            Kind::Crontab => "In a crontab:",
+            Kind::Anacrontab => "In an anacrontab:",
+            Kind::Declarations => "In declarations:",
+            Kind::Script => "In a script:",
+            Kind::Call => "In the words of a call:",
+            Kind::Certificate => "In a certificate:",
+            Kind::Refused => "Of a certificate that is refused:",
+            Kind::Event => "Of an event that is refused:",
+            Kind::Unknown => "Of an answer 'unknown':",
+        }
+    }
+
+    /// Its names with what they mean, in the order of their numbers.
+    pub(crate) fn meanings(self) -> &'static [Meaning] {
+        match self {
+            Kind::Crontab => crontab::MEANINGS.as_slice(),
+            Kind::Anacrontab => anacrontab::MEANINGS.as_slice(),
+            Kind::Declarations => declarations::MEANINGS.as_slice(),
+            Kind::Script => script::MEANINGS.as_slice(),
+            Kind::Call => call::MEANINGS.as_slice(),
+            Kind::Certificate => certificate::MEANINGS.as_slice(),
+            Kind::Refused => refused::MEANINGS.as_slice(),
+            Kind::Event => event::MEANINGS.as_slice(),
+            Kind::Unknown => unknown::MEANINGS.as_slice(),
+        }
+    }
+}

@@ -1,0 +1,19 @@
+//! What the names of faults and refusals mean, with a wrong and a right example of each.
+#![tactic(auto)]
+
+mod anacrontab;
+mod call;
+mod certificate;
+mod crontab;
+mod declarations;
+mod event;
+mod guess;
+mod kind;
+mod meaning;
+mod refused;
+mod script;
+mod texts;
+mod unknown;
+
+pub use guess::nearest;
+pub use texts::{explain, names};

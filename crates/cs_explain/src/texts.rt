@@ -1,0 +1,69 @@
+//! The texts that explain one name, and that list all.
+use crate::kind::{KINDS, Kind};
+use crate::meaning::Meaning;
+use std::alloc::{AllocError, Global};
+
+/// Writes the line above the names of a kind behind the text, with an empty line before it where
+/// there is text.
+fn push_heading(text: &mut String, kind: Kind) -> Result<(), AllocError> {
+    if !text.is_empty() {
+        text.push_str("\n")?;
+    }
+    text.push_str(kind.heading())?;
+    text.push_str("\n")
+}
+
+/// Writes the line of a name and its short meaning behind the text.
+fn push_line(text: &mut String, meaning: &Meaning) -> Result<(), AllocError> {
+    text.push_str("  ")?;
+    text.push_str(meaning.name)?;
+    text.push_str(": ")?;
+    text.push_str(meaning.short)?;
+    text.push_str("\n")
+}
+
+/// Writes what the name means for a kind behind the text; nothing where that has no such name.
+fn push_meaning(text: &mut String, kind: Kind, name: &str) -> Result<(), AllocError> {
+    let meanings = kind.meanings();
+    let Some(meaning) = meanings.iter().find(|meaning| meaning.is_of(name)) else {
+        return Ok(());
+    };
+    push_heading(text, kind)?;
+    push_line(text, meaning)?;
+    text.push_str(meaning.text)?;
+    text.push_str("\n")
+}
+
+/// Writes the names of a kind behind the text, each with its short meaning in a line of its own.
+fn push_names(text: &mut String, kind: Kind) -> Result<(), AllocError> {
+    push_heading(text, kind)?;
+    for meaning in kind.meanings() {
+        push_line(text, meaning)?;
+    }
+    Ok(())
+}
+
+/// What the name of a fault, a refusal or a reason of `unknown` means, in lines of at most 80
+/// columns: a paragraph for each kind of input or answer that has the name, with a wrong and a
+/// right example where there is one. None where nothing has it. Capital and small letters are
+/// alike. The only error is want of memory.
+pub fn explain(alloc: Global, name: &str) -> Result<Option<String>, AllocError> {
+    let mut text = String::new(alloc);
+    for kind in KINDS {
+        push_meaning(&mut text, kind, name)?;
+    }
+    if text.is_empty() {
+        return Ok(None);
+    }
+    Ok(Some(text))
+}
+
+/// All names, a line each with a short meaning, under a line for each kind of input or answer. The
+/// only error is want of memory.
+pub fn names(alloc: Global) -> Result<String, AllocError> {
+    let mut text = String::new(alloc);
+    for kind in KINDS {
+        push_names(&mut text, kind)?;
+    }
+    Ok(text)
+}

@@ -1,0 +1,39 @@
+/// Bytes of a file, or of a line, that follow each other: from one on and below another, each
+/// counted from 0.
+#[derive(Clone, Copy, Debug, PartialEq, Eq)]
+pub struct Span {
+    /// The first byte.
+    pub from: usize,
+    /// The first byte behind.
+    pub to: usize,
+}
+
+impl Span {
+    /// So many bytes from one on.
+    pub fn of(from: usize, len: usize) -> Span {
+        Span {
+            from,
+            to: from.saturating_add(len),
+        }
+    }
+
+    /// Whether there are none.
+    pub fn is_empty(self) -> bool {
+        self.to <= self.from
+    }
+
+    /// The same bytes, counted from further in front: the first is byte `start` there.
+    pub fn behind(self, start: usize) -> Span {
+        Span {
+            from: self.from.saturating_add(start),
+            to: self.to.saturating_add(start),
+        }
+    }
+
+    /// What stands there, as far as the text goes.
+    pub fn bytes(self, text: &[u8]) -> &[u8] {
+        let to = self.to.min(text.len());
+        let from = self.from.min(to);
+        &text[from..to]
+    }
+}

@@ -1,0 +1,94 @@
+//! What the readers of the files refuse.
+ghost use Rattle.std.specs.Prelude.{◌≡◌, IfOk, Some};
+ghost use Rattle.std.specs.Option.{option_map};
+ghost use Rattle.cs_lint.specs.Refused.{Finds, FindsInPlan, FindsJobs, FindsTable};
+
+use cs_anacrontab::{AnacronFault, Anacrontab, JobFault, read_anacrontab};
+use cs_crontab::{Crontab, LineFault, TableFault, read_crontab};
+use cs_decl::{DeclError, DeclFault, join, read_declarations};
+use std::alloc::{AllocError, Global};
+
+/// Why the files of a call can't be used: the first fault that their readers answer.
+#[derive(Clone, Copy)]
+pub(crate) enum Refusal {
+    /// Of the crontab, with the number of its line.
+    Table(u32, LineFault),
+    /// Of the anacrontab, with the number of its line.
+    Jobs(u32, JobFault),
+    /// Of the declarations, by themselves or beside the tables.
+    Declared(DeclFault),
+}
+
+/// The crontab, or why it's refused.
+fn table_or_refusal(alloc: Global, text: &[u8]) -> Result<Result<Crontab, Refusal>, AllocError>
+    ensures { IfOk result (λ found. FindsTable found text.now) }
+{
+    match read_crontab(alloc, text) {
+        Ok(table) => Ok(Ok(table)),
+        Err(TableFault::At { line, fault }) => Ok(Err(Refusal::Table(line, fault))),
+        Err(TableFault::OutOfMemory) => Err(AllocError),
+    }
+}
+
+/// The jobs of an anacrontab, or why it's refused; no jobs where there is none.
+fn jobs_or_refusal(
+    alloc: Global,
+    text: Option<&[u8]>,
+) -> Result<Result<Anacrontab, Refusal>, AllocError>
+    ensures { IfOk result (λ found. FindsJobs found (option_map (λ t. t.now) text.entry)) }
+{
+    let Some(text) = text else {
+        return Ok(Ok(Anacrontab::none(alloc)));
+    };
+    match read_anacrontab(alloc, text) {
+        Ok(jobs) => Ok(Ok(jobs)),
+        Err(AnacronFault::At { line, fault }) => Ok(Err(Refusal::Jobs(line, fault))),
+        Err(AnacronFault::OutOfMemory) => Err(AllocError),
+    }
+}
+
+/// Why declarations are refused, by themselves or beside the tables.
+fn plan_refusal(
+    alloc: Global,
+    table: Crontab,
+    jobs: Anacrontab,
+    text: &[u8],
+) -> Result<Option<Refusal>, AllocError>
+    ensures { IfOk result (λ found. FindsInPlan found table jobs (Some text.now)) }
+{
+    let declarations = match read_declarations(alloc, text) {
+        Ok(declarations) => declarations,
+        Err(DeclError::At { fault, place: _ }) => return Ok(Some(Refusal::Declared(fault))),
+        Err(DeclError::OutOfMemory) => return Err(AllocError),
+    };
+    match join(alloc, table, jobs, declarations) {
+        Ok(_) => Ok(None),
+        Err(DeclError::At { fault, place: _ }) => Ok(Some(Refusal::Declared(fault))),
+        Err(DeclError::OutOfMemory) => Err(AllocError),
+    }
+}
+
+/// The first fault of the crontab, the anacrontab, the declarations and the plan that all of them
+/// are, in this order.
+pub(crate) fn first_refusal(
+    alloc: Global,
+    table: &[u8],
+    jobs: Option<&[u8]>,
+    declarations: Option<&[u8]>,
+) -> Result<Option<Refusal>, AllocError>
+    ensures { IfOk result (λ found. Finds found table.now
+        (option_map (λ t. t.now) jobs.entry) (option_map (λ t. t.now) declarations.entry)) }
+{
+    let table = match table_or_refusal(alloc, table)? {
+        Ok(table) => table,
+        Err(refusal) => return Ok(Some(refusal)),
+    };
+    let jobs = match jobs_or_refusal(alloc, jobs)? {
+        Ok(jobs) => jobs,
+        Err(refusal) => return Ok(Some(refusal)),
+    };
+    match declarations {
+        Some(text) => plan_refusal(alloc, table, jobs, text),
+        None => Ok(None),
+    }
+}

@@ -1,0 +1,3 @@
+pub mod TroubleLemmas
+pub mod TurnLemmas
+pub mod WarnedLemmas

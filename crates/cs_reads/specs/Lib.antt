@@ -1,0 +1,5 @@
+pub mod Response
+pub mod Trouble
+pub mod RanOut
+pub mod Reads
+pub mod Turn

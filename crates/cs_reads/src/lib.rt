@@ -1,0 +1,12 @@
+//! The files of a call, read one after the other, the fault that ends a call, and how a call ends.
+#![tactic(auto)]
+
+mod fault;
+mod ran_out;
+mod reads;
+mod response;
+
+pub use fault::Fault;
+pub use ran_out::RanOut;
+pub use reads::{all_bytes_at, bytes_at, declared_plan_from, read_tables};
+pub use response::{Response, Status};

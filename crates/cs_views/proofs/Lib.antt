@@ -1,0 +1,5 @@
+pub mod TextLemmas
+pub mod ReplayLemmas
+pub mod DayLemmas
+pub mod DraftLemmas
+pub mod LintLemmas

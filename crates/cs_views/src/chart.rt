@@ -1,0 +1,143 @@
+//! The subcommand `chart`.
+ghost use Rattle.std.specs.Prelude.{◌≡◌, ◌≢◌, IfErr, IfOk};
+ghost use Rattle.cs_call.specs.Asked.{asked_chart};
+ghost use Rattle.cs_io.specs.Files.{AreReadInTurn, IsFresh};
+ghost use Rattle.cs_reads.specs.RanOut.{IsWarned};
+ghost use Rattle.cs_reads.specs.Trouble.{CameTo, IsHonest, IsHonestOf};
+ghost use Rattle.cs_reads.specs.Turn.{chart_paths, some_path};
+ghost use Rattle.cs_views.specs.ChartAnswer.{AnswersChart, Charts, ChartsTables, IsPicture};
+
+use cs_anacrontab::Anacrontab;
+use cs_call::{ChartWords, Question};
+use cs_chart::{Terms, chart as table_picture, plan_chart};
+use cs_civil::Bytes;
+use cs_crontab::Crontab;
+use cs_decl::Plan;
+use cs_io::Inputs;
+use cs_reads::{Fault, RanOut, Response, declared_plan_from, read_tables};
+use cs_warning::warnings;
+use std::alloc::{AllocError, Global};
+
+/// What the picture calls the tables.
+fn subject<'a>(request: &ChartWords<'a>) -> &'a [u8] {
+    if request.day.table == "-" {
+        b"standard input".as_slice()
+    } else {
+        request.day.table.as_bytes()
+    }
+}
+
+/// The picture of both tables, with one longest time for all jobs.
+fn show_tables(
+    alloc: Global,
+    request: &ChartWords<'_>,
+    question: Question,
+    table: &Crontab,
+    jobs: &Anacrontab,
+) -> Result<Response, AllocError>
+    ensures { IfOk result IsPicture }
+{
+    let hours = question.hours();
+    let terms = Terms {
+        max: question.max(),
+        from: hours.from(),
+        to: hours.to(),
+    };
+    let day = question.day();
+    let subject = subject(request);
+    let picture = table_picture(alloc, subject, table, jobs, terms, day, request.days)?;
+    Ok(Response::done(picture.into_bytes(), Bytes::new(alloc)))
+}
+
+/// The picture of a plan.
+fn show_plan(
+    alloc: Global,
+    request: &ChartWords<'_>,
+    question: Question,
+    plan: &Plan,
+) -> Result<Response, AllocError>
+    ensures { IfOk result IsPicture }
+{
+    let picture = plan_chart(alloc, subject(request), plan, question.day(), request.days)?;
+    Ok(Response::done(picture.into_bytes(), Bytes::new(alloc)))
+}
+
+/// What is answered once both tables were read.
+fn drawn<'a, I: Inputs>(
+    alloc: Global,
+    inputs: &mut I,
+    request: &ChartWords<'a>,
+    question: Question,
+    table: Crontab,
+    jobs: Anacrontab,
+) -> Result<Response, Fault<'a>>
+    ensures step { IsFresh (I.whole inputs.old) (I.left inputs.old)
+        → CameTo (Charts (I.whole inputs.old) (asked_chart request.now).declarations (table, jobs)
+        (I.failed inputs.old) (I.failed inputs.new)) result }
+    ensures status { IfErr result (IsHonestOf (I.failed inputs.new) (I.reads inputs.new)) }
+    ensures turn { AreReadInTurn (some_path (asked_chart request.now).declarations)
+        (I.reads inputs.old) (I.reads inputs.new) }
+    ensures done { IfOk result (λ r. r.status ≢ 6) }
+{
+    match request.declarations {
+        Some(path) => {
+            let plan = declared_plan_from(alloc, inputs, path, table, jobs)?;
+            Ok(show_plan(alloc, request, question, &plan)?)
+        }
+        None => Ok(show_tables(alloc, request, question, &table, &jobs)?),
+    }
+}
+
+/// What is answered of a question.
+fn chart_tables<I: Inputs>(
+    alloc: Global,
+    request: &ChartWords<'_>,
+    question: Question,
+    inputs: &mut I,
+) -> Result<Response, RanOut>
+    ensures value { IsFresh (I.whole inputs.old) (I.left inputs.old)
+        → IfOk result (ChartsTables (asked_chart request.now) (I.whole inputs.old)
+        (I.failed inputs.old) (I.failed inputs.new)) }
+    ensures status { IfOk result (IsHonest (I.failed inputs.new) (I.reads inputs.new)) }
+    ensures warned { IsFresh (I.whole inputs.old) (I.left inputs.old)
+        → IfErr result (λ e. IsWarned (I.whole inputs.old) (asked_chart request.now).day.table
+        (asked_chart request.now).day.anacrontab (I.failed inputs.old)
+        (I.reads inputs.old) (I.reads inputs.new) e.warnings) }
+    ensures turn { AreReadInTurn (chart_paths (asked_chart request.now))
+        (I.reads inputs.old) (I.reads inputs.new) }
+{
+    let words = &request.day;
+    let (table, jobs) = match read_tables(alloc, inputs, words.table, words.anacrontab) {
+        Ok(tables) => tables,
+        Err(fault) => return Ok(fault.response(alloc, b"".as_slice())?),
+    };
+    let warnings = warnings(alloc, &table, &jobs)?;
+    match drawn(alloc, inputs, request, question, table, jobs) {
+        Ok(answer) => Ok(answer.behind(warnings)),
+        Err(fault) => fault.response_behind(alloc, warnings),
+    }
+}
+
+/// The answer to `chart TABLE DATE MAX [--anacrontab FILE] [--from M] [--to M] [--days N]
+/// [--declarations FILE]`.
+pub fn answer_chart<I: Inputs>(
+    alloc: Global,
+    request: &ChartWords<'_>,
+    inputs: &mut I,
+) -> Result<Response, RanOut>
+    ensures value { IsFresh (I.whole inputs.old) (I.left inputs.old)
+        → IfOk result (AnswersChart (asked_chart request.now) (I.whole inputs.old)
+        (I.failed inputs.old) (I.failed inputs.new)) }
+    ensures status { IfOk result (IsHonest (I.failed inputs.new) (I.reads inputs.new)) }
+    ensures warned { IsFresh (I.whole inputs.old) (I.left inputs.old)
+        → IfErr result (λ e. IsWarned (I.whole inputs.old) (asked_chart request.now).day.table
+        (asked_chart request.now).day.anacrontab (I.failed inputs.old)
+        (I.reads inputs.old) (I.reads inputs.new) e.warnings) }
+    ensures turn { AreReadInTurn (chart_paths (asked_chart request.now))
+        (I.reads inputs.old) (I.reads inputs.new) }
+{
+    match Question::new(&request.day) {
+        Ok(question) => chart_tables(alloc, request, question, inputs),
+        Err(fault) => Ok(Fault::Words(fault).response(alloc, b"".as_slice())?),
+    }
+}

@@ -1,0 +1,32 @@
+//! The subcommand `explain`.
+ghost use Rattle.std.specs.Prelude.{IfOk};
+ghost use Rattle.cs_views.specs.ExplainAnswer.{IsExplained};
+
+use cs_civil::Bytes;
+use cs_explain::{explain as explanation, names, nearest};
+use cs_reads::Response;
+use std::alloc::{AllocError, Global};
+
+/// What is told where nothing has the name, with the nearest one that something has.
+fn no_such_name(alloc: Global, name: &str) -> Result<Vec<u8>, AllocError> {
+    let told = match nearest(alloc, name)? {
+        Some(near) => format!(in alloc;
+            "cronsafe: nothing is named {name}: did you mean {near}?\n"
+        )?,
+        None => format!(in alloc; "cronsafe: nothing is named {name}: try cronsafe explain\n")?,
+    };
+    Ok(told.into_bytes())
+}
+
+/// The answer to `explain [NAME]`. The only error is want of memory.
+pub fn answer_explain(alloc: Global, name: Option<&str>) -> Result<Response, AllocError>
+    ensures { IfOk result IsExplained }
+{
+    let Some(name) = name else {
+        return Ok(Response::done(names(alloc)?.into_bytes(), Bytes::new(alloc)));
+    };
+    match explanation(alloc, name)? {
+        Some(text) => Ok(Response::done(text.into_bytes(), Bytes::new(alloc))),
+        None => Ok(Response::no_call(alloc, no_such_name(alloc, name)?)),
+    }
+}

@@ -27,7 +27,8 @@ begins_on p on j day m = if is_cron p j then on j day m else (m == p.from)
 
 -- the jobs of a plan as their windows see them
 abbrev pub occupied : {D : Type 0} → Plan → (ℕ → D → ℕ → Bool) → (ℕ → ℕ) → List (Job D)
-occupied p on c = map (λ j. record { begins = begins_on p on j; lasts = reach p c j }) (below p.jobs)
+occupied p on c =
+    map (λ j. record { begins = begins_on p on j; lasts = reach p c j }) (below p.jobs)
 
 -- when a job is due on a day of a class, as the certificate says
 abbrev pub due_in : Certificate → ℕ → ℕ → ℕ → Bool
@@ -39,7 +40,8 @@ windows_of p a s = windows_on (occupied p (due_in a) (reach_in p a)) s
 
 -- each window ends at most so many days after the start of the day on which it begins
 abbrev pub EndWithin : Plan → (ℕ → Kind → ℕ → Bool) → (ℕ → ℕ) → ℕ → Type 0
-EndWithin p on c n = (j m : ℕ) (k : Kind) → j < p.jobs → m < 1440 → IsKind k → begins_on p on j k m ≡ true → m + reach p c j ≤ 1440 * n
+EndWithin p on c n = (j m : ℕ) (k : Kind) → j < p.jobs → m < 1440 → IsKind k
+    → begins_on p on j k m ≡ true → m + reach p c j ≤ 1440 * n
 
 -- the length of the stretches: the smallest of 2, 3, 4 that no window outlasts
 pub record IsLength (p : Plan) (on : ℕ → Kind → ℕ → Bool) (c : ℕ → ℕ) (n : ℕ) : Type 0 where
@@ -71,7 +73,8 @@ pub record IsUsed (a : Certificate) (n : ℕ) (s : List ℕ) : Type 0 where
 
 -- what the lock takers of g that are due at a minute of a class bring
 abbrev pub arrivals : Plan → Certificate → ℕ → ℕ → ℕ → ℕ
-arrivals p a g class m = total (λ j. if locks p g j then p.limit j else 0) (filter (λ j. a.due class j m) (below p.crons))
+arrivals p a g class m = total (λ j. if locks p g j then p.limit j else 0)
+    (filter (λ j. a.due class j m) (below p.crons))
 
 -- the place of a class in a stretch
 abbrev pub nth : List ℕ → ℕ → ℕ
@@ -79,7 +82,8 @@ nth s i = get_or s i 0
 
 -- windows of these jobs may not hold one minute: they are of one exclusive group, one of them is cron's, and not both take its lock
 abbrev pub clash : Plan → ℕ → ℕ → Bool
-clash p i j = rivals p i j && ((is_cron p i || is_cron p j) && not (takes_lock p i && takes_lock p j))
+clash p i j =
+    rivals p i j && ((is_cron p i || is_cron p j) && not (takes_lock p i && takes_lock p j))
 
 -- the job is skipped where the lock is held (flock(1) -n)
 abbrev pub is_skip : Mode → Bool
@@ -90,7 +94,8 @@ is_skip Shared = false
 
 -- w keeps the lock from the skip job whose window v begins at this minute of the day
 abbrev pub blocks : Plan → ℕ → Window → Window → Bool
-blocks p m v w = (is_skip (p.mode v.job) && ((v.day_back == 0) && (v.from == m))) && (not (same_window v w) && (takes_lock p w.job && same_group p v.job w.job))
+blocks p m v w = (is_skip (p.mode v.job) && ((v.day_back == 0) && (v.from == m)))
+    && (not (same_window v w) && (takes_lock p w.job && same_group p v.job w.job))
 
 -- the run of a window, its minute counted from the start of the first day of a stretch of n
 abbrev pub run_in : ℕ → Window → Run
@@ -99,7 +104,8 @@ run_in n w = record { job = w.job; at = 1440 * ((n - 1) - w.day_back) + w.from }
 -- where windows are listed: at each minute the leaf there lists those that hold it
 abbrev pub ListsAll : Option Tree → List Window → Type 0
 ListsAll None ws = ⊤
-ListsAll (Some tree) ws = (m : ℕ) → m < 1440 → AllByRecursion (λ w. lists (entries_at tree m) w ≡ true) (holders m ws)
+ListsAll (Some tree) ws =
+    (m : ℕ) → m < 1440 → AllByRecursion (λ w. lists (entries_at tree m) w ≡ true) (holders m ws)
 
 -- of the windows of a stretch
 abbrev pub IsCovered : Plan → Certificate → Stretch → Type 0
@@ -115,7 +121,9 @@ AreWithin p n ws = (m : ℕ) → m < 1440 → load p (map (run_in n) (holders m 
 
 -- at no due minute of a skip job does a window keep the lock from it
 abbrev pub AreFree : Plan → List Window → Type 0
-AreFree p ws = (m : ℕ) → m < 1440 → AllByRecursion (λ v. AllByRecursion (λ w. blocks p m v w ≡ false) (holders m ws)) (holders m ws)
+AreFree p ws = (m : ℕ) → m < 1440
+    → AllByRecursion (λ v. AllByRecursion (λ w. blocks p m v w ≡ false) (holders m ws))
+    (holders m ws)
 
 -- of each stretch that successive days have
 abbrev pub InEach : Certificate → ℕ → (Stretch → Type 0) → Type 0
@@ -124,13 +132,22 @@ InEach a n P = AllByRecursion (λ s. IsUsed a n s.of → P s) a.stretches
 -- The eight rules, for stretches of n days. `on` tells at which minutes of a day of a kind a cron job is due.
 pub record IsAccepted (p : Plan) (on : ℕ → Kind → ℕ → Bool) (a : Certificate) (n : ℕ) : Type 0 where
   -- due minutes: each kind's class has exactly those of the kind
-  pub due : (k : Kind) → IsKind k → (j m : ℕ) → is_cron p j ≡ true → m < 1440 → a.due (a.class_of k) j m ≡ on j k m
+  pub due : (k : Kind) → IsKind k → (j m : ℕ) → is_cron p j ≡ true → m < 1440
+      → a.due (a.class_of k) j m ≡ on j k m
   -- stretches: each n successive kinds have the stretch of their classes
-  pub listed : (ks : List Kind) → IsChain ks → length ks ≡ n → Contains (map (λ s. s.of) a.stretches) (map a.class_of ks)
+  pub listed : (ks : List Kind) → IsChain ks → length ks ≡ n
+      → Contains (map (λ s. s.of) a.stretches) (map a.class_of ks)
   -- backlog steps: in each stretch in use, from its last day but one to its last, for each group with a waiting job
-  pub steps : (g : ℕ) → HasWaiter p g → InEach a n (λ s. StepsHold (a.bound (nth s.of (n - 2)) g) (arrivals p a g (nth s.of (n - 2))) (a.bound (nth s.of (n - 1)) g))
+  pub steps : (g : ℕ) → HasWaiter p g
+      → InEach a n
+      (λ s. StepsHold (a.bound (nth s.of (n - 2)) g) (arrivals p a g (nth s.of (n - 2)))
+      (a.bound (nth s.of (n - 1)) g))
   -- reaches: each waiting job has one, and within it the backlog of its group is zero after each due minute of the first day
-  pub clears : (j g : ℕ) → is_cron p j ≡ true → waits p j ≡ true → locks p g j ≡ true → (r : ℕ) × (a.reach j ≡ Some r) × InEach a n (λ s. (m : ℕ) → m < 1440 → a.due (nth s.of 0) j m ≡ true → ClearsBy (map (λ class. a.bound class g) s.of) m r)
+  pub clears : (j g : ℕ) → is_cron p j ≡ true → waits p j ≡ true → locks p g j ≡ true
+      → (r : ℕ) × (a.reach j ≡ Some r)
+      × InEach a n
+      (λ s. (m : ℕ) → m < 1440 → a.due (nth s.of 0) j m ≡ true
+      → ClearsBy (map (λ class. a.bound class g) s.of) m r)
   -- leaves: where windows are listed, at each minute of the last day the leaf there lists each window that holds it
   pub covered : InEach a n (IsCovered p a)
   -- collisions, capacity, skip jobs: on the last day
@@ -140,7 +157,8 @@ pub record IsAccepted (p : Plan) (on : ℕ → Kind → ℕ → Bool) (a : Certi
 
 -- the windows that n days of the calendar, from this one on, leave on the last
 abbrev pub windows_on_days : Plan → Certificate → ℕ → ℕ → List Window
-windows_on_days p a first n = windows_of p a (map (λ e. a.class_of (kind e)) (range_with_len first n))
+windows_on_days p a first n =
+    windows_of p a (map (λ e. a.class_of (kind e)) (range_with_len first n))
 
 -- the run of a window of a stretch that ends on day d
 abbrev pub run_at : ℕ → Window → Run
@@ -156,4 +174,5 @@ bound_on a g t = a.bound (a.class_of (kind (t / 1440))) g (t % 1440)
 
 -- when a cron job is due depends on the kind of the day alone
 abbrev pub IsByKind : Plan → (ℕ → Kind → ℕ → Bool) → Type 0
-IsByKind p on = (j d m : ℕ) → is_cron p j ≡ true → m < 1440 → p.due j (1440 * d + m) ≡ on j (kind d) m
+IsByKind p on =
+    (j d m : ℕ) → is_cron p j ≡ true → m < 1440 → p.due j (1440 * d + m) ≡ on j (kind d) m

@@ -13,5 +13,9 @@ nightly_certificate = record {
   due = λ _ j m. m == 0;
   bound = λ _ g m. if m == 0 then 0 else 10 - m;
   reach = λ j. Some 10;
-  stretches = (record { of = 0 ∷ 0 ∷ []; tree = Some (leaf (record { job = 0; day_back = 0; from = 0 } ∷ [])) }) ∷ [];
+  stretches =
+      (record {
+        of = 0 ∷ 0 ∷ [];
+        tree = Some (leaf (record { job = 0; day_back = 0; from = 0 } ∷ []));
+      }) ∷ [];
 }

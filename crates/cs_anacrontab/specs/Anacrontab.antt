@@ -29,9 +29,25 @@ no_lines = record { settings = []; lines = [] }
 -- what a line with that number says, and then what the lines behind it say
 abbrev pub with_entry : ℕ → Entry → Table → Table
 with_entry number Nothing table = table
-with_entry number (Setting name value) table = record { settings = record { number = number; name = name; value = value } ∷ table.settings; lines = table.lines }
+with_entry number (Setting name value) table = record {
+  settings = record {
+    number = number;
+    name = name;
+    value = value;
+  } ∷ table.settings;
+  lines = table.lines;
+}
 with_entry number (Job period delay identifier command) table =
-    record { settings = table.settings; lines = record { number = number; period = period; delay = delay; identifier = identifier; command = command } ∷ table.lines }
+    record {
+      settings = table.settings;
+      lines = record {
+        number = number;
+        period = period;
+        delay = delay;
+        identifier = identifier;
+        command = command;
+      } ∷ table.lines;
+    }
 
 -- no two jobs have one identifier
 abbrev pub AreDistinct : List JobLine → Type 0

@@ -19,7 +19,8 @@ pub record IsNumber (highest : ℕ) (text : List ℕ) (n : ℕ) : Type 0 where
 
 -- some days: a number from 1 on, `@daily`, which is 1, or `@weekly`, which is 7
 abbrev pub IsPeriod : List ℕ → Period → Type 0
-IsPeriod text (Days n) = (IsNumber MAX_PERIOD text n × (1 ≤ n)) ⊎ (((text ≡ codes "@daily") × (n ≡ 1)) ⊎ ((text ≡ codes "@weekly") × (n ≡ 7)))
+IsPeriod text (Days n) = (IsNumber MAX_PERIOD text n × (1 ≤ n))
+    ⊎ (((text ≡ codes "@daily") × (n ≡ 1)) ⊎ ((text ≡ codes "@weekly") × (n ≡ 7)))
 IsPeriod text Monthly = text ≡ codes "@monthly"
 
 -- a word that names a stamp file
@@ -39,7 +40,8 @@ pub record HasWord (text word rest : List ℕ) : Type 0 where
   pub stops : StopsAt is_blank rest
 
 -- a period, a delay, an identifier and a command (anacrontab(5))
-pub record IsJob (text : List ℕ) (period : Period) (delay : ℕ) (identifier command : List ℕ) : Type 0 where
+pub record IsJob (text : List ℕ) (period : Period) (delay : ℕ)
+    (identifier command : List ℕ) : Type 0 where
   pub period_word : List ℕ
   pub behind_period : List ℕ
   pub delay_word : List ℕ
@@ -60,8 +62,10 @@ IsContinued text = (front : List ℕ) × (text ≡ front ++ (92 ∷ []))
 -- A setting begins with a letter, `_` or a quote (this profile).
 abbrev pub TextSays : List ℕ → Entry → Type 0
 TextSays text Nothing = (text ≡ []) ⊎ ((comment : List ℕ) × (text ≡ 35 ∷ comment))
-TextSays text (Setting name value) = ¬ (IsContinued text) × (begins_as_setting text ≡ true) × IsSetting text name value
-TextSays text (Job period delay identifier command) = ¬ (IsContinued text) × IsJob text period delay identifier command
+TextSays text (Setting name value) =
+    ¬ (IsContinued text) × (begins_as_setting text ≡ true) × IsSetting text name value
+TextSays text (Job period delay identifier command) =
+    ¬ (IsContinued text) × IsJob text period delay identifier command
 
 -- what a line says: blanks at its front mean nothing
 pub record Says (line : List ℕ) (entry : Entry) : Type 0 where
@@ -76,7 +80,8 @@ pub record Says (line : List ℕ) (entry : Entry) : Type 0 where
 -- what lines say, of which the first has this number
 abbrev pub AreLines : ℕ → List (List ℕ) → Table → Type 0
 AreLines number [] table = table ≡ no_lines
-AreLines number (line ∷ lines) table = (entry : Entry) × (others : Table) × Says line entry × AreLines (number + 1) lines others × (table ≡ with_entry number entry others)
+AreLines number (line ∷ lines) table = (entry : Entry) × (others : Table) × Says line entry
+    × AreLines (number + 1) lines others × (table ≡ with_entry number entry others)
 
 -- the text is written as this table
 pub record IsAnacrontab (text : List ℕ) (table : Table) : Type 0 where

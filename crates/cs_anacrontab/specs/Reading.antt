@@ -67,7 +67,8 @@ is_identifier word =
 
 -- the next word, and the text from the word after it on
 unfoldable pub word_at : List ℕ → Result (List ℕ × List ℕ) JobFault
-word_at text = if is_nothing text then Err faults.MissingField else Ok (front is_solid text, after is_blank (after is_solid text))
+word_at text = if is_nothing text then Err faults.MissingField
+    else Ok (front is_solid text, after is_blank (after is_solid text))
 
 -- a job with a good identifier and a command
 abbrev pub completed : Period → ℕ → List ℕ → List ℕ → Result Entry JobFault

@@ -36,11 +36,25 @@ abbrev pub is_named : List ℕ → List JobLine → Bool
 is_named identifier lines = list_any (λ job. bytes_eq job.identifier identifier) lines
 
 abbrev pub with_setting : ℕ → List ℕ → List ℕ → Table → Table
-with_setting number name value table = record { settings = table.settings ++ (record { number = number; name = name; value = value } ∷ []); lines = table.lines }
+with_setting number name value table = record {
+  settings = table.settings
+      ++ (record { number = number; name = name; value = value } ∷ []);
+  lines = table.lines;
+}
 
 abbrev pub with_job : ℕ → Period → ℕ → List ℕ → List ℕ → Table → Table
 with_job number period delay identifier command table =
-    record { settings = table.settings; lines = table.lines ++ (record { number = number; period = period; delay = delay; identifier = identifier; command = command } ∷ []) }
+    record {
+      settings = table.settings;
+      lines = table.lines
+          ++ (record {
+            number = number;
+            period = period;
+            delay = delay;
+            identifier = identifier;
+            command = command;
+          } ∷ []);
+    }
 
 -- the table with what the next line says, if that has no fault: an identifier that stood before, and then a job above the limit, are one fault more
 abbrev pub added : ℕ → Table → Result Entry JobFault → Result Table Fault
@@ -49,7 +63,8 @@ added number table (Ok Nothing) = Ok table
 added number table (Ok (Setting name value)) = Ok (with_setting number name value table)
 added number table (Ok (Job period delay identifier command)) =
     if is_named identifier table.lines then Err (number, TwiceNamed)
-    else if nat_lt (length table.lines) MAX_JOBS then Ok (with_job number period delay identifier command table)
+    else if nat_lt (length table.lines) MAX_JOBS
+    then Ok (with_job number period delay identifier command table)
     else Err (number, TooManyJobs)
 
 -- the table with the lines behind it, of which the first has this number
@@ -60,4 +75,5 @@ lines_from number table (line ∷ lines) = do
   lines_from (number + 1) more lines
 
 unfoldable pub anacrontab_of : List ℕ → Result Table Fault
-anacrontab_of text = if nat_lt MAX_TABLE (length text) then Err (0, TooLong) else lines_from 1 no_lines (lines_of text)
+anacrontab_of text = if nat_lt MAX_TABLE (length text) then Err (0, TooLong)
+    else lines_from 1 no_lines (lines_of text)

@@ -76,7 +76,8 @@ impl Draft {
         identifier: &[u8],
         command: &[u8],
     ) -> Result<(), AllocError>
-        ensures { IfOk result (λ _. self.new ≡ with_job number period delay identifier.now command.now self.old) }
+        ensures { IfOk result
+            (λ _. self.new ≡ with_job number period delay identifier.now command.now self.old) }
     {
         let identifier = Bytes::from_slice(alloc, identifier)?;
         let command = Bytes::from_slice(alloc, command)?;
@@ -153,7 +154,8 @@ pub fn read_anacrontab(alloc: Global, bytes: &[u8]) -> Result<Anacrontab, Anacro
     // A fault stands there, and is the first; nothing is said of want of memory.
     ensures fault { IfErr result (IsFaultOf bytes.now) }
     // The bytes mean nothing else, and what they mean is answered unless memory runs out.
-    ensures only { (meaning : Meaning) → Means bytes.now meaning → Denotes (λ table. table) meaning result }
+    ensures only { (meaning : Meaning) → Means bytes.now meaning
+        → Denotes (λ table. table) meaning result }
 {
     read_table(alloc, bytes)
 }

@@ -45,7 +45,8 @@ fn read_date(text: &[u8]) -> Option<Day>
 
 /// `YYYY-MM-DD` of `YYYYMMDD`, if the text has that length.
 fn with_hyphens(text: &[u8]) -> Option<[u8; 10]>
-    ensures same { IfSome result (λ hyphened. (d : CivilDate) → (hyphened ≡ date_bytes d) ↔ (text.now ≡ date_digits d)) }
+    ensures same { IfSome result
+        (λ hyphened. (d : CivilDate) → (hyphened ≡ date_bytes d) ↔ (text.now ≡ date_digits d)) }
     ensures none { IsNone result → (d : CivilDate) → text.now ≢ date_digits d }
 {
     let &[y1, y2, y3, y4, m1, m2, d1, d2] = text else {

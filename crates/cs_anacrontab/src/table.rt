@@ -23,7 +23,13 @@ impl Model for Job {
 
     ghost Value = { JobLine };
 
-    ghost view = { λ a. record { number = a.place; period = a.rhythm; delay = a.minutes; identifier = a.name; command = a.text } };
+    ghost view = { λ a. record {
+      number = a.place;
+      period = a.rhythm;
+      delay = a.minutes;
+      identifier = a.name;
+      command = a.text;
+    } };
 }
 
 impl Job {
@@ -34,7 +40,14 @@ impl Job {
         identifier: Bytes,
         command: Bytes,
     ) -> Job
-        ensures { result ≡ record { number = number; period = period; delay = delay; identifier = identifier; command = command } }
+        ensures { result
+            ≡ record {
+              number = number;
+              period = period;
+              delay = delay;
+              identifier = identifier;
+              command = command;
+            } }
     {
         Job {
             place: number,
@@ -175,7 +188,8 @@ impl Anacrontab {
 
     /// The environment of the job on the line of that number, as [`env_of`](cs_crontab::env_of) of the table's settings.
     pub fn env_of(&self, alloc: Global, line: u32) -> Result<Sequence<(Bytes, Bytes)>, AllocError>
-        ensures names { IfOk result (λ env. map (λ v. v.0) env ≡ first_places (names_of (above line self.now.settings))) }
+        ensures names { IfOk result
+            (λ env. map (λ v. v.0) env ≡ first_places (names_of (above line self.now.settings))) }
         ensures values { IfOk result (All (IsLast (above line self.now.settings))) }
     {
         env_of(alloc, self.settings(), line)

@@ -23,7 +23,14 @@ use Rattle.cs_call.specs.declared.request.UsageFault.{UsageFault}
 use Rattle.cs_call.specs.declared.request.UsageFault.TheVariants.{Help, NoCall, OutOfMemory, Version}
 
 abbrev pub asked : DayWords → Asked
-asked d = record { table = d.table.now; date = d.date.now; max = d.max; anacrontab = option_map (λ path. path.now) d.anacrontab; from = d.from; to = d.to }
+asked d = record {
+  table = d.table.now;
+  date = d.date.now;
+  max = d.max;
+  anacrontab = option_map (λ path. path.now) d.anacrontab;
+  from = d.from;
+  to = d.to;
+}
 
 abbrev pub asked_replay : ReplayWords → AskedReplay
 asked_replay r = record {
@@ -35,7 +42,12 @@ asked_replay r = record {
 }
 
 abbrev pub asked_check : CheckWords → AskedCheck
-asked_check c = record { table = c.table.now; declarations = c.declarations.now; certificate = c.certificate.now; anacrontab = option_map (λ path. path.now) c.anacrontab }
+asked_check c = record {
+  table = c.table.now;
+  declarations = c.declarations.now;
+  certificate = c.certificate.now;
+  anacrontab = option_map (λ path. path.now) c.anacrontab;
+}
 
 abbrev pub asked_run : RunWords → AskedRun
 asked_run r = record { check = asked_check r.check; stamps = r.stamps.now; minutes = r.minutes }
@@ -155,5 +167,6 @@ RequestAsked name rows (Err OutOfMemory) = ⊤
 abbrev pub FaultOf : Error → UsageFault → Type 0
 FaultOf e (Help text) = kind_of e ≡ DisplayHelp
 FaultOf e Version = kind_of e ≡ DisplayVersion
-FaultOf e (NoCall text) = (kind_of e ≢ DisplayHelp) × (kind_of e ≢ DisplayVersion) × (kind_of e ≢ kind.OutOfMemory)
+FaultOf e (NoCall text) =
+    (kind_of e ≢ DisplayHelp) × (kind_of e ≢ DisplayVersion) × (kind_of e ≢ kind.OutOfMemory)
 FaultOf e OutOfMemory = ⊤

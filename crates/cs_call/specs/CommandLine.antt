@@ -31,11 +31,15 @@ flag_rule id = record (new_rule id) { long = Some id; action = Some SetTrue }
 
 -- `TABLE DATE MAX`
 abbrev pub with_words : App → App
-with_words app = with_rule (with_rule (with_rule app (required_rule (codes "TABLE"))) (required_rule (codes "DATE"))) (required_rule (codes "MAX"))
+with_words app = with_rule
+    (with_rule (with_rule app (required_rule (codes "TABLE"))) (required_rule (codes "DATE")))
+    (required_rule (codes "MAX"))
 
 -- `[--anacrontab FILE] [--from M] [--to M]`
 abbrev pub with_hours : App → App
-with_hours app = with_rule (with_rule (with_rule app (option_rule (codes "anacrontab"))) (option_rule (codes "from"))) (option_rule (codes "to"))
+with_hours app = with_rule
+    (with_rule (with_rule app (option_rule (codes "anacrontab"))) (option_rule (codes "from")))
+    (option_rule (codes "to"))
 
 -- `day TABLE DATE MAX [--anacrontab FILE] [--from M] [--to M]`
 unfoldable pub day_app : App
@@ -43,11 +47,15 @@ day_app = with_hours (with_words (new_app (codes "day")))
 
 -- `[--max N] [--anacrontab FILE] [--declarations FILE]`
 abbrev pub with_terms : App → App
-with_terms app = with_rule (with_rule (with_rule app (option_rule (codes "max"))) (option_rule (codes "anacrontab"))) (option_rule (codes "declarations"))
+with_terms app = with_rule
+    (with_rule (with_rule app (option_rule (codes "max"))) (option_rule (codes "anacrontab")))
+    (option_rule (codes "declarations"))
 
 -- `replay TABLE SCRIPT [--max N] [--anacrontab FILE] [--declarations FILE]`
 unfoldable pub replay_app : App
-replay_app = with_terms (with_rule (with_rule (new_app (codes "replay")) (required_rule (codes "TABLE"))) (required_rule (codes "SCRIPT")))
+replay_app = with_terms
+    (with_rule (with_rule (new_app (codes "replay")) (required_rule (codes "TABLE")))
+    (required_rule (codes "SCRIPT")))
 
 -- `TABLE DECLS CERT`
 abbrev pub with_certificate : App → App
@@ -57,7 +65,8 @@ with_certificate app =
 
 -- `check TABLE DECLS CERT [--anacrontab FILE]`
 unfoldable pub check_app : App
-check_app = with_rule (with_certificate (new_app (codes "check"))) (option_rule (codes "anacrontab"))
+check_app =
+    with_rule (with_certificate (new_app (codes "check"))) (option_rule (codes "anacrontab"))
 
 -- `run TABLE DECLS CERT STAMPS [--anacrontab FILE] [--minutes N]`
 unfoldable pub run_app : App
@@ -108,7 +117,8 @@ help_app = with_rule (new_app (codes "help")) (new_rule (codes "COMMAND"))
 
 -- what `cronsafe` says of itself: it has a version, and wants a subcommand, of which `help` is its own
 unfoldable pub top_app : App
-top_app = on_top (λ s. record s { disable_help_subcommand = true; subcommand_required = true; has_version = true })
+top_app = on_top (λ s.
+    record s { disable_help_subcommand = true; subcommand_required = true; has_version = true })
     (new_app (codes "cronsafe"))
 
 -- `cronsafe` with the subcommands `judge` and `make`
@@ -139,7 +149,8 @@ cronsafe_app = with_subcommand up_to_explain_app help_app.top
 abbrev pub number_of : Text → Option ℕ
 number_of text =
     if list_all is_ascii_digit text
-    then (if nat_lt 0 (length text) && nat_lt (digits_value 10 text) (2 ^ 64) then Some (digits_value 10 text) else None)
+    then (if nat_lt 0 (length text) && nat_lt (digits_value 10 text) (2 ^ 64)
+    then Some (digits_value 10 text) else None)
     else None
 
 -- what `day` is asked: a table's path, the text of a date, a longest time in minutes, the path of an
@@ -239,14 +250,24 @@ asked_with rows max from to =
     let table = value_or [] (codes "TABLE") rows in
     let anacrontab = first_of (codes "anacrontab") rows in
     if is_twice_standard table anacrontab then None
-    else Some (record { table = table; date = value_or [] (codes "DATE") rows; max = max; anacrontab = anacrontab; from = from; to = to })
+    else Some (record {
+      table = table;
+      date = value_or [] (codes "DATE") rows;
+      max = max;
+      anacrontab = anacrontab;
+      from = from;
+      to = to;
+    })
 
 -- what the entries of `day` ask: MAX and the hours have to be numbers, the hours are by default the
 -- whole day, and standard input is named once at most
 abbrev pub asked_in : List Row → Option Asked
 asked_in rows =
-    option_and_then (λ max. option_and_then (λ from. option_and_then (λ to. asked_with rows max from to)
-    (number_of (value_or (codes "1440") (codes "to") rows))) (number_of (value_or (codes "0") (codes "from") rows))) (number_of (value_or [] (codes "MAX") rows))
+    option_and_then
+    (λ max. option_and_then (λ from. option_and_then (λ to. asked_with rows max from to)
+    (number_of (value_or (codes "1440") (codes "to") rows)))
+    (number_of (value_or (codes "0") (codes "from") rows)))
+    (number_of (value_or [] (codes "MAX") rows))
 
 -- whether an option names standard input
 abbrev pub is_dash_in : Option Text → Bool
@@ -267,12 +288,19 @@ replay_with rows max =
     let anacrontab = first_of (codes "anacrontab") rows in
     let declarations = first_of (codes "declarations") rows in
     if are_dashes table script anacrontab declarations then None
-    else Some (record { table = table; script = script; max = max; anacrontab = anacrontab; declarations = declarations })
+    else Some (record {
+      table = table;
+      script = script;
+      max = max;
+      anacrontab = anacrontab;
+      declarations = declarations;
+    })
 
 -- what the entries of `replay` ask: `--max` has to be a number, by default a day's minutes, and standard
 -- input is named once at most
 abbrev pub replay_in : List Row → Option AskedReplay
-replay_in rows = option_and_then (λ max. replay_with rows max) (number_of (value_or (codes "1440") (codes "max") rows))
+replay_in rows = option_and_then (λ max. replay_with rows max)
+    (number_of (value_or (codes "1440") (codes "max") rows))
 
 -- what the entries of `check` ask: standard input is named once at most
 abbrev pub check_in : List Row → Option AskedCheck
@@ -282,7 +310,12 @@ check_in rows =
     let certificate = value_or [] (codes "CERT") rows in
     let anacrontab = first_of (codes "anacrontab") rows in
     if are_dashes table declarations anacrontab (Some certificate) then None
-    else Some (record { table = table; declarations = declarations; certificate = certificate; anacrontab = anacrontab })
+    else Some (record {
+      table = table;
+      declarations = declarations;
+      certificate = certificate;
+      anacrontab = anacrontab;
+    })
 
 -- the number of an option that may be left out
 abbrev pub minutes_of : Option Text → Option (Option ℕ)
@@ -375,7 +408,8 @@ is_subcommand name =
 
 -- what the entries of `help` ask: help, but of no other subcommand
 abbrev pub help_in : List Row → Option Asking
-help_in rows = if option_map_or is_subcommand (first_of (codes "COMMAND") rows) true then Some Help else None
+help_in rows =
+    if option_map_or is_subcommand (first_of (codes "COMMAND") rows) true then Some Help else None
 
 -- what the entries of a subcommand ask, by its name
 abbrev pub asked_by : Text → List Row → Option Asking
@@ -412,5 +446,6 @@ AsksVersion words = IsAmong DisplayVersion (fault_of cronsafe_app words)
 -- help is asked of what is no subcommand
 abbrev pub IsNoCall : List Text → Type 0
 IsNoCall words =
-    ((fault : ErrorKind) × IsAmong fault (fault_of cronsafe_app words) × (fault ≢ DisplayHelp) × (fault ≢ DisplayVersion))
+    ((fault : ErrorKind) × IsAmong fault (fault_of cronsafe_app words) × (fault ≢ DisplayHelp)
+    × (fault ≢ DisplayVersion))
     ⊎ ((fault_of cronsafe_app words ≡ []) × (asked_of words ≡ None))

@@ -49,7 +49,8 @@ AreBadHours from to fault = (¬ (AreHours from to)) × (fault ≡ codes "declara
 abbrev pub IsBadWord : Asked → List ℕ → Type 0
 IsBadWord a fault =
     IsBadDate a.date fault
-    ⊎ ((n : ℕ) × NamesDay n a.date × (IsBadMax a.max fault ⊎ (IsTime a.max × AreBadHours a.from a.to fault)))
+    ⊎ ((n : ℕ) × NamesDay n a.date
+    × (IsBadMax a.max fault ⊎ (IsTime a.max × AreBadHours a.from a.to fault)))
 
 -- the words ask this
 pub record IsQuestion (a : Asked) (q : Question) : Type 0 where

@@ -36,4 +36,5 @@ bound_in class group minute = at (pieces_of class.backlog group) minute
 -- the tree of a stretch of days of these classes, where it is listed
 abbrev pub tree_for : List StretchTree → List ℕ → Option Tree
 tree_for [] classes = None
-tree_for (s ∷ rest) classes = if pointwise nat_eq s.of classes then Some s.tree else tree_for rest classes
+tree_for (s ∷ rest) classes =
+    if pointwise nat_eq s.of classes then Some s.tree else tree_for rest classes

@@ -6,4 +6,10 @@ use Rattle.cs_cert.specs.declared.claim.Claim.{Claim}
 
 -- what is claimed
 abbrev pub said : Claim → Content
-said c = record { version = c.version; classes = c.classes.now; kinds = tree_of c.kinds.now; stretches = map stretch_of c.stretches.now; reach = c.reach.now }
+said c = record {
+  version = c.version;
+  classes = c.classes.now;
+  kinds = tree_of c.kinds.now;
+  stretches = map stretch_of c.stretches.now;
+  reach = c.reach.now;
+}

@@ -24,4 +24,10 @@ abbrev pub stretch_of : Stretch → StretchTree
 stretch_of s = record { of = s.of; tree = minute.tree_of s.tree }
 
 abbrev pub content_of : Parts → Content
-content_of p = record { version = p.version; classes = p.classes; kinds = day.tree_of p.kinds; stretches = map stretch_of p.stretches; reach = p.reach }
+content_of p = record {
+  version = p.version;
+  classes = p.classes;
+  kinds = day.tree_of p.kinds;
+  stretches = map stretch_of p.stretches;
+  reach = p.reach;
+}

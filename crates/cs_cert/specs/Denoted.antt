@@ -29,17 +29,26 @@ stretches_name version = if version == 2 then codes "stretches" else codes "pair
 -- versions 1 and 2: exactly these members
 unfoldable pub listed_said : ℕ → Data → Result Content JsonFault
 listed_said version d = do
-  o ← object_with (is_among (codes "classes" ∷ codes "kinds" ∷ codes "reach" ∷ codes "version" ∷ stretches_name version ∷ [])) d
+  o ← object_with
+      (is_among (codes "classes" ∷ codes "kinds" ∷ codes "reach" ∷ codes "version"
+      ∷ stretches_name version ∷ [])) d
   classes ← member_as (list_as class_said) (codes "classes") d
   kinds ← member_as day_tree_said (codes "kinds") d
   stretches ← member_as (list_as stretch_said) (stretches_name version) d
   reach ← member_as (list_as reach_said) (codes "reach") d
-  Ok (record { version = version; classes = classes; kinds = kinds; stretches = stretches; reach = reach })
+  Ok (record {
+    version = version;
+    classes = classes;
+    kinds = kinds;
+    stretches = stretches;
+    reach = reach;
+  })
 
 -- version 3: exactly these
 unfoldable pub carried_said : Data → Result Content JsonFault
 carried_said d = do
-  o ← object_with (is_among (codes "classes" ∷ codes "kinds" ∷ codes "reach" ∷ codes "version" ∷ [])) d
+  o ← object_with
+      (is_among (codes "classes" ∷ codes "kinds" ∷ codes "reach" ∷ codes "version" ∷ [])) d
   classes ← member_as (list_as carry_class_said) (codes "classes") d
   kinds ← member_as day_tree_said (codes "kinds") d
   reach ← member_as (list_as reach_said) (codes "reach") d
@@ -56,7 +65,8 @@ is_other (Some z) = not (int_eq z (pos 1) || (int_eq z (pos 2) || int_eq z (pos 
 
 -- the version is a whole number other than 1, 2 and 3
 abbrev pub is_other_version : Data → Bool
-is_other_version d = is_other (option_and_then as_integer (option_and_then as_number (get (codes "version") d)))
+is_other_version d =
+    is_other (option_and_then as_integer (option_and_then as_number (get (codes "version") d)))
 
 abbrev pub or_bad_shape : Result Content JsonFault → Result Content CertFault
 or_bad_shape (Ok c) = Ok c
@@ -75,10 +85,12 @@ json_in bytes = or_not_json (json_of bytes)
 
 -- one step after another: the first fault is the answer
 infixl 10 ◌then◌
-abbrev pub ◌then◌ : {A B : Type 0} → Result A CertFault → (A → Result B CertFault) → Result B CertFault
+abbrev pub ◌then◌ : {A B : Type 0} → Result A CertFault → (A → Result B CertFault)
+    → Result B CertFault
 (Ok x) then f = f x
 (Err fault) then f = Err fault
 
 -- the text's length, its JSON, its version, its shape, and then the rules by number
 unfoldable pub certificate_by : List ℕ → Result Content CertFault
-certificate_by bytes = if nat_lt 16_777_216 (length bytes) then Err TooLong else (json_in bytes) then (λ d. (content_in d) then judged)
+certificate_by bytes = if nat_lt 16_777_216 (length bytes) then Err TooLong
+    else (json_in bytes) then (λ d. (content_in d) then judged)

@@ -44,7 +44,8 @@ depth (split at before after) = max (depth before) (depth after) + 1
 -- over [lo, hi), each split lies inside its range
 abbrev pub splits_inside : Tree → ℕ → ℕ → Bool
 splits_inside (leaf entries) lo hi = true
-splits_inside (split at before after) lo hi = nat_lt lo at && nat_lt at hi && splits_inside before lo at && splits_inside after at hi
+splits_inside (split at before after) lo hi =
+    nat_lt lo at && nat_lt at hi && splits_inside before lo at && splits_inside after at hi
 
 -- each leaf's entries pass the test
 abbrev pub leaves_pass : (List Entry → Bool) → Tree → Bool
@@ -65,7 +66,8 @@ is_short entries = nat_le (length entries) 4_096
 
 -- minutes of the day, rising, one at least, of a job
 abbrev pub due_list_fits : DueList → Bool
-due_list_fits d = nat_lt d.job 320 && nat_lt 0 (length d.minutes) && rises d.minutes && list_all (λ minute. nat_lt minute 1_440) d.minutes
+due_list_fits d = nat_lt d.job 320 && nat_lt 0 (length d.minutes) && rises d.minutes
+    && list_all (λ minute. nat_lt minute 1_440) d.minutes
 
 -- jobs rising
 abbrev pub due_fits : List DueList → Bool
@@ -75,14 +77,16 @@ due_fits due = each_next (λ a b. nat_lt a.job b.job) due && list_all due_list_f
 abbrev pub is_backlog_from : ℕ → List Piece → Bool
 is_backlog_from least [] = true
 is_backlog_from least (p ∷ ps) =
-    nat_le least p.minute && nat_lt p.minute 1_440 && nat_le 1 p.value && nat_le p.value 1_000_000 && is_backlog_from (p.minute + 1) ps
+    nat_le least p.minute && nat_lt p.minute 1_440 && nat_le 1 p.value && nat_le p.value 1_000_000
+    && is_backlog_from (p.minute + 1) ps
 
 abbrev pub group_backlog_fits : GroupBacklog → Bool
 group_backlog_fits b = nat_lt b.group 64 && is_backlog_from 0 b.backlog
 
 -- groups rising
 abbrev pub backlog_fits : List GroupBacklog → Bool
-backlog_fits backlog = each_next (λ a b. nat_lt a.group b.group) backlog && list_all group_backlog_fits backlog
+backlog_fits backlog =
+    each_next (λ a b. nat_lt a.group b.group) backlog && list_all group_backlog_fits backlog
 
 abbrev pub class_fits : Class → Bool
 class_fits c = due_fits c.due && backlog_fits c.backlog
@@ -109,11 +113,13 @@ has_carries c = list_all has_carry c.backlog
 -- jobs rising, each reach from 1 to the greatest
 abbrev pub reach_fits : ℕ → List JobReach → Bool
 reach_fits most reach =
-    each_next (λ a b. nat_lt a.job b.job) reach && list_all (λ r. nat_lt r.job 320 && nat_lt 0 r.reach && nat_le r.reach most) reach
+    each_next (λ a b. nat_lt a.job b.job) reach
+    && list_all (λ r. nat_lt r.job 320 && nat_lt 0 r.reach && nat_le r.reach most) reach
 
 -- by length, then in order
 abbrev pub comes_before : List ℕ → List ℕ → Bool
-comes_before a b = nat_lt (length a) (length b) || (nat_eq (length a) (length b) && is_lt (slice_cmp nat_cmp a b))
+comes_before a b =
+    nat_lt (length a) (length b) || (nat_eq (length a) (length b) && is_lt (slice_cmp nat_cmp a b))
 
 -- ---- the whole
 
@@ -164,7 +170,8 @@ carries_fit c = not (c.version == 3) || list_all has_carries c.classes
 
 abbrev pub lists_fit : Content → Bool
 lists_fit c =
-    reach_fits (most_reach c.version) c.reach && list_all class_fits c.classes && list_all (has_entries (most_days c.version)) c.stretches
+    reach_fits (most_reach c.version) c.reach && list_all class_fits c.classes
+    && list_all (has_entries (most_days c.version)) c.stretches
     && carries_fit c
 
 -- no leaf has more than 4,096 entries

@@ -23,19 +23,23 @@ held top d = whole_number d >>= (λ z. Ok (capped top z))
 
 -- `[job, [minutes]]`
 abbrev pub due_list_said : Data → Result DueList JsonFault
-due_list_said d = pair_as (held 65535) (list_as (held 65535)) d >>= (λ p. Ok (record { job = p.0; minutes = p.1 }))
+due_list_said d = pair_as (held 65535) (list_as (held 65535)) d >>=
+    (λ p. Ok (record { job = p.0; minutes = p.1 }))
 
 -- `[minute, value]`
 abbrev pub piece_said : Data → Result Piece JsonFault
-piece_said d = pair_as (held 65535) (held 4294967295) d >>= (λ p. Ok (record { minute = p.0; value = p.1 }))
+piece_said d =
+    pair_as (held 65535) (held 4294967295) d >>= (λ p. Ok (record { minute = p.0; value = p.1 }))
 
 -- pieces that break the rules of a backlog are held as those of a group that no rule allows: so the list breaks its rule as well
 abbrev pub held_backlog : ℕ → List Piece → GroupBacklog
-held_backlog group pieces = if is_backlog_from 0 pieces then record { group = group; backlog = pieces } else record { group = 255; backlog = [] }
+held_backlog group pieces = if is_backlog_from 0 pieces
+    then record { group = group; backlog = pieces } else record { group = 255; backlog = [] }
 
 -- `[group, [[minute, value], ..]]`
 abbrev pub group_backlog_said : Data → Result GroupBacklog JsonFault
-group_backlog_said d = pair_as (held 255) (list_as piece_said) d >>= (λ p. Ok (held_backlog p.0 p.1))
+group_backlog_said d =
+    pair_as (held 255) (list_as piece_said) d >>= (λ p. Ok (held_backlog p.0 p.1))
 
 -- `{"due": .., "backlog": ..}`
 abbrev pub class_said : Data → Result Class JsonFault
@@ -47,7 +51,8 @@ class_said d = do
 
 -- `[group, minutes]`: what is left over at midnight, as a bound from minute 0 on
 abbrev pub carry_said : Data → Result GroupBacklog JsonFault
-carry_said d = pair_as (held 255) (held 4294967295) d >>= (λ p. Ok (held_backlog p.0 (record { minute = 0; value = p.1 } ∷ [])))
+carry_said d = pair_as (held 255) (held 4294967295) d >>=
+    (λ p. Ok (held_backlog p.0 (record { minute = 0; value = p.1 } ∷ [])))
 
 -- `{"carry": ..}`
 abbrev pub carry_class_said : Data → Result Class JsonFault
@@ -62,4 +67,5 @@ reach_said d = pair_as (held 65535) (held 65535) d >>= (λ p. Ok (record { job =
 
 -- `[job, day_back, from]`
 abbrev pub entry_said : Data → Result Entry JsonFault
-entry_said d = triple_as (held 65535) (held 255) (held 65535) d >>= (λ p. Ok (record { job = p.0; day_back = p.1; from = p.2 }))
+entry_said d = triple_as (held 65535) (held 255) (held 65535) d >>=
+    (λ p. Ok (record { job = p.0; day_back = p.1; from = p.2 }))

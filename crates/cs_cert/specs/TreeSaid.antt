@@ -32,18 +32,22 @@ unfoldable mutual
   tree_said s (string text) = Err BadShape
   tree_said s (array ds) = Err BadShape
   tree_said s (object ms) =
-      if is_some (get_member s.leaf_name ms) then s.leaf_said (object ms) else s.split_said (half_said s s.first_name ms) (half_said s s.second_name ms) (object ms)
+      if is_some (get_member s.leaf_name ms) then s.leaf_said (object ms)
+      else s.split_said (half_said s s.first_name ms) (half_said s s.second_name ms) (object ms)
 
   -- the tree that is the value of a name
   pub half_said : {T : Type 0} → TreeShape T → List ℕ → Members → Result T JsonFault
   half_said s name no_members = Err BadShape
-  half_said s name (member k d ms) = match_ordering (slice_cmp nat_cmp name k) (half_said s name ms) (tree_said s d) (half_said s name ms)
+  half_said s name (member k d ms) = match_ordering (slice_cmp nat_cmp name k) (half_said s name ms)
+      (tree_said s d) (half_said s name ms)
 
 -- ---- day trees
 
 abbrev pub part_named : List ℕ → Option KindPart
 part_named text =
-    if bytes_eq text (codes "month") then Some Month else (if bytes_eq text (codes "day") then Some Day else (if bytes_eq text (codes "weekday") then Some Weekday else None))
+    if bytes_eq text (codes "month") then Some Month
+    else (if bytes_eq text (codes "day") then Some Day
+    else (if bytes_eq text (codes "weekday") then Some Weekday else None))
 
 abbrev pub part_said : Data → Result KindPart JsonFault
 part_said d = or_bad_shape (option_and_then part_named (as_str d))
@@ -56,7 +60,8 @@ day_leaf_said d = do
   Ok (day.leaf class)
 
 -- `{"split": part, "in": [numbers], "yes": tree, "no": tree}`
-unfoldable pub day_split_said : Result day.Tree JsonFault → Result day.Tree JsonFault → Data → Result day.Tree JsonFault
+unfoldable pub day_split_said : Result day.Tree JsonFault → Result day.Tree JsonFault → Data
+    → Result day.Tree JsonFault
 day_split_said yes_tree no_tree d = do
   o ← object_with (is_among (codes "in" ∷ codes "no" ∷ codes "split" ∷ codes "yes" ∷ [])) d
   part ← member_as part_said (codes "split") d
@@ -66,7 +71,13 @@ day_split_said yes_tree no_tree d = do
   Ok (day.split part values inside outside)
 
 abbrev pub day_shape : TreeShape day.Tree
-day_shape = record { leaf_name = codes "class"; first_name = codes "yes"; second_name = codes "no"; leaf_said = day_leaf_said; split_said = day_split_said }
+day_shape = record {
+  leaf_name = codes "class";
+  first_name = codes "yes";
+  second_name = codes "no";
+  leaf_said = day_leaf_said;
+  split_said = day_split_said;
+}
 
 abbrev pub day_tree_said : Data → Result day.Tree JsonFault
 day_tree_said d = tree_said day_shape d
@@ -81,7 +92,8 @@ minute_leaf_said d = do
   Ok (minute.leaf entries)
 
 -- `{"at": minute, "before": tree, "after": tree}`
-unfoldable pub minute_split_said : Result minute.Tree JsonFault → Result minute.Tree JsonFault → Data → Result minute.Tree JsonFault
+unfoldable pub minute_split_said : Result minute.Tree JsonFault → Result minute.Tree JsonFault
+    → Data → Result minute.Tree JsonFault
 minute_split_said before_tree after_tree d = do
   o ← object_with (is_among (codes "after" ∷ codes "at" ∷ codes "before" ∷ [])) d
   at ← member_as (held 65535) (codes "at") d
@@ -90,7 +102,13 @@ minute_split_said before_tree after_tree d = do
   Ok (minute.split at before after)
 
 abbrev pub minute_shape : TreeShape minute.Tree
-minute_shape = record { leaf_name = codes "list"; first_name = codes "before"; second_name = codes "after"; leaf_said = minute_leaf_said; split_said = minute_split_said }
+minute_shape = record {
+  leaf_name = codes "list";
+  first_name = codes "before";
+  second_name = codes "after";
+  leaf_said = minute_leaf_said;
+  split_said = minute_split_said;
+}
 
 abbrev pub minute_tree_said : Data → Result minute.Tree JsonFault
 minute_tree_said d = tree_said minute_shape d

@@ -37,7 +37,8 @@ abbrev pub group_backlog_data : GroupBacklog → Data
 group_backlog_data b = pair_data (number_data b.group) (list_data piece_data b.backlog)
 
 abbrev pub class_data : Class → Data
-class_data c = object (member (codes "backlog") (list_data group_backlog_data c.backlog) (member (codes "due") (list_data due_list_data c.due) no_members))
+class_data c = object (member (codes "backlog") (list_data group_backlog_data c.backlog)
+    (member (codes "due") (list_data due_list_data c.due) no_members))
 
 -- what is left over at midnight
 abbrev pub carry_data : GroupBacklog → Data
@@ -68,14 +69,16 @@ day_tree_data (day.split part values inside outside) =
     (member (codes "yes") (day_tree_data inside) no_members))))
 
 abbrev pub minute_tree_data : minute.Tree → Data
-minute_tree_data (minute.leaf entries) = object (member (codes "list") (list_data entry_data entries) no_members)
+minute_tree_data (minute.leaf entries) =
+    object (member (codes "list") (list_data entry_data entries) no_members)
 minute_tree_data (minute.split at before after) =
     object (member (codes "after") (minute_tree_data after)
     (member (codes "at") (number_data at)
     (member (codes "before") (minute_tree_data before) no_members)))
 
 abbrev pub stretch_data : StretchTree → Data
-stretch_data s = object (member (codes "of") (list_data number_data s.of) (member (codes "tree") (minute_tree_data s.tree) no_members))
+stretch_data s = object (member (codes "of") (list_data number_data s.of)
+    (member (codes "tree") (minute_tree_data s.tree) no_members))
 
 -- ---- the whole
 

@@ -162,7 +162,8 @@ pub(crate) fn triple(
     third: Value,
 ) -> Result<Value, AllocError>
     ensures { IfOk result
-        (λ v. view v ≡ array (item (view first) (item (view second) (item (view third) no_items)))) }
+        (λ v. view v
+        ≡ array (item (view first) (item (view second) (item (view third) no_items)))) }
 {
     Ok(Value::Array(vec![in alloc; first, second, third]?))
 }

@@ -21,5 +21,7 @@ IsFoundBy chains classes None = list_any (has_classes classes) chains ≡ false
 IsFoundBy chains classes (Some chain) = Contains chains chain.now × (classes_in chain.now ≡ classes)
 
 -- by each list of classes that is found
-abbrev pub LeadTo : {S : Type 0} → List ClassedChain → IndexMap (Bor (List ℕ)) (Bor ClassedChain) S → Type 0
-LeadTo chains by = (classes : Bor (List ℕ)) → IsFoundBy chains classes.now (get same_classes by classes)
+abbrev pub LeadTo : {S : Type 0} → List ClassedChain → IndexMap (Bor (List ℕ)) (Bor ClassedChain) S
+    → Type 0
+LeadTo chains by =
+    (classes : Bor (List ℕ)) → IsFoundBy chains classes.now (get same_classes by classes)

@@ -7,7 +7,8 @@ use Rattle.cs_windows.specs.Windows.{Job, day_minutes}
 
 -- each window that begins on such a day ends by the end of so many days
 abbrev pub ends_on : Job Kind → ℕ → Kind → Bool
-ends_on job days kind = list_all (λ m. not (job.begins kind m) || nat_le (m + job.lasts) (1440 * days)) day_minutes
+ends_on job days kind =
+    list_all (λ m. not (job.begins kind m) || nat_le (m + job.lasts) (1440 * days)) day_minutes
 
 abbrev pub job_fits : ℕ → Job Kind → Bool
 job_fits days job = list_all (ends_on job days) all_kinds

@@ -31,7 +31,8 @@ has_just due test = list_all (λ m. same_bool (due m) (test m)) day_minutes
 -- what a class is to a job, by the due minutes that it has for the job and those of the days on which the job is due: whether it
 -- has just these, and whether it has none
 abbrev pub likeness_by : (ℕ → Bool) → (ℕ → Bool) → Likeness
-likeness_by due times = record { when_due = has_just due times; when_not = has_just due (λ m. false) }
+likeness_by due times =
+    record { when_due = has_just due times; when_not = has_just due (λ m. false) }
 
 abbrev pub likeness_of : When → ℕ → Class → Likeness
 likeness_of when job class = likeness_by (is_due_in class job) (is_due_minute when)
@@ -47,7 +48,8 @@ likeness_at row n = slice_index_or row n (record { when_due = false; when_not = 
 -- a set for each cron job, by number: the minutes at which it is due on each day on which it is due
 pub record AreTimes (d : Declared) (times : List (List ℕ)) : Type 0 where
   pub long : length times ≡ crons d
-  pub each : (j m : ℕ) → j < crons d → m < 1440 → has (slice_index_or times j []) m ≡ is_due_minute (command_of d j).when m
+  pub each : (j m : ℕ) → j < crons d → m < 1440
+      → has (slice_index_or times j []) m ≡ is_due_minute (command_of d j).when m
 
 -- a place for each cron job, by number: what the class is to it
 pub record IsRow (d : Declared) (class : Class) (row : List Likeness) : Type 0 where
@@ -57,4 +59,5 @@ pub record IsRow (d : Declared) (class : Class) (row : List Likeness) : Type 0 w
 -- a row for each class, by number
 pub record AreLikenesses (d : Declared) (c : Content) (rows : List (List Likeness)) : Type 0 where
   pub long : length rows ≡ length c.classes
-  pub each : (n : ℕ) → n < length c.classes → IsRow d (class_at c.classes n) (slice_index_or rows n [])
+  pub each : (n : ℕ) → n < length c.classes
+      → IsRow d (class_at c.classes n) (slice_index_or rows n [])

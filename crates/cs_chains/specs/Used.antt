@@ -33,7 +33,8 @@ pub record HaveClasses (c : Content) (n : ℕ) (named : List ℕ) (kinds : List 
 
 -- these are the kinds of a chain in the list that has these classes
 abbrev pub IsOneOf : List ClassedChain → List ℕ → List Kind → Type 0
-IsOneOf chains named kinds = (chain : ClassedChain) × Contains chains chain × (classes_in chain ≡ named) × (kinds_in chain ≡ kinds)
+IsOneOf chains named kinds = (chain : ClassedChain) × Contains chains chain
+    × (classes_in chain ≡ named) × (kinds_in chain ≡ kinds)
 
 -- a stretch of what is claimed, as the rules see it
 abbrev pub seen : Content → UsedStretch → Stretch

@@ -14,7 +14,8 @@ classed_kind c kind = record { kind = kind; class = class_of c kind }
 
 -- the first of the kinds that has the class
 abbrev pub first_classed : List ClassedKind → ℕ → Option Kind
-first_classed kinds class = option_map (λ classed. classed.kind) (find (λ classed. classed.class == class) kinds)
+first_classed kinds class =
+    option_map (λ classed. classed.kind) (find (λ classed. classed.class == class) kinds)
 
 -- the classes and the stretches that a certificate of version 3 stands for
 pub record IsWorkedOutOf (d : Declared) (c : Content) (w : WorkedOut) : Type 0 where

@@ -40,7 +40,8 @@ fn add_chains(
 ) -> Result<(), AllocError>
     requires { length begun.now.items + more < 4 }
     ensures { OnOk result (map kinds_of chains.new.items
-        ≡ map kinds_of chains.old.items ++ map (λ ks. begun.now.items ++ ks) (chains_from more kind)) }
+        ≡ map kinds_of chains.old.items
+        ++ map (λ ks. begun.now.items ++ ks) (chains_from more kind)) }
 {
     let chain = longer(begun, kind);
     if more == 0 {

@@ -60,7 +60,8 @@ pub fn used_stretches<'a>(
     ensures kinds { IfOk result (λ used.
         All (λ u. HaveClasses (said claim.now) days u.stretch.now.of u.kinds.items) used.items) }
     ensures numbers { IfOk result (λ used. All (λ u.
-        slice_get (said claim.now).stretches u.number ≡ Some (stretch_of u.stretch.now)) used.items) }
+        slice_get (said claim.now).stretches u.number
+        ≡ Some (stretch_of u.stretch.now)) used.items) }
 {
     let listed = classed_chains(alloc, claim, days)?;
     let chains = by_classes(alloc, listed.as_slice())?;

@@ -29,12 +29,14 @@ is_covered bars minute = list_any (λ bar. covers bar minute) bars
 
 -- whether the window holds this minute of the day looked at
 abbrev pub holds : ℕ → Window → Bool
-holds minute w = nat_le w.from (minute + MINUTES_OF_DAY * w.day_back) && nat_lt (minute + MINUTES_OF_DAY * w.day_back) (w.from + w.reach)
+holds minute w = nat_le w.from (minute + MINUTES_OF_DAY * w.day_back)
+    && nat_lt (minute + MINUTES_OF_DAY * w.day_back) (w.from + w.reach)
 
 -- whether the minute is one of the day that begins at `start`, and one of the day's windows holds it
 abbrev pub is_held_on : ℕ → List Window → ℕ → Bool
 is_held_on start windows minute =
-    (nat_le start minute && nat_lt minute (start + MINUTES_OF_DAY)) && list_any (holds (minute - start)) windows
+    (nat_le start minute && nat_lt minute (start + MINUTES_OF_DAY))
+    && list_any (holds (minute - start)) windows
 
 -- a day and the three days before it, eldest first
 unfoldable pub four_days : ℕ → List Kind
@@ -44,4 +46,5 @@ four_days n = map kind (range_with_len (n - 3) 4)
 -- minute's own day or one that began up to three days before
 abbrev pub is_occupied : Job Kind → ℕ → ℕ → Bool
 is_occupied job first minute =
-    list_any (holds (minute % MINUTES_OF_DAY)) (windows_on (job ∷ []) (four_days (first + minute / MINUTES_OF_DAY)))
+    list_any (holds (minute % MINUTES_OF_DAY))
+    (windows_on (job ∷ []) (four_days (first + minute / MINUTES_OF_DAY)))

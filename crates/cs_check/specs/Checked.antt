@@ -30,7 +30,8 @@ IsHeadline p = (h : History) → IsLegal p h → IsInTime p h → IsSafe p h
 
 -- in every such history each running run is in its window
 abbrev pub StayInWindows : Plan → (ℕ → ℕ) → Type 0
-StayInWindows p c = (h : History) → IsLegal p h → IsInTime p h → AllByRecursion (λ r. Holds p c (now h) (window_of p r)) (running p h)
+StayInWindows p c = (h : History) → IsLegal p h → IsInTime p h
+    → AllByRecursion (λ r. Holds p c (now h) (window_of p r)) (running p h)
 
 -- each minute that a history may reach is calm
 abbrev pub IsCalmThroughout : Plan → (ℕ → ℕ) → Type 0

@@ -20,14 +20,16 @@ use Rattle.cs_check.specs.declared.class_day.ClassDay.{ClassDay}
 pub record IsBasis (b : Basis) : Type 0 where
   pub fit : IsFit b.plan.now (said b.claim.now)
   pub keeps : IsClaim (said b.claim.now)
-  pub due : due_fault (as_plan b.plan.now) (due_on b.plan.now) (as_certificate (said b.claim.now)) ≡ None
+  pub due : due_fault (as_plan b.plan.now) (due_on b.plan.now) (as_certificate (said b.claim.now))
+      ≡ None
   pub jobs : map job_of b.occupied.items ≡ planned b.plan.now (said b.claim.now).reach
   pub few : length b.occupied.items ≤ 320
   pub nothing : b.none.now ≡ []
 
 -- on a day of the class the job, if it waits and has a reach, has had its lock within it
 abbrev pub Settles : Declared → Content → Class → ℕ → Type 0
-Settles d c class j = waits (as_plan d) j ≡ true → (r : ℕ) → (as_certificate c).reach j ≡ Some r → Clears (as_plan d) (class ∷ []) j r
+Settles d c class j = waits (as_plan d) j ≡ true → (r : ℕ) → (as_certificate c).reach j ≡ Some r
+    → Clears (as_plan d) (class ∷ []) j r
 
 -- each job
 abbrev pub Settle : Declared → Content → Class → Type 0
@@ -41,7 +43,8 @@ pub record IsClassDay (d : Declared) (c : Content) (class : ℕ) (day : ClassDay
 -- of each class, by number
 pub record AreClassDays (d : Declared) (c : Content) (days : List ClassDay) : Type 0 where
   pub long : length days ≡ length c.classes
-  pub each : (class : ℕ) (day : ClassDay) → slice_get days class ≡ Some day → IsClassDay d c class day
+  pub each : (class : ℕ) (day : ClassDay) → slice_get days class ≡ Some day
+      → IsClassDay d c class day
 
 -- a basis is of this plan and this certificate
 pub record IsBasisOf (d : Declared) (c : Content) (b : Basis) : Type 0 where

@@ -46,22 +46,30 @@ windows_in k u = windows_of (plan_of k) (claim_of k) u.stretch.now.of
 
 -- the fault of a stretch by one of the rules that are looked at stretch by stretch
 abbrev pub fault_by : Rule → Plan → Certificate → ℕ → Stretch → Option Fault
-fault_by rules.Steps p a n s = option_map (λ f. BacklogRises f.1 (minute_of a n s f.0 - 1440)) (rise_in p a n s)
-fault_by rules.Leaves p a n s = option_map (λ f. WindowMissing f.1 (minute_of a n s f.0)) (missing_in s.tree (windows_of p a s.of))
-fault_by rules.Collisions p a n s = option_map (λ f. Collision (minute_of a n s f.0) f.1 f.2) (collision_in p (windows_of p a s.of))
-fault_by rules.Capacity p a n s = option_map (λ f. OverCapacity (minute_of a n s f.0) f.1) (overload_in p n (windows_of p a s.of))
-fault_by rules.SkipJobs p a n s = option_map (λ f. SkipBlocked (minute_of a n s f.0) f.1 f.2) (blocked_in p (windows_of p a s.of))
+fault_by rules.Steps p a n s =
+    option_map (λ f. BacklogRises f.1 (minute_of a n s f.0 - 1440)) (rise_in p a n s)
+fault_by rules.Leaves p a n s = option_map (λ f. WindowMissing f.1 (minute_of a n s f.0))
+    (missing_in s.tree (windows_of p a s.of))
+fault_by rules.Collisions p a n s =
+    option_map (λ f. Collision (minute_of a n s f.0) f.1 f.2) (collision_in p (windows_of p a s.of))
+fault_by rules.Capacity p a n s =
+    option_map (λ f. OverCapacity (minute_of a n s f.0) f.1) (overload_in p n (windows_of p a s.of))
+fault_by rules.SkipJobs p a n s =
+    option_map (λ f. SkipBlocked (minute_of a n s f.0) f.1 f.2) (blocked_in p (windows_of p a s.of))
 
 abbrev pub fault_in : Rule → Case → UsedStretch → Option Fault
 fault_in rule k u = fault_by rule (plan_of k) (claim_of k) k.days (seen_of k u)
 
 -- the bounds of the groups follow what arrives, from the last day but one to the last
 abbrev pub BoundsFollow : Plan → Certificate → ℕ → Stretch → Type 0
-BoundsFollow p a n s = (g : ℕ) → g < p.groups → has_waiter p g ≡ true → StepsHold (a.bound (nth s.of (n - 2)) g) (arrivals p a g (nth s.of (n - 2))) (a.bound (nth s.of (n - 1)) g)
+BoundsFollow p a n s = (g : ℕ) → g < p.groups → has_waiter p g ≡ true
+    → StepsHold (a.bound (nth s.of (n - 2)) g) (arrivals p a g (nth s.of (n - 2)))
+    (a.bound (nth s.of (n - 1)) g)
 
 -- after each due minute of the job on the first day of the stretch the bound of its group is zero within the reach
 abbrev pub ClearsOn : Plan → Certificate → Stretch → ℕ → ℕ → Type 0
-ClearsOn p a s j reach = (m : ℕ) → m < 1440 → a.due (nth s.of 0) j m ≡ true → ClearsBy (map (λ class. a.bound class (unwrap_or (p.group j) 0)) s.of) m reach
+ClearsOn p a s j reach = (m : ℕ) → m < 1440 → a.due (nth s.of 0) j m ≡ true
+    → ClearsBy (map (λ class. a.bound class (unwrap_or (p.group j) 0)) s.of) m reach
 
 -- the rules that are looked at stretch by stretch hold of it
 pub record IsGood (p : Plan) (a : Certificate) (n : ℕ) (s : Stretch) : Type 0 where
@@ -84,7 +92,8 @@ pub record IsInUse (c : Content) (n : ℕ) (u : UsedStretch) : Type 0 where
 pub record IsCase (k : Case) : Type 0 where
   pub fit : IsFit k.plan.now (said k.claim.now)
   pub keeps : IsClaim (said k.claim.now)
-  pub due : due_fault (as_plan k.plan.now) (due_on k.plan.now) (as_certificate (said k.claim.now)) ≡ None
+  pub due : due_fault (as_plan k.plan.now) (due_on k.plan.now) (as_certificate (said k.claim.now))
+      ≡ None
   pub long : k.days ≡ length_for k.plan.now (said k.claim.now)
   pub jobs : map job_of k.occupied.items ≡ planned k.plan.now (said k.claim.now).reach
   pub few : length k.occupied.items ≤ 320
@@ -94,17 +103,21 @@ pub record IsCase (k : Case) : Type 0 where
 
 -- the same as a test
 abbrev pub clears_on : Plan → Certificate → ℕ → ℕ → Stretch → Bool
-clears_on p a j reach s = list_all (λ m. not (a.due (nth s.of 0) j m) || clears_by (map (λ class. a.bound class (unwrap_or (p.group j) 0)) s.of) m reach) day_minutes
+clears_on p a j reach s = list_all
+    (λ m. not (a.due (nth s.of 0) j m)
+    || clears_by (map (λ class. a.bound class (unwrap_or (p.group j) 0)) s.of) m reach) day_minutes
 
 abbrev pub clears_in : Case → ℕ → ℕ → UsedStretch → Bool
 clears_in k j reach u = clears_on (plan_of k) (claim_of k) j reach (seen_of k u)
 
 -- the reach of the job, if it waits and has one, is far enough, and that of each job
 abbrev pub ClearsIn : Case → UsedStretch → ℕ → Type 0
-ClearsIn k u j = (r : ℕ) → waits (plan_of k) j ≡ true → (claim_of k).reach j ≡ Some r → clears_in k j r u ≡ true
+ClearsIn k u j =
+    (r : ℕ) → waits (plan_of k) j ≡ true → (claim_of k).reach j ≡ Some r → clears_in k j r u ≡ true
 
 abbrev pub AllClearIn : Case → UsedStretch → Type 0
-AllClearIn k u = (j r : ℕ) → j < crons k.plan.now → waits (plan_of k) j ≡ true → (claim_of k).reach j ≡ Some r → clears_in k j r u ≡ true
+AllClearIn k u = (j r : ℕ) → j < crons k.plan.now → waits (plan_of k) j ≡ true
+    → (claim_of k).reach j ≡ Some r → clears_in k j r u ≡ true
 
 -- whether the job, if it waits, has a reach that is far enough on each of the stretches
 abbrev pub is_far_by : Plan → Certificate → List Stretch → ℕ → Option ℕ → Bool
@@ -116,7 +129,8 @@ is_far p a stretches j = not (waits p j) || is_far_by p a stretches j (a.reach j
 
 -- the first job whose reach is too short on these stretches
 abbrev pub late_fault : Plan → Certificate → List Stretch → Option Fault
-late_fault p a stretches = first_of (λ j. unless (is_far p a stretches j) (ReachTooShort j)) (below p.crons)
+late_fault p a stretches =
+    first_of (λ j. unless (is_far p a stretches j) (ReachTooShort j)) (below p.crons)
 
 -- the first fault by the rules on windows, on these stretches
 unfoldable pub fault_by_windows : Plan → Certificate → ℕ → List Stretch → Option Fault
@@ -143,7 +157,8 @@ AreGood k stretches = All (IsGoodIn k) stretches
 
 -- these are the stretches in use, and none is missing
 pub record AreStretches (k : Case) (stretches : List UsedStretch) : Type 0 where
-  pub listed : map (seen (said k.claim.now)) stretches ≡ used_stretches (as_certificate (said k.claim.now)) k.days
+  pub listed : map (seen (said k.claim.now)) stretches
+      ≡ used_stretches (as_certificate (said k.claim.now)) k.days
   pub in_use : All (IsInUse (said k.claim.now) k.days) stretches
   pub complete : stretch_fault (as_certificate (said k.claim.now)) k.days ≡ None
 

@@ -11,7 +11,8 @@ pub record CivilDate : Type 0 where
 -- the next day of its month, else the first of the next month, else 1 January
 abbrev pub next_date : CivilDate → CivilDate
 next_date d =
-    if nat_lt d.dom (days_in_month (pos d.year) d.month) then record { year = d.year; month = d.month; dom = d.dom + 1 }
+    if nat_lt d.dom (days_in_month (pos d.year) d.month)
+    then record { year = d.year; month = d.month; dom = d.dom + 1 }
     else (if nat_lt d.month 12 then record { year = d.year; month = d.month + 1; dom = 1 }
     else record { year = d.year + 1; month = 1; dom = 1 })
 
@@ -52,12 +53,14 @@ days_after m d =
 
 -- the kinds that can follow one, whose weekday is the next
 abbrev pub kinds_after : Kind → List Kind
-kinds_after k = map (λ (p : ℕ × ℕ). record { month = p.0; dom = p.1; dow = (k.dow + 1) % 7 }) (days_after k.month k.dom)
+kinds_after k = map (λ (p : ℕ × ℕ). record { month = p.0; dom = p.1; dow = (k.dow + 1) % 7 })
+    (days_after k.month k.dom)
 
 -- the second kind follows the first within so many days: one of the days 1 to n, where 1 is 1970-01-02,
 -- has the first kind, and the day after it the second
 abbrev pub ComesWithin : ℕ → Kind → Kind → Type 0
-ComesWithin n before after = (eve : ℕ) × (1 ≤ eve) × (eve ≤ n) × (kind eve ≡ before) × (kind (eve + 1) ≡ after)
+ComesWithin n before after =
+    (eve : ℕ) × (1 ≤ eve) × (eve ≤ n) × (kind eve ≡ before) × (kind (eve + 1) ≡ after)
 
 -- 9999-12-31, the last day that four digits of a year can write
 abbrev pub last_day : ℕ

@@ -28,7 +28,8 @@ impl Model for DayKind {
 
     ghost view = { λ a. record { month = a.month_number; dom = a.day_number; dow = a.weekday } };
 
-    ghost invariant = { λ a. IsKind (record { month = a.month_number; dom = a.day_number; dow = a.weekday }) };
+    ghost invariant = { λ a. IsKind
+        (record { month = a.month_number; dom = a.day_number; dow = a.weekday }) };
 
     ghost inverse = { λ k. record { month_number = k.month; day_number = k.dom; weekday = k.dow } };
 }

@@ -7,7 +7,8 @@ ghost use Rattle.cs_civil.specs.Calendar.{Kind, IsKind, kind, date_of, kinds_aft
 pub fn calendar()
 
     // the date of a day has that day number, as `jiff` counts
-    ensures gregorian { (n : ℕ) → days_from_civil (pos (date_of n).year) (date_of n).month (date_of n).dom ≡ pos n }
+    ensures gregorian { (n : ℕ)
+        → days_from_civil (pos (date_of n).year) (date_of n).month (date_of n).dom ≡ pos n }
 
     // each day has one of the 2,562 kinds
     ensures possible { (n : ℕ) → IsKind (kind n) }

@@ -18,7 +18,8 @@ use crate::{CivilFault, Day, Minute};
 /// the offset (this profile).
 pub fn minute_at(unix_seconds: i64, offset: i16) -> Result<Minute, CivilFault>
     ensures in_range { IsOk result
-        ↔ IsBetween (pos first_minute) (pos last_minute) (int_div_euclid (unix_seconds +ℤ pos 60 *ℤ offset) (pos 60)) }
+        ↔ IsBetween (pos first_minute) (pos last_minute)
+        (int_div_euclid (unix_seconds +ℤ pos 60 *ℤ offset) (pos 60)) }
     ensures value { IfOk result
         (λ minute. pos minute ≡ int_div_euclid (unix_seconds +ℤ pos 60 *ℤ offset) (pos 60)) }
     ensures err { IfErr result (λ e. e ≡ CivilFault.OutOfRange) }
@@ -79,12 +80,14 @@ pub fn read_day(text: &[u8]) -> Result<Day, CivilFault>
 #[tactic(auto, using(crate::proofs::Texts::one_minute))]
 pub fn read_minute(text: &[u8]) -> Result<Minute, CivilFault>
     ensures ok { IfOk result
-        (λ minute. (first_minute ≤ minute) × (minute ≤ last_minute) × (text.now ≡ minute_text minute)) }
+        (λ minute. (first_minute ≤ minute) × (minute ≤ last_minute)
+        × (text.now ≡ minute_text minute)) }
     ensures only { IfOk result (λ minute. (t : ℕ) → text.now ≡ minute_text t → t ≡ minute) }
     ensures is_minute { IsOk result → IsMinuteText text.now }
     ensures not_a_date { (result ≡ Err CivilFault.NotADate) ↔ ¬ (IsMinuteText text.now) }
     ensures out_of_range { (result ≡ Err CivilFault.OutOfRange)
-        ↔ (IsMinuteText text.now × ((t : ℕ) → first_minute ≤ t → t ≤ last_minute → text.now ≢ minute_text t)) }
+        ↔ (IsMinuteText text.now
+        × ((t : ℕ) → first_minute ≤ t → t ≤ last_minute → text.now ≢ minute_text t)) }
 {
     let Some((date, clock)) = read_date_and_clock(text) else {
         return Err(CivilFault::NotADate);
@@ -99,8 +102,10 @@ pub fn read_minute(text: &[u8]) -> Result<Minute, CivilFault>
 #[tactic(auto, using(crate::proofs::Texts::no_minute, crate::proofs::Texts::the_minute))]
 fn later_minute(date: Gregorian, clock: u16) -> Option<Minute>
     requires { clock ≤ 1_439 }
-    ensures value { IfSome result (λ t. (first_minute ≤ t) × (t ≤ last_minute) × (minute_bytes date clock ≡ minute_text t)) }
-    ensures none { IsNone result → (t : ℕ) → first_minute ≤ t → minute_bytes date clock ≢ minute_text t }
+    ensures value { IfSome result
+        (λ t. (first_minute ≤ t) × (t ≤ last_minute) × (minute_bytes date clock ≡ minute_text t)) }
+    ensures none { IsNone result → (t : ℕ) → first_minute ≤ t
+        → minute_bytes date clock ≢ minute_text t }
 {
     let day = date.later_day()?;
     Some(Minute::new(day.number() * MINUTES_OF_DAY + u64::from(clock)).unwrap())
@@ -108,7 +113,8 @@ fn later_minute(date: Gregorian, clock: u16) -> Option<Minute>
 
 /// The date and the minute of the day that the text `YYYY-MM-DD HH:MM` writes.
 fn read_date_and_clock(text: &[u8]) -> Option<(Gregorian, u16)>
-    ensures value { IfSome result (λ p. IsGregorian p.0 × (p.1 ≤ 1_439) × (text.now ≡ minute_bytes p.0 p.1)) }
+    ensures value { IfSome result
+        (λ p. IsGregorian p.0 × (p.1 ≤ 1_439) × (text.now ≡ minute_bytes p.0 p.1)) }
     ensures none { IsNone result → ¬ (IsMinuteText text.now) }
 {
     let (day, clock) = text.split_at_checked(10)?;

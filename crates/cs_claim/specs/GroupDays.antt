@@ -26,7 +26,8 @@ pub record IsGroupDay (p : Plan) (class : Class) (g : ℕ) (day : GroupDay) : Ty
 
 -- of each group
 abbrev pub AreGroupDays : Plan → Class → List GroupDay → Type 0
-AreGroupDays p class days = (length days ≡ p.groups) × ((g : ℕ) → g < p.groups → IsGroupDay p class g (slice_index_or days g no_day))
+AreGroupDays p class days = (length days ≡ p.groups)
+    × ((g : ℕ) → g < p.groups → IsGroupDay p class g (slice_index_or days g no_day))
 
 -- the steps within the eve hold, and the bound in the first minute of the day after is at least what the eve leaves, less one
 abbrev pub Leads : GroupDay → GroupDay → Type 0

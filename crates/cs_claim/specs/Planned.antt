@@ -28,7 +28,8 @@ reach_by d rs j = unwrap_or (reach_of rs j) ((as_plan d).limit j)
 
 -- whether a window of the job begins at a minute of such a day: a cron job's where it is due, a catch-up window where the hours begin
 abbrev pub begins_on : Declared → ℕ → Kind → ℕ → Bool
-begins_on d j kind minute = if is_cron (as_plan d) j then due_on d j kind minute else (minute == d.hours.from)
+begins_on d j kind minute =
+    if is_cron (as_plan d) j then due_on d j kind minute else (minute == d.hours.from)
 
 -- a job of the plan as its windows see it
 abbrev pub planned_job : Declared → List JobReach → ℕ → Job Kind

@@ -12,4 +12,5 @@ bounds_of p j days = map (λ class. bound_in class (unwrap_or (p.group j) 0)) da
 
 -- after each due minute of the job on the first of the days, the bound is zero within the reach
 abbrev pub Clears : Plan → List Class → ℕ → ℕ → Type 0
-Clears p days j reach = (m : ℕ) → m < 1440 → is_due_in (class_at days 0) j m ≡ true → ClearsBy (bounds_of p j days) m reach
+Clears p days j reach = (m : ℕ) → m < 1440 → is_due_in (class_at days 0) j m ≡ true
+    → ClearsBy (bounds_of p j days) m reach

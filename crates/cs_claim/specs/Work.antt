@@ -15,11 +15,13 @@ brought p class g j m = if is_due_in class j m then (if locks p g j then p.limit
 
 -- what the lock takers of a group that are due at a minute of a class bring
 abbrev pub arrivals_in : Plan → Class → ℕ → ℕ → ℕ
-arrivals_in p class g m = total (λ j. if locks p g j then p.limit j else 0) (filter (λ j. is_due_in class j m) (below p.crons))
+arrivals_in p class g m = total (λ j. if locks p g j then p.limit j else 0)
+    (filter (λ j. is_due_in class j m) (below p.crons))
 
 -- whether the bound of a group follows what arrives, from a minute of the eve to the next
 abbrev pub step_holds : Plan → Class → Class → ℕ → ℕ → Bool
-step_holds p eve day m g = nat_le ((bound_in eve g m + arrivals_in p eve g m) - 1) (at_days (bound_in eve g ∷ bound_in day g ∷ []) (m + 1))
+step_holds p eve day m g = nat_le ((bound_in eve g m + arrivals_in p eve g m) - 1)
+    (at_days (bound_in eve g ∷ bound_in day g ∷ []) (m + 1))
 
 -- the fault of a group at a minute
 abbrev pub rise_of : Plan → Class → Class → ℕ → ℕ → Option (ℕ × ℕ)
@@ -34,13 +36,17 @@ rise_between p eve day = first_of (rise_at p eve day) day_minutes
 
 -- the bounds of each group with a job that waits follow what arrives
 abbrev pub IsSteady : Plan → Class → Class → Type 0
-IsSteady p eve day = (g : ℕ) → g < p.groups → has_waiter p g ≡ true → StepsHold (bound_in eve g) (arrivals_in p eve g) (bound_in day g)
+IsSteady p eve day = (g : ℕ) → g < p.groups → has_waiter p g ≡ true
+    → StepsHold (bound_in eve g) (arrivals_in p eve g) (bound_in day g)
 
 -- what is known of a group: nothing where no job waits for its lock
 abbrev pub IsWork : Plan → Class → Class → ℕ → Option Work → Type 0
 IsWork p eve day g None = has_waiter p g ≡ false
-IsWork p eve day g (Some w) = (has_waiter p g ≡ true) × ((m : ℕ) → m < 1440 → slice_index w.arrivals m ≡ arrivals_in p eve g m) × (w.eve.now ≡ pieces_of eve.backlog g) × (w.day.now ≡ pieces_of day.backlog g)
+IsWork p eve day g (Some w) = (has_waiter p g ≡ true)
+    × ((m : ℕ) → m < 1440 → slice_index w.arrivals m ≡ arrivals_in p eve g m)
+    × (w.eve.now ≡ pieces_of eve.backlog g) × (w.day.now ≡ pieces_of day.backlog g)
 
 -- of each group
 abbrev pub AreWorks : Plan → Class → Class → List (Option Work) → Type 0
-AreWorks p eve day works = (length works ≡ p.groups) × ((g : ℕ) → g < p.groups → IsWork p eve day g (slice_index_or works g None))
+AreWorks p eve day works = (length works ≡ p.groups)
+    × ((g : ℕ) → g < p.groups → IsWork p eve day g (slice_index_or works g None))

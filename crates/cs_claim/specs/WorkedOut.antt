@@ -31,7 +31,8 @@ due_list job (m ∷ ms) = record { job = job; minutes = m ∷ ms } ∷ []
 -- when each cron job is due on days of a kind (crontab(5))
 abbrev pub due_of : Declared → Option Kind → List DueList
 due_of d None = []
-due_of d (Some kind) = flat_map (λ j. due_list j (filter (due_on d j kind) day_minutes)) (below (crons d))
+due_of d (Some kind) =
+    flat_map (λ j. due_list j (filter (due_on d j kind) day_minutes)) (below (crons d))
 
 -- such a day, with no bounds
 abbrev pub unbounded : Declared → Option Kind → Class
@@ -39,7 +40,10 @@ unbounded d kind = record { due = due_of d kind; backlog = [] }
 
 -- the bound of a group on such a day: it begins with what is left over from the days before, and follows what arrives
 abbrev pub bound_of : Declared → Class → ℕ → ℕ → GroupBacklog
-bound_of d day carry g = record { group = g; backlog = following carry (map (arrivals_in (as_plan d) day g) day_minutes) }
+bound_of d day carry g = record {
+  group = g;
+  backlog = following carry (map (arrivals_in (as_plan d) day g) day_minutes);
+}
 
 -- the groups with a job that waits
 abbrev pub waited_groups : Declared → List ℕ
@@ -47,7 +51,10 @@ waited_groups d = filter (has_waiter (as_plan d)) (below (as_plan d).groups)
 
 -- a class that says what is left over at midnight, on days of a kind
 abbrev pub worked_class : Declared → Option Kind → Class → Class
-worked_class d kind class = record { due = due_of d kind; backlog = map (λ g. bound_of d (unbounded d kind) (bound_in class g 0) g) (waited_groups d) }
+worked_class d kind class = record {
+  due = due_of d kind;
+  backlog = map (λ g. bound_of d (unbounded d kind) (bound_in class g 0) g) (waited_groups d);
+}
 
 -- the class with a number, on days of the first kind that has it
 abbrev pub worked_of : Declared → Content → ℕ → Class
@@ -59,7 +66,8 @@ worked_classes d c = map (worked_of d c) (below (length c.classes))
 
 -- one more of the lists, unless it is among them
 abbrev pub with_list : List (List ℕ) → List ℕ → List (List ℕ)
-with_list lists classes = if list_any (λ list. same_list list classes) lists then lists else lists ++ classes ∷ []
+with_list lists classes =
+    if list_any (λ list. same_list list classes) lists then lists else lists ++ classes ∷ []
 
 -- each of the lists once, where it comes first
 abbrev pub distinct : List (List ℕ) → List (List ℕ)

@@ -117,7 +117,8 @@ fn bounds_on(
     class: &Class,
 ) -> Result<Sequence<GroupBacklog>, AllocError>
     ensures { IfOk result (λ bounds. bounds
-        ≡ map (λ g. bound_of plan.now day.now (bound_in class.now g 0) g) (waited_groups plan.now)) }
+        ≡ map (λ g. bound_of plan.now day.now (bound_in class.now g 0) g)
+        (waited_groups plan.now)) }
 {
     let none = Backlog::none(alloc);
     let mut bounds = Sequence::new(alloc);

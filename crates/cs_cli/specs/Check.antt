@@ -76,6 +76,7 @@ pub record IsProofOf (files : List ℕ → Option (List ℕ)) (a : AskedCheck) (
 
 -- what is answered to `check`: the verdict, or the first fault of a file, and no file is read
 -- before its own turn
-abbrev pub AnswersCheck : AskedCheck → (List ℕ → Option (List ℕ)) → Failed → Failed → Ending → Type 0
+abbrev pub AnswersCheck : AskedCheck → (List ℕ → Option (List ℕ)) → Failed → Failed → Ending
+    → Type 0
 AnswersCheck a files =
     Answered (ReadsTables files a.table a.anacrontab) (λ both. Judges files a both)

@@ -39,7 +39,8 @@ JudgesPlan wanted files a tables =
 
 -- what is answered where this is wanted: how the plan was found, or the first fault of a file, and no
 -- file is read before its own turn
-abbrev pub AnswersJudge : Wanted → AskedJudge → (List ℕ → Option (List ℕ)) → Failed → Failed → Ending
+abbrev pub AnswersJudge : Wanted → AskedJudge → (List ℕ → Option (List ℕ)) → Failed → Failed
+    → Ending
     → Type 0
 AnswersJudge wanted a files =
     Answered (ReadsTables files a.table a.anacrontab) (λ both. JudgesPlan wanted files a both)

@@ -16,7 +16,8 @@ pub record IsSafe (checked : Checked) : Type 0 where
       (reach_for (plan_in checked) (certificate_in checked))
 
 -- the files denote a plan and a certificate of which this holds
-pub record AreSafe (files : List ℕ → Option (List ℕ)) (a : AskedCheck) (failed : Failed) : Type 0 where
+pub record AreSafe (files : List ℕ → Option (List ℕ)) (a : AskedCheck)
+    (failed : Failed) : Type 0 where
   pub checked : Checked
   pub proof : IsProofOf files a failed checked
   pub safe : IsSafe checked

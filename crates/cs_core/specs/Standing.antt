@@ -29,8 +29,17 @@ abbrev pub waiting_holds : Plan → List Run → List Hold
 waiting_holds p ws = map (λ w. hold_of p w.job) ws
 
 -- the state with these parts
-abbrev pub state_in : ℕ → Bool → List ℕ → List Going → List Going → List (Option ℕ) → Option Pass → State
-state_in now up due waiting running stamps pass = record { now = now; up = up; pending = due; waiting = names waiting; running = running; stamps = stamps; pass = pass }
+abbrev pub state_in : ℕ → Bool → List ℕ → List Going → List Going → List (Option ℕ) → Option Pass
+    → State
+state_in now up due waiting running stamps pass = record {
+  now = now;
+  up = up;
+  pending = due;
+  waiting = names waiting;
+  running = running;
+  stamps = stamps;
+  pass = pass;
+}
 
 -- whether it is this job
 abbrev pub is_job : Option ℕ → ℕ → Bool
@@ -39,7 +48,8 @@ is_job (Some k) j = k == j
 
 -- the jobs that a pass has which begins at minute t, where of anacron jobs a run of this one runs, or of none
 abbrev pub owed_beside : Plan → List (Option ℕ) → Option ℕ → ℕ → List ℕ
-owed_beside p ss lone t = filter (λ j. p.owed j (get_or ss (j - p.crons) None) (t / 1440) && not (is_job lone j)) (by_delay p)
+owed_beside p ss lone t = filter (λ j.
+    p.owed j (get_or ss (j - p.crons) None) (t / 1440) && not (is_job lone j)) (by_delay p)
 
 -- the anacron job of which a run runs, if there is one
 pub record IsLone (p : Plan) (runs : List Going) (lone : Option ℕ) : Type 0 where

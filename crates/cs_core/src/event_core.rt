@@ -67,7 +67,8 @@ impl Core {
     pub fn open(alloc: Global, plan: &Plan, start: Start) -> Result<Core, AllocError>
         requires { first_start ≤ start.now }
         ensures plan { IfOk result (λ core. core.plan ≡ plan.now) }
-        ensures state { IfOk result (λ core. core.state ≡ state_of (as_plan plan.now) (From start)) }
+        ensures state { IfOk result
+            (λ core. core.state ≡ state_of (as_plan plan.now) (From start)) }
     {
         let _jobs = plan.jobs();
         Ok(Core {
@@ -88,7 +89,9 @@ impl Core {
 
     /// What [`step`](Core::step) would refuse the event with, want of memory aside.
     pub fn test(&self, event: &Event) -> Result<(), Refusal>
-        ensures { MatchResult result (λ _. refusal (as_plan self.now.plan) self.now.state event.now ≡ None) (λ f. refusal (as_plan self.now.plan) self.now.state event.now ≡ Some f) }
+        ensures { MatchResult result
+            (λ _. refusal (as_plan self.now.plan) self.now.state event.now ≡ None)
+            (λ f. refusal (as_plan self.now.plan) self.now.state event.now ≡ Some f) }
     {
         match self.refusal(event) {
             None => Ok(()),
@@ -100,7 +103,8 @@ impl Core {
     /// comes first is answered. A refused event changes nothing, and `OutOfMemory`, which comes last, neither.
     pub fn step(&mut self, event: Event) -> Result<Reply, Refusal>
         ensures steps { Steps (as_plan self.old.plan) self.old.state event result self.new.state }
-        ensures history { (h : History) → self.old.state ≡ state_of (as_plan self.old.plan) h → Follows (as_plan self.old.plan) h event result self.new.state }
+        ensures history { (h : History) → self.old.state ≡ state_of (as_plan self.old.plan) h
+            → Follows (as_plan self.old.plan) h event result self.new.state }
         ensures plan { self.new.plan ≡ self.old.plan }
         // Minute, End, Down and Up take no memory, nor does a Begin that comes to a skip.
         ensures memory { IfErr result (λ f. f ≡ OutOfMemory
@@ -237,7 +241,9 @@ impl Core {
 /// The stamps of a start, one for each anacron job of the plan.
 #[tactic(auto, using(crate::proofs::Order::few_anacron, crate::proofs::Stamps::next_stamp))]
 fn stamps_of(plan: &Plan, start: &Start) -> ArrayVec<Option<Day>, 64>
-    ensures { result.items ≡ take ((as_plan plan.now).jobs - (as_plan plan.now).crons) (start.now.stamps ++ replicate ((as_plan plan.now).jobs - (as_plan plan.now).crons) None) }
+    ensures { result.items
+        ≡ take ((as_plan plan.now).jobs - (as_plan plan.now).crons)
+        (start.now.stamps ++ replicate ((as_plan plan.now).jobs - (as_plan plan.now).crons) None) }
 {
     let mut stamps = ArrayVec::new();
     for place in 0..plan.jobs().len() - plan.crons() {

@@ -57,7 +57,8 @@ impl Core {
 
     fn take_minute(&mut self, minute: u64) -> Reply
         requires { refusal (as_plan self.old.plan) self.old.state (event.Minute minute) ≡ None }
-        ensures reply { result ≡ reply (as_plan self.old.plan) self.old.state (event.Minute minute) }
+        ensures reply { result
+            ≡ reply (as_plan self.old.plan) self.old.state (event.Minute minute) }
         ensures state { self.new.state
             ≡ after (as_plan self.old.plan) self.old.state (event.Minute minute) }
         ensures plan { self.new.plan ≡ self.old.plan }
@@ -145,7 +146,8 @@ impl Core {
     }
 
     fn take_got(&mut self, run: Run) -> Result<Reply, AllocError>
-        requires { refusal (as_plan self.old.plan) self.old.state (event.Got run.job run.at) ≡ None }
+        requires { refusal (as_plan self.old.plan) self.old.state (event.Got run.job run.at)
+            ≡ None }
         ensures takes { TakesRun (as_plan self.old.plan) self.old.state (event.Got run.job run.at)
             result self.new.state }
         ensures plan { self.new.plan ≡ self.old.plan }
@@ -179,7 +181,8 @@ impl Core {
     fn take_end(&mut self, run: Run) -> Reply
         requires { refusal (as_plan self.old.plan) self.old.state (event.End run) ≡ None }
         ensures reply { result ≡ reply (as_plan self.old.plan) self.old.state (event.End run) }
-        ensures state { self.new.state ≡ after (as_plan self.old.plan) self.old.state (event.End run) }
+        ensures state { self.new.state
+            ≡ after (as_plan self.old.plan) self.old.state (event.End run) }
         ensures plan { self.new.plan ≡ self.old.plan }
     {
         let in_time = self.is_in_time(self.minute.number(), run);
@@ -194,7 +197,8 @@ impl Core {
     fn end_cron(&mut self, run: Run)
         requires may { refusal (as_plan self.old.plan) self.old.state (event.End run) ≡ None }
         requires cron { is_cron (as_plan self.old.plan) run.job ≡ true }
-        ensures state { self.new.state ≡ after (as_plan self.old.plan) self.old.state (event.End run) }
+        ensures state { self.new.state
+            ≡ after (as_plan self.old.plan) self.old.state (event.End run) }
         ensures plan { self.new.plan ≡ self.old.plan }
     {
         take_run(&self.rules, &mut self.running, &mut self.held, run);
@@ -205,7 +209,8 @@ impl Core {
         requires may { refusal (as_plan self.old.plan) self.old.state (event.End run) ≡ None }
         requires anacron { is_cron (as_plan self.old.plan) run.job ≡ false }
         requires civil { self.old.state.now ≤ last_minute }
-        ensures state { self.new.state ≡ after (as_plan self.old.plan) self.old.state (event.End run) }
+        ensures state { self.new.state
+            ≡ after (as_plan self.old.plan) self.old.state (event.End run) }
         ensures plan { self.new.plan ≡ self.old.plan }
     {
         let crons = usize::from(self.rules.crons());
@@ -242,7 +247,8 @@ impl Core {
     fn take_up(&mut self, minute: u64) -> Reply
         requires { refusal (as_plan self.old.plan) self.old.state (event.Up minute) ≡ None }
         ensures reply { result ≡ reply (as_plan self.old.plan) self.old.state (event.Up minute) }
-        ensures state { self.new.state ≡ after (as_plan self.old.plan) self.old.state (event.Up minute) }
+        ensures state { self.new.state
+            ≡ after (as_plan self.old.plan) self.old.state (event.Up minute) }
         ensures plan { self.new.plan ≡ self.old.plan }
     {
         let minute = Minute::new(minute).unwrap();

@@ -12,14 +12,18 @@ ghost use Rattle.cs_history.specs.declared.run.Run.{Run};
 pub fn choices_are_legal_events()
 
     // each choice may come next
-    ensures choice { (p : Plan) (h : History) (e : Event) → Contains (choices p (state_of p h)) e → May p h e }
+    ensures choice { (p : Plan) (h : History) (e : Event) → Contains (choices p (state_of p h)) e
+        → May p h e }
 
     // and what may come next is a choice, or one stands for it
-    ensures legal { (p : Plan) (h : History) (e : Event) → IsLegal p h → May p h e → Contains (choices p (state_of p h)) (choice_for (state_of p h) e) }
+    ensures legal { (p : Plan) (h : History) (e : Event) → IsLegal p h → May p h e
+        → Contains (choices p (state_of p h)) (choice_for (state_of p h) e) }
 
     // the same of any state
-    ensures refused { (p : Plan) (s : State) (e : Event) → Contains (choices p s) e → refusal p s e ≡ None }
-    ensures listed { (p : Plan) (s : State) (e : Event) → IsCivil s.now → refusal p s e ≡ None → Contains (choices p s) (choice_for s e) }
+    ensures refused { (p : Plan) (s : State) (e : Event) → Contains (choices p s) e
+        → refusal p s e ≡ None }
+    ensures listed { (p : Plan) (s : State) (e : Event) → IsCivil s.now → refusal p s e ≡ None
+        → Contains (choices p s) (choice_for s e) }
 
     // runs are listed by job, then minute
     ensures sorted { (rs : List Run) → EachPair (λ r q. is_before q r ≡ false) (by_name rs) }

@@ -54,7 +54,8 @@ impl Core {
 
     fn has_free_waiter(&self) -> bool
         ensures { result ≡ list_any
-            (λ w. is_free (as_plan self.now.plan) self.now.state.running w.job) self.now.state.waiting }
+            (λ w. is_free (as_plan self.now.plan) self.now.state.running w.job)
+            self.now.state.waiting }
     {
         self.held.frees(&self.wanted)
     }
@@ -72,7 +73,8 @@ impl Core {
     }
 
     fn refusal_of_got(&self, run: Run) -> Option<Refusal>
-        ensures { result ≡ refusal (as_plan self.now.plan) self.now.state (event.Got run.job run.at) }
+        ensures { result
+            ≡ refusal (as_plan self.now.plan) self.now.state (event.Got run.job run.at) }
     {
         if !self.up {
             return Some(Refusal::NotUp);
@@ -119,7 +121,8 @@ impl Core {
 
     /// Whether the job is the next of the pass, and its delay is over.
     fn is_turn(&self, job: u16) -> bool
-        ensures { result ≡ is_turn (as_plan self.now.plan) self.now.state.now self.now.state.pass job }
+        ensures { result
+            ≡ is_turn (as_plan self.now.plan) self.now.state.now self.now.state.pass job }
     {
         match self.left.as_slice().first() {
             Some(next) => {

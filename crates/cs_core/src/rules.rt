@@ -123,7 +123,8 @@ impl Rules {
     /// Whether the cron job is due at this minute of a day of this kind.
     fn is_due_on(&self, job: u16, day: DayKind, minute_of_day: u16) -> bool
         requires { minute_of_day < 1440 }
-        ensures { (t : ℕ) → day ≡ kind (t / 1440) → minute_of_day ≡ t % 1440 → result ≡ (as_plan self.now).due job t }
+        ensures { (t : ℕ) → day ≡ kind (t / 1440) → minute_of_day ≡ t % 1440
+            → result ≡ (as_plan self.now).due job t }
     {
         match self.plan.crontab().lines().get(usize::from(job)) {
             Some(line) => match line.when() {
@@ -222,7 +223,8 @@ fn delay(plan: &Plan, job: u16) -> u32
 /// The place of the first job of a later delay.
 fn place(plan: &Plan, order: &[u16], job: u16) -> usize
     ensures bound { result ≤ length order.now }
-    ensures place { insert order.now result job ≡ placed (is_sooner (as_plan plan.now)) job order.now }
+    ensures place { insert order.now result job
+        ≡ placed (is_sooner (as_plan plan.now)) job order.now }
 {
     let minutes = delay(plan, job);
     for (place, other) in order.iter().enumerate() {

@@ -22,7 +22,9 @@ input_of (line ∷ lines) = Some (join_with_byte 10 (line ∷ lines))
 
 -- The command and the lines of its input give the text again, where each `%` in them is escaped and `%` stands between them.
 abbrev pub AreParts : List ℕ → List ℕ × Option (List ℕ) → Type 0
-AreParts text parts = (lines : List (List ℕ)) × (text ≡ join_with_byte 37 (map escaped (parts.0 ∷ lines))) × ArePlain (parts.0 ∷ lines) × (parts.1 ≡ input_of lines)
+AreParts text parts = (lines : List (List ℕ))
+    × (text ≡ join_with_byte 37 (map escaped (parts.0 ∷ lines))) × ArePlain (parts.0 ∷ lines)
+    × (parts.1 ≡ input_of lines)
 
 -- the texts between the `%` that no backslash escapes, in which `\%` is `%`
 unfoldable pub pieces_of : List ℕ → List (List ℕ)

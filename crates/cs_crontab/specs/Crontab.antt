@@ -31,8 +31,18 @@ no_lines = record { settings = []; lines = [] }
 -- what a line with that number says, and then what the lines behind it say
 abbrev pub with_entry : ℕ → Entry → Table → Table
 with_entry number Nothing table = table
-with_entry number (Setting name value) table = record { settings = record { number = number; name = name; value = value } ∷ table.settings; lines = table.lines }
-with_entry number (Command when command) table = record { settings = table.settings; lines = record { number = number; when = when; command = command } ∷ table.lines }
+with_entry number (Setting name value) table = record {
+  settings = record {
+    number = number;
+    name = name;
+    value = value;
+  } ∷ table.settings;
+  lines = table.lines;
+}
+with_entry number (Command when command) table = record {
+  settings = table.settings;
+  lines = record { number = number; when = when; command = command } ∷ table.lines;
+}
 
 -- There are not too many commands, and settings and commands each stand on a later line than those before them.
 pub record IsOrdered (table : Table) : Type 0 where

@@ -21,16 +21,20 @@ use Rattle.cs_crontab.specs.Reading.{item_of}
 abbrev pub IsFieldFault : Part → List ℕ → LineFault → Type 0
 IsFieldFault part word fault =
     (before : List (List ℕ)) × (text : List ℕ) × (behind items : List (List ℕ))
-    × (slice_split is_comma word ≡ before ++ (text ∷ behind)) × AreItems part before items × (item_of part text ≡ Err fault)
+    × (slice_split is_comma word ≡ before ++ (text ∷ behind)) × AreItems part before items
+    × (item_of part text ≡ Err fault)
 
 -- The fields before one are fine; there the text ends, or the next word has the fault. Behind the last field the text ends.
 abbrev pub FieldsFail : List Part → List ℕ → LineFault → Type 0
 FieldsFail [] text fault = (text ≡ []) × (fault ≡ faults.NoCommand)
 FieldsFail (part ∷ parts) text fault =
     ((text ≡ []) × (fault ≡ faults.MissingField))
-    ⊎ ((word behind : List ℕ) × (text ≡ word ++ behind) × Are is_solid word × StopsAt is_solid behind
+    ⊎ ((word behind : List ℕ) × (text ≡ word ++ behind) × Are is_solid word
+    × StopsAt is_solid behind
     × (IsFieldFault part word fault
-    ⊎ ((gap rest : List ℕ) × (field : Choice) × (behind ≡ gap ++ rest) × (list_all is_blank gap ≡ true) × StopsAt is_blank rest × IsField part word field × FieldsFail parts rest fault)))
+    ⊎ ((gap rest : List ℕ) × (field : Choice) × (behind ≡ gap ++ rest)
+    × (list_all is_blank gap ≡ true) × StopsAt is_blank rest × IsField part word field
+    × FieldsFail parts rest fault)))
 
 abbrev pub five_parts : List Part
 five_parts = Minute ∷ Hour ∷ Dom ∷ Month ∷ Dow ∷ []
@@ -38,12 +42,15 @@ five_parts = Minute ∷ Hour ∷ Dom ∷ Month ∷ Dow ∷ []
 -- Behind `@`, the word stands for nothing, or only blanks follow it.
 abbrev pub WordFails : List ℕ → LineFault → Type 0
 WordFails text fault =
-    (word behind : List ℕ) × (text ≡ word ++ behind) × (list_all is_solid word ≡ true) × StopsAt is_solid behind
+    (word behind : List ℕ) × (text ≡ word ++ behind) × (list_all is_solid word ≡ true)
+    × StopsAt is_solid behind
     × (((fault ≡ faults.UnknownWord) × ((when : When) → IsWordFor word when → ⊥))
-    ⊎ ((fault ≡ faults.NoCommand) × (list_all is_blank behind ≡ true) × ((when : When) × IsWordFor word when)))
+    ⊎ ((fault ≡ faults.NoCommand) × (list_all is_blank behind ≡ true)
+    × ((when : When) × IsWordFor word when)))
 
 abbrev pub SettingFails : List ℕ → LineFault → Type 0
-SettingFails text fault = (fault ≡ faults.BadSetting) × ((name value : List ℕ) → IsSetting text name value → ⊥)
+SettingFails text fault =
+    (fault ≡ faults.BadSetting) × ((name value : List ℕ) → IsSetting text name value → ⊥)
 
 -- A text without leading blanks is, by its first byte, a comment without fault, a word, a setting or fields.
 abbrev pub TextFails : List ℕ → LineFault → Type 0
@@ -57,9 +64,11 @@ TextFails (b ∷ bs) fault =
 abbrev pub LineFails : List ℕ → LineFault → Type 0
 LineFails line fault =
     ((MAX_LINE < length line) × (fault ≡ faults.TooLong))
-    ⊎ (((length line ≤ MAX_LINE) × (list_any (λ b. nat_eq b 0) line ≡ true) × (fault ≡ faults.NulByte))
+    ⊎ (((length line ≤ MAX_LINE) × (list_any (λ b. nat_eq b 0) line ≡ true)
+    × (fault ≡ faults.NulByte))
     ⊎ ((length line ≤ MAX_LINE) × (list_any (λ b. nat_eq b 0) line ≡ false)
-    × ((indent text : List ℕ) × (line ≡ indent ++ text) × (list_all is_blank indent ≡ true) × StopsAt is_blank text × TextFails text fault)))
+    × ((indent text : List ℕ) × (line ≡ indent ++ text) × (list_all is_blank indent ≡ true)
+    × StopsAt is_blank text × TextFails text fault)))
 
 -- The first line with a fault: the lines before it have none. The command above the limit is a fault after all others of its line.
 pub record IsFirstFault (text : List ℕ) (number : ℕ) (fault : LineFault) : Type 0 where
@@ -72,11 +81,14 @@ pub record IsFirstFault (text : List ℕ) (number : ℕ) (fault : LineFault) : T
   pub table : Table
   pub fine : AreLines 1 before table
   pub few : length table.lines ≤ MAX_COMMANDS
-  pub stands : LineFails line fault ⊎ ((fault ≡ faults.TooManyJobs) × (length table.lines ≡ MAX_COMMANDS) × ((when : When) × (command : List ℕ) × Says line (Command when command)))
+  pub stands : LineFails line fault
+      ⊎ ((fault ≡ faults.TooManyJobs) × (length table.lines ≡ MAX_COMMANDS)
+      × ((when : When) × (command : List ℕ) × Says line (Command when command)))
 
 -- the text's fault, with the number of its line: the table's own length has line 0
 abbrev pub IsFault : List ℕ → ℕ → LineFault → Type 0
-IsFault text number fault = ((MAX_TABLE < length text) × (number ≡ 0) × (fault ≡ faults.TooLong)) ⊎ IsFirstFault text number fault
+IsFault text number fault = ((MAX_TABLE < length text) × (number ≡ 0) × (fault ≡ faults.TooLong))
+    ⊎ IsFirstFault text number fault
 
 -- A text is written as a table, or it has a fault.
 abbrev pub Meaning : Type 0

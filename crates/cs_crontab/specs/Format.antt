@@ -16,7 +16,8 @@ names_of Dom = []
 names_of Month =
     codes "jan" ∷ codes "feb" ∷ codes "mar" ∷ codes "apr" ∷ codes "may" ∷ codes "jun"
     ∷ codes "jul" ∷ codes "aug" ∷ codes "sep" ∷ codes "oct" ∷ codes "nov" ∷ codes "dec" ∷ []
-names_of Dow = codes "sun" ∷ codes "mon" ∷ codes "tue" ∷ codes "wed" ∷ codes "thu" ∷ codes "fri" ∷ codes "sat" ∷ []
+names_of Dow = codes "sun" ∷ codes "mon" ∷ codes "tue" ∷ codes "wed" ∷ codes "thu" ∷ codes "fri"
+    ∷ codes "sat" ∷ []
 
 -- the place of a name among those of a field, in upper or lower case
 unfoldable pub place_of : Part → List ℕ → Option ℕ
@@ -43,7 +44,8 @@ begins_with byte (b ∷ bs) = b == byte
 
 -- A setting begins with a letter, `_` or a quote.
 abbrev pub begins_setting : ℕ → Bool
-begins_setting b = nat_le 65 b && nat_le b 90 || nat_le 97 b && nat_le b 122 || b == 95 || b == 34 || b == 39
+begins_setting b =
+    nat_le 65 b && nat_le b 90 || nat_le 97 b && nat_le b 122 || b == 95 || b == 34 || b == 39
 
 abbrev pub begins_as_setting : List ℕ → Bool
 begins_as_setting [] = false
@@ -54,7 +56,10 @@ abbrev pub only : ℕ → Choice
 only n = record { star = false; numbers = numbers_where (is_every n n 1) }
 
 abbrev pub all : Part → Choice
-all part = record { star = true; numbers = counted part (numbers_where (is_every (first_of part) (last_of part) 1)) }
+all part = record {
+  star = true;
+  numbers = counted part (numbers_where (is_every (first_of part) (last_of part) 1));
+}
 
 -- `0 0 1 1 *`, `0 0 1 * *`, `0 0 * * 0`, `0 0 * * *` and `0 * * * *`
 abbrev pub yearly : Times
@@ -70,7 +75,8 @@ abbrev pub daily : Times
 daily = record { minute = only 0; hour = only 0; dom = all Dom; month = all Month; dow = all Dow }
 
 abbrev pub hourly : Times
-hourly = record { minute = only 0; hour = all Hour; dom = all Dom; month = all Month; dow = all Dow }
+hourly =
+    record { minute = only 0; hour = all Hour; dom = all Dom; month = all Month; dow = all Dow }
 
 -- what the word behind `@` stands for, `@reboot` aside
 abbrev pub times_of_word : List ℕ → Option Times

@@ -23,50 +23,61 @@ pub record IsDigits (part : Part) (text : List ℕ) (n : ℕ) : Type 0 where
 
 -- three letters that are the name of a number of the field: the first name is that of its first number
 abbrev pub IsName : Part → List ℕ → ℕ → Type 0
-IsName part text n = (place : ℕ) × (length text ≡ 3) × (place_of part text ≡ Some place) × (n ≡ first_of part + place)
+IsName part text n = (place : ℕ) × (length text ≡ 3) × (place_of part text ≡ Some place)
+    × (n ≡ first_of part + place)
 
 abbrev pub IsNumber : Part → List ℕ → ℕ → Type 0
 IsNumber part text n = IsDigits part text n ⊎ IsName part text n
 
 -- nothing, which is a step of 1, or `/` and digits
 abbrev pub IsStep : List ℕ → ℕ → Type 0
-IsStep text n = ((text ≡ []) × (n ≡ 1)) ⊎ ((digits : List ℕ) × (text ≡ 47 ∷ digits) × Are is_digit digits × (n ≡ decimal digits) × (0 < n))
+IsStep text n = ((text ≡ []) × (n ≡ 1))
+    ⊎ ((digits : List ℕ) × (text ≡ 47 ∷ digits) × Are is_digit digits × (n ≡ decimal digits)
+    × (0 < n))
 
 -- `*` and a step
 abbrev pub IsStar : Part → List ℕ → List ℕ → Type 0
-IsStar part text numbers = (step : List ℕ) × (n : ℕ) × (text ≡ 42 ∷ step) × IsStep step n × (numbers ≡ numbers_where (is_every (first_of part) (last_of part) n))
+IsStar part text numbers = (step : List ℕ) × (n : ℕ) × (text ≡ 42 ∷ step) × IsStep step n
+    × (numbers ≡ numbers_where (is_every (first_of part) (last_of part) n))
 
 -- `a`
 abbrev pub IsSingle : Part → List ℕ → List ℕ → Type 0
-IsSingle part text numbers = (a : ℕ) × IsNumber part text a × (numbers ≡ numbers_where (is_every a a 1))
+IsSingle part text numbers =
+    (a : ℕ) × IsNumber part text a × (numbers ≡ numbers_where (is_every a a 1))
 
 -- `a-z` and a step
 abbrev pub IsRange : Part → List ℕ → List ℕ → Type 0
 IsRange part text numbers =
-    (x y step : List ℕ) × (a z n : ℕ) × (text ≡ x ++ (45 ∷ (y ++ step))) × IsNumber part x a × IsNumber part y z × (a ≤ z) × IsStep step n
+    (x y step : List ℕ) × (a z n : ℕ) × (text ≡ x ++ (45 ∷ (y ++ step))) × IsNumber part x a
+    × IsNumber part y z × (a ≤ z) × IsStep step n
     × (numbers ≡ numbers_where (is_every a z n))
 
 abbrev pub IsItem : Part → List ℕ → List ℕ → Type 0
-IsItem part text numbers = IsStar part text numbers ⊎ (IsSingle part text numbers ⊎ IsRange part text numbers)
+IsItem part text numbers =
+    IsStar part text numbers ⊎ (IsSingle part text numbers ⊎ IsRange part text numbers)
 
 abbrev pub AreItems : Part → List (List ℕ) → List (List ℕ) → Type 0
 AreItems part [] items = items ≡ []
-AreItems part (text ∷ texts) items = (numbers : List ℕ) × (others : List (List ℕ)) × IsItem part text numbers × AreItems part texts others × (items ≡ numbers ∷ others)
+AreItems part (text ∷ texts) items = (numbers : List ℕ) × (others : List (List ℕ))
+    × IsItem part text numbers × AreItems part texts others × (items ≡ numbers ∷ others)
 
 -- one item or more, parted by commas
 abbrev pub IsField : Part → List ℕ → Choice → Type 0
 IsField part text field =
-    (texts items : List (List ℕ)) × (texts ≢ []) × (text ≡ join_with_byte 44 texts) × AreItems part texts items
+    (texts items : List (List ℕ)) × (texts ≢ []) × (text ≡ join_with_byte 44 texts)
+    × AreItems part texts items
     × (field ≡ record { star = begins_with 42 text; numbers = counted part (all_of items) })
 
 -- The fields are written in text, each with blanks behind it, and then the command.
 abbrev pub AreFields : List (Part × Choice) → List ℕ → List ℕ → Type 0
 AreFields [] text command = text ≡ command
 AreFields (f ∷ fs) text command =
-    (word gap rest : List ℕ) × (text ≡ word ++ (gap ++ rest)) × Are is_solid word × Are is_blank gap × StopsAt is_blank rest × IsField f.0 word f.1 × AreFields fs rest command
+    (word gap rest : List ℕ) × (text ≡ word ++ (gap ++ rest)) × Are is_solid word × Are is_blank gap
+    × StopsAt is_blank rest × IsField f.0 word f.1 × AreFields fs rest command
 
 abbrev pub fields_of : Times → List (Part × Choice)
-fields_of s = (Minute, s.minute) ∷ (Hour, s.hour) ∷ (Dom, s.dom) ∷ (Month, s.month) ∷ (Dow, s.dow) ∷ []
+fields_of s =
+    (Minute, s.minute) ∷ (Hour, s.hour) ∷ (Dom, s.dom) ∷ (Month, s.month) ∷ (Dow, s.dow) ∷ []
 
 -- five fields and then the command
 abbrev pub AreTimes : List ℕ → When → List ℕ → Type 0
@@ -81,14 +92,16 @@ IsWordFor word Reboot = word ≡ codes "reboot"
 -- `@` and a word, blanks, and then the command
 abbrev pub IsWordLine : List ℕ → When → List ℕ → Type 0
 IsWordLine text when command =
-    (word gap : List ℕ) × (text ≡ 64 ∷ (word ++ (gap ++ command))) × Are is_solid word × Are is_blank gap × StopsAt is_blank command × IsWordFor word when
+    (word gap : List ℕ) × (text ≡ 64 ∷ (word ++ (gap ++ command))) × Are is_solid word
+    × Are is_blank gap × StopsAt is_blank command × IsWordFor word when
 
 -- What a text without leading blanks says: nothing where it is empty or a comment.
 -- A setting begins with a letter, `_` or a quote (this profile).
 abbrev pub TextSays : List ℕ → Entry → Type 0
 TextSays text Nothing = (text ≡ []) ⊎ ((comment : List ℕ) × (text ≡ 35 ∷ comment))
 TextSays text (Setting name value) = (begins_as_setting text ≡ true) × IsSetting text name value
-TextSays text (Command when command) = (AreTimes text when command ⊎ IsWordLine text when command) × (command ≢ [])
+TextSays text (Command when command) =
+    (AreTimes text when command ⊎ IsWordLine text when command) × (command ≢ [])
 
 -- what a line says: blanks at its front mean nothing
 pub record Says (line : List ℕ) (entry : Entry) : Type 0 where
@@ -103,7 +116,8 @@ pub record Says (line : List ℕ) (entry : Entry) : Type 0 where
 -- what lines say, of which the first has this number
 abbrev pub AreLines : ℕ → List (List ℕ) → Table → Type 0
 AreLines number [] table = table ≡ no_lines
-AreLines number (line ∷ lines) table = (entry : Entry) × (others : Table) × Says line entry × AreLines (number + 1) lines others × (table ≡ with_entry number entry others)
+AreLines number (line ∷ lines) table = (entry : Entry) × (others : Table) × Says line entry
+    × AreLines (number + 1) lines others × (table ≡ with_entry number entry others)
 
 -- the text is written as this table
 pub record IsCrontab (text : List ℕ) (table : Table) : Type 0 where

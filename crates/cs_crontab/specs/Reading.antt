@@ -18,7 +18,8 @@ use Rattle.cs_crontab.specs.Format.{place_of, counted, all_of, is_comma, begins_
 use Rattle.cs_crontab.specs.Text.{front, after, is_blank, is_solid, is_digit, decimal}
 
 infixl 10 ◌>>=◌
-abbrev pub ◌>>=◌ : {A B : Type 0} → Result A LineFault → (A → Result B LineFault) → Result B LineFault
+abbrev pub ◌>>=◌ : {A B : Type 0} → Result A LineFault → (A → Result B LineFault)
+    → Result B LineFault
 (Ok x) >>= f = f x
 (Err e) >>= f = Err e
 
@@ -39,14 +40,16 @@ unfoldable pub number_at : Part → List ℕ → Result (ℕ × List ℕ) LineFa
 number_at part text =
     let digits = front is_digit text in
     if length digits == 0 then named part (place_of part (take 3 text)) (drop 3 text)
-    else if nat_lt (decimal digits) (first_of part) || nat_lt (last_of part) (decimal digits) then Err faults.OutOfField
+    else if nat_lt (decimal digits) (first_of part) || nat_lt (last_of part) (decimal digits)
+    then Err faults.OutOfField
     else Ok (decimal digits, after is_digit text)
 
 -- `/n` with n at least 1, or nothing, which is `/1`
 unfoldable pub step_at : List ℕ → Result (ℕ × List ℕ) LineFault
 step_at [] = Ok (1, [])
 step_at (b ∷ bs) =
-    if b == 47 then if decimal (front is_digit bs) == 0 then Err faults.BadStep else Ok (decimal (front is_digit bs), after is_digit bs)
+    if b == 47 then if decimal (front is_digit bs) == 0 then Err faults.BadStep
+    else Ok (decimal (front is_digit bs), after is_digit bs)
     else Ok (1, b ∷ bs)
 
 -- a step as the code keeps it: one above 1,000,000 selects no other numbers than 1,000,000 does
@@ -84,7 +87,8 @@ numbers_at part text = do
 -- `*`, `*/n`, or what begins with a number
 unfoldable pub item_at : Part → List ℕ → Result (List ℕ × List ℕ) LineFault
 item_at part [] = Err faults.BadNumber
-item_at part (b ∷ bs) = if b == 42 then every (first_of part) (last_of part) (step_at bs) else numbers_at part (b ∷ bs)
+item_at part (b ∷ bs) =
+    if b == 42 then every (first_of part) (last_of part) (step_at bs) else numbers_at part (b ∷ bs)
 
 abbrev pub is_nothing : List ℕ → Bool
 is_nothing text = length text == 0
@@ -148,7 +152,8 @@ when_of word =
 
 -- a command, which is not empty
 abbrev pub commanded : When → List ℕ → Result Entry LineFault
-commanded when command = if is_nothing command then Err faults.NoCommand else Ok (Command when command)
+commanded when command =
+    if is_nothing command then Err faults.NoCommand else Ok (Command when command)
 
 -- what a line says behind its `@`
 unfoldable pub word_line : List ℕ → Result Entry LineFault

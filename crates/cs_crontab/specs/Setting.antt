@@ -14,17 +14,22 @@ is_name_byte b = not (is_blank b) && not (b == 61)
 abbrev pub IsName : List ℕ → List ℕ → Type 0
 IsName text name =
     ((text ≡ name) × Are is_name_byte name × StopsAt is_quote name)
-    ⊎ ((quote : ℕ) × (is_quote quote ≡ true) × (text ≡ quote ∷ (name ++ (quote ∷ []))) × Are (λ b. not (b == quote)) name)
+    ⊎ ((quote : ℕ) × (is_quote quote ≡ true) × (text ≡ quote ∷ (name ++ (quote ∷ [])))
+    × Are (λ b. not (b == quote)) name)
 
 -- empty, or its last byte is no blank
 abbrev pub EndsSolid : List ℕ → Type 0
-EndsSolid text = (text ≡ []) ⊎ ((front : List ℕ) × (last : ℕ) × (text ≡ front ++ (last ∷ [])) × (is_blank last ≡ false))
+EndsSolid text = (text ≡ [])
+    ⊎ ((front : List ℕ) × (last : ℕ) × (text ≡ front ++ (last ∷ [])) × (is_blank last ≡ false))
 
 -- the value without the blanks behind it, which begins with no quote, or the value in quotes, which does not hold that quote
 abbrev pub IsValue : List ℕ → List ℕ → Type 0
 IsValue text value =
-    ((gap : List ℕ) × (text ≡ value ++ gap) × (list_all is_blank gap ≡ true) × StopsAt is_quote value × EndsSolid value)
-    ⊎ ((quote : ℕ) × (gap : List ℕ) × (is_quote quote ≡ true) × (text ≡ quote ∷ (value ++ (quote ∷ gap))) × (list_all (λ b. not (b == quote)) value ≡ true) × (list_all is_blank gap ≡ true))
+    ((gap : List ℕ) × (text ≡ value ++ gap) × (list_all is_blank gap ≡ true)
+    × StopsAt is_quote value × EndsSolid value)
+    ⊎ ((quote : ℕ) × (gap : List ℕ) × (is_quote quote ≡ true)
+    × (text ≡ quote ∷ (value ++ (quote ∷ gap))) × (list_all (λ b. not (b == quote)) value ≡ true)
+    × (list_all is_blank gap ≡ true))
 
 -- the name and the value round `=`, with or without blanks
 pub record IsSetting (text name value : List ℕ) : Type 0 where

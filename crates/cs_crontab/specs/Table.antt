@@ -31,9 +31,18 @@ abbrev pub ◌>>=◌ : {A B : Type 0} → Result A Fault → (A → Result B Fau
 abbrev pub added : ℕ → Table → Result Entry LineFault → Result Table Fault
 added number table (Err fault) = Err (number, fault)
 added number table (Ok Nothing) = Ok table
-added number table (Ok (Setting name value)) = Ok (record { settings = table.settings ++ (record { number = number; name = name; value = value } ∷ []); lines = table.lines })
+added number table (Ok (Setting name value)) = Ok (record {
+  settings = table.settings
+      ++ (record { number = number; name = name; value = value } ∷ []);
+  lines = table.lines;
+})
 added number table (Ok (Command when command)) =
-    if nat_lt (length table.lines) MAX_COMMANDS then Ok (record { settings = table.settings; lines = table.lines ++ (record { number = number; when = when; command = command } ∷ []) })
+    if nat_lt (length table.lines) MAX_COMMANDS
+    then Ok (record {
+      settings = table.settings;
+      lines = table.lines
+          ++ (record { number = number; when = when; command = command } ∷ []);
+    })
     else Err (number, TooManyJobs)
 
 -- the table with the lines behind it, of which the first has this number
@@ -44,4 +53,5 @@ lines_from number table (line ∷ lines) = do
   lines_from (number + 1) more lines
 
 unfoldable pub crontab_of : List ℕ → Result Table Fault
-crontab_of text = if nat_lt MAX_TABLE (length text) then Err (0, TooLong) else lines_from 1 no_lines (lines_of text)
+crontab_of text = if nat_lt MAX_TABLE (length text) then Err (0, TooLong)
+    else lines_from 1 no_lines (lines_of text)

@@ -32,7 +32,8 @@ fn first_token(text: &[u8]) -> Token<'_>
 
 /// The text up to the first `%` that no backslash escapes, and what follows that `%`.
 fn piece(alloc: Global, text: &[u8]) -> Result<(Vec<u8>, Option<&[u8]>), AllocError>
-    ensures pieces { IfOk result (λ x. pieces_of text.now ≡ x.0.items ∷ pieces_behind (option_map (λ r. r.now) x.1)) }
+    ensures pieces { IfOk result
+        (λ x. pieces_of text.now ≡ x.0.items ∷ pieces_behind (option_map (λ r. r.now) x.1)) }
     ensures shorter { IfOk result (λ x. IfSome x.1 (λ r. length r.now < length text.now)) }
 {
     let mut piece = Vec::new(alloc);
@@ -82,7 +83,8 @@ pub fn command_parts(alloc: Global, command: &[u8]) -> Result<(Bytes, Option<Byt
     // The parts give the command again.
     ensures parts { IfOk result (AreParts command.now) }
     // No other parts do.
-    ensures only { (parts : List ℕ × Option (List ℕ)) → AreParts command.now parts → IfOk result (λ answer. answer ≡ parts) }
+    ensures only { (parts : List ℕ × Option (List ℕ)) → AreParts command.now parts
+        → IfOk result (λ answer. answer ≡ parts) }
 {
     read_parts(alloc, command)
 }

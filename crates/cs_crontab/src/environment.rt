@@ -49,7 +49,8 @@ pub fn env_of(
     settings: &[Setting],
     line: u32,
 ) -> Result<Sequence<(Bytes, Bytes)>, AllocError>
-    ensures names { IfOk result (λ env. map (λ v. v.0) env ≡ first_places (names_of (above line settings.now))) }
+    ensures names { IfOk result
+        (λ env. map (λ v. v.0) env ≡ first_places (names_of (above line settings.now))) }
     ensures values { IfOk result (All (IsLast (above line settings.now))) }
 {
     let variables = by_name(alloc, settings, line)?;
@@ -59,7 +60,8 @@ pub fn env_of(
 impl Crontab {
     /// The environment of the command on the line of that number, as [`env_of`] of the table's settings.
     pub fn env_of(&self, alloc: Global, line: u32) -> Result<Sequence<(Bytes, Bytes)>, AllocError>
-        ensures names { IfOk result (λ env. map (λ v. v.0) env ≡ first_places (names_of (above line self.now.settings))) }
+        ensures names { IfOk result
+            (λ env. map (λ v. v.0) env ≡ first_places (names_of (above line self.now.settings))) }
         ensures values { IfOk result (All (IsLast (above line self.now.settings))) }
     {
         env_of(alloc, self.settings(), line)

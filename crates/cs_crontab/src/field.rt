@@ -13,7 +13,8 @@ use memchr::memchr;
 
 /// The number that the name at the front stands for, and what follows it.
 fn named(part: Part, text: &[u8]) -> Result<(u8, &[u8]), LineFault>
-    ensures { Gives (λ x. (x.0, x.1.now)) result (named part (place_of part (take 3 text.now)) (drop 3 text.now)) }
+    ensures { Gives (λ x. (x.0, x.1.now)) result
+        (named part (place_of part (take 3 text.now)) (drop 3 text.now)) }
 {
     let (name, rest) = text.split_at(text.len().min(3));
     match name_place(part, name) {
@@ -106,7 +107,8 @@ fn item(part: Part, text: &[u8]) -> Result<(Numbers, &[u8]), LineFault>
 
 /// The text in front of the first comma, and what follows the comma.
 fn first_item(text: &[u8]) -> (&[u8], Option<&[u8]>)
-    ensures items { slice_split is_comma text.now ≡ result.0.now ∷ items_behind (option_map (λ x. x.now) result.1) }
+    ensures items { slice_split is_comma text.now
+        ≡ result.0.now ∷ items_behind (option_map (λ x. x.now) result.1) }
     ensures shorter { IfSome result.1 (λ x. length x.now < length text.now) }
 {
     match memchr(b',', text) {

@@ -110,7 +110,8 @@ pub fn read_crontab(alloc: Global, bytes: &[u8]) -> Result<Crontab, TableFault>
     // A fault stands there, and is the first; nothing is said of want of memory.
     ensures fault { IfErr result (IsFaultOf bytes.now) }
     // The bytes mean nothing else, and what they mean is answered unless memory runs out.
-    ensures only { (meaning : Meaning) → Means bytes.now meaning → Denotes (λ table. table) meaning result }
+    ensures only { (meaning : Meaning) → Means bytes.now meaning
+        → Denotes (λ table. table) meaning result }
 {
     read_table(alloc, bytes)
 }

@@ -34,7 +34,8 @@ fn at_midnight(dom: Field, month: Field, dow: Field) -> Schedule
     requires dom { IsWithin part.Dom dom.numbers }
     requires month { IsWithin part.Month month.numbers }
     requires dow { IsWithin part.Dow dow.numbers }
-    ensures { result ≡ record { minute = only 0; hour = only 0; dom = dom; month = month; dow = dow } }
+    ensures { result
+        ≡ record { minute = only 0; hour = only 0; dom = dom; month = month; dow = dow } }
 {
     Schedule::new(only(Part::Minute, 0), only(Part::Hour, 0), dom, month, dow)
 }

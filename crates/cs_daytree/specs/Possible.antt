@@ -14,7 +14,11 @@ pub record Numbers : Type 0 where
 
 -- at the root: months 1 to 12, days of the month 1 to 31, weekdays 0 to 6
 abbrev pub all_numbers : Numbers
-all_numbers = record { months = range_with_len 1 12; days = range_with_len 1 31; weekdays = range_with_len 0 7 }
+all_numbers = record {
+  months = range_with_len 1 12;
+  days = range_with_len 1 31;
+  weekdays = range_with_len 0 7;
+}
 
 abbrev pub numbers_of : KindPart → Numbers → List ℕ
 numbers_of Month p = p.months
@@ -28,7 +32,8 @@ with_numbers Weekday numbers p = record p { weekdays = numbers }
 
 -- of the numbers only those that are values, or only the others
 unfoldable pub kept : List ℕ → Bool → List ℕ → List ℕ
-kept values inside numbers = filter (λ number. if inside then has values number else not (has values number)) numbers
+kept values inside numbers =
+    filter (λ number. if inside then has values number else not (has values number)) numbers
 
 -- and that of one part
 abbrev pub narrowed : KindPart → List ℕ → Bool → Numbers → Numbers
@@ -36,10 +41,12 @@ narrowed part values inside p = with_numbers part (kept values inside (numbers_o
 
 -- strictly rising, not empty, each possible, and not all that are
 abbrev pub is_part_of : List ℕ → List ℕ → Bool
-is_part_of values possible = rises values && nat_lt 0 (length values) && list_all (has possible) values && nat_lt (length values) (length possible)
+is_part_of values possible = rises values && nat_lt 0 (length values)
+    && list_all (has possible) values && nat_lt (length values) (length possible)
 
 -- whether each split's values are a part of what the splits above leave
 unfoldable pub splits_fit : Numbers → Tree → Bool
 splits_fit p (leaf class) = true
 splits_fit p (split part values inside outside) =
-    is_part_of values (numbers_of part p) && splits_fit (narrowed part values true p) inside && splits_fit (narrowed part values false p) outside
+    is_part_of values (numbers_of part p) && splits_fit (narrowed part values true p) inside
+    && splits_fit (narrowed part values false p) outside

@@ -13,7 +13,8 @@ pub data Tree : Type 0 where
 
 abbrev pub tree_of : DayTree → Tree
 tree_of (Leaf class) = leaf class
-tree_of (Split' part values p inside q outside) = split part values (tree_of inside) (tree_of outside)
+tree_of (Split' part values p inside q outside) =
+    split part values (tree_of inside) (tree_of outside)
 
 -- the number that a kind has there
 abbrev pub number_of : KindPart → Kind → ℕ
@@ -28,12 +29,14 @@ has values number = list_any (λ value. nat_eq value number) values
 -- the class of a kind: of each split the half that its number belongs to
 abbrev pub class_in : Tree → Kind → ℕ
 class_in (leaf class) kind = class
-class_in (split part values inside outside) kind = if has values (number_of part kind) then class_in inside kind else class_in outside kind
+class_in (split part values inside outside) kind =
+    if has values (number_of part kind) then class_in inside kind else class_in outside kind
 
 -- the greatest class number of a leaf
 abbrev pub greatest_class : Tree → ℕ
 greatest_class (leaf class) = class
-greatest_class (split part values inside outside) = max (greatest_class inside) (greatest_class outside)
+greatest_class (split part values inside outside) =
+    max (greatest_class inside) (greatest_class outside)
 
 -- a leaf has depth 0, a split one more than its deeper half
 abbrev pub depth : Tree → ℕ

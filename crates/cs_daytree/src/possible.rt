@@ -79,7 +79,8 @@ impl DayTree {
         requires days { length days.now ≤ MOST }
         requires weekdays { length weekdays.now ≤ MOST }
         ensures { result
-            ≡ splits_fit (record { months = months.now; days = days.now; weekdays = weekdays.now }) (tree_of self.now) }
+            ≡ splits_fit (record { months = months.now; days = days.now; weekdays = weekdays.now })
+            (tree_of self.now) }
     {
         match self {
             DayTree::Leaf(_) => true,

@@ -25,7 +25,8 @@ is_within low high z = int_le (pos low) z && int_le z (pos high)
 -- the first that is among those before it; `before` stand before it, i of them
 abbrev pub first_again : {A : Type 0} → (A → A → Bool) → List A → ℕ → List A → Option ℕ
 first_again same before i [] = None
-first_again same before i (x ∷ xs) = if list_any (same x) before then Some i else first_again same (before ++ x ∷ []) (i + 1) xs
+first_again same before i (x ∷ xs) =
+    if list_any (same x) before then Some i else first_again same (before ++ x ∷ []) (i + 1) xs
 
 -- the place of the first that comes a second time
 abbrev pub first_twice : {A : Type 0} → (A → A → Bool) → List A → Option ℕ
@@ -115,7 +116,8 @@ bad_times d =
 
 -- all of them: by number, and of one number in the order groups, cron, anacron
 abbrev pub faults_of : Entries → List (Option Fault)
-faults_of d = where_true faults.BadShape (is_bad_offset d.offset) ∷ (twice_declared d ++ (bad_numbers d ++ (bad_groups d ++ bad_times d)))
+faults_of d = where_true faults.BadShape (is_bad_offset d.offset)
+    ∷ (twice_declared d ++ (bad_numbers d ++ (bad_groups d ++ bad_times d)))
 
 -- the first that stands
 abbrev pub first_fault : List (Option Fault) → Option Fault

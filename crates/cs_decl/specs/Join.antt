@@ -41,7 +41,8 @@ is_reboot Reboot = true
 
 -- the command is no `@reboot`, and has no entry
 abbrev pub is_undeclared : List CronEntry → CommandLine → Bool
-is_undeclared entries line = not (is_reboot line.when) && not (list_any (is_of_line line.number) entries)
+is_undeclared entries line =
+    not (is_reboot line.when) && not (list_any (is_of_line line.number) entries)
 
 abbrev pub is_undeclared_job : List AnacronEntry → JobLine → Bool
 is_undeclared_job entries line = not (list_any (is_of_job line.identifier) entries)
@@ -76,12 +77,26 @@ group_place groups name = option_and_then (λ n. position (λ g. bytes_eq n g.na
 
 -- what is declared of the job at a place; one without an entry there is in no plan
 abbrev pub cron_terms : List GroupEntry → ℕ → Option CronEntry → DeclaredJob
-cron_terms groups place None = record { place = place; max = 1; weight = 1; group = None; mode = Plain }
-cron_terms groups place (Some e) = record { place = place; max = unsigned_abs e.max; weight = unsigned_abs e.weight; group = group_place groups e.group; mode = e.mode }
+cron_terms groups place None =
+    record { place = place; max = 1; weight = 1; group = None; mode = Plain }
+cron_terms groups place (Some e) = record {
+  place = place;
+  max = unsigned_abs e.max;
+  weight = unsigned_abs e.weight;
+  group = group_place groups e.group;
+  mode = e.mode;
+}
 
 abbrev pub anacron_terms : List GroupEntry → ℕ → Option AnacronEntry → DeclaredJob
-anacron_terms groups place None = record { place = place; max = 1; weight = 1; group = None; mode = Plain }
-anacron_terms groups place (Some e) = record { place = place; max = unsigned_abs e.max; weight = unsigned_abs e.weight; group = group_place groups e.group; mode = Plain }
+anacron_terms groups place None =
+    record { place = place; max = 1; weight = 1; group = None; mode = Plain }
+anacron_terms groups place (Some e) = record {
+  place = place;
+  max = unsigned_abs e.max;
+  weight = unsigned_abs e.weight;
+  group = group_place groups e.group;
+  mode = Plain;
+}
 
 -- the job of a line is what its entry declares
 abbrev pub cron_job : Entries → ℕ → CommandLine → DeclaredJob
@@ -115,4 +130,5 @@ plan_of crontab anacrontab d = record {
 
 -- the plan of the tables and the declarations, or their first fault
 unfoldable pub joined : Crontab → Anacrontab → Entries → Result Declared Fault
-joined crontab anacrontab d = unless (plan_of crontab anacrontab d) (first_fault (join_faults crontab anacrontab d))
+joined crontab anacrontab d =
+    unless (plan_of crontab anacrontab d) (first_fault (join_faults crontab anacrontab d))

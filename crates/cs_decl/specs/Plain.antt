@@ -20,7 +20,8 @@ unfoldable pub plain_plan : Crontab → Anacrontab → ℕ → Declared
 plain_plan crontab anacrontab max = record {
   crontab = crontab;
   anacrontab = anacrontab;
-  jobs = map (plain_job max) (places_of crontab.lines) ++ map (plain_job max) (places_of anacrontab.lines);
+  jobs = map (plain_job max) (places_of crontab.lines)
+      ++ map (plain_job max) (places_of anacrontab.lines);
   groups = [];
   capacity = MAX_CAPACITY;
   hours = record { from = 0; to = MINUTES_OF_DAY };

@@ -64,7 +64,8 @@ pub record IsWhole (d : Declared) : Type 0 where
   pub few_lines : length d.anacrontab.lines ≤ MAX_JOBS
   pub timed : All IsTimed d.crontab.lines
   pub lines : All IsPossibleLine d.anacrontab.lines
-  pub places : map (λ job. job.place) d.jobs ≡ places_of d.crontab.lines ++ places_of d.anacrontab.lines
+  pub places : map (λ job. job.place) d.jobs
+      ≡ places_of d.crontab.lines ++ places_of d.anacrontab.lines
   pub possible : All IsPossible d.jobs
   pub plain : All (λ job. job.mode ≡ Plain) (drop (crons d) d.jobs)
   pub listed : All (IsListed (length d.groups)) d.jobs

@@ -30,15 +30,19 @@ is_group_member = is_among (codes "exclusive" ∷ codes "name" ∷ [])
 
 -- the members of an entry of `cron`
 unfoldable pub is_cron_member : List ℕ → Bool
-is_cron_member = is_among (codes "group" ∷ codes "line" ∷ codes "max" ∷ codes "mode" ∷ codes "weight" ∷ [])
+is_cron_member =
+    is_among (codes "group" ∷ codes "line" ∷ codes "max" ∷ codes "mode" ∷ codes "weight" ∷ [])
 
 -- the members of an entry of `anacron`
 unfoldable pub is_anacron_member : List ℕ → Bool
-is_anacron_member = is_among (codes "group" ∷ codes "id" ∷ codes "max" ∷ codes "mode" ∷ codes "weight" ∷ [])
+is_anacron_member =
+    is_among (codes "group" ∷ codes "id" ∷ codes "max" ∷ codes "mode" ∷ codes "weight" ∷ [])
 
 -- the members of declarations
 unfoldable pub is_member : List ℕ → Bool
-is_member = is_among (codes "anacron" ∷ codes "capacity" ∷ codes "cron" ∷ codes "groups" ∷ codes "hours" ∷ codes "offset" ∷ codes "pass" ∷ [])
+is_member = is_among
+    (codes "anacron" ∷ codes "capacity" ∷ codes "cron" ∷ codes "groups" ∷ codes "hours"
+    ∷ codes "offset" ∷ codes "pass" ∷ [])
 
 -- an entry of `groups`: both members have to be there
 unfoldable pub group_of : Data → Result GroupEntry JsonFault
@@ -67,7 +71,13 @@ anacron_of d = do
   max ← member_as whole_number (codes "max") d
   weight ← member_or_default whole_number (pos 1) (codes "weight") d
   group ← member_or_none text (codes "group") d
-  Ok (record { identifier = identifier; max = max; weight = weight; group = group; has_mode = is_some (get (codes "mode") d) })
+  Ok (record {
+    identifier = identifier;
+    max = max;
+    weight = weight;
+    group = group;
+    has_mode = is_some (get (codes "mode") d);
+  })
 
 -- all members: only the capacity has to be there
 unfoldable pub entries_of : Data → Result Entries JsonFault
@@ -80,4 +90,12 @@ entries_of d = do
   groups ← member_or_default (list_as group_of) [] (codes "groups") d
   cron ← member_or_default (list_as cron_of) [] (codes "cron") d
   anacron ← member_or_default (list_as anacron_of) [] (codes "anacron") d
-  Ok (record { capacity = capacity; offset = offset; hours = hours; pass = pass; groups = groups; cron = cron; anacron = anacron })
+  Ok (record {
+    capacity = capacity;
+    offset = offset;
+    hours = hours;
+    pass = pass;
+    groups = groups;
+    cron = cron;
+    anacron = anacron;
+  })

@@ -20,19 +20,44 @@ impl Model for Job {
 
     ghost Value = { DeclaredJob };
 
-    ghost view = { λ a. record { place = a.place; max = a.max; weight = a.weight; group = a.group; mode = a.mode } };
+    ghost view = { λ a. record {
+      place = a.place;
+      max = a.max;
+      weight = a.weight;
+      group = a.group;
+      mode = a.mode;
+    } };
 
-    ghost invariant = { λ a. IsPossible (record { place = a.place; max = a.max; weight = a.weight; group = a.group; mode = a.mode }) };
+    ghost invariant = { λ a. IsPossible (record {
+      place = a.place;
+      max = a.max;
+      weight = a.weight;
+      group = a.group;
+      mode = a.mode;
+    }) };
 
-    ghost inverse = { λ v. record { place = v.place; max = v.max; weight = v.weight; group = v.group; mode = v.mode } };
+    ghost inverse = { λ v. record {
+      place = v.place;
+      max = v.max;
+      weight = v.weight;
+      group = v.group;
+      mode = v.mode;
+    } };
 }
 
 impl Job {
     ghost use Rattle.cs_decl.specs.Job.{IsPossible};
 
     pub(crate) fn new(place: usize, max: u16, weight: u8, group: Option<u8>, mode: Mode) -> Job
-        requires { IsPossible (record { place = place; max = max; weight = weight; group = group; mode = mode }) }
-        ensures { result ≡ record { place = place; max = max; weight = weight; group = group; mode = mode } }
+        requires { IsPossible (record {
+          place = place;
+          max = max;
+          weight = weight;
+          group = group;
+          mode = mode;
+        }) }
+        ensures { result
+            ≡ record { place = place; max = max; weight = weight; group = group; mode = mode } }
     {
         Job {
             place,

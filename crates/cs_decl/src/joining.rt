@@ -52,7 +52,8 @@ fn join_fault(
     anacrontab: &Anacrontab,
     entries: &Entries,
 ) -> Result<Option<Found>, AllocError>
-    ensures { IfOk result (λ f. f ≡ first_fault (join_faults crontab.now anacrontab.now entries.now)) }
+    ensures { IfOk result
+        (λ f. f ≡ first_fault (join_faults crontab.now anacrontab.now entries.now)) }
 {
     let (cron, anacron) = (entries.cron.as_slice(), entries.anacron.as_slice());
     if let Some(i) = lineless(cron, crontab.lines()) {

@@ -8,5 +8,6 @@ ghost use Rattle.cs_decl.specs.Law.{IsFirst, stands};
 /// at an earlier place. Where none is answered none stands.
 pub fn first_of_faults()
     ensures first { (d : Entries) (f : Fault) → first_fault (faults_of d) ≡ Some f → IsFirst d f }
-    ensures none { (d : Entries) (f : Fault) → first_fault (faults_of d) ≡ None → stands d f ≡ true → ⊥ }
+    ensures none { (d : Entries) (f : Fault) → first_fault (faults_of d) ≡ None → stands d f ≡ true
+        → ⊥ }
 {}

@@ -11,7 +11,10 @@ use std::alloc::{AllocError, Global};
 
 /// The names of the groups.
 fn names_of<'a>(alloc: Global, groups: &'a [GroupEntry]) -> Result<IndexSet<&'a [u8]>, AllocError>
-    ensures { IfOk result (λ names. (name : List ℕ) → list_any (λ k. bytes_eq name k.now) names.keys ≡ list_any (λ g. bytes_eq name g.name) groups.now) }
+    ensures { IfOk result
+        (λ names. (name : List ℕ)
+        → list_any (λ k. bytes_eq name k.now) names.keys
+        ≡ list_any (λ g. bytes_eq name g.name) groups.now) }
 {
     let mut names = IndexSet::new(alloc);
     for group in groups {
@@ -46,7 +49,8 @@ fn unnamed_anacron(names: &IndexSet<&[u8]>, anacron: &[AnacronEntry]) -> Option<
 
 /// The place of the first cron entry whose group isn't declared.
 pub(crate) fn unlisted_cron(alloc: Global, entries: &Entries) -> Result<Option<usize>, AllocError>
-    ensures { IfOk result (λ o. o ≡ position (λ e. is_unlisted entries.now.groups e.group) entries.now.cron) }
+    ensures { IfOk result
+        (λ o. o ≡ position (λ e. is_unlisted entries.now.groups e.group) entries.now.cron) }
 {
     let names = names_of(alloc, entries.groups.as_slice())?;
     Ok(unnamed_cron(&names, entries.cron.as_slice()))
@@ -57,7 +61,8 @@ pub(crate) fn unlisted_anacron(
     alloc: Global,
     entries: &Entries,
 ) -> Result<Option<usize>, AllocError>
-    ensures { IfOk result (λ o. o ≡ position (λ e. is_unlisted entries.now.groups e.group) entries.now.anacron) }
+    ensures { IfOk result
+        (λ o. o ≡ position (λ e. is_unlisted entries.now.groups e.group) entries.now.anacron) }
 {
     let names = names_of(alloc, entries.groups.as_slice())?;
     Ok(unnamed_anacron(&names, entries.anacron.as_slice()))

@@ -36,7 +36,10 @@ fn plain_jobs(
     max: u16,
 ) -> Result<Sequence<Job>, AllocError>
     requires { (1 ≤ max) × (max ≤ MAX_MINUTES) }
-    ensures { IfOk result (λ jobs. jobs ≡ map (plain_job max) (range_with_len 0 crons) ++ map (plain_job max) (range_with_len 0 anacrons)) }
+    ensures { IfOk result
+        (λ jobs. jobs
+        ≡ map (plain_job max) (range_with_len 0 crons)
+        ++ map (plain_job max) (range_with_len 0 anacrons)) }
 {
     let mut jobs = Sequence::new(alloc);
     push_plain_jobs(&mut jobs, crons, max)?;

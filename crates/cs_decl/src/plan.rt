@@ -32,9 +32,28 @@ impl Model for Plan {
 
     ghost Value = { Declared };
 
-    ghost view = { λ a. record { crontab = a.crontab; anacrontab = a.anacrontab; jobs = a.jobs; groups = a.groups; capacity = a.capacity; hours = a.hours; pass = a.pass; offset = a.offset } };
+    ghost view = { λ a. record {
+      crontab = a.crontab;
+      anacrontab = a.anacrontab;
+      jobs = a.jobs;
+      groups = a.groups;
+      capacity = a.capacity;
+      hours = a.hours;
+      pass = a.pass;
+      offset = a.offset;
+    } };
 
-    ghost invariant = { λ a. IsWhole (record { crontab = a.crontab; anacrontab = a.anacrontab; jobs = a.jobs; groups = a.groups; capacity = a.capacity; hours = a.hours; pass = a.pass; offset = a.offset }) };
+    ghost invariant = { λ a. IsWhole
+        (record {
+          crontab = a.crontab;
+          anacrontab = a.anacrontab;
+          jobs = a.jobs;
+          groups = a.groups;
+          capacity = a.capacity;
+          hours = a.hours;
+          pass = a.pass;
+          offset = a.offset;
+        }) };
 }
 
 fn copy_groups(alloc: Global, groups: &[Group]) -> Result<Sequence<Group>, AllocError>
@@ -60,8 +79,27 @@ impl Plan {
         pass: Option<u16>,
         offset: i16,
     ) -> Plan
-        requires { IsWhole (record { crontab = crontab; anacrontab = anacrontab; jobs = jobs; groups = groups; capacity = capacity; hours = hours; pass = pass; offset = offset }) }
-        ensures { result ≡ record { crontab = crontab; anacrontab = anacrontab; jobs = jobs; groups = groups; capacity = capacity; hours = hours; pass = pass; offset = offset } }
+        requires { IsWhole (record {
+          crontab = crontab;
+          anacrontab = anacrontab;
+          jobs = jobs;
+          groups = groups;
+          capacity = capacity;
+          hours = hours;
+          pass = pass;
+          offset = offset;
+        }) }
+        ensures { result
+            ≡ record {
+              crontab = crontab;
+              anacrontab = anacrontab;
+              jobs = jobs;
+              groups = groups;
+              capacity = capacity;
+              hours = hours;
+              pass = pass;
+              offset = offset;
+            } }
     {
         Plan {
             crontab,

@@ -49,7 +49,8 @@ fn list_member<T: FromJson>(
 
 /// The weight, 1 where there is none.
 fn weight_member(alloc: Global, value: &Value) -> Result<i128, Misread>
-    ensures { Gives (λ w. w) result (member_or_default whole_number (pos 1) (codes "weight") (view value.now)) }
+    ensures { Gives (λ w. w) result
+        (member_or_default whole_number (pos 1) (codes "weight") (view value.now)) }
 {
     member_or(alloc, value, "weight", 1)
 }
@@ -67,7 +68,8 @@ fn named_mode(name: &str) -> Option<Mode>
 }
 
 fn mode_member(value: &Value) -> Result<Mode, Misread>
-    ensures { Gives (λ m. m) result (member_or_default mode_of Plain (codes "mode") (view value.now)) }
+    ensures { Gives (λ m. m) result
+        (member_or_default mode_of Plain (codes "mode") (view value.now)) }
 {
     let Some(mode) = value.get("mode") else {
         return Ok(Mode::Plain);

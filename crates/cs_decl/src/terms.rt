@@ -160,7 +160,10 @@ pub(crate) fn jobs_of(
     entries: &Entries,
 ) -> Result<Sequence<Job>, AllocError>
     requires { IsValid entries.now }
-    ensures { IfOk result (λ jobs. jobs ≡ jobs_from (cron_job entries.now) 0 commands.now ++ jobs_from (anacron_job entries.now) 0 lines.now) }
+    ensures { IfOk result
+        (λ jobs. jobs
+        ≡ jobs_from (cron_job entries.now) 0 commands.now
+        ++ jobs_from (anacron_job entries.now) 0 lines.now) }
 {
     let mut jobs = Sequence::new(alloc);
     push_cron_jobs(&mut jobs, commands, entries)?;

@@ -14,7 +14,8 @@ opens p j d = if is_cron p j then p.due j d else (d % 1440 == p.from)
 
 -- how many minutes its windows last: the declared time, of those that wait what c gives them; a catch-up run may start in the last of the catch-up hours' minutes
 abbrev pub reach : Plan → (ℕ → ℕ) → ℕ → ℕ
-reach p c j = if is_cron p j then (if waits p j then c j else p.limit j) else (p.to - 1 + p.limit j) - p.from
+reach p c j =
+    if is_cron p j then (if waits p j then c j else p.limit j) else (p.to - 1 + p.limit j) - p.from
 
 -- the window of job w.job that begins at w.at holds the minute t
 pub record Holds (p : Plan) (c : ℕ → ℕ) (t : ℕ) (w : Run) : Type 0 where
@@ -25,11 +26,14 @@ pub record Holds (p : Plan) (c : ℕ → ℕ) (t : ℕ) (w : Run) : Type 0 where
 
 -- what the windows of cron jobs without a lock weigh together
 abbrev pub plain_load : Plan → List Run → ℕ
-plain_load p ws = total (λ w. if is_cron p w.job && not (takes_lock p w.job) then p.weight w.job else 0) ws
+plain_load p ws =
+    total (λ w. if is_cron p w.job && not (takes_lock p w.job) then p.weight w.job else 0) ws
 
 -- what can hold the lock of group g at once: one that does not share it, or all that share it
 abbrev pub lock_load : Plan → List Run → ℕ → ℕ
-lock_load p ws g = max (greatest (λ w. if locks p g w.job && not (shares p w.job) then p.weight w.job else 0) ws) (total (λ w. if locks p g w.job && shares p w.job then p.weight w.job else 0) ws)
+lock_load p ws g = max (greatest
+    (λ w. if locks p g w.job && not (shares p w.job) then p.weight w.job else 0) ws)
+    (total (λ w. if locks p g w.job && shares p w.job then p.weight w.job else 0) ws)
 
 -- anacron runs one job at a time
 abbrev pub catch_load : Plan → List Run → ℕ
@@ -45,13 +49,18 @@ AreDifferent ws = EachPair (λ v w. same_run v w ≡ false) ws
 -- of all the windows, whenever they began, those that hold minute t can do no harm
 pub record IsCalm (p : Plan) (c : ℕ → ℕ) (t : ℕ) : Type 0 where
   -- two cron windows of one exclusive group are both of lock takers
-  pub exclusive : (v w : Run) → Holds p c t v → Holds p c t w → same_run v w ≡ false → is_cron p v.job ≡ true → is_cron p w.job ≡ true → rivals p v.job w.job ≡ true → (takes_lock p v.job ≡ true) × (takes_lock p w.job ≡ true)
+  pub exclusive : (v w : Run) → Holds p c t v → Holds p c t w → same_run v w ≡ false
+      → is_cron p v.job ≡ true → is_cron p w.job ≡ true → rivals p v.job w.job ≡ true
+      → (takes_lock p v.job ≡ true) × (takes_lock p w.job ≡ true)
   -- no cron window is beside a catch-up window of its exclusive group
-  pub beside : (v w : Run) → Holds p c t v → Holds p c t w → is_cron p v.job ≡ true → is_cron p w.job ≡ false → (rivals p v.job w.job ≡ false) × (rivals p w.job v.job ≡ false)
+  pub beside : (v w : Run) → Holds p c t v → Holds p c t w → is_cron p v.job ≡ true
+      → is_cron p w.job ≡ false → (rivals p v.job w.job ≡ false) × (rivals p w.job v.job ≡ false)
   -- all the windows together are within the capacity
-  pub load : (ws : List Run) → AreDifferent ws → AllByRecursion (Holds p c t) ws → load p ws ≤ p.capacity
+  pub load : (ws : List Run) → AreDifferent ws → AllByRecursion (Holds p c t) ws
+      → load p ws ≤ p.capacity
   -- where a skip job is due, no other window of a lock taker of its group is open
-  pub skip : (v w : Run) → v.at ≡ t → p.mode v.job ≡ Skip → Holds p c t v → Holds p c t w → same_run v w ≡ false → (takes_lock p w.job && same_group p v.job w.job) ≡ false
+  pub skip : (v w : Run) → v.at ≡ t → p.mode v.job ≡ Skip → Holds p c t v → Holds p c t w
+      → same_run v w ≡ false → (takes_lock p w.job && same_group p v.job w.job) ≡ false
 
 -- how many minutes the lock takers of g that are due at t may take
 abbrev pub arrives : Plan → ℕ → ℕ → ℕ
@@ -62,7 +71,8 @@ pub record IsBacklog (p : Plan) (c : ℕ → ℕ) (g : ℕ) (b : ℕ → ℕ) : 
   -- from minute to minute what arrives is added and the lock's holder takes off one; asked only where both minutes can be reached
   pub falls : (t : ℕ) → IsReached t → IsReached (t + 1) → (b t + arrives p g t) - 1 ≤ b (t + 1)
   -- within the reach of each run that waits it is 0; past the last minute that can be reached nothing is asked of it
-  pub clears : (j d : ℕ) → is_cron p j ≡ true → waits p j ≡ true → locks p g j ≡ true → IsReached d → p.due j d ≡ true → (z : ℕ) × (d < z) × (z ≤ d + c j) × (IsReached z → b z ≡ 0)
+  pub clears : (j d : ℕ) → is_cron p j ≡ true → waits p j ≡ true → locks p g j ≡ true → IsReached d
+      → p.due j d ≡ true → (z : ℕ) × (d < z) × (z ≤ d + c j) × (IsReached z → b z ≡ 0)
 
 -- a cron job that waits for the lock of g
 pub record HasWaiter (p : Plan) (g : ℕ) : Type 0 where
@@ -77,4 +87,8 @@ IsBounded p c b = (g : ℕ) → HasWaiter p g → IsBacklog p c g (b g)
 
 -- the window of a running run: of a cron run from its due minute on, of an anacron run from the catch-up hours of the day on which it started
 abbrev pub window_of : Plan → Going → Run
-window_of p r = record { job = r.run.job; at = if is_cron p r.run.job then r.run.at else (r.since - r.since % 1440 + p.from) }
+window_of p r = record {
+  job = r.run.job;
+  at = if is_cron p r.run.job then r.run.at
+      else (r.since - r.since % 1440 + p.from);
+}

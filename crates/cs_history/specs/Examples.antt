@@ -31,7 +31,8 @@ story p h (e ∷ es) = story p (follow (refusal p (state_of p h) e) h e) es
 -- what each event of a script is answered
 abbrev pub answers : Plan → History → List Event → List Outcome
 answers p h [] = []
-answers p h (e ∷ es) = outcome_of (refusal p (state_of p h) e) (reply p (state_of p h) e) ∷ answers p (follow (refusal p (state_of p h) e) h e) es
+answers p h (e ∷ es) = outcome_of (refusal p (state_of p h) e) (reply p (state_of p h) e)
+    ∷ answers p (follow (refusal p (state_of p h) e) h e) es
 
 abbrev pub start : ℕ → Bool → List (Option ℕ) → History
 start t up stamps = From (record { now = t; up = up; stamps = stamps })
@@ -151,27 +152,35 @@ heavy m = plan_of 2 (m ∷ m ∷ []) (at_of (0 ∷ 0 ∷ [])) 3 true (λ _. 10) 
 
 -- at each full hour a job of 20 minutes that waits, at minute 49 one that gives up
 abbrev pub skipping : Plan
-skipping = plan_of 2 (Wait ∷ Skip ∷ []) (λ j t. t % 60 == get_or (0 ∷ 49 ∷ []) j 0) 3 true (λ j. if j == 0 then 20 else 10) 1
+skipping = plan_of 2 (Wait ∷ Skip ∷ []) (λ j t. t % 60 == get_or (0 ∷ 49 ∷ []) j 0) 3 true
+    (λ j. if j == 0 then 20 else 10) 1
 
 -- 2023-02-28 23:00 for two hours, and 2023-03-01 00:30
 abbrev pub spring : Plan
-spring = plan_of 2 [] (λ j t. t == get_or (27960420 ∷ 27960510 ∷ []) j 0) 3 true (λ j. if j == 0 then 120 else 10) 1
+spring = plan_of 2 [] (λ j t. t == get_or (27960420 ∷ 27960510 ∷ []) j 0) 3 true
+    (λ j. if j == 0 then 120 else 10) 1
 
 -- the first goes on over an outage that ends one minute before the second is due, or this much later
 abbrev pub over_outage : ℕ → History
-over_outage later = history (record { now = 27960419; up = true; stamps = [] }) (Minute 27960420 ∷ Begin 0 ∷ Down ∷ Up (later + 27960509) ∷ Minute (later + 27960510) ∷ Begin 1 ∷ [])
+over_outage later = history (record { now = 27960419; up = true; stamps = [] })
+    (Minute 27960420 ∷ Begin 0 ∷ Down ∷ Up (later + 27960509) ∷ Minute (later + 27960510) ∷ Begin 1
+    ∷ [])
 
 -- two at midnight that both run
 abbrev pub both_at_midnight : History
-both_at_midnight = history (record { now = 2879; up = true; stamps = [] }) (Minute 2880 ∷ Begin 0 ∷ Begin 1 ∷ [])
+both_at_midnight =
+    history (record { now = 2879; up = true; stamps = [] }) (Minute 2880 ∷ Begin 0 ∷ Begin 1 ∷ [])
 
 -- two that share and one that waits, at each full hour
 abbrev pub sharing : Plan
-sharing = plan_of 3 (Shared ∷ Shared ∷ Wait ∷ []) (λ j t. t % 60 == 0) 2 true (λ j. get_or (20 ∷ 30 ∷ 10 ∷ []) j 1) 1
+sharing = plan_of 3 (Shared ∷ Shared ∷ Wait ∷ []) (λ j t. t % 60 == 0) 2 true
+    (λ j. get_or (20 ∷ 30 ∷ 10 ∷ []) j 1) 1
 
 abbrev pub all_begin : History
-all_begin = history (record { now = at 59; up = true; stamps = [] }) (Minute (at 60) ∷ Begin 0 ∷ Begin 1 ∷ Begin 2 ∷ [])
+all_begin = history (record { now = at 59; up = true; stamps = [] })
+    (Minute (at 60) ∷ Begin 0 ∷ Begin 1 ∷ Begin 2 ∷ [])
 
 -- a job that gives up finds the lock held by one that waits
 abbrev pub held_lock : History
-held_lock = history (record { now = at 59; up = true; stamps = [] }) (Minute (at 60) ∷ Begin 1 ∷ Begin 0 ∷ [])
+held_lock = history (record { now = at 59; up = true; stamps = [] })
+    (Minute (at 60) ∷ Begin 1 ∷ Begin 0 ∷ [])

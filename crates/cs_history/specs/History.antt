@@ -85,7 +85,8 @@ with_waiting Skips ws w = ws
 -- the runs that have started and not ended, in order of start: going down ends no run (cron(8) starts its jobs and does not stop them)
 abbrev pub running : Plan → History → List Going
 running p (From s) = []
-running p (h ▸ Begin j) = with_started (answer p (running p h) j) (running p h) (going j (now h) (now h))
+running p (h ▸ Begin j) =
+    with_started (answer p (running p h) j) (running p h) (going j (now h) (now h))
 running p (h ▸ Got j d) = running p h ++ going j d (now h) ∷ []
 running p (h ▸ Catch j) = running p h ++ going j (now h) (now h) ∷ []
 running p (h ▸ End r) = filter (λ x. not (same_run r x.run)) (running p h)
@@ -112,7 +113,8 @@ waiting p (h ▸ e) = waiting p h
 -- the stamps (anacron(8)), one for each anacron job: those of the start, none for those that it does not reach; when a run ends, its job's stamp is the day on which the run started
 abbrev pub stamps : Plan → History → List (Option ℕ)
 stamps p (From s) = take (p.jobs - p.crons) (s.stamps ++ replicate (p.jobs - p.crons) None)
-stamps p (h ▸ End r) = if is_cron p r.job then stamps p h else set (stamps p h) (r.job - p.crons) (Some (r.at / 1440))
+stamps p (h ▸ End r) =
+    if is_cron p r.job then stamps p h else set (stamps p h) (r.job - p.crons) (Some (r.at / 1440))
 stamps p (h ▸ e) = stamps p h
 
 -- an open pass: its minute, and the jobs that it has still to start
@@ -126,7 +128,9 @@ pass_of t (j ∷ js) = Some (record { at = t; left = j ∷ js })
 
 -- the jobs that a pass has which begins at minute t: those due that day of which no run is running, by delay, then line
 abbrev pub owed_at : Plan → List (Option ℕ) → List Going → ℕ → List ℕ
-owed_at p ss rs t = filter (λ j. p.owed j (get_or ss (j - p.crons) None) (t / 1440) && not (list_any (λ r. r.run.job == j) rs)) (by_delay p)
+owed_at p ss rs t = filter (λ j.
+    p.owed j (get_or ss (j - p.crons) None) (t / 1440) && not (list_any (λ r. r.run.job == j) rs))
+    (by_delay p)
 
 -- an open pass stays; else a new one begins where one has to
 abbrev pub opened : Option Pass → Bool → Option Pass → Option Pass
@@ -140,7 +144,8 @@ without_first (Some o) = elim o.left [ [] ↦ None | j ∷ js ↦ pass_of o.at j
 -- the open pass (anacron(8) with -s): it begins at a coming up and at the pass minute, and is over when its last job has started, or at a going down
 abbrev pub pass : Plan → History → Option Pass
 pass p (From s) = None
-pass p (h ▸ Minute t) = opened (pass p h) (is_pass_minute p t) (pass_of t (owed_at p (stamps p h) (running p h) t))
+pass p (h ▸ Minute t) =
+    opened (pass p h) (is_pass_minute p t) (pass_of t (owed_at p (stamps p h) (running p h) t))
 pass p (h ▸ Catch j) = without_first (pass p h)
 pass p (h ▸ Down) = None
 pass p (h ▸ Up t) = opened (pass p h) true (pass_of t (owed_at p (stamps p h) (running p h) t))
@@ -211,7 +216,9 @@ IsInTime p (h ▸ e) = IsInTime p h
 
 -- no two runs of an exclusive group run at once but such as both share the lock, and the weights are within the capacity
 pub record IsSafeNow (p : Plan) (h : History) : Type 0 where
-  pub apart : EachPair (λ r q. (rivals p q.run.job r.run.job && not (both_share p q.run.job r.run.job)) ≡ false) (running p h)
+  pub apart : EachPair
+      (λ r q. (rivals p q.run.job r.run.job && not (both_share p q.run.job r.run.job)) ≡ false)
+      (running p h)
   pub load : total (λ r. p.weight r.run.job) (running p h) ≤ p.capacity
 
 -- the event is no Begin that comes to a skip

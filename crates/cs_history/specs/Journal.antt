@@ -16,7 +16,8 @@ AreReplies p h [] = ⊤
 AreReplies p h (e ∷ es) = (e.1 ≡ reply p (state_of p h) e.0) × AreReplies p (h ▸ e.0) es
 
 -- the journal is a legal history with its replies, and leaves this state
-pub record IsJournal (p : Plan) (base : Start) (es : List (Event × Reply)) (state : State) : Type 0 where
+pub record IsJournal (p : Plan) (base : Start) (es : List (Event × Reply))
+    (state : State) : Type 0 where
   pub legal : IsLegal p (told base es)
   pub replies : AreReplies p (From base) es
   pub leaves : state ≡ state_of p (told base es)

@@ -17,7 +17,9 @@ jobs_left (Some o) = o.left
 -- what each state that a legal history leaves keeps, runs that pass their declared time or not
 pub record AreNamed (p : Plan) (s : State) : Type 0 where
   -- a name stands at most once among the runs that run, those that wait, and those that the pending jobs would start
-  pub once : (n : Run) → number_of (λ r. same_run n r.run) s.running + number_of (λ w. same_run n w) s.waiting + number_of (λ j. same_run n (run_of j s.now)) s.pending ≤ 1
+  pub once : (n : Run)
+      → number_of (λ r. same_run n r.run) s.running + number_of
+      (λ w. same_run n w) s.waiting + number_of (λ j. same_run n (run_of j s.now)) s.pending ≤ 1
   -- a run is named by a minute that was reached
   pub runs_past : AllByRecursion (λ r. r.run.at ≤ s.now) s.running
   pub waits_past : AllByRecursion (λ w. w.at ≤ s.now) s.waiting
@@ -30,15 +32,19 @@ pub record AreNamed (p : Plan) (s : State) : Type 0 where
 -- so no two runs that run have one name, no two that wait have, and none that waits or is pending has that of one that runs; of two that run one is of cron
 pub record AreApart (p : Plan) (s : State) : Type 0 where
   pub running : EachPair (λ r q. same_run r.run q.run ≡ false) s.running
-  pub lone : EachPair (λ r q. (not (is_cron p q.run.job) && not (is_cron p r.run.job)) ≡ false) s.running
+  pub lone : EachPair
+      (λ r q. (not (is_cron p q.run.job) && not (is_cron p r.run.job)) ≡ false) s.running
   pub waiting : EachPair (λ v w. same_run v w ≡ false) s.waiting
-  pub both : AllByRecursion (λ w. AllByRecursion (λ r. same_run w r.run ≡ false) s.running) s.waiting
-  pub fresh : AllByRecursion (λ j. AllByRecursion (λ r. same_run (run_of j s.now) r.run ≡ false) s.running) s.pending
+  pub both : AllByRecursion
+      (λ w. AllByRecursion (λ r. same_run w r.run ≡ false) s.running) s.waiting
+  pub fresh : AllByRecursion
+      (λ j. AllByRecursion (λ r. same_run (run_of j s.now) r.run ≡ false) s.running) s.pending
 
 -- the runs that have started, ended or not, in order of start
 abbrev pub started : Plan → History → List Going
 started p (From s) = []
-started p (h ▸ Begin j) = with_started (answer p (running p h) j) (started p h) (going j (now h) (now h))
+started p (h ▸ Begin j) =
+    with_started (answer p (running p h) j) (started p h) (going j (now h) (now h))
 started p (h ▸ Got j d) = started p h ++ going j d (now h) ∷ []
 started p (h ▸ Catch j) = started p h ++ going j (now h) (now h) ∷ []
 started p (h ▸ e) = started p h

@@ -87,7 +87,8 @@ both_share p i j = shares p i && shares p j
 
 -- a running run of j is in the way of i (flock(1)): both take the lock of one group, and not both share it
 abbrev pub in_the_way : Plan → ℕ → ℕ → Bool
-in_the_way p i j = (takes_lock p i && takes_lock p j) && (same_group p i j && not (both_share p i j))
+in_the_way p i j =
+    (takes_lock p i && takes_lock p j) && (same_group p i j && not (both_share p i j))
 
 abbrev pub exclusive_group : Plan → Option ℕ → Bool
 exclusive_group p None = false

@@ -25,24 +25,47 @@ pub record State : Type 0 where
 
 -- the state that a history leaves
 abbrev pub state_of : Plan → History → State
-state_of p h = record { now = now h; up = is_up h; pending = pending p h; waiting = waiting p h; running = running p h; stamps = stamps p h; pass = pass p h }
+state_of p h = record {
+  now = now h;
+  up = is_up h;
+  pending = pending p h;
+  waiting = waiting p h;
+  running = running p h;
+  stamps = stamps p h;
+  pass = pass p h;
+}
 
 -- the state after the event
 abbrev pub after : Plan → State → Event → State
-after p s (Minute t) = record s { now = t; pending = due_at p t; pass = opened s.pass (is_pass_minute p t) (pass_of t (owed_at p s.stamps s.running t)) }
+after p s (Minute t) = record s {
+  now = t;
+  pending = due_at p t;
+  pass = opened s.pass (is_pass_minute p t) (pass_of t (owed_at p s.stamps s.running t));
+}
 after p s (Begin j) = record s {
   pending = filter (λ i. not (j == i)) s.pending;
   waiting = with_waiting (answer p s.running j) s.waiting (run_of j s.now);
   running = with_started (answer p s.running j) s.running (going j s.now s.now);
 }
-after p s (Got j d) = record s { waiting = filter (λ w. not (same_run (run_of j d) w)) s.waiting; running = s.running ++ going j d s.now ∷ [] }
-after p s (Catch j) = record s { running = s.running ++ going j s.now s.now ∷ []; pass = without_first s.pass }
+after p s (Got j d) = record s {
+  waiting = filter (λ w. not (same_run (run_of j d) w)) s.waiting;
+  running = s.running ++ going j d s.now ∷ [];
+}
+after p s (Catch j) =
+    record s { running = s.running ++ going j s.now s.now ∷ []; pass = without_first s.pass }
 after p s (End r) = record s {
   running = filter (λ x. not (same_run r x.run)) s.running;
-  stamps = if is_cron p r.job then s.stamps else set s.stamps (r.job - p.crons) (Some (r.at / 1440));
+  stamps = if is_cron p r.job then s.stamps
+      else set s.stamps (r.job - p.crons) (Some (r.at / 1440));
 }
 after p s Down = record s { up = false; pending = []; waiting = []; pass = None }
-after p s (Up t) = record s { now = t; up = true; pending = []; waiting = []; pass = opened s.pass true (pass_of t (owed_at p s.stamps s.running t)) }
+after p s (Up t) = record s {
+  now = t;
+  up = true;
+  pending = [];
+  waiting = [];
+  pass = opened s.pass true (pass_of t (owed_at p s.stamps s.running t));
+}
 
 abbrev pub is_civil : ℕ → Bool
 is_civil t = nat_le first_minute t && nat_le t last_minute
@@ -66,25 +89,33 @@ is_turn p t (Some o) j = is_first p t o.at o.left j
 
 -- it is the job's turn, no anacron run is running, and the minute of the day is in the catch-up hours
 abbrev pub is_catchable : Plan → State → ℕ → Bool
-is_catchable p s j = is_turn p s.now s.pass j && not (list_any (λ r. not (is_cron p r.run.job)) s.running) && nat_le p.from (s.now % 1440) && nat_lt (s.now % 1440) p.to
+is_catchable p s j = is_turn p s.now s.pass j
+    && not (list_any (λ r. not (is_cron p r.run.job)) s.running) && nat_le p.from (s.now % 1440)
+    && nat_lt (s.now % 1440) p.to
 
 abbrev pub unless : Bool → Refusal → Option Refusal → Option Refusal
 unless b f rest = if b then rest else Some f
 
 -- the refusal that comes first, None where the event may come
 abbrev pub refusal : Plan → State → Event → Option Refusal
-refusal p s (Minute t) = unless s.up NotUp (unless (is_civil t) OutOfRange (unless (t == s.now + 1) WrongMinute (unless (is_settled p s) NotSettled None)))
+refusal p s (Minute t) = unless s.up NotUp
+    (unless (is_civil t) OutOfRange
+    (unless (t == s.now + 1) WrongMinute (unless (is_settled p s) NotSettled None)))
 refusal p s (Begin j) = unless s.up NotUp (unless (list_any (λ i. j == i) s.pending) NotDue None)
-refusal p s (Got j d) = unless s.up NotUp (unless (list_any (same_run (run_of j d)) s.waiting) NotWaiting (unless (is_free p s.running j) LockHeld None))
+refusal p s (Got j d) = unless s.up NotUp
+    (unless (list_any (same_run (run_of j d)) s.waiting) NotWaiting
+    (unless (is_free p s.running j) LockHeld None))
 refusal p s (Catch j) = unless s.up NotUp (unless (is_catchable p s j) NotCatchable None)
 refusal p s (End r) = unless (list_any (λ x. same_run r x.run) s.running) NotRunning None
 refusal p s Down = unless s.up NotUp None
-refusal p s (Up t) = unless (not s.up) AlreadyUp (unless (is_civil t) OutOfRange (unless (nat_le s.now t) WrongMinute None))
+refusal p s (Up t) = unless (not s.up) AlreadyUp
+    (unless (is_civil t) OutOfRange (unless (nat_le s.now t) WrongMinute None))
 
 -- whether the run is within its declared time now
 abbrev pub is_in_time : Plan → ℕ → Run → List Going → Bool
 is_in_time p t r [] = true
-is_in_time p t r (x ∷ xs) = if same_run r x.run then nat_lt t (x.since + p.limit r.job) else is_in_time p t r xs
+is_in_time p t r (x ∷ xs) =
+    if same_run r x.run then nat_lt t (x.since + p.limit r.job) else is_in_time p t r xs
 
 -- how it is said what a Begin comes to
 abbrev pub said : Answer → Run → Reply

@@ -12,84 +12,213 @@ ghost use Rattle.cs_history.specs.declared.reply.Reply.TheVariants.{Came, Clock,
 pub fn clock_and_outages()
 
     // a job that is due has to begin before the clock may move on
-    ensures settled { answers (hourly (0 ∷ []) [] (1440 ∷ [])) (start (at 59) true []) (Minute (at 60) ∷ Minute (at 61) ∷ Begin 0 ∷ Begin 0 ∷ Minute (at 61) ∷ []) ≡ Said Clock ∷ Refused NotSettled ∷ Said (Started (run_of 0 (at 60))) ∷ Refused NotDue ∷ Said Clock ∷ [] }
+    ensures settled { answers (hourly (0 ∷ []) [] (1440 ∷ [])) (start (at 59) true [])
+        (Minute (at 60) ∷ Minute (at 61) ∷ Begin 0 ∷ Begin 0 ∷ Minute (at 61) ∷ [])
+        ≡ Said Clock ∷ Refused NotSettled ∷ Said (Started (run_of 0 (at 60))) ∷ Refused NotDue
+        ∷ Said Clock ∷ [] }
 
     // its run ends in time while less than its declared time has passed
-    ensures late { answers (hourly (0 ∷ []) [] (1 ∷ [])) (start (at 59) true []) (Minute (at 60) ∷ Begin 0 ∷ Minute (at 61) ∷ End (run_of 0 (at 60)) ∷ []) ≡ Said Clock ∷ Said (Started (run_of 0 (at 60))) ∷ Said Clock ∷ Said (Ended false) ∷ [] }
+    ensures late { answers (hourly (0 ∷ []) [] (1 ∷ [])) (start (at 59) true [])
+        (Minute (at 60) ∷ Begin 0 ∷ Minute (at 61) ∷ End (run_of 0 (at 60)) ∷ [])
+        ≡ Said Clock ∷ Said (Started (run_of 0 (at 60))) ∷ Said Clock ∷ Said (Ended false) ∷ [] }
 
     // going down and coming up leave a run that goes on
-    ensures outage { let h = story (hourly (0 ∷ []) [] (60 ∷ [])) (start (at 50) false []) (Up (at 59) ∷ Minute (at 60) ∷ Begin 0 ∷ Down ∷ Up (at 70) ∷ []) in state_of (hourly (0 ∷ []) [] (60 ∷ [])) h ≡ record { now = at 70; up = true; pending = []; waiting = []; running = going 0 (at 60) (at 60) ∷ []; stamps = []; pass = None } }
+    ensures outage { let h = story (hourly (0 ∷ []) [] (60 ∷ [])) (start (at 50) false [])
+        (Up (at 59) ∷ Minute (at 60) ∷ Begin 0 ∷ Down ∷ Up (at 70) ∷ []) in
+        state_of (hourly (0 ∷ []) [] (60 ∷ [])) h
+        ≡ record {
+          now = at 70;
+          up = true;
+          pending = [];
+          waiting = [];
+          running = going 0 (at 60) (at 60) ∷ [];
+          stamps = [];
+          pass = None;
+        } }
 
     // a run may end while the daemon is down, once
-    ensures ended { answers (hourly (0 ∷ []) [] (60 ∷ [])) (start (at 50) false []) (Up (at 59) ∷ Minute (at 60) ∷ Begin 0 ∷ Down ∷ End (run_of 0 (at 60)) ∷ End (run_of 0 (at 60)) ∷ []) ≡ Said Came ∷ Said Clock ∷ Said (Started (run_of 0 (at 60))) ∷ Said Went ∷ Said (Ended true) ∷ Refused NotRunning ∷ [] }
+    ensures ended { answers (hourly (0 ∷ []) [] (60 ∷ [])) (start (at 50) false [])
+        (Up (at 59) ∷ Minute (at 60) ∷ Begin 0 ∷ Down ∷ End (run_of 0 (at 60))
+        ∷ End (run_of 0 (at 60)) ∷ [])
+        ≡ Said Came ∷ Said Clock ∷ Said (Started (run_of 0 (at 60))) ∷ Said Went ∷ Said (Ended true)
+        ∷ Refused NotRunning ∷ [] }
 
     // while down, and on coming up in a minute at which a job is due
-    ensures down_refuses { answers (hourly (0 ∷ []) [] []) (start (at 59) false []) (Minute (at 60) ∷ Down ∷ Begin 0 ∷ Got 0 (at 59) ∷ Catch 0 ∷ Up (at 58) ∷ Up 1439 ∷ Up (at 60) ∷ Up (at 60) ∷ Begin 0 ∷ Minute (at 62) ∷ []) ≡ Refused NotUp ∷ Refused NotUp ∷ Refused NotUp ∷ Refused NotUp ∷ Refused NotUp ∷ Refused WrongMinute ∷ Refused OutOfRange ∷ Said Came ∷ Refused AlreadyUp ∷ Refused NotDue ∷ Refused WrongMinute ∷ [] }
+    ensures down_refuses { answers (hourly (0 ∷ []) [] []) (start (at 59) false [])
+        (Minute (at 60) ∷ Down ∷ Begin 0 ∷ Got 0 (at 59) ∷ Catch 0 ∷ Up (at 58) ∷ Up 1439
+        ∷ Up (at 60) ∷ Up (at 60) ∷ Begin 0 ∷ Minute (at 62) ∷ [])
+        ≡ Refused NotUp ∷ Refused NotUp ∷ Refused NotUp ∷ Refused NotUp ∷ Refused NotUp
+        ∷ Refused WrongMinute ∷ Refused OutOfRange ∷ Said Came ∷ Refused AlreadyUp ∷ Refused NotDue
+        ∷ Refused WrongMinute ∷ [] }
 
     // what was pending is lost on going down
-    ensures down_first { answers (hourly (0 ∷ []) [] []) (start (at 59) true []) (Minute 1439 ∷ Minute (at 59) ∷ Got 0 (at 60) ∷ Minute (at 60) ∷ Down ∷ Up (at 60) ∷ Begin 0 ∷ Minute (at 61) ∷ []) ≡ Refused OutOfRange ∷ Refused WrongMinute ∷ Refused NotWaiting ∷ Said Clock ∷ Said Went ∷ Said Came ∷ Refused NotDue ∷ Said Clock ∷ [] }
+    ensures down_first { answers (hourly (0 ∷ []) [] []) (start (at 59) true [])
+        (Minute 1439 ∷ Minute (at 59) ∷ Got 0 (at 60) ∷ Minute (at 60) ∷ Down ∷ Up (at 60) ∷ Begin 0
+        ∷ Minute (at 61) ∷ [])
+        ≡ Refused OutOfRange ∷ Refused WrongMinute ∷ Refused NotWaiting ∷ Said Clock ∷ Said Went
+        ∷ Said Came ∷ Refused NotDue ∷ Said Clock ∷ [] }
 
     // a wrong minute is told before what is not settled
-    ensures wrong_minute_first { answers (hourly (0 ∷ []) [] []) (start (at 59) true []) (Minute (at 60) ∷ Minute (at 62) ∷ Minute (at 60) ∷ Minute (at 61) ∷ []) ≡ Said Clock ∷ Refused WrongMinute ∷ Refused WrongMinute ∷ Refused NotSettled ∷ [] }
+    ensures wrong_minute_first { answers (hourly (0 ∷ []) [] []) (start (at 59) true [])
+        (Minute (at 60) ∷ Minute (at 62) ∷ Minute (at 60) ∷ Minute (at 61) ∷ [])
+        ≡ Said Clock ∷ Refused WrongMinute ∷ Refused WrongMinute ∷ Refused NotSettled ∷ [] }
 
     // after 9999-12-31 23:59 nothing comes
-    ensures last_minute { answers (hourly (0 ∷ []) [] []) (start 4223371679 true []) (Minute 4223371680 ∷ Down ∷ Up 4223371680 ∷ Up 4223371679 ∷ []) ≡ Refused OutOfRange ∷ Said Went ∷ Refused OutOfRange ∷ Said Came ∷ [] }
+    ensures last_minute { answers (hourly (0 ∷ []) [] []) (start 4223371679 true [])
+        (Minute 4223371680 ∷ Down ∷ Up 4223371680 ∷ Up 4223371679 ∷ [])
+        ≡ Refused OutOfRange ∷ Said Went ∷ Refused OutOfRange ∷ Said Came ∷ [] }
 
     // before 1970-01-02 minutes are out of range, from there on only wrong
-    ensures range_stays { answers (hourly (0 ∷ []) [] []) (start (at 59) true []) (Minute 1439 ∷ Minute 1440 ∷ Down ∷ Up 1439 ∷ Up 1440 ∷ []) ≡ Refused OutOfRange ∷ Refused WrongMinute ∷ Said Went ∷ Refused OutOfRange ∷ Refused WrongMinute ∷ [] }
+    ensures range_stays { answers (hourly (0 ∷ []) [] []) (start (at 59) true [])
+        (Minute 1439 ∷ Minute 1440 ∷ Down ∷ Up 1439 ∷ Up 1440 ∷ [])
+        ≡ Refused OutOfRange ∷ Refused WrongMinute ∷ Said Went ∷ Refused OutOfRange
+        ∷ Refused WrongMinute ∷ [] }
 {}
 
 /// Worked examples: Locks, as flock(1) has them. The call does nothing.
 pub fn locks_and_waiting()
 
     // one waits for the other, and the clock waits for him who could go on
-    ensures locks { answers (hourly (0 ∷ 0 ∷ []) (Wait ∷ Wait ∷ []) (20 ∷ 20 ∷ [])) (start (at 59) true []) (Minute (at 60) ∷ Begin 1 ∷ Begin 0 ∷ Got 0 (at 60) ∷ End (run_of 1 (at 60)) ∷ Minute (at 61) ∷ Got 0 (at 60) ∷ Minute (at 61) ∷ []) ≡ Said Clock ∷ Said (Started (run_of 1 (at 60))) ∷ Said Waiting ∷ Refused LockHeld ∷ Said (Ended true) ∷ Refused NotSettled ∷ Said (Started (run_of 0 (at 60))) ∷ Said Clock ∷ [] }
+    ensures locks { answers (hourly (0 ∷ 0 ∷ []) (Wait ∷ Wait ∷ []) (20 ∷ 20 ∷ []))
+        (start (at 59) true [])
+        (Minute (at 60) ∷ Begin 1 ∷ Begin 0 ∷ Got 0 (at 60) ∷ End (run_of 1 (at 60))
+        ∷ Minute (at 61) ∷ Got 0 (at 60) ∷ Minute (at 61) ∷ [])
+        ≡ Said Clock ∷ Said (Started (run_of 1 (at 60))) ∷ Said Waiting ∷ Refused LockHeld
+        ∷ Said (Ended true) ∷ Refused NotSettled ∷ Said (Started (run_of 0 (at 60))) ∷ Said Clock
+        ∷ [] }
 
     // with -n a job gives up
-    ensures skips { answers (hourly (0 ∷ 0 ∷ []) (Skip ∷ Wait ∷ []) (20 ∷ 20 ∷ [])) (start (at 59) true []) (Minute (at 60) ∷ Begin 1 ∷ Begin 0 ∷ Got 0 (at 60) ∷ []) ≡ Said Clock ∷ Said (Started (run_of 1 (at 60))) ∷ Said Skipped ∷ Refused NotWaiting ∷ [] }
+    ensures skips { answers (hourly (0 ∷ 0 ∷ []) (Skip ∷ Wait ∷ []) (20 ∷ 20 ∷ []))
+        (start (at 59) true []) (Minute (at 60) ∷ Begin 1 ∷ Begin 0 ∷ Got 0 (at 60) ∷ [])
+        ≡ Said Clock ∷ Said (Started (run_of 1 (at 60))) ∷ Said Skipped ∷ Refused NotWaiting ∷ [] }
 
     // a newcomer passes one who waits longer, and going down ends the waiting
-    ensures passes_by { answers (hourly (0 ∷ 0 ∷ 0 ∷ []) (Wait ∷ Wait ∷ Wait ∷ []) (20 ∷ 20 ∷ 20 ∷ [])) (start (at 59) true []) (Minute (at 60) ∷ Begin 0 ∷ Begin 1 ∷ Begin 2 ∷ End (run_of 0 (at 60)) ∷ Got 2 (at 60) ∷ Got 1 (at 60) ∷ Down ∷ Up (at 60) ∷ End (run_of 2 (at 60)) ∷ Got 1 (at 60) ∷ []) ≡ Said Clock ∷ Said (Started (run_of 0 (at 60))) ∷ Said Waiting ∷ Said Waiting ∷ Said (Ended true) ∷ Said (Started (run_of 2 (at 60))) ∷ Refused LockHeld ∷ Said Went ∷ Said Came ∷ Said (Ended true) ∷ Refused NotWaiting ∷ [] }
+    ensures passes_by { answers (hourly (0 ∷ 0 ∷ 0 ∷ []) (Wait ∷ Wait ∷ Wait ∷ [])
+        (20 ∷ 20 ∷ 20 ∷ [])) (start (at 59) true [])
+        (Minute (at 60) ∷ Begin 0 ∷ Begin 1 ∷ Begin 2 ∷ End (run_of 0 (at 60)) ∷ Got 2 (at 60)
+        ∷ Got 1 (at 60) ∷ Down ∷ Up (at 60) ∷ End (run_of 2 (at 60)) ∷ Got 1 (at 60) ∷ [])
+        ≡ Said Clock ∷ Said (Started (run_of 0 (at 60))) ∷ Said Waiting ∷ Said Waiting
+        ∷ Said (Ended true) ∷ Said (Started (run_of 2 (at 60))) ∷ Refused LockHeld ∷ Said Went
+        ∷ Said Came ∷ Said (Ended true) ∷ Refused NotWaiting ∷ [] }
 
     // a job that begins while the lock is free passes one who waits for it, who waits on
-    ensures newcomer { answers (hourly (0 ∷ 0 ∷ 0 ∷ []) (Wait ∷ Wait ∷ Skip ∷ []) (20 ∷ 20 ∷ 20 ∷ [])) (start (at 59) true []) (Minute (at 60) ∷ Begin 0 ∷ Begin 1 ∷ End (run_of 0 (at 60)) ∷ Begin 2 ∷ Got 1 (at 60) ∷ Minute (at 61) ∷ []) ≡ Said Clock ∷ Said (Started (run_of 0 (at 60))) ∷ Said Waiting ∷ Said (Ended true) ∷ Said (Started (run_of 2 (at 60))) ∷ Refused LockHeld ∷ Said Clock ∷ [] }
+    ensures newcomer { answers (hourly (0 ∷ 0 ∷ 0 ∷ []) (Wait ∷ Wait ∷ Skip ∷ [])
+        (20 ∷ 20 ∷ 20 ∷ [])) (start (at 59) true [])
+        (Minute (at 60) ∷ Begin 0 ∷ Begin 1 ∷ End (run_of 0 (at 60)) ∷ Begin 2 ∷ Got 1 (at 60)
+        ∷ Minute (at 61) ∷ [])
+        ≡ Said Clock ∷ Said (Started (run_of 0 (at 60))) ∷ Said Waiting ∷ Said (Ended true)
+        ∷ Said (Started (run_of 2 (at 60))) ∷ Refused LockHeld ∷ Said Clock ∷ [] }
 
     // two share beside one that waits
-    ensures shares { answers (hourly (0 ∷ 0 ∷ 0 ∷ []) (Shared ∷ Shared ∷ Wait ∷ []) (20 ∷ 30 ∷ 10 ∷ [])) (start (at 59) true []) (Minute (at 60) ∷ Begin 0 ∷ Begin 1 ∷ Begin 2 ∷ End (run_of 0 (at 60)) ∷ Got 2 (at 60) ∷ End (run_of 1 (at 60)) ∷ Got 2 (at 60) ∷ []) ≡ Said Clock ∷ Said (Started (run_of 0 (at 60))) ∷ Said (Started (run_of 1 (at 60))) ∷ Said Waiting ∷ Said (Ended true) ∷ Refused LockHeld ∷ Said (Ended true) ∷ Said (Started (run_of 2 (at 60))) ∷ [] }
+    ensures shares { answers (hourly (0 ∷ 0 ∷ 0 ∷ []) (Shared ∷ Shared ∷ Wait ∷ [])
+        (20 ∷ 30 ∷ 10 ∷ [])) (start (at 59) true [])
+        (Minute (at 60) ∷ Begin 0 ∷ Begin 1 ∷ Begin 2 ∷ End (run_of 0 (at 60)) ∷ Got 2 (at 60)
+        ∷ End (run_of 1 (at 60)) ∷ Got 2 (at 60) ∷ [])
+        ≡ Said Clock ∷ Said (Started (run_of 0 (at 60))) ∷ Said (Started (run_of 1 (at 60)))
+        ∷ Said Waiting ∷ Said (Ended true) ∷ Refused LockHeld ∷ Said (Ended true)
+        ∷ Said (Started (run_of 2 (at 60))) ∷ [] }
 
     // two that share wait for one that does not
-    ensures shared_waits { answers (hourly (0 ∷ 0 ∷ 0 ∷ []) (Shared ∷ Shared ∷ Wait ∷ []) (20 ∷ 30 ∷ 10 ∷ [])) (start (at 59) true []) (Minute (at 60) ∷ Begin 2 ∷ Begin 0 ∷ Begin 1 ∷ End (run_of 2 (at 60)) ∷ Got 1 (at 60) ∷ Minute (at 61) ∷ Got 0 (at 60) ∷ Minute (at 61) ∷ []) ≡ Said Clock ∷ Said (Started (run_of 2 (at 60))) ∷ Said Waiting ∷ Said Waiting ∷ Said (Ended true) ∷ Said (Started (run_of 1 (at 60))) ∷ Refused NotSettled ∷ Said (Started (run_of 0 (at 60))) ∷ Said Clock ∷ [] }
+    ensures shared_waits { answers (hourly (0 ∷ 0 ∷ 0 ∷ []) (Shared ∷ Shared ∷ Wait ∷ [])
+        (20 ∷ 30 ∷ 10 ∷ [])) (start (at 59) true [])
+        (Minute (at 60) ∷ Begin 2 ∷ Begin 0 ∷ Begin 1 ∷ End (run_of 2 (at 60)) ∷ Got 1 (at 60)
+        ∷ Minute (at 61) ∷ Got 0 (at 60) ∷ Minute (at 61) ∷ [])
+        ≡ Said Clock ∷ Said (Started (run_of 2 (at 60))) ∷ Said Waiting ∷ Said Waiting
+        ∷ Said (Ended true) ∷ Said (Started (run_of 1 (at 60))) ∷ Refused NotSettled
+        ∷ Said (Started (run_of 0 (at 60))) ∷ Said Clock ∷ [] }
 {}
 
 /// Worked examples: Passes and stamps, as anacron(8) with -s has them. The call does nothing.
 pub fn passes_and_stamps()
 
     // not before its delay is over, and once a day
-    ensures delays { answers (catching (1 ∷ []) 0 1440 None) (start (at 0) false (Some 19722 ∷ [])) (Up (at 10) ∷ Catch 0 ∷ Minute (at 11) ∷ Catch 0 ∷ Catch 0 ∷ End (run_of 0 (at 11)) ∷ Down ∷ Up (at 11) ∷ Catch 0 ∷ []) ≡ Said Came ∷ Refused NotCatchable ∷ Said Clock ∷ Said (Started (run_of 0 (at 11))) ∷ Refused NotCatchable ∷ Said (Ended true) ∷ Said Went ∷ Said Came ∷ Refused NotCatchable ∷ [] }
+    ensures delays { answers (catching (1 ∷ []) 0 1440 None) (start (at 0) false (Some 19722 ∷ []))
+        (Up (at 10) ∷ Catch 0 ∷ Minute (at 11) ∷ Catch 0 ∷ Catch 0 ∷ End (run_of 0 (at 11)) ∷ Down
+        ∷ Up (at 11) ∷ Catch 0 ∷ [])
+        ≡ Said Came ∷ Refused NotCatchable ∷ Said Clock ∷ Said (Started (run_of 0 (at 11)))
+        ∷ Refused NotCatchable ∷ Said (Ended true) ∷ Said Went ∷ Said Came ∷ Refused NotCatchable
+        ∷ [] }
 
     // the stamp is the day on which the run started
-    ensures stamps { let h = story (catching (0 ∷ []) 0 1440 None) (start (at 1438) false []) (Up (at 1438) ∷ Catch 0 ∷ Minute (at 1439) ∷ Minute (at 1440) ∷ End (run_of 0 (at 1438)) ∷ Down ∷ Up (at 1440) ∷ Catch 0 ∷ []) in state_of (catching (0 ∷ []) 0 1440 None) h ≡ record { now = at 1440; up = true; pending = []; waiting = []; running = going 0 (at 1440) (at 1440) ∷ []; stamps = Some 19723 ∷ []; pass = None } }
+    ensures stamps { let h = story (catching (0 ∷ []) 0 1440 None) (start (at 1438) false [])
+        (Up (at 1438) ∷ Catch 0 ∷ Minute (at 1439) ∷ Minute (at 1440) ∷ End (run_of 0 (at 1438))
+        ∷ Down ∷ Up (at 1440) ∷ Catch 0 ∷ []) in
+        state_of (catching (0 ∷ []) 0 1440 None) h
+        ≡ record {
+          now = at 1440;
+          up = true;
+          pending = [];
+          waiting = [];
+          running = going 0 (at 1440) (at 1440) ∷ [];
+          stamps = Some 19723 ∷ [];
+          pass = None;
+        } }
 
     // a job with the day's stamp is left out
-    ensures stamps_of_the_start { state_of (catching (0 ∷ 0 ∷ []) 0 1440 None) (story (catching (0 ∷ 0 ∷ []) 0 1440 None) (start (at 9) false (Some 19723 ∷ [])) (Up (at 9) ∷ [])) ≡ record { now = at 9; up = true; pending = []; waiting = []; running = []; stamps = Some 19723 ∷ None ∷ []; pass = Some (record { at = at 9; left = 1 ∷ [] }) } }
+    ensures stamps_of_the_start { state_of (catching (0 ∷ 0 ∷ []) 0 1440 None)
+        (story (catching (0 ∷ 0 ∷ []) 0 1440 None) (start (at 9) false (Some 19723 ∷ []))
+        (Up (at 9) ∷ []))
+        ≡ record {
+          now = at 9;
+          up = true;
+          pending = [];
+          waiting = [];
+          running = [];
+          stamps = Some 19723 ∷ None ∷ [];
+          pass = Some (record { at = at 9; left = 1 ∷ [] });
+        } }
 
     // a pass begins at the pass minute, and none at a start that is up
-    ensures pass_minute { answers (catching (0 ∷ []) 0 1440 (Some 20)) (start (at 19) true []) (Catch 0 ∷ Minute (at 20) ∷ Catch 0 ∷ []) ≡ Refused NotCatchable ∷ Said Clock ∷ Said (Started (run_of 0 (at 20))) ∷ [] }
+    ensures pass_minute { answers (catching (0 ∷ []) 0 1440 (Some 20)) (start (at 19) true [])
+        (Catch 0 ∷ Minute (at 20) ∷ Catch 0 ∷ [])
+        ≡ Refused NotCatchable ∷ Said Clock ∷ Said (Started (run_of 0 (at 20))) ∷ [] }
 
     // without a pass minute none begins at midnight
-    ensures no_pass_minute { state_of (catching (0 ∷ []) 0 1440 None) (story (catching (0 ∷ []) 0 1440 None) (start (at 1439) true []) (Minute (at 1440) ∷ [])) ≡ record { now = at 1440; up = true; pending = []; waiting = []; running = []; stamps = None ∷ []; pass = None } }
+    ensures no_pass_minute { state_of (catching (0 ∷ []) 0 1440 None)
+        (story (catching (0 ∷ []) 0 1440 None) (start (at 1439) true []) (Minute (at 1440) ∷ []))
+        ≡ record {
+          now = at 1440;
+          up = true;
+          pending = [];
+          waiting = [];
+          running = [];
+          stamps = None ∷ [];
+          pass = None;
+        } }
 
     // an open pass stays at the pass minute
-    ensures pass_stays { answers (catching (5 ∷ []) 0 1440 (Some 20)) (start (at 19) false []) (Up (at 19) ∷ Minute (at 20) ∷ Minute (at 21) ∷ Minute (at 22) ∷ Minute (at 23) ∷ Catch 0 ∷ Minute (at 24) ∷ Catch 0 ∷ []) ≡ Said Came ∷ Said Clock ∷ Said Clock ∷ Said Clock ∷ Said Clock ∷ Refused NotCatchable ∷ Said Clock ∷ Said (Started (run_of 0 (at 24))) ∷ [] }
+    ensures pass_stays { answers (catching (5 ∷ []) 0 1440 (Some 20)) (start (at 19) false [])
+        (Up (at 19) ∷ Minute (at 20) ∷ Minute (at 21) ∷ Minute (at 22) ∷ Minute (at 23) ∷ Catch 0
+        ∷ Minute (at 24) ∷ Catch 0 ∷ [])
+        ≡ Said Came ∷ Said Clock ∷ Said Clock ∷ Said Clock ∷ Said Clock ∷ Refused NotCatchable
+        ∷ Said Clock ∷ Said (Started (run_of 0 (at 24))) ∷ [] }
 
     // by delay, one at a time, in the catch-up hours
-    ensures one_by_one { answers (catching (2 ∷ 1 ∷ []) 11 13 None) (start (at 9) false []) (Up (at 9) ∷ Minute (at 10) ∷ Catch 1 ∷ Minute (at 11) ∷ Catch 0 ∷ Catch 1 ∷ Catch 0 ∷ End (run_of 1 (at 11)) ∷ Minute (at 12) ∷ Minute (at 13) ∷ Catch 0 ∷ []) ≡ Said Came ∷ Said Clock ∷ Refused NotCatchable ∷ Said Clock ∷ Refused NotCatchable ∷ Said (Started (run_of 1 (at 11))) ∷ Refused NotCatchable ∷ Said (Ended true) ∷ Said Clock ∷ Said Clock ∷ Refused NotCatchable ∷ [] }
+    ensures one_by_one { answers (catching (2 ∷ 1 ∷ []) 11 13 None) (start (at 9) false [])
+        (Up (at 9) ∷ Minute (at 10) ∷ Catch 1 ∷ Minute (at 11) ∷ Catch 0 ∷ Catch 1 ∷ Catch 0
+        ∷ End (run_of 1 (at 11)) ∷ Minute (at 12) ∷ Minute (at 13) ∷ Catch 0 ∷ [])
+        ≡ Said Came ∷ Said Clock ∷ Refused NotCatchable ∷ Said Clock ∷ Refused NotCatchable
+        ∷ Said (Started (run_of 1 (at 11))) ∷ Refused NotCatchable ∷ Said (Ended true) ∷ Said Clock
+        ∷ Said Clock ∷ Refused NotCatchable ∷ [] }
 
     // not before the catch-up hours begin
-    ensures hours_begin { answers (catching (0 ∷ []) 10 1440 None) (start (at 9) false []) (Up (at 9) ∷ Catch 0 ∷ Minute (at 10) ∷ Catch 0 ∷ []) ≡ Said Came ∷ Refused NotCatchable ∷ Said Clock ∷ Said (Started (run_of 0 (at 10))) ∷ [] }
+    ensures hours_begin { answers (catching (0 ∷ []) 10 1440 None) (start (at 9) false [])
+        (Up (at 9) ∷ Catch 0 ∷ Minute (at 10) ∷ Catch 0 ∷ [])
+        ≡ Said Came ∷ Refused NotCatchable ∷ Said Clock ∷ Said (Started (run_of 0 (at 10))) ∷ [] }
 
     // a job of which a run goes on is left out
-    ensures running_left_out { state_of (catching (0 ∷ 0 ∷ []) 0 1440 None) (story (catching (0 ∷ 0 ∷ []) 0 1440 None) (start (at 9) false []) (Up (at 9) ∷ Catch 0 ∷ Down ∷ Up (at 1440) ∷ [])) ≡ record { now = at 1440; up = true; pending = []; waiting = []; running = going 0 (at 9) (at 9) ∷ []; stamps = None ∷ None ∷ []; pass = Some (record { at = at 1440; left = 1 ∷ [] }) } }
+    ensures running_left_out { state_of (catching (0 ∷ 0 ∷ []) 0 1440 None)
+        (story (catching (0 ∷ 0 ∷ []) 0 1440 None) (start (at 9) false [])
+        (Up (at 9) ∷ Catch 0 ∷ Down ∷ Up (at 1440) ∷ []))
+        ≡ record {
+          now = at 1440;
+          up = true;
+          pending = [];
+          waiting = [];
+          running = going 0 (at 9) (at 9) ∷ [];
+          stamps = None ∷ None ∷ [];
+          pass = Some (record { at = at 1440; left = 1 ∷ [] });
+        } }
 {}
 
 /// Worked examples: windows, and minutes that are calm or not, whatever the certificate gives those that wait. Day 2 is
@@ -97,24 +226,34 @@ pub fn passes_and_stamps()
 pub fn windows_and_calm()
 
     // 23:30 for 30 minutes ends at midnight, for 60 it meets what begins there
-    ensures ends { (c : ℕ → ℕ) → Holds (nights 30) c 2879 (run_of 0 2850) × (Holds (nights 30) c 2880 (run_of 0 2850) → ⊥) }
+    ensures ends { (c : ℕ → ℕ)
+        → Holds (nights 30) c 2879 (run_of 0 2850)
+        × (Holds (nights 30) c 2880 (run_of 0 2850) → ⊥) }
     ensures meets { (c : ℕ → ℕ) → IsCalm (nights 60) c 2880 → ⊥ }
 
     // a job meets its own next run
     ensures itself { (c : ℕ → ℕ) → IsCalm (fives 6) c 2880 → ⊥ }
-    ensures next_day { (c : ℕ → ℕ) → (IsCalm (midnights 1441) c 5760 → ⊥) × (Holds (midnights 1440) c 5760 (run_of 0 4320) → ⊥) }
+    ensures next_day { (c : ℕ → ℕ)
+        → (IsCalm (midnights 1441) c 5760 → ⊥)
+        × (Holds (midnights 1440) c 5760 (run_of 0 4320) → ⊥) }
 
     // a window of three days
-    ensures three_days { (c : ℕ → ℕ) → Holds sundays c 9359 (run_of 0 5040) × (Holds sundays c 9360 (run_of 0 5040) → ⊥) }
+    ensures three_days { (c : ℕ → ℕ)
+        → Holds sundays c 9359 (run_of 0 5040) × (Holds sundays c 9360 (run_of 0 5040) → ⊥) }
 
     // a catch-up run may start at 04:59 and take until 05:58
-    ensures catch_up { (c : ℕ → ℕ) → (IsCalm (beside_catch_up 358) c (2880 + 358) → ⊥) × (Holds (beside_catch_up 359) c (2880 + 359) (run_of 1 (2880 + 180)) → ⊥) }
+    ensures catch_up { (c : ℕ → ℕ)
+        → (IsCalm (beside_catch_up 358) c (2880 + 358) → ⊥)
+        × (Holds (beside_catch_up 359) c (2880 + 359) (run_of 1 (2880 + 180)) → ⊥) }
 
     // a job that gives up meets the window of one that waits
     ensures skip { IsCalm skipping (λ _. 60) (2880 + 49) → ⊥ }
 
     // by mode: what holds a lock alone weighs once
-    ensures loads { (load (heavy Plain) (run_of 0 2880 ∷ run_of 1 2880 ∷ []) ≡ 4) × (load (heavy Wait) (run_of 0 2880 ∷ run_of 1 2880 ∷ []) ≡ 2) × (load (heavy Skip) (run_of 0 2880 ∷ run_of 1 2880 ∷ []) ≡ 2) × (load (heavy Shared) (run_of 0 2880 ∷ run_of 1 2880 ∷ []) ≡ 4) }
+    ensures loads { (load (heavy Plain) (run_of 0 2880 ∷ run_of 1 2880 ∷ []) ≡ 4)
+        × (load (heavy Wait) (run_of 0 2880 ∷ run_of 1 2880 ∷ []) ≡ 2)
+        × (load (heavy Skip) (run_of 0 2880 ∷ run_of 1 2880 ∷ []) ≡ 2)
+        × (load (heavy Shared) (run_of 0 2880 ∷ run_of 1 2880 ∷ []) ≡ 4) }
 {}
 
 /// Worked examples: histories that are safe, in time, or not. The call does nothing.
@@ -128,10 +267,12 @@ pub fn safe_and_unsafe()
     ensures late { IsInTime spring (over_outage 1440) → ⊥ }
 
     // two of no exclusive group that weigh 2 each, where 3 is the capacity
-    ensures overload { IsSafe (plan_of 2 [] (at_of (0 ∷ 0 ∷ [])) 3 false (λ _. 10) 2) both_at_midnight → ⊥ }
+    ensures overload { IsSafe (plan_of 2 [] (at_of (0 ∷ 0 ∷ [])) 3 false (λ _. 10) 2)
+        both_at_midnight → ⊥ }
 
     // a job that gives up finds the lock held
-    ensures skipped { IsSafe (plan_of 2 (Skip ∷ Wait ∷ []) (at_of (60 ∷ 60 ∷ [])) 3 true (λ _. 20) 1) held_lock → ⊥ }
+    ensures skipped { IsSafe
+        (plan_of 2 (Skip ∷ Wait ∷ []) (at_of (60 ∷ 60 ∷ [])) 3 true (λ _. 20) 1) held_lock → ⊥ }
 
     // two of an exclusive group that share its lock
     ensures shared { IsSafe sharing all_begin }

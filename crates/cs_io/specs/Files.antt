@@ -7,8 +7,10 @@ use Rattle.cs_io.specs.declared.inputs.TheConstants.{MOST_READS}
 -- the path begins anew; what is left of every other path stays
 pub record IsNextOf (path : List ℕ) (whole left-old left-new : List ℕ → Option (List ℕ)) (n : ℕ)
     (buf : List ℕ) : Type 0 where
-  pub bytes : IfSome (left-old path) (λ xs. (ys : List ℕ) × (xs ≡ take n buf ++ ys) × (n ≢ 0 → left-new path ≡ Some ys))
-  pub end : n ≡ 0 → 0 < length buf → IfSome (left-old path) (λ xs. (xs ≡ []) × (left-new path ≡ whole path))
+  pub bytes : IfSome (left-old path)
+      (λ xs. (ys : List ℕ) × (xs ≡ take n buf ++ ys) × (n ≢ 0 → left-new path ≡ Some ys))
+  pub end : n ≡ 0 → 0 < length buf
+      → IfSome (left-old path) (λ xs. (xs ≡ []) × (left-new path ≡ whole path))
   pub others : (q : List ℕ) → q ≢ path → left-new q ≡ left-old q
 
 -- bs is a text, or both are longer than a limit

@@ -90,7 +90,9 @@ pub fn read_up_to<I: Inputs>(
     ensures whole { I.whole inputs.new ≡ I.whole inputs.old }
 
     // a path that was read to its end, and each other one, is to be read from its front again
-    ensures fresh { IfOk result (λ v. length v.items ≤ limit → IsFresh (I.whole inputs.old) (I.left inputs.old) → IsFresh (I.whole inputs.new) (I.left inputs.new)) }
+    ensures fresh { IfOk result (λ v. length v.items ≤ limit
+        → IsFresh (I.whole inputs.old) (I.left inputs.old)
+        → IsFresh (I.whole inputs.new) (I.left inputs.new)) }
     ensures fails { IfErr result (λ e. IsCannotRead e → I.failed inputs.new path.now ≡ true) }
     ensures alone { IsReadAlone path.now (I.reads inputs.old) (I.reads inputs.new) }
 {
@@ -115,7 +117,8 @@ pub fn read_whole<I: Inputs>(
     inputs: &mut I,
     path: &str,
 ) -> Result<Vec<u8>, ReadFault>
-    ensures bytes { IfOk result (λ v. IfSome (I.left inputs.old path.now) (λ text. v.items ≡ text)) }
+    ensures bytes { IfOk result (λ v.
+        IfSome (I.left inputs.old path.now) (λ text. v.items ≡ text)) }
     ensures works { OnOk result (I.failed inputs.new ≡ I.failed inputs.old) }
     ensures whole { I.whole inputs.new ≡ I.whole inputs.old }
 

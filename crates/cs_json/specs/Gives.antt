@@ -21,6 +21,7 @@ or_fault f None = Err f
 
 -- one step after another: the first fault is the answer
 infixl 10 ◌>>=◌
-abbrev pub ◌>>=◌ : {A B : Type 0} → Result A JsonFault → (A → Result B JsonFault) → Result B JsonFault
+abbrev pub ◌>>=◌ : {A B : Type 0} → Result A JsonFault → (A → Result B JsonFault)
+    → Result B JsonFault
 (Ok x) >>= f = f x
 (Err e) >>= f = Err e

@@ -43,18 +43,21 @@ abbrev pub list_as : {A : Type 0} → (Data → Result A JsonFault) → Data →
 list_as f d = or_bad_shape (as_array d) >>= (λ ds. all_as f (list_of ds))
 
 -- what exactly two say
-abbrev pub pair_of : {A B : Type 0} → (Data → Result A JsonFault) → (Data → Result B JsonFault) → List Data → Result (A × B) JsonFault
+abbrev pub pair_of : {A B : Type 0} → (Data → Result A JsonFault) → (Data → Result B JsonFault)
+    → List Data → Result (A × B) JsonFault
 pair_of f g [] = Err BadShape
 pair_of f g (a ∷ []) = Err BadShape
 pair_of f g (a ∷ b ∷ []) = f a >>= (λ x. g b >>= (λ y. Ok (x, y)))
 pair_of f g (a ∷ b ∷ c ∷ ds) = Err BadShape
 
 -- a list of exactly two, each of its shape
-abbrev pub pair_as : {A B : Type 0} → (Data → Result A JsonFault) → (Data → Result B JsonFault) → Data → Result (A × B) JsonFault
+abbrev pub pair_as : {A B : Type 0} → (Data → Result A JsonFault) → (Data → Result B JsonFault)
+    → Data → Result (A × B) JsonFault
 pair_as f g d = or_bad_shape (as_array d) >>= (λ ds. pair_of f g (list_of ds))
 
 -- what exactly three say
-abbrev pub triple_of : {A B C : Type 0} → (Data → Result A JsonFault) → (Data → Result B JsonFault) → (Data → Result C JsonFault) → List Data → Result (A × B × C) JsonFault
+abbrev pub triple_of : {A B C : Type 0} → (Data → Result A JsonFault) → (Data → Result B JsonFault)
+    → (Data → Result C JsonFault) → List Data → Result (A × B × C) JsonFault
 triple_of f g h [] = Err BadShape
 triple_of f g h (a ∷ []) = Err BadShape
 triple_of f g h (a ∷ b ∷ []) = Err BadShape
@@ -62,29 +65,34 @@ triple_of f g h (a ∷ b ∷ c ∷ []) = f a >>= (λ x. g b >>= (λ y. h c >>= (
 triple_of f g h (a ∷ b ∷ c ∷ d ∷ ds) = Err BadShape
 
 -- a list of exactly three, each of its shape
-abbrev pub triple_as : {A B C : Type 0} → (Data → Result A JsonFault) → (Data → Result B JsonFault) → (Data → Result C JsonFault) → Data → Result (A × B × C) JsonFault
+abbrev pub triple_as : {A B C : Type 0} → (Data → Result A JsonFault) → (Data → Result B JsonFault)
+    → (Data → Result C JsonFault) → Data → Result (A × B × C) JsonFault
 triple_as f g h d = or_bad_shape (as_array d) >>= (λ ds. triple_of f g h (list_of ds))
 
 -- ---- members of an object
 
 -- a member that has to be there
-abbrev pub member_as : {A : Type 0} → (Data → Result A JsonFault) → List ℕ → Data → Result A JsonFault
+abbrev pub member_as : {A : Type 0} → (Data → Result A JsonFault) → List ℕ → Data
+    → Result A JsonFault
 member_as f name d = or_bad_shape (get name d) >>= f
 
 -- what is there, or the default
-abbrev pub if_there : {A : Type 0} → (Data → Result A JsonFault) → A → Option Data → Result A JsonFault
+abbrev pub if_there : {A : Type 0} → (Data → Result A JsonFault) → A → Option Data
+    → Result A JsonFault
 if_there f default None = Ok default
 if_there f default (Some d) = f d
 
 -- a member, or the default where it isn't there
-abbrev pub member_or_default : {A : Type 0} → (Data → Result A JsonFault) → A → List ℕ → Data → Result A JsonFault
+abbrev pub member_or_default : {A : Type 0} → (Data → Result A JsonFault) → A → List ℕ → Data
+    → Result A JsonFault
 member_or_default f default name d = if_there f default (get name d)
 
 abbrev pub some_of : {A : Type 0} → (Data → Result A JsonFault) → Data → Result (Option A) JsonFault
 some_of f d = f d >>= (λ x. Ok (Some x))
 
 -- a member, or None where it isn't there
-abbrev pub member_or_none : {A : Type 0} → (Data → Result A JsonFault) → List ℕ → Data → Result (Option A) JsonFault
+abbrev pub member_or_none : {A : Type 0} → (Data → Result A JsonFault) → List ℕ → Data
+    → Result (Option A) JsonFault
 member_or_none f name d = if_there (some_of f) None (get name d)
 
 -- an object, each member's name of which passes the test

@@ -70,7 +70,8 @@ fn is_member_name(names: &[&str], name: &str) -> bool
 }
 
 fn has_names(object: &Map<String, Value>, names: &[&str]) -> bool
-    ensures { result ≡ list_all (λ k. is_among (map (λ n. n.now) names.now) (string_bytes k)) (keys object.now) }
+    ensures { result
+        ≡ list_all (λ k. is_among (map (λ n. n.now) names.now) (string_bytes k)) (keys object.now) }
 {
     object
         .keys()

@@ -87,7 +87,8 @@ impl<T: FromJson> FromJson for Vec<T> {
 
 /// The items of a list.
 pub fn items(value: &Value) -> Result<&Vec<Value>, Misread>
-    ensures { Gives (λ l. items_view l.now.items) result (or_bad_shape (as_array (view value.now))) }
+    ensures { Gives (λ l. items_view l.now.items) result
+        (or_bad_shape (as_array (view value.now))) }
 {
     value.as_array().ok_or(BAD_SHAPE)
 }

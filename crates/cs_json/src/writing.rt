@@ -92,7 +92,8 @@ impl ToJson for String {
 impl<A: ToJson, B: ToJson> ToJson for (A, B) {
     ghost spelled = { λ p. array (item (A.spelled p.0) (item (B.spelled p.1) no_items)) };
 
-    ghost no_float = { λ p. pair_no_float (A.spelled p.0) (B.spelled p.1) (A.no_float p.0) (B.no_float p.1) };
+    ghost no_float = { λ p. pair_no_float (A.spelled p.0) (B.spelled p.1)
+        (A.no_float p.0) (B.no_float p.1) };
 
     fn to_json(&self, alloc: Global) -> Result<Value, AllocError> {
         let first = self.0.to_json(alloc)?;
@@ -103,9 +104,11 @@ impl<A: ToJson, B: ToJson> ToJson for (A, B) {
 
 /// A list of three.
 impl<A: ToJson, B: ToJson, C: ToJson> ToJson for (A, B, C) {
-    ghost spelled = { λ p. array (item (A.spelled p.0) (item (B.spelled p.1) (item (C.spelled p.2) no_items))) };
+    ghost spelled = { λ p.
+        array (item (A.spelled p.0) (item (B.spelled p.1) (item (C.spelled p.2) no_items))) };
 
-    ghost no_float = { λ p. triple_no_float (A.spelled p.0) (B.spelled p.1) (C.spelled p.2) (A.no_float p.0) (B.no_float p.1) (C.no_float p.2) };
+    ghost no_float = { λ p. triple_no_float (A.spelled p.0) (B.spelled p.1) (C.spelled p.2)
+        (A.no_float p.0) (B.no_float p.1) (C.no_float p.2) };
 
     fn to_json(&self, alloc: Global) -> Result<Value, AllocError> {
         let first = self.0.to_json(alloc)?;
@@ -139,7 +142,9 @@ fn values<T: ToJson>(alloc: Global, list: &[T]) -> Result<Vec<Value>, AllocError
 /// The compact text of a value, which reads back where it nests at most 127 deep. An error only where memory ran out.
 pub fn write<T: ToJson>(alloc: Global, value: &T) -> Result<Vec<u8>, AllocError>
     ensures text { IfOk result (λ b. b.items ≡ compact_text (T.spelled value.now)) }
-    ensures reads_back { IfOk result (λ b. depth (T.spelled value.now) ≤ max_depth → json_of b.items ≡ Some (T.spelled value.now)) }
+    ensures reads_back { IfOk result
+        (λ b. depth (T.spelled value.now) ≤ max_depth
+        → json_of b.items ≡ Some (T.spelled value.now)) }
 {
     value.to_json(alloc)?.to_vec(alloc)
 }

@@ -28,7 +28,12 @@ impl Model for JournaledCore {
 
     ghost Value = { Keeping };
 
-    ghost view = { λ a. record { base = a.base; journal = a.journal.items; total = a.total; core = a.core } };
+    ghost view = { λ a. record {
+      base = a.base;
+      journal = a.journal.items;
+      total = a.total;
+      core = a.core;
+    } };
 
     ghost use Rattle.cs_keep.specs.Invariant.{Holds};
 

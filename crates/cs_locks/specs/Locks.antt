@@ -73,7 +73,8 @@ pub record HasRoom (table : Counts) : Type 0 where
 abbrev pub frees_in : Counts → Counts → ℕ → Bool
 frees_in now waiting g =
     (slice_index now.alone g == 0)
-    && (nat_lt 0 (slice_index waiting.shared g) || (nat_lt 0 (slice_index waiting.alone g) && (slice_index now.shared g == 0)))
+    && (nat_lt 0 (slice_index waiting.shared g)
+    || (nat_lt 0 (slice_index waiting.alone g) && (slice_index now.shared g == 0)))
 
 -- by whether a mode takes the lock and shares it, and by the group, if there is one
 abbrev pub hold_in : Bool → Bool → Option ℕ → Hold

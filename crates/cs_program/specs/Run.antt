@@ -19,7 +19,8 @@ CarriesOut (answers.Runs order) out-old out-new err-old err-new status =
     Serves order out-old out-new err-old err-new status
 
 -- the words are answered so, and the answer is carried out
-abbrev pub Carries : List Text → (List ℕ → Option (List ℕ)) → Failed → Failed → Reads → Answer → Sink
+abbrev pub Carries : List Text → (List ℕ → Option (List ℕ)) → Failed → Failed → Reads → Answer
+    → Sink
     → Sink → Sink → Sink → ℕ → Type 0
 Carries words files before failed reads answer out-old out-new err-old err-new status =
     Answers words files before failed answer

@@ -21,8 +21,10 @@ pub(crate) fn tell<E: Output>(err: &mut E, text: &[u8])
 /// where standard output does not take its text. What standard error does not take is lost.
 pub(crate) fn finish<O: Output, E: Output>(response: &Response, out: &mut O, err: &mut E) -> Status
     ensures { Ends response.now
-        (sink (O.contents out.old) (O.failed out.old)) (sink (O.contents out.new) (O.failed out.new))
-        (sink (E.contents err.old) (E.failed err.old)) (sink (E.contents err.new) (E.failed err.new))
+        (sink (O.contents out.old) (O.failed out.old))
+        (sink (O.contents out.new) (O.failed out.new))
+        (sink (E.contents err.old) (E.failed err.old))
+        (sink (E.contents err.new) (E.failed err.new))
         (status_of result) }
 {
     tell(err, response.err());

@@ -31,7 +31,8 @@ fn carry_out<
     ensures { CarriesOut answer.entry
         (sink (O.Output.contents out.old) (O.Output.failed out.old))
         (sink (O.Output.contents out.new) (O.Output.failed out.new))
-        (sink (E.contents err.old) (E.failed err.old)) (sink (E.contents err.new) (E.failed err.new))
+        (sink (E.contents err.old) (E.failed err.old))
+        (sink (E.contents err.new) (E.failed err.new))
         (status_of result) }
 {
     match answer {
@@ -60,11 +61,13 @@ pub fn run_words<
     requires { F.IsAlwaysCallable new_runner }
     // Where each path of known bytes stands at its front.
     ensures value { IsFresh (I.whole inputs.old) (I.left inputs.old)
-        → Runs (map S.text words.now) (I.whole inputs.old) (I.failed inputs.old) (I.failed inputs.new)
+        → Runs (map S.text words.now) (I.whole inputs.old) (I.failed inputs.old)
+        (I.failed inputs.new)
         (I.reads inputs.old) (I.reads inputs.new)
         (sink (O.Output.contents out.old) (O.Output.failed out.old))
         (sink (O.Output.contents out.new) (O.Output.failed out.new))
-        (sink (E.contents err.old) (E.failed err.old)) (sink (E.contents err.new) (E.failed err.new))
+        (sink (E.contents err.old) (E.failed err.old))
+        (sink (E.contents err.new) (E.failed err.new))
         result }
     ensures turn { ReadsInTurn (map S.text words.now)
         (I.reads inputs.old) (I.reads inputs.new) }

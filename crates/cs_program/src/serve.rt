@@ -84,7 +84,8 @@ pub(crate) fn serve<
     ensures { Serves order.entry
         (sink (O.Output.contents out.old) (O.Output.failed out.old))
         (sink (O.Output.contents out.new) (O.Output.failed out.new))
-        (sink (E.contents err.old) (E.failed err.old)) (sink (E.contents err.new) (E.failed err.new))
+        (sink (E.contents err.old) (E.failed err.old))
+        (sink (E.contents err.new) (E.failed err.new))
         (status_of result) }
 {
     let Ok(mut stamps) = StampsFolder::open(rt, alloc, order.stamps) else {

@@ -27,6 +27,9 @@ use Rattle.cs_reads.specs.declared.fault.Fault.{Fault}
 some_text : (a b : List ℕ) → Some a ≡ Some b → a ≡ b
 some_text a b e = cc
 
+pub some_ending : (a b : Ending) → Some a ≡ Some b → a ≡ b
+some_ending a b e = cc
+
 -- its text and its status make the ending
 pub is_ending : (w t : List ℕ) (s : ℕ) (o : Option Trouble) → option_map trouble_text o ≡ Some t → IfSome o (λ x. s ≡ trouble_status x)
     → option_map (ends w) o ≡ Some (record { status = s; out = []; err = w ++ complaint t })
@@ -133,9 +136,6 @@ pub answered_fault : (tables : Failed → Failed → Result (Table × JobTable) 
     → tables before before (Ok both) → w ≡ warnings_text both.0 both.1 → IfSome (trouble fault) (λ t. next both before after (Err t)) → option_map (ends w) (trouble fault) ≡ Some ending → Answered tables next before after ending
 answered_fault tables next before after both w fault ending one warned other is = by_trouble (trouble fault) other is
   where
-    some_ending : (a b : Ending) → Some a ≡ Some b → a ≡ b
-    some_ending a b e = cc
-
     by_trouble : (o : Option Trouble) → IfSome o (λ t. next both before after (Err t)) → option_map (ends w) o ≡ Some ending → Answered tables next before after ending
     by_trouble None h e = absurd (cc)
     by_trouble (Some t) h e = inr (both, one, (Err t, h, sym (some_ending (ends w t) ending e) ∙ ap (λ v. ends v t) warned))
@@ -145,9 +145,6 @@ pub answered_stop : (tables : Failed → Failed → Result (Table × JobTable) T
     → IfSome (trouble fault) (λ t. tables before after (Err t)) → option_map (ends []) (trouble fault) ≡ Some ending → Answered tables next before after ending
 answered_stop tables next before after fault ending = by_trouble (trouble fault)
   where
-    some_ending : (a b : Ending) → Some a ≡ Some b → a ≡ b
-    some_ending a b e = cc
-
     by_trouble : (o : Option Trouble) → IfSome o (λ t. tables before after (Err t)) → option_map (ends []) o ≡ Some ending → Answered tables next before after ending
     by_trouble None h e = absurd (cc)
     by_trouble (Some t) h e = inl (t, h, sym (some_ending (ends [] t) ending e))
@@ -158,9 +155,6 @@ answered_stop tables next before after fault ending = by_trouble (trouble fault)
 pub honest_fault : (failed : Failed) (reads : Reads) (w : List ℕ) (e : Fault) (r : Ending) → IsHonestOf failed reads e → option_map (ends w) (trouble e) ≡ Some r → IsHonest failed reads r
 honest_fault failed reads w e r = by_trouble (trouble e)
   where
-    some_ending : (a b : Ending) → Some a ≡ Some b → a ≡ b
-    some_ending a b e = cc
-
     by_trouble : (o : Option Trouble) → IfSome o (λ t. trouble_status t ≡ 6 → (path : Text) × IsUnread path failed reads × TellsPath path t) → option_map (ends w) o ≡ Some r → IsHonest failed reads r
     by_trouble None h is = absurd (cc)
     by_trouble (Some t) h is = λ six.

@@ -79,6 +79,11 @@ abbrev pub ReadsDeclared : (List ℕ → Option (List ℕ)) → Table × JobTabl
 ReadsDeclared files tables path =
     AndThen (ReadsEntries files path) (λ d. Gives (planned (joined tables.0 tables.1 d)))
 
+-- an answer, or what is answered of a fault
+abbrev pub ended : Result Ending Trouble → Ending
+ended (Ok answer) = answer
+ended (Err t) = ends [] t
+
 -- an answer behind what is to be warned of, or what is answered of a fault
 abbrev pub behind : List ℕ → Result Ending Trouble → Ending
 behind warnings (Ok answer) = record answer { err = warnings }
@@ -86,7 +91,8 @@ behind warnings (Err t) = ends warnings t
 
 -- both tables are read, and then what follows comes behind what is to be warned of them
 abbrev pub Answered : (Failed → Failed → Result (Table × JobTable) Trouble → Type 0)
-    → (Table × JobTable → Failed → Failed → Result Ending Trouble → Type 0) → Failed → Failed → Ending
+    → (Table × JobTable → Failed → Failed → Result Ending Trouble → Type 0) → Failed → Failed
+    → Ending
     → Type 0
 Answered tables next before after ending =
     ((t : Trouble) × tables before after (Err t) × (ending ≡ ends [] t))

@@ -10,7 +10,9 @@ use Rattle.cs_decl.specs.JobNames.{command_name, identifier_of}
 
 -- `month M day D weekday W`
 unfoldable pub kind_text : Kind → List ℕ
-kind_text k = codes "month " ++ (decimal k.month ++ (codes " day " ++ (decimal k.dom ++ (codes " weekday " ++ decimal k.dow))))
+kind_text k = codes "month "
+    ++ (decimal k.month
+    ++ (codes " day " ++ (decimal k.dom ++ (codes " weekday " ++ decimal k.dow))))
 
 -- with ` then ` between successive days
 abbrev pub then_text : Kind → List ℕ
@@ -26,7 +28,8 @@ at_text at = codes " at " ++ minute_text at
 
 -- the civil minute at which a window begins, seen from a minute of the day looked at
 abbrev pub start_of : ℕ → Window → ℕ
-start_of at w = min (max ((1440 * (at / 1440) + w.from) - 1440 * w.day_back) first_minute) last_minute
+start_of at w =
+    min (max ((1440 * (at / 1440) + w.from) - 1440 * w.day_back) first_minute) last_minute
 
 -- `line N due ` or `catch-up of ID from `
 unfoldable pub due_name : Declared → ℕ → List ℕ

@@ -20,7 +20,8 @@ pub record Times : Type 0 where
   pub dow : Choice
 
 abbrev pub times : Choice → Choice → Choice → Choice → Choice → Times
-times minute hour dom month dow = record { minute = minute; hour = hour; dom = dom; month = month; dow = dow }
+times minute hour dom month dow =
+    record { minute = minute; hour = hour; dom = dom; month = month; dow = dow }
 
 abbrev pub choice_of : Times → Part → Choice
 choice_of s Minute = s.minute

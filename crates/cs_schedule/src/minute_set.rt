@@ -39,7 +39,8 @@ fn put(words: &mut [u64; 23], minute: u16)
 fn put_hour(words: &mut [u64; 23], hour: u8, numbers: &Numbers)
     requires { hour < 24 }
     ensures { (k : ℕ) → k < 1440
-        → is_in words.new k ≡ (is_in words.old k || (nat_eq (k / 60) hour && has numbers.now (k % 60))) }
+        → is_in words.new k
+        ≡ (is_in words.old k || (nat_eq (k / 60) hour && has numbers.now (k % 60))) }
 {
     for minute in 0..60 {
         if numbers.has(minute) {

@@ -7,7 +7,8 @@ use Rattle.cs_civil.specs.Text.{minute_text, day_text}
 -- the greatest number below n that is written so
 unfoldable pub written_below : (ℕ → List ℕ) → List ℕ → ℕ → Option ℕ
 written_below write text zero = None
-written_below write text (suc n) = if bytes_eq (write n) text then Some n else written_below write text n
+written_below write text (suc n) =
+    if bytes_eq (write n) text then Some n else written_below write text n
 
 -- a number, if it is no smaller than another
 abbrev pub from_on : ℕ → Option ℕ → Option ℕ

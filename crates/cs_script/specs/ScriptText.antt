@@ -66,7 +66,9 @@ stamp_lines (line ∷ lines) (stamp ∷ stamps) = stamp_line line stamp ++ stamp
 -- the start, its stamps and the events, a line each
 unfoldable pub script_text : Declared → Script → List ℕ
 script_text d script =
-    start_line script.start ++ (stamp_lines d.anacrontab.lines script.start.stamps ++ flat_map (event_line d) script.events)
+    start_line script.start
+    ++ (stamp_lines d.anacrontab.lines script.start.stamps
+    ++ flat_map (event_line d) script.events)
 
 -- ---- what can be named
 
@@ -80,7 +82,8 @@ is_cron_name d j = nat_lt j (crons d)
 
 -- a job of the anacrontab, whose identifier is a word
 unfoldable pub is_anacron_name : Declared → ℕ → Bool
-is_anacron_name d j = nat_le (crons d) j && (nat_lt (j - crons d) (length d.anacrontab.lines) && is_name (identifier_of d j))
+is_anacron_name d j = nat_le (crons d) j
+    && (nat_lt (j - crons d) (length d.anacrontab.lines) && is_name (identifier_of d j))
 
 -- either
 unfoldable pub is_job_name : Declared → ℕ → Bool
@@ -106,10 +109,13 @@ unfoldable pub are_nameable_stamps : List JobLine → List (Option ℕ) → Bool
 are_nameable_stamps [] [] = true
 are_nameable_stamps [] (stamp ∷ stamps) = false
 are_nameable_stamps (line ∷ lines) [] = false
-are_nameable_stamps (line ∷ lines) (stamp ∷ stamps) = is_nameable_stamp line stamp && are_nameable_stamps lines stamps
+are_nameable_stamps (line ∷ lines) (stamp ∷ stamps) =
+    is_nameable_stamp line stamp && are_nameable_stamps lines stamps
 
 -- the start is from 1970-01-04 to the last minute, its stamps can be named, and so can each event
 unfoldable pub is_nameable : Declared → Script → Bool
 is_nameable d script =
     nat_le first_start script.start.now
-    && (nat_le script.start.now last_minute && (are_nameable_stamps d.anacrontab.lines script.start.stamps && list_all (is_nameable_event d) script.events))
+    && (nat_le script.start.now last_minute
+    && (are_nameable_stamps d.anacrontab.lines script.start.stamps
+    && list_all (is_nameable_event d) script.events))

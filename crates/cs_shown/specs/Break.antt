@@ -17,7 +17,8 @@ clash p i j = rivals p j i && not (both_share p j i)
 -- the run and the first of these with which it may not go on
 abbrev pub clash_of : Plan → Going → List Going → Option Shown
 clash_of p r [] = None
-clash_of p r (q ∷ qs) = if clash p r.run.job q.run.job then Some (Together r.run q.run) else clash_of p r qs
+clash_of p r (q ∷ qs) =
+    if clash p r.run.job q.run.job then Some (Together r.run q.run) else clash_of p r qs
 
 -- of the runs in order of start the first two that may not go on at once, by the one that started first
 abbrev pub first_clash : Plan → List Going → Option Shown

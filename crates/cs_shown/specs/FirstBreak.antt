@@ -29,7 +29,8 @@ pub record IsFirstPair (p : Plan) (rs : List Going) (r q : Run) : Type 0 where
   pub clash : clash p one.run.job other.run.job ≡ true
   -- those that started before may go on with each other and with all these
   pub earlier : EachPair (AreFine p) front
-  pub apart : AllByRecursion (λ x. AllByRecursion (AreFine p x) (one ∷ (between ++ other ∷ behind))) front
+  pub apart : AllByRecursion
+      (λ x. AllByRecursion (AreFine p x) (one ∷ (between ++ other ∷ behind))) front
   pub nearer : AllByRecursion (AreFine p one) between
 
 -- the runs may go on at once, and this is their weight, more than the capacity

@@ -76,7 +76,8 @@ run_by (Up t) now = None
 -- the first of these with which the run may not go on
 abbrev pub clash_before : Plan → List Going → Run → Option Shown
 clash_before p [] q = None
-clash_before p (r ∷ rs) q = if clash p r.run.job q.job then Some (Together r.run q) else clash_before p rs q
+clash_before p (r ∷ rs) q =
+    if clash p r.run.job q.job then Some (Together r.run q) else clash_before p rs q
 
 -- what it breaks that the run starts behind these, which break nothing
 abbrev pub break_by_run : Plan → List Going → Run → Option Shown

@@ -34,7 +34,8 @@ impl Model for Trial {
 
     ghost view = { λ t. record { plan = t.core.plan; state = t.core.state; shown = t.shown } };
 
-    ghost invariant = { λ t. Watches (as_plan t.core.plan) t.deadline t.shown t.core.state.running };
+    ghost invariant = { λ t.
+        Watches (as_plan t.core.plan) t.deadline t.shown t.core.state.running };
 }
 
 fn copy_of(start: &Start) -> Start

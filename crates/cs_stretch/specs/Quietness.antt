@@ -19,7 +19,8 @@ is_open_at v w = (v.day_back == 0) && touches w v.from (v.from + 1)
 
 -- v is a skip job's that begins on the day looked at, where w holds the lock of its group
 abbrev pub bars : Plan → Window → Window → Bool
-bars p v w = (is_skip (p.mode v.job) && is_open_at v w) && (takes_lock p w.job && same_group p v.job w.job)
+bars p v w =
+    (is_skip (p.mode v.job) && is_open_at v w) && (takes_lock p w.job && same_group p v.job w.job)
 
 -- v and w may hold one minute by the rule on groups
 abbrev pub are_apart : Plan → Window → Window → Bool
@@ -66,7 +67,8 @@ abbrev pub apart_by : List Role → Window → Window → Bool
 apart_by roles v w = not (roles_clash (role_at roles v.job) (role_at roles w.job))
 
 abbrev pub role_bars : List Role → Window → Window → Bool
-role_bars roles v w = (is_skip (role_at roles v.job).mode && is_open_at v w) && (takes (role_at roles w.job).mode && share_group (role_at roles v.job) (role_at roles w.job))
+role_bars roles v w = (is_skip (role_at roles v.job).mode && is_open_at v w)
+    && (takes (role_at roles w.job).mode && share_group (role_at roles v.job) (role_at roles w.job))
 
 abbrev pub free_by : List Role → Window → Window → Bool
 free_by roles v w = not (role_bars roles v w) && not (role_bars roles w v)
@@ -78,7 +80,8 @@ abbrev pub MeetFreeBy : List Role → List Window → Type 0
 MeetFreeBy roles ws = EachWithMet (PassesWith (free_by roles)) [] ws
 
 abbrev pub MeetLightBy : List Role → ℕ → ℕ → List Window → Type 0
-MeetLightBy roles groups capacity ws = EachWithMet (IsLightWith (load_by roles groups) capacity) [] ws
+MeetLightBy roles groups capacity ws =
+    EachWithMet (IsLightWith (load_by roles groups) capacity) [] ws
 
 -- ---- the windows that are still looked at
 
@@ -88,4 +91,5 @@ StartsBy w v = v.from + 1440 * w.day_back ≤ w.from + 1440 * v.day_back
 
 -- of those before, a window that begins no earlier than each meets just these
 abbrev pub Keeps : List Window → List Window → Type 0
-Keeps before active = (u : Window) → AllByRecursion (StartsBy u) before → met u active ≡ met u before
+Keeps before active =
+    (u : Window) → AllByRecursion (StartsBy u) before → met u active ≡ met u before

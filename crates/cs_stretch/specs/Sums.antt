@@ -38,8 +38,10 @@ HoldsFrom w first end = EachMinute (λ m. touches w m (m + 1) ≡ (nat_le first 
 -- at the minutes of the day that the window holds the table has changed so, at the others not
 pub record IsChanged (w : Window) (change : ℕ → ℕ) (old new : List ℕ) : Type 0 where
   pub long : length new ≡ length old
-  pub held : (m : ℕ) → m < 1440 → touches w m (m + 1) ≡ true → slice_index new m ≡ change (slice_index old m)
-  pub other : (m : ℕ) → m < 1440 → touches w m (m + 1) ≡ false → slice_index new m ≡ slice_index old m
+  pub held : (m : ℕ) → m < 1440 → touches w m (m + 1) ≡ true
+      → slice_index new m ≡ change (slice_index old m)
+  pub other : (m : ℕ) → m < 1440 → touches w m (m + 1) ≡ false
+      → slice_index new m ≡ slice_index old m
 
 -- a sum as far as 16 bits go
 abbrev pub capped : ℕ → ℕ
@@ -59,21 +61,27 @@ is_of roles g w = is_group g (role_at roles w.job).group
 
 -- the windows of catch-up and those of the jobs that have a group
 abbrev pub has_group_or_catches : List Role → Window → Bool
-has_group_or_catches roles w = not (role_at roles w.job).is_cron || is_some (role_at roles w.job).group
+has_group_or_catches roles w =
+    not (role_at roles w.job).is_cron || is_some (role_at roles w.job).group
 
 -- ---- the three rules by the roles of jobs
 
 -- at no minute of the day do two windows clash
 abbrev pub AreApartBy : List Role → List Window → Type 0
-AreApartBy roles ws = EachMinute (λ m. EachPair (λ v w. roles_clash (role_at roles v.job) (role_at roles w.job) ≡ false) (holders m ws))
+AreApartBy roles ws = EachMinute
+    (λ m. EachPair (λ v w. roles_clash (role_at roles v.job) (role_at roles w.job) ≡ false)
+    (holders m ws))
 
 -- at each minute of the day the windows weigh at most the capacity
 abbrev pub AreWithinBy : List Role → ℕ → ℕ → List Window → Type 0
-AreWithinBy roles groups capacity ws = EachMinute (λ m. load_by roles groups (holders m ws) ≤ capacity)
+AreWithinBy roles groups capacity ws =
+    EachMinute (λ m. load_by roles groups (holders m ws) ≤ capacity)
 
 -- at no due minute of a skip job does a window keep the lock from it
 abbrev pub AreFreeBy : List Role → List Window → Type 0
-AreFreeBy roles ws = EachMinute (λ m. AllByRecursion (λ v. AllByRecursion (λ w. role_blocks roles m v w ≡ false) (holders m ws)) (holders m ws))
+AreFreeBy roles ws = EachMinute
+    (λ m. AllByRecursion (λ v. AllByRecursion (λ w. role_blocks roles m v w ≡ false) (holders m ws))
+    (holders m ws))
 
 -- the group of each job is one of so many
 abbrev pub AreGrouped : List Role → ℕ → Type 0
@@ -83,27 +91,34 @@ AreGrouped roles groups = (j g : ℕ) → (role_at roles j).group ≡ Some g →
 
 -- at each minute of the day one run at most, or none without the lock, or none of a cron job
 abbrev pub NoneClash : List ℕ → List ℕ → List ℕ → Type 0
-NoneClash runs plain cron = EachMinute (λ m. (slice_index runs m ≤ 1) ⊎ ((slice_index plain m ≡ 0) ⊎ (slice_index cron m ≡ 0)))
+NoneClash runs plain cron = EachMinute
+    (λ m. (slice_index runs m ≤ 1) ⊎ ((slice_index plain m ≡ 0) ⊎ (slice_index cron m ≡ 0)))
 
 -- where the window begins on the day looked at and is a skip job's, the table has one at most
 abbrev pub IsLone : List Role → List ℕ → Window → Type 0
-IsLone roles table w = is_skip (role_at roles w.job).mode ≡ true → w.day_back ≡ 0 → w.from < 1440 → slice_index table w.from ≤ 1
+IsLone roles table w = is_skip (role_at roles w.job).mode ≡ true → w.day_back ≡ 0 → w.from < 1440
+    → slice_index table w.from ≤ 1
 
 -- at each minute of the day what the windows that hold it weigh, of groups in the first so many
 abbrev pub IsLoad : List Role → List Window → ℕ → List ℕ → Type 0
-IsLoad roles ws groups table = EachMinute (λ m. slice_index table m ≡ capped (load_by roles groups (holders m ws)))
+IsLoad roles ws groups table =
+    EachMinute (λ m. slice_index table m ≡ capped (load_by roles groups (holders m ws)))
 
 -- what windows of one group weigh together
 abbrev pub lock_weight : List Role → List Window → ℕ
-lock_weight roles ws = max (greatest (amount_in roles AloneWeight) ws) (total (amount_in roles SharedWeight) ws)
+lock_weight roles ws =
+    max (greatest (amount_in roles AloneWeight) ws) (total (amount_in roles SharedWeight) ws)
 
 -- and that is added, of the windows of one group
 abbrev pub IsAdded : List Role → List Window → List ℕ → List ℕ → Type 0
-IsAdded roles ws old new = EachMinute (λ m. slice_index new m ≡ capped (slice_index old m + lock_weight roles (holders m ws)))
+IsAdded roles ws old new = EachMinute
+    (λ m. slice_index new m ≡ capped (slice_index old m + lock_weight roles (holders m ws)))
 
 -- at each minute of the day the greater number of two tables is added
 abbrev pub IsGreaterAdded : List ℕ → List ℕ → List ℕ → List ℕ → Type 0
-IsGreaterAdded one other old new = EachMinute (λ m. slice_index new m ≡ capped (slice_index old m + max (slice_index one m) (slice_index other m)))
+IsGreaterAdded one other old new = EachMinute
+    (λ m. slice_index new m
+    ≡ capped (slice_index old m + max (slice_index one m) (slice_index other m)))
 
 -- a number for each minute of the day
 abbrev pub IsDay : List ℕ → Type 0
@@ -127,8 +142,10 @@ pub record IsRaisedAt (place more : ℕ) (old new : List ℕ) : Type 0 where
 
 -- at each minute of the day what has begun by then is what has ended by then and what the windows that hold it have
 abbrev pub IsTally : (Window → ℕ) → List Window → List ℕ → List ℕ → Type 0
-IsTally f ws begun ended = EachMinute (λ m. up_to begun (m + 1) ≡ up_to ended (m + 1) + total f (holders m ws))
+IsTally f ws begun ended =
+    EachMinute (λ m. up_to begun (m + 1) ≡ up_to ended (m + 1) + total f (holders m ws))
 
 -- at each minute of the day the table has what has begun by then and not ended
 abbrev pub IsRunning : List ℕ → List ℕ → List ℕ → Type 0
-IsRunning begun ended table = (m n : ℕ) → m < 1440 → up_to begun (m + 1) ≡ up_to ended (m + 1) + n → slice_index table m ≡ capped n
+IsRunning begun ended table = (m n : ℕ) → m < 1440 → up_to begun (m + 1) ≡ up_to ended (m + 1) + n
+    → slice_index table m ≡ capped n

@@ -159,7 +159,9 @@ struct Entry {
 }
 
 impl ToJson for Entry {
-    ghost spelled = { λ e. object (member (codes "line") (number (unsigned e.line)) (member (codes "name") (string (string_bytes e.name)) no_members)) };
+    ghost spelled = { λ e. object
+        (member (codes "line") (number (unsigned e.line))
+        (member (codes "name") (string (string_bytes e.name)) no_members)) };
 
     ghost no_float = { λ _. refl };
 

@@ -12,9 +12,7 @@ use Rattle.cs_reads.specs.Reads.{ReadsTables}
 use Rattle.cs_reads.specs.Response.{Ending}
 use Rattle.cs_reads.specs.Trouble.{InWords, Trouble, ends, trouble}
 use Rattle.cs_reads.specs.declared.fault.Fault.{Fault}
-
-some_ending : (a b : Ending) → Some a ≡ Some b → a ≡ b
-some_ending a b e = cc
+use Rattle.cs_reads.proofs.TroubleLemmas.{some_ending}
 
 -- the words hold a fault
 pub words_answer : (a : Asked) (files : List ℕ → Option (List ℕ)) (before : Failed) (fault : WordFault) (r : Ending)

@@ -9,10 +9,8 @@ use Rattle.cs_reads.specs.Reads.{ReadsTables}
 use Rattle.cs_reads.specs.Response.{Ending}
 use Rattle.cs_reads.specs.Trouble.{Trouble, ends, trouble}
 use Rattle.cs_reads.specs.declared.fault.Fault.{Fault}
+use Rattle.cs_reads.proofs.TroubleLemmas.{some_ending}
 use Rattle.cs_views.specs.DraftAnswer.{AnswersDraft, IsDrafted}
-
-some_ending : (a b : Ending) → Some a ≡ Some b → a ≡ b
-some_ending a b e = cc
 
 -- a table has a fault
 pub table_fault : (a : AskedDraft) (files : List ℕ → Option (List ℕ)) (before after : Failed) (e : Fault) (r : Ending)

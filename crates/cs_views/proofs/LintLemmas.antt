@@ -5,10 +5,8 @@ use Rattle.cs_io.specs.Files.{Failed}
 use Rattle.cs_reads.specs.Response.{Ending}
 use Rattle.cs_reads.specs.Trouble.{TellsPath, Trouble, ends, trouble}
 use Rattle.cs_reads.specs.declared.fault.Fault.{Fault}
+use Rattle.cs_reads.proofs.TroubleLemmas.{some_ending}
 use Rattle.cs_views.specs.LintAnswer.{AnswersLint, IsUnreadFile}
-
-some_ending : (a b : Ending) → Some a ≡ Some b → a ≡ b
-some_ending a b e = cc
 
 -- a file can't be read
 pub unread_answer : (before after : Failed) (e : Fault) (r : Ending) → IsUnreadFile e → option_map (ends []) (trouble e) ≡ Some r → AnswersLint before after r

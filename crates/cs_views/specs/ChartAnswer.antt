@@ -20,15 +20,19 @@ IsPicture ending = (ending.status ≡ 0) × (ending.err ≡ [])
 abbrev pub Charts : (List ℕ → Option (List ℕ)) → Option Text → Table × JobTable → Failed → Failed
     → Result Ending Trouble → Type 0
 Charts files None tables = GivesSome IsPicture
-Charts files (Some path) tables = AndThen (ReadsDeclared files tables path) (λ plan. GivesSome IsPicture)
+Charts files (Some path) tables =
+    AndThen (ReadsDeclared files tables path) (λ plan. GivesSome IsPicture)
 
 -- both tables are read first
-abbrev pub ChartsTables : AskedChart → (List ℕ → Option (List ℕ)) → Failed → Failed → Ending → Type 0
+abbrev pub ChartsTables : AskedChart → (List ℕ → Option (List ℕ)) → Failed → Failed → Ending
+    → Type 0
 ChartsTables a files =
-    Answered (ReadsTables files a.day.table a.day.anacrontab) (λ both. Charts files a.declarations both)
+    Answered (ReadsTables files a.day.table a.day.anacrontab)
+    (λ both. Charts files a.declarations both)
 
 -- what is answered to `chart`: the first fault of DATE, MAX, the hours and the files ends the call
-abbrev pub AnswersChart : AskedChart → (List ℕ → Option (List ℕ)) → Failed → Failed → Ending → Type 0
+abbrev pub AnswersChart : AskedChart → (List ℕ → Option (List ℕ)) → Failed → Failed → Ending
+    → Type 0
 AnswersChart a files before after ending =
     ((fault : WordFault) × IsBadWord a.day (word_fault fault) × (after ≡ before)
     × (ending ≡ ends [] (InWords fault)))

@@ -1,5 +1,5 @@
 -- What is answered to `day`.
-use Rattle.std.specs.Prelude.{◌≡◌, ℕ, List, [], ◌++◌, Option, Result, Ok, Err, codes, decimal}
+use Rattle.std.specs.Prelude.{◌≡◌, ℕ, List, ◌++◌, Option, Result, Ok, Err, codes, decimal}
 use Rattle.std.specs.Prelude.{flat_map}
 use Rattle.cs_crontab.specs.declared.table.When.{When}
 use Rattle.cs_crontab.specs.declared.table.When.TheVariants.{At, Reboot}
@@ -12,9 +12,9 @@ use Rattle.cs_call.specs.Words.{word_fault}
 use Rattle.cs_call.specs.declared.question.WordFault.{WordFault}
 use Rattle.cs_io.specs.Files.{Failed}
 use Rattle.cs_views.specs.DayText.{catch_up_text, date_line, job_text}
-use Rattle.cs_reads.specs.Reads.{AndThen, Gives, ReadsTables}
+use Rattle.cs_reads.specs.Reads.{AndThen, Gives, ReadsTables, ended}
 use Rattle.cs_reads.specs.Response.{Ending, done}
-use Rattle.cs_reads.specs.Trouble.{InWords, Trouble, ends}
+use Rattle.cs_reads.specs.Trouble.{InWords, Trouble}
 
 -- what is printed of a command line
 abbrev pub when_text : Question → ℕ → When → List ℕ
@@ -49,11 +49,6 @@ abbrev pub ShowsDay : Asked → (List ℕ → Option (List ℕ)) → Failed → 
     → Type 0
 ShowsDay a files = AndThen (AsksIn a) (λ q.
     AndThen (ReadsTables files a.table a.anacrontab) (λ both. Gives (Ok (shown q both.0 both.1))))
-
--- an answer, or what is answered of a fault
-abbrev pub ended : Result Ending Trouble → Ending
-ended (Ok answer) = answer
-ended (Err t) = ends [] t
 
 -- what is answered to `day`: the first fault of DATE, MAX, the hours, the crontab and the
 -- anacrontab ends the call, and no file is read before its own turn

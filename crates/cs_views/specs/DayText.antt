@@ -31,17 +31,23 @@ end_text end =
 
 -- `  23:30 the day before to 00:30`
 unfoldable pub window_text : Window → List ℕ
-window_text w = codes "  " ++ (start_text w ++ (codes " to " ++ (end_text (w.from + w.reach - 1440 * w.day_back) ++ 10 ∷ [])))
+window_text w = codes "  "
+    ++ (start_text w
+    ++ (codes " to " ++ (end_text (w.from + w.reach - 1440 * w.day_back) ++ 10 ∷ [])))
 
 -- the name of a weekday
 unfoldable pub weekday_text : ℕ → List ℕ
 weekday_text dow =
-    if dow == 0 then codes "Sun" else (if dow == 1 then codes "Mon" else (if dow == 2 then codes "Tue"
-    else (if dow == 3 then codes "Wed" else (if dow == 4 then codes "Thu" else (if dow == 5 then codes "Fri" else codes "Sat")))))
+    if dow == 0 then codes "Sun"
+    else (if dow == 1 then codes "Mon" else (if dow == 2 then codes "Tue"
+    else (if dow == 3 then codes "Wed"
+    else (if dow == 4 then codes "Thu" else (if dow == 5 then codes "Fri" else codes "Sat")))))
 
 -- `line 1: due 2`, where the job is due twice
 unfoldable pub due_text : ℕ → Times → Kind → List ℕ
-due_text number times day = codes "line " ++ (decimal number ++ (codes ": due " ++ (decimal (length (minutes_where (is_due times day))) ++ 10 ∷ [])))
+due_text number times day = codes "line "
+    ++ (decimal number
+    ++ (codes ": due " ++ (decimal (length (minutes_where (is_due times day))) ++ 10 ∷ [])))
 
 -- a job whose runs last so long
 abbrev pub job : Times → ℕ → Job Kind
@@ -53,7 +59,8 @@ four_days n = map kind (range_with_len (n - 3) 4)
 
 -- a command line: how often it is due, and the windows of its runs, those begun on earlier days first
 unfoldable pub job_text : ℕ → ℕ → ℕ → Times → List ℕ
-job_text n max number times = due_text number times (kind n) ++ flat_map window_text (windows_on (job times max ∷ []) (four_days n))
+job_text n max number times = due_text number times (kind n)
+    ++ flat_map window_text (windows_on (job times max ∷ []) (four_days n))
 
 -- a blank, the weekday's name, and the end of the line
 unfoldable pub weekday_part : ℕ → List ℕ
@@ -74,4 +81,5 @@ identifier_line identifier = codes "job " ++ (identifier ++ codes ": catch-up\n"
 -- an anacron job: the windows in which catch-up may occupy the machine
 unfoldable pub catch_up_text : ℕ → ℕ → ℕ → ℕ → List ℕ → List ℕ
 catch_up_text n max from to identifier =
-    identifier_line identifier ++ flat_map window_text (windows_on (catch_up from to max ∷ []) (four_days n))
+    identifier_line identifier
+    ++ flat_map window_text (windows_on (catch_up from to max ∷ []) (four_days n))

@@ -1,5 +1,5 @@
 -- What is answered to `draft`.
-use Rattle.std.specs.Prelude.{◌≡◌, ◌⊎◌, ◌++◌, ℕ, true, false, List, [], Option, Result, Ok, Err}
+use Rattle.std.specs.Prelude.{◌≡◌, ◌⊎◌, ◌++◌, ℕ, true, false, List, [], Option, Result}
 use Rattle.cs_crontab.specs.Crontab.{Table}
 use Rattle.cs_anacrontab.specs.Anacrontab.{Table as JobTable}
 use Rattle.cs_warning.specs.Warning.{warnings as warnings_text}
@@ -8,7 +8,7 @@ use Rattle.cs_draft.specs.Draft.{IsDraft}
 use Rattle.cs_call.specs.CommandLine.{AskedDraft}
 use Rattle.cs_call.specs.declared.question.WordFault.TheVariants.{BadMax}
 use Rattle.cs_io.specs.Files.{Failed}
-use Rattle.cs_reads.specs.Reads.{AndThen, GivesSome, ReadsTables}
+use Rattle.cs_reads.specs.Reads.{AndThen, GivesSome, ReadsTables, ended}
 use Rattle.cs_reads.specs.Response.{Ending}
 use Rattle.cs_reads.specs.Trouble.{InWords, Trouble, ends}
 
@@ -23,19 +23,17 @@ IsDrafted both ending =
     ⊎ ((ending.status ≡ 2) × (ending.out ≡ []) × WarnsFirst both ending.err)
 
 -- the longest time, and then both tables
-abbrev pub Drafts : AskedDraft → (List ℕ → Option (List ℕ)) → Failed → Failed → Result Ending Trouble
+abbrev pub Drafts : AskedDraft → (List ℕ → Option (List ℕ)) → Failed → Failed
+    → Result Ending Trouble
     → Type 0
-Drafts a files = AndThen (ReadsTables files a.table a.anacrontab) (λ both. GivesSome (IsDrafted both))
-
--- an answer, or what is answered of a fault
-abbrev pub drafted : Result Ending Trouble → Ending
-drafted (Ok answer) = answer
-drafted (Err t) = ends [] t
+Drafts a files =
+    AndThen (ReadsTables files a.table a.anacrontab) (λ both. GivesSome (IsDrafted both))
 
 -- what is answered to `draft`: a longest time that no job may declare ends the call before a file is
 -- read; else the first fault of both tables does
-abbrev pub AnswersDraft : AskedDraft → (List ℕ → Option (List ℕ)) → Failed → Failed → Ending → Type 0
+abbrev pub AnswersDraft : AskedDraft → (List ℕ → Option (List ℕ)) → Failed → Failed → Ending
+    → Type 0
 AnswersDraft a files before after ending =
     ((is_possible_max a.max ≡ false) × (after ≡ before) × (ending ≡ ends [] (InWords BadMax)))
     ⊎ ((is_possible_max a.max ≡ true)
-    × ((r : Result Ending Trouble) × Drafts a files before after r × (ending ≡ drafted r)))
+    × ((r : Result Ending Trouble) × Drafts a files before after r × (ending ≡ ended r)))

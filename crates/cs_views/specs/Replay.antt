@@ -62,8 +62,10 @@ state_line s =
 unfoldable pub replay_text : Declared → Numbered → List ℕ
 replay_text d script =
     let start = state_of (as_plan d) (From script.start) in
-    event_lines (as_plan d) start script.events ++ state_line (last_state (as_plan d) start script.events)
+    event_lines (as_plan d) start script.events
+    ++ state_line (last_state (as_plan d) start script.events)
 
 -- whether an event of the script was refused
 unfoldable pub has_refusal : Declared → Numbered → Bool
-has_refusal d script = is_any_refused (as_plan d) (state_of (as_plan d) (From script.start)) script.events
+has_refusal d script =
+    is_any_refused (as_plan d) (state_of (as_plan d) (From script.start)) script.events

@@ -16,7 +16,8 @@ use Rattle.cs_reads.specs.Response.{Ending}
 use Rattle.cs_reads.specs.Trouble.{InScript, Trouble}
 
 -- the plan of both tables: as it is declared, or with one longest time for all jobs
-abbrev pub ReadsPlan : (List ℕ → Option (List ℕ)) → Table × JobTable → ℕ → Option Text → Failed → Failed
+abbrev pub ReadsPlan : (List ℕ → Option (List ℕ)) → Table × JobTable → ℕ → Option Text → Failed
+    → Failed
     → Result Declared Trouble → Type 0
 ReadsPlan files tables max None = Gives (planned (plain_of tables.0 tables.1 max))
 ReadsPlan files tables max (Some path) = ReadsDeclared files tables path
@@ -43,6 +44,7 @@ Replays files a tables = AndThen (ReadsPlan files tables a.max a.declarations) (
 
 -- what is answered to `replay`: the replayed script, or the first fault of a file, and no file is
 -- read before its own turn
-abbrev pub AnswersReplay : AskedReplay → (List ℕ → Option (List ℕ)) → Failed → Failed → Ending → Type 0
+abbrev pub AnswersReplay : AskedReplay → (List ℕ → Option (List ℕ)) → Failed → Failed → Ending
+    → Type 0
 AnswersReplay a files =
     Answered (ReadsTables files a.table a.anacrontab) (λ both. Replays files a both)

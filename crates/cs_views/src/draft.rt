@@ -58,9 +58,9 @@ pub fn answer_draft<I: Inputs>(
         → IfOk result (AnswersDraft (asked_draft request.now) (I.whole inputs.old)
         (I.failed inputs.old) (I.failed inputs.new)) }
     ensures status { IfOk result (IsHonest (I.failed inputs.new) (I.reads inputs.new)) }
-    ensures warned { IfErr result (λ e. IsWarned (I.whole inputs.old) (asked_draft request.now).table
-        (asked_draft request.now).anacrontab (I.failed inputs.old)
-        (I.reads inputs.old) (I.reads inputs.new) e.warnings) }
+    ensures warned { IfErr result (λ e. IsWarned (I.whole inputs.old)
+        (asked_draft request.now).table (asked_draft request.now).anacrontab
+        (I.failed inputs.old) (I.reads inputs.old) (I.reads inputs.new) e.warnings) }
     ensures turn { AreReadInTurn
         (table_paths (asked_draft request.now).table (asked_draft request.now).anacrontab)
         (I.reads inputs.old) (I.reads inputs.new) }

@@ -14,8 +14,10 @@ use std::alloc::{AllocError, Global};
 /// Tries an event. The only error is want of memory.
 #[tactic(auto, using(crate::proofs::ReplayLemmas::step_taken, crate::proofs::ReplayLemmas::step_refused))]
 fn try_event(core: &mut Core, event: Event) -> Result<Result<Reply, Refusal>, AllocError>
-    ensures answer { IfOk result (λ answer. answer ≡ tried (as_plan core.old.plan) core.old.state event) }
-    ensures state { OnOk result (core.new.state ≡ next (as_plan core.old.plan) core.old.state event) }
+    ensures answer { IfOk result (λ answer.
+        answer ≡ tried (as_plan core.old.plan) core.old.state event) }
+    ensures state { OnOk result
+        (core.new.state ≡ next (as_plan core.old.plan) core.old.state event) }
     ensures plan { core.new.plan ≡ core.old.plan }
 {
     match core.step(event) {

@@ -6,7 +6,8 @@ use Rattle.cs_wait.specs.declared.backlog.TheConstants.{MINUTES_OF_DAY, MAX_BACK
 -- from this minute on: the minutes rise strictly below 1,440, and the values are from 1 to 1,000,000
 abbrev pub IsBacklogFrom : ℕ → List Piece → Type 0
 IsBacklogFrom least [] = Unit {0}
-IsBacklogFrom least (p ∷ ps) = (least ≤ p.minute) × (p.minute < MINUTES_OF_DAY) × (1 ≤ p.value) × (p.value ≤ MAX_BACKLOG) × IsBacklogFrom (p.minute + 1) ps
+IsBacklogFrom least (p ∷ ps) = (least ≤ p.minute) × (p.minute < MINUTES_OF_DAY) × (1 ≤ p.value)
+    × (p.value ≤ MAX_BACKLOG) × IsBacklogFrom (p.minute + 1) ps
 
 abbrev pub IsBacklog : List Piece → Type 0
 IsBacklog ps = IsBacklogFrom 0 ps
@@ -24,8 +25,10 @@ at ps minute = fold (decided minute) 0 ps
 abbrev pub following_from : ℕ → ℕ → ℕ → List ℕ → List Piece
 following_from minute bound shown [] = []
 following_from minute bound shown (a ∷ more) =
-    if bound == shown then following_from (minute + 1) (min MAX_BACKLOG (bound + a - 1)) (bound - 1) more
-    else record { minute = minute; value = bound } ∷ following_from (minute + 1) (min MAX_BACKLOG (bound + a - 1)) (bound - 1) more
+    if bound == shown
+    then following_from (minute + 1) (min MAX_BACKLOG (bound + a - 1)) (bound - 1) more
+    else record { minute = minute; value = bound }
+    ∷ following_from (minute + 1) (min MAX_BACKLOG (bound + a - 1)) (bound - 1) more
 
 -- the pieces of the bound that is `first` at minute 0 and follows what arrives at each minute of the day, up to the greatest
 -- value of a piece
@@ -39,15 +42,18 @@ none = replicate 1440 0
 -- the bound over successive days, whose minutes are counted from the start of the first; 0 past the last
 abbrev pub at_days : List (ℕ → ℕ) → ℕ → ℕ
 at_days [] minute = 0
-at_days (day ∷ days) minute = if nat_lt minute MINUTES_OF_DAY then day minute else at_days days (minute - MINUTES_OF_DAY)
+at_days (day ∷ days) minute =
+    if nat_lt minute MINUTES_OF_DAY then day minute else at_days days (minute - MINUTES_OF_DAY)
 
 -- at each minute of the day before, its last one too: the bound and what arrives, less one, is within the bound of the next minute
 abbrev pub StepsHold : (ℕ → ℕ) → (ℕ → ℕ) → (ℕ → ℕ) → Type 0
-StepsHold before arrive day = (t : ℕ) → t < MINUTES_OF_DAY → before t + arrive t - 1 ≤ at_days (before ∷ day ∷ []) (t + 1)
+StepsHold before arrive day =
+    (t : ℕ) → t < MINUTES_OF_DAY → before t + arrive t - 1 ≤ at_days (before ∷ day ∷ []) (t + 1)
 
 -- the same of the steps within a day: at each minute of the day but the last
 abbrev pub StepsHoldWithin : (ℕ → ℕ) → (ℕ → ℕ) → Type 0
-StepsHoldWithin bound arrive = (t : ℕ) → t + 1 < MINUTES_OF_DAY → bound t + arrive t - 1 ≤ bound (t + 1)
+StepsHoldWithin bound arrive =
+    (t : ℕ) → t + 1 < MINUTES_OF_DAY → bound t + arrive t - 1 ≤ bound (t + 1)
 
 -- the minute lies on one of the days and has the bound 0
 abbrev pub IsClearAt : List (ℕ → ℕ) → ℕ → Type 0

@@ -9,12 +9,17 @@ use Rattle.cs_crontab.specs.Text.{front, is_solid}
 
 -- Other daemons heed these settings of a crontab or an anacrontab.
 abbrev pub is_unheeded : SettingLine → Bool
-is_unheeded setting = bytes_eq setting.name (codes "CRON_TZ") || (bytes_eq setting.name (codes "RANDOM_DELAY") || bytes_eq setting.name (codes "START_HOURS_RANGE"))
+is_unheeded setting = bytes_eq setting.name (codes "CRON_TZ")
+    || (bytes_eq setting.name (codes "RANDOM_DELAY")
+    || bytes_eq setting.name (codes "START_HOURS_RANGE"))
 
 -- `warning: NAME on line N of the TABLE has no effect` and a newline
 abbrev pub warning : List ℕ → SettingLine → List ℕ
 warning table setting =
-    codes "warning: " ++ (setting.name ++ (codes " on line " ++ (decimal setting.number ++ (codes " of the " ++ (table ++ codes " has no effect\n")))))
+    codes "warning: "
+    ++ (setting.name
+    ++ (codes " on line "
+    ++ (decimal setting.number ++ (codes " of the " ++ (table ++ codes " has no effect\n")))))
 
 -- such a line for each of those settings, in their order
 unfoldable pub warnings_of : List ℕ → List SettingLine → List ℕ

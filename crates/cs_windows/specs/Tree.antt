@@ -20,12 +20,14 @@ tree_of (Split' at p before q after) = split at (tree_of before) (tree_of after)
 -- over [lo, hi), each split lies inside its range
 abbrev pub SplitsInside : Tree → ℕ → ℕ → Type 0
 SplitsInside (leaf entries) lo hi = Unit {0}
-SplitsInside (split at before after) lo hi = (lo < at) × (at < hi) × SplitsInside before lo at × SplitsInside after at hi
+SplitsInside (split at before after) lo hi =
+    (lo < at) × (at < hi) × SplitsInside before lo at × SplitsInside after at hi
 
 -- the entries of the leaf in whose range a minute lies
 abbrev pub entries_at : Tree → ℕ → List Entry
 entries_at (leaf entries) minute = entries
-entries_at (split at before after) minute = if nat_lt minute at then entries_at before minute else entries_at after minute
+entries_at (split at before after) minute =
+    if nat_lt minute at then entries_at before minute else entries_at after minute
 
 -- the entries of a leaf, and its range [lo, hi)
 pub record LeafOver : Type 0 where
@@ -47,8 +49,10 @@ keeps_to l w = not (touches w l.lo l.hi) || lists l.entries w
 
 -- whether each leaf lists every window that touches its range
 abbrev pub covers : Tree → List Window → Bool
-covers tree windows = list_all (λ w. list_all (λ l. keeps_to l w) (leaves tree 0 MINUTES_OF_DAY)) windows
+covers tree windows =
+    list_all (λ w. list_all (λ l. keeps_to l w) (leaves tree 0 MINUTES_OF_DAY)) windows
 
 -- at each minute of the day, every given window that holds it is listed in the leaf of the minute
 abbrev pub IsComplete : Tree → List Window → Type 0
-IsComplete tree windows = (minute : ℕ) → minute < MINUTES_OF_DAY → (w : Window) → Contains windows w → Holds w minute → IsTrue (lists (entries_at tree minute) w)
+IsComplete tree windows = (minute : ℕ) → minute < MINUTES_OF_DAY → (w : Window) → Contains windows w
+    → Holds w minute → IsTrue (lists (entries_at tree minute) w)

@@ -14,7 +14,8 @@ pub record Job (D : Type 0) : Type 0 where
 abbrev pub starting : {D : Type 0} → D → ℕ → ℕ → ℕ → List (Job D) → List Window
 starting day back minute number [] = []
 starting day back minute number (job ∷ jobs) =
-    if job.begins day minute then window number back minute job.lasts ∷ starting day back minute (number + 1) jobs
+    if job.begins day minute
+    then window number back minute job.lasts ∷ starting day back minute (number + 1) jobs
     else starting day back minute (number + 1) jobs
 
 -- the minutes of a day in order
@@ -28,7 +29,8 @@ windows_from jobs day back = flat_map (λ minute. starting day back minute 0 job
 -- the windows begun on successive days, eldest first, that reach the last of them, by start, then job
 abbrev pub windows_on : {D : Type 0} → List (Job D) → List D → List Window
 windows_on jobs [] = []
-windows_on jobs (day ∷ days) = filter reaches (windows_from jobs day (length days)) ++ windows_on jobs days
+windows_on jobs (day ∷ days) =
+    filter reaches (windows_from jobs day (length days)) ++ windows_on jobs days
 
 -- the window is one of the job at its place, begins on the day so many places before the last, and reaches the last
 pub record IsWindowOn {D : Type 0} (jobs : List (Job D)) (days : List D) (w : Window) : Type 0 where

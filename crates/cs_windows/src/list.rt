@@ -88,7 +88,8 @@ fn add_minutes(
     to: u16,
 ) -> Result<(), AllocError>
     requires { from ≤ to }
-    ensures { OnOk result (windows.new.items ≡ windows.old.items ++ begun_between near.now from to) }
+    ensures { OnOk result
+        (windows.new.items ≡ windows.old.items ++ begun_between near.now from to) }
 {
     for minute in from..to {
         add_begun(windows, near, minute)?;
@@ -106,7 +107,8 @@ fn add_day(
 ) -> Result<(), AllocError>
     requires { length occupied.now ≤ MOST_OCCUPIED }
     ensures { OnOk result (windows.new.items
-        ≡ windows.old.items ++ filter reaches (windows_from (map job_of occupied.now) day day_back)) }
+        ≡ windows.old.items
+        ++ filter reaches (windows_from (map job_of occupied.now) day day_back)) }
 {
     let starters = starters_on(alloc, occupied, day, day_back)?;
     let mut near = Vec::new(alloc);

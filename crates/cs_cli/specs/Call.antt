@@ -46,7 +46,7 @@ AnswersAsked (Judge a) files before failed = EndsAs (AnswersJudge Verdict a file
 AnswersAsked (Make a) files before failed =
     EndsAs (AnswersJudge (wanted_of a.compact) a.judge files before failed)
 AnswersAsked (Draft a) files before failed = EndsAs (AnswersDraft a files before failed)
-AnswersAsked (Lint a) files before failed = EndsAs (AnswersLint before failed)
+AnswersAsked (Lint a) files before failed = EndsAs (AnswersLint a files before failed)
 AnswersAsked (Chart a) files before failed = EndsAs (AnswersChart a files before failed)
 AnswersAsked (Explain name) files before failed = EndsAs (AnswersExplain before failed)
 AnswersAsked Help files before failed = EndsAs (ShowsHelp before failed)

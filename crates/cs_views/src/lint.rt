@@ -1,12 +1,15 @@
 //! The subcommand `lint`.
-ghost use Rattle.std.specs.Prelude.{◌≡◌, IfErr, IfOk, OnOk, option_map};
+ghost use Rattle.std.specs.Prelude.{◌≡◌, ◌≤◌, [], IfErr, IfOk, OnErr, OnOk, length, option_map};
 ghost use Rattle.cs_call.specs.Asked.{asked_lint};
-ghost use Rattle.cs_io.specs.Files.{AreReadInTurn};
+ghost use Rattle.cs_crontab.specs.declared.limits.TheConstants.{MAX_TABLE};
+ghost use Rattle.cs_io.specs.Files.{AreReadInTurn, IsFresh};
+ghost use Rattle.cs_lint.specs.Refused.{Judges};
 ghost use Rattle.cs_reads.specs.RanOut.{IsUnwarned};
 ghost use Rattle.cs_reads.specs.Response.{status_of};
 ghost use Rattle.cs_reads.specs.Trouble.{IsHonest, IsHonestOf};
 ghost use Rattle.cs_reads.specs.Turn.{lint_paths, some_path, table_paths};
-ghost use Rattle.cs_views.specs.LintAnswer.{AnswersLint, IsLintStatus, IsLinted, IsUnreadFile};
+ghost use Rattle.cs_views.specs.LintAnswer.{AnswersLint, AreHeld, AreHeldTables, IfKnown, IsLinted};
+ghost use Rattle.cs_views.specs.LintAnswer.{IsShort, IsSomeUpTo, IsUnreadFile, verdict_status};
 
 use cs_call::LintWords;
 use cs_civil::Bytes;
@@ -16,38 +19,60 @@ use cs_lint::{File, Verdict, lint as findings};
 use cs_reads::{Fault, RanOut, Response, Status, all_bytes_at, bytes_at};
 use std::alloc::{AllocError, Global};
 
-/// The bytes of the files of a call.
+/// A file whose bytes were read.
 #[derive(Drop)]
-struct Held {
-    table: Vec<u8>,
-    jobs: Option<Vec<u8>>,
-    declarations: Option<Vec<u8>>,
+struct Loaded<'a> {
+    path: &'a str,
+    bytes: Vec<u8>,
 }
 
-/// The bytes of an anacrontab, if there is one, or more of them than it may have.
+/// The files of a call.
+#[derive(Drop)]
+struct Held<'a> {
+    table: Loaded<'a>,
+    jobs: Option<Loaded<'a>>,
+    declarations: Option<Loaded<'a>>,
+}
+
+/// An anacrontab, if there is one, or more bytes of it than it may have.
 fn jobs_at<'a, I: Inputs>(
     alloc: Global,
     inputs: &mut I,
     path: Option<&'a str>,
-) -> Result<Option<Vec<u8>>, Fault<'a>>
+) -> Result<Option<Loaded<'a>>, Fault<'a>>
+    ensures held { IsFresh (I.whole inputs.old) (I.left inputs.old)
+        → IfOk result (λ jobs. IfKnown (I.whole inputs.old)
+        (option_map (λ path. path.now) path.entry)
+        (IsSomeUpTo (option_map (λ file. file.bytes.items) jobs))) }
     ensures works { OnOk result (I.failed inputs.new ≡ I.failed inputs.old) }
+    ensures whole { I.whole inputs.new ≡ I.whole inputs.old }
+    ensures fresh { IfOk result (λ jobs. IsShort (option_map (λ file. file.bytes.items) jobs)
+        → IsFresh (I.whole inputs.old) (I.left inputs.old)
+        → IsFresh (I.whole inputs.new) (I.left inputs.new)) }
     ensures status { IfErr result (IsHonestOf (I.failed inputs.new) (I.reads inputs.new)) }
     ensures told { IfErr result IsUnreadFile }
     ensures turn { AreReadInTurn (some_path (option_map (λ path. path.now) path.entry))
         (I.reads inputs.old) (I.reads inputs.new) }
 {
     match path {
-        Some(path) => Ok(Some(bytes_at(alloc, inputs, path, MAX_TABLE as u32)?)),
+        Some(path) => {
+            let bytes = bytes_at(alloc, inputs, path, MAX_TABLE as u32)?;
+            Ok(Some(Loaded { path, bytes }))
+        }
         None => Ok(None),
     }
 }
 
-/// The bytes of declarations, if there are any.
+/// Declarations, if there are any.
 fn declarations_at<'a, I: Inputs>(
     alloc: Global,
     inputs: &mut I,
     path: Option<&'a str>,
-) -> Result<Option<Vec<u8>>, Fault<'a>>
+) -> Result<Option<Loaded<'a>>, Fault<'a>>
+    ensures held { IsFresh (I.whole inputs.old) (I.left inputs.old)
+        → IfOk result (λ declarations. IfKnown (I.whole inputs.old)
+        (option_map (λ path. path.now) path.entry)
+        (λ text. option_map (λ file. file.bytes.items) declarations ≡ text)) }
     ensures works { OnOk result (I.failed inputs.new ≡ I.failed inputs.old) }
     ensures status { IfErr result (IsHonestOf (I.failed inputs.new) (I.reads inputs.new)) }
     ensures told { IfErr result IsUnreadFile }
@@ -55,35 +80,51 @@ fn declarations_at<'a, I: Inputs>(
         (I.reads inputs.old) (I.reads inputs.new) }
 {
     match path {
-        Some(path) => Ok(Some(all_bytes_at(alloc, inputs, path)?)),
+        Some(path) => {
+            let bytes = all_bytes_at(alloc, inputs, path)?;
+            Ok(Some(Loaded { path, bytes }))
+        }
         None => Ok(None),
     }
 }
 
-/// The bytes of both tables.
+/// Both tables.
 fn tables_at<'a, I: Inputs>(
     alloc: Global,
     inputs: &mut I,
     request: &LintWords<'a>,
-) -> Result<(Vec<u8>, Option<Vec<u8>>), Fault<'a>>
+) -> Result<(Loaded<'a>, Option<Loaded<'a>>), Fault<'a>>
+    ensures held { IsFresh (I.whole inputs.old) (I.left inputs.old)
+        → IfOk result (λ both. AreHeldTables (asked_lint request.now) (I.whole inputs.old)
+        both.0.bytes.items (option_map (λ file. file.bytes.items) both.1)) }
     ensures works { OnOk result (I.failed inputs.new ≡ I.failed inputs.old) }
+    ensures whole { I.whole inputs.new ≡ I.whole inputs.old }
+    ensures fresh { IfOk result (λ both. length both.0.bytes.items ≤ MAX_TABLE
+        → IsShort (option_map (λ file. file.bytes.items) both.1)
+        → IsFresh (I.whole inputs.old) (I.left inputs.old)
+        → IsFresh (I.whole inputs.new) (I.left inputs.new)) }
     ensures status { IfErr result (IsHonestOf (I.failed inputs.new) (I.reads inputs.new)) }
     ensures told { IfErr result IsUnreadFile }
     ensures turn { AreReadInTurn
         (table_paths (asked_lint request.now).table (asked_lint request.now).anacrontab)
         (I.reads inputs.old) (I.reads inputs.new) }
 {
-    let table = bytes_at(alloc, inputs, request.table, MAX_TABLE as u32)?;
+    let path = request.table;
+    let bytes = bytes_at(alloc, inputs, path, MAX_TABLE as u32)?;
     let jobs = jobs_at(alloc, inputs, request.anacrontab)?;
-    Ok((table, jobs))
+    Ok((Loaded { path, bytes }, jobs))
 }
 
-/// The bytes of all files.
+/// All files.
 fn files_at<'a, I: Inputs>(
     alloc: Global,
     inputs: &mut I,
     request: &LintWords<'a>,
-) -> Result<Held, Fault<'a>>
+) -> Result<Held<'a>, Fault<'a>>
+    ensures held { IsFresh (I.whole inputs.old) (I.left inputs.old)
+        → IfOk result (λ held. AreHeld (asked_lint request.now) (I.whole inputs.old)
+        held.table.bytes.items (option_map (λ file. file.bytes.items) held.jobs)
+        (option_map (λ file. file.bytes.items) held.declarations)) }
     ensures works { OnOk result (I.failed inputs.new ≡ I.failed inputs.old) }
     ensures status { IfErr result (IsHonestOf (I.failed inputs.new) (I.reads inputs.new)) }
     ensures told { IfErr result IsUnreadFile }
@@ -99,20 +140,30 @@ fn files_at<'a, I: Inputs>(
     })
 }
 
-/// A file that may be left out.
-fn some_file<'a>(path: Option<&'a str>, bytes: &'a Option<Vec<u8>>) -> Option<File<'a>> {
-    match (path, bytes) {
-        (Some(path), Some(bytes)) => Some(File {
-            path,
-            bytes: bytes.as_slice(),
-        }),
-        _ => None,
+/// A file as it is looked at.
+fn file_of<'a>(loaded: &'a Loaded<'a>) -> File<'a>
+    ensures { result.bytes.now ≡ loaded.now.bytes.items }
+{
+    File {
+        path: loaded.path,
+        bytes: loaded.bytes.as_slice(),
+    }
+}
+
+/// And one that may be left out.
+fn some_file<'a>(loaded: &'a Option<Loaded<'a>>) -> Option<File<'a>>
+    ensures { option_map (λ file. file.bytes.now) result
+        ≡ option_map (λ file. file.bytes.items) loaded.now }
+{
+    match loaded {
+        Some(loaded) => Some(file_of(loaded)),
+        None => None,
     }
 }
 
 /// The status of a call that found the worst to be this.
 fn status_for(verdict: Verdict) -> Status
-    ensures { IsLintStatus (status_of result) }
+    ensures { status_of result ≡ verdict_status verdict }
 {
     match verdict {
         Verdict::Clean => Status::Done,
@@ -121,16 +172,15 @@ fn status_for(verdict: Verdict) -> Status
     }
 }
 
-/// What is answered of the bytes of all files.
-fn show(alloc: Global, request: &LintWords<'_>, held: &Held) -> Result<Response, AllocError>
-    ensures { IfOk result IsLinted }
+/// What is answered of all files.
+fn show(alloc: Global, held: &Held<'_>) -> Result<Response, AllocError>
+    ensures { IfOk result (IsLinted (λ verdict. Judges verdict held.now.table.bytes.items
+        (option_map (λ file. file.bytes.items) held.now.jobs)
+        (option_map (λ file. file.bytes.items) held.now.declarations))) }
 {
-    let table = File {
-        path: request.table,
-        bytes: held.table.as_slice(),
-    };
-    let jobs = some_file(request.anacrontab, &held.jobs);
-    let declarations = some_file(request.declarations, &held.declarations);
+    let table = file_of(&held.table);
+    let jobs = some_file(&held.jobs);
+    let declarations = some_file(&held.declarations);
     let report = findings(alloc, &table, jobs.as_ref(), declarations.as_ref())?;
     let status = status_for(report.verdict);
     Ok(Response::told(status, report.text.into_vec(), Bytes::new(alloc)))
@@ -142,7 +192,9 @@ pub fn answer_lint<I: Inputs>(
     request: &LintWords<'_>,
     inputs: &mut I,
 ) -> Result<Response, RanOut>
-    ensures value { IfOk result (AnswersLint (I.failed inputs.old) (I.failed inputs.new)) }
+    ensures value { IsFresh (I.whole inputs.old) (I.left inputs.old)
+        → IfOk result (AnswersLint (asked_lint request.now) (I.whole inputs.old)
+        (I.failed inputs.old) (I.failed inputs.new)) }
     ensures status { IfOk result (IsHonest (I.failed inputs.new) (I.reads inputs.new)) }
     ensures warned { IfErr result (λ e. IsUnwarned (lint_paths (asked_lint request.now))
         (I.reads inputs.old) (I.reads inputs.new) e.warnings) }
@@ -153,5 +205,5 @@ pub fn answer_lint<I: Inputs>(
         Ok(held) => held,
         Err(fault) => return Ok(fault.response(alloc, b"".as_slice())?),
     };
-    Ok(show(alloc, request, &held)?)
+    Ok(show(alloc, &held)?)
 }

@@ -8,6 +8,8 @@ from pathlib import Path
 from second import check
 from second.call import Answer, answer_of
 
+from hostile_calls.drafts import is_draft
+
 SECONDS = 10
 MEMORY = 1 << 30
 # What begins the verdict that a window isn't listed.
@@ -57,8 +59,13 @@ def is_met(wanted, got):
     """Returns whether an answer is the wanted one, in what of it the second reading tells."""
     if wanted.status is None:
         return got.status in (0, 1) and got.err == wanted.err
-    is_told = wanted.err is None or wanted.err == got.err
-    return got.status == wanted.status and got.out == wanted.out and is_told
+    outputs = (wanted.out, got.out), (wanted.err, got.err)
+    return got.status == wanted.status and all(it[0] in (None, it[1]) for it in outputs)
+
+
+def is_drafted(call, got):
+    """Returns whether a draft that was printed is one."""
+    return call.words[0] != b"draft" or got.status != 0 or is_draft(call, got.out)
 
 
 def is_as_known(call, wanted):
@@ -76,11 +83,13 @@ def looked_at(program_and_call):
     """Returns what differs in a call, as text; nothing where the answers are the same."""
     program, call = program_and_call
     wanted, got = wanted_of(call), run(program, call)
-    if is_met(wanted, got) and is_as_known(call, wanted):
+    if is_met(wanted, got) and is_as_known(call, wanted) and is_drafted(call, got):
         return ""
     files = "".join(f"  {it.decode()} {text[:300]!r}\n" for it, text in call.files.items())
     words = " ".join(os.fsdecode(it) for it in call.words)
     told = f"  {words}\n{files}  wanted {printed(wanted)}\n  got {printed(got)}\n"
     if not is_as_known(call, wanted):
         told += f"  a window has to be missing: {call.is_missed}\n"
+    if not is_drafted(call, got):
+        told += "  this draft doesn't join with its tables\n"
     return f"{call.what} differs\n{told}"

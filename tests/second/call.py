@@ -1,7 +1,8 @@
 """What a whole call answers, as far as this reading goes.
 
 Words, files and standard input go in; out come the status and both outputs. Of `check`, `judge`
-and `make` only faults of what is read are known here: past them an answer is not told.
+and `make` only faults of what is read are known here: past them an answer is not told. Of `lint`
+it is known whether there is a fault, of `draft` whether there is one of the words or of a table.
 """
 from collections import namedtuple
 
@@ -19,7 +20,11 @@ CALLS = {
     b"judge": (("TABLE", "DECLS"), ("ANACRONTAB",)),
     b"make": (("TABLE", "DECLS"), ("ANACRONTAB",)),
     b"replay": (("TABLE", "SCRIPT"), ("ANACRONTAB", "DECLARATIONS", "max")),
+    b"lint": (("TABLE", "DECLS"), ("ANACRONTAB",)),
+    b"draft": (("TABLE",), ("ANACRONTAB", "max")),
 }
+# How many of the last words of a subcommand may be left out.
+LEFT_OUT = {b"lint": 1}
 NUMBERS = ("max", "from", "to")
 HELP = (b"help", b"-h", b"--help")
 
@@ -81,7 +86,7 @@ def asked(words):
         raise NoCall
     plain, options = CALLS[words[0]]
     values, found = named(words, options)
-    if len(values) != len(plain):
+    if not len(plain) - LEFT_OUT.get(words[0], 0) <= len(values) <= len(plain):
         raise NoCall
     found.update(zip(plain, values))
     if sum(value == b"-" for name, value in found.items() if name.isupper()) > 1:
@@ -125,6 +130,27 @@ class Call:
             raise Fault("declarations", "BadHours")
         return 0, day_answer(*self.read_tables(found), day, found["max"], hours)
 
+    def lint(self, found):
+        """Tells whether there is a fault; all files are read before one is looked at."""
+        for role in ("TABLE", "ANACRONTAB", "DECLS"):
+            if role in found:
+                self.bytes_of(found[role])
+        try:
+            tables = self.read_tables(found)
+            if "DECLS" in found:
+                read_plan(self.bytes_of(found["DECLS"]), *tables)
+        except Fault:
+            return 3, None
+        finally:
+            self.warned = b""
+        return None, None
+
+    def draft(self, found):
+        look_at_max(found.get("max", 60))
+        self.read_tables(found)
+        self.warned = None
+        return 0, None
+
     def judge(self, found):
         tables = self.read_tables(found)
         read_plan(self.bytes_of(found["DECLS"]), *tables)
@@ -148,7 +174,10 @@ class Call:
         return replay_answer(plan, script.read_script(self.bytes_of(found["SCRIPT"]), plan))
 
     def answer(self):
-        verbs = {b"day": self.day, b"check": self.check, b"replay": self.replay}
+        verbs = {
+            **{b"day": self.day, b"check": self.check, b"replay": self.replay},
+            **{b"lint": self.lint, b"draft": self.draft},
+        }
         try:
             status, out = verbs.get(self.words[0], self.judge)(asked(self.words))
             return Answer(status, out, self.warned)

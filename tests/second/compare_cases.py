@@ -3,8 +3,8 @@
 
 usage: tests/second/compare_cases.py [NAME..]
 
-All cases of `day`, `check`, `judge`, `make` and `replay` are looked at, or those that are named as
-SUBCOMMAND/NAME. Where the wanted answer is one that this reading knows, it has to be the same:
+All cases of `day`, `check`, `judge`, `make`, `replay`, `lint` and `draft` are looked at, or those
+that are named as SUBCOMMAND/NAME. Where the wanted answer is one that this reading knows, it has to be the same:
 status and both outputs. Where it comes later, as the verdict of `check`, what is read before has to
 read well, with the wanted warnings. Cases of help are left out. Prints each case in which the two
 differ, with both answers, and last 'N passed, M failed'. Ends with status 0 where none fails.
@@ -18,7 +18,7 @@ sys.path.insert(0, str(TESTS))
 
 from second.call import Answer, answer_of, asks_help  # noqa: E402
 
-SUBCOMMANDS = ("day", "check", "judge", "make", "replay")
+SUBCOMMANDS = ("day", "check", "judge", "make", "replay", "lint", "draft")
 OWN_FILES = ("args", "stdin", "status", "stdout", "stderr", "then")
 # What standard error says behind the warnings where the text of a certificate holds a fault.
 OF_CERTIFICATES = b"cronsafe: certificate: "
@@ -46,8 +46,8 @@ def is_met(wanted, got):
         if wanted.status == 3:
             return is_warned and behind.startswith(OF_CERTIFICATES)
         return is_warned and behind == b"" and wanted.status in (0, 1, 2)
-    is_told = got.err is None or got.err == wanted.err
-    return got.status == wanted.status and got.out == wanted.out and is_told
+    outputs = (got.out, wanted.out), (got.err, wanted.err)
+    return got.status == wanted.status and all(it[0] in (None, it[1]) for it in outputs)
 
 
 def printed(answer):

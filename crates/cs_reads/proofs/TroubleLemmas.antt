@@ -24,18 +24,16 @@ use Rattle.cs_reads.specs.Response.{Ending, complaint}
 use Rattle.cs_reads.specs.Trouble.{CameTo, IsHonest, IsHonestOf, IsUnread, TellsPath, Trouble, ends, trouble, trouble_status, trouble_text}
 use Rattle.cs_reads.specs.declared.fault.Fault.{Fault}
 
-some_text : (a b : List ℕ) → Some a ≡ Some b → a ≡ b
-some_text a b e = cc
-
-pub some_ending : (a b : Ending) → Some a ≡ Some b → a ≡ b
-some_ending a b e = cc
+-- what is there is the same
+pub some_is : {X : Type 0} (x y : X) → Some x ≡ Some y → x ≡ y
+some_is x y e = cc
 
 -- its text and its status make the ending
 pub is_ending : (w t : List ℕ) (s : ℕ) (o : Option Trouble) → option_map trouble_text o ≡ Some t → IfSome o (λ x. s ≡ trouble_status x)
     → option_map (ends w) o ≡ Some (record { status = s; out = []; err = w ++ complaint t })
 is_ending w t s None e is = absurd (cc)
 is_ending w t s (Some x) e is =
-    let text : trouble_text x ≡ t = some_text (trouble_text x) t e in
+    let text : trouble_text x ≡ t = some_is (trouble_text x) t e in
     rw (is, ← text) refl
 
 -- what was read means what the file means
@@ -138,7 +136,7 @@ answered_fault tables next before after both w fault ending one warned other is 
   where
     by_trouble : (o : Option Trouble) → IfSome o (λ t. next both before after (Err t)) → option_map (ends w) o ≡ Some ending → Answered tables next before after ending
     by_trouble None h e = absurd (cc)
-    by_trouble (Some t) h e = inr (both, one, (Err t, h, sym (some_ending (ends w t) ending e) ∙ ap (λ v. ends v t) warned))
+    by_trouble (Some t) h e = inr (both, one, (Err t, h, sym (some_is (ends w t) ending e) ∙ ap (λ v. ends v t) warned))
 
 -- both tables were not read
 pub answered_stop : (tables : Failed → Failed → Result (Table × JobTable) Trouble → Type 0) (next : Table × JobTable → Failed → Failed → Result Ending Trouble → Type 0) (before after : Failed) (fault : Fault) (ending : Ending)
@@ -147,7 +145,7 @@ answered_stop tables next before after fault ending = by_trouble (trouble fault)
   where
     by_trouble : (o : Option Trouble) → IfSome o (λ t. tables before after (Err t)) → option_map (ends []) o ≡ Some ending → Answered tables next before after ending
     by_trouble None h e = absurd (cc)
-    by_trouble (Some t) h e = inl (t, h, sym (some_ending (ends [] t) ending e))
+    by_trouble (Some t) h e = inl (t, h, sym (some_is (ends [] t) ending e))
 
 -- ---- the status of a failed device
 
@@ -158,7 +156,7 @@ honest_fault failed reads w e r = by_trouble (trouble e)
     by_trouble : (o : Option Trouble) → IfSome o (λ t. trouble_status t ≡ 6 → (path : Text) × IsUnread path failed reads × TellsPath path t) → option_map (ends w) o ≡ Some r → IsHonest failed reads r
     by_trouble None h is = absurd (cc)
     by_trouble (Some t) h is = λ six.
-        let same : ends w t ≡ r = some_ending (ends w t) r is in
+        let same : ends w t ≡ r = some_is (ends w t) r is in
         let (path, unread, (reason, told)) = h (ap (λ (x : Ending). x.status) same ∙ six) in
         record { path = path; unread = unread; warnings = w; reason = reason; told = sym same ∙ ap (ends w) told }
 

@@ -12,12 +12,12 @@ use Rattle.cs_reads.specs.Reads.{ReadsTables}
 use Rattle.cs_reads.specs.Response.{Ending}
 use Rattle.cs_reads.specs.Trouble.{InWords, Trouble, ends, trouble}
 use Rattle.cs_reads.specs.declared.fault.Fault.{Fault}
-use Rattle.cs_reads.proofs.TroubleLemmas.{some_ending}
+use Rattle.cs_reads.proofs.TroubleLemmas.{some_is}
 
 -- the words hold a fault
 pub words_answer : (a : Asked) (files : List ℕ → Option (List ℕ)) (before : Failed) (fault : WordFault) (r : Ending)
     → IsBadWord a (word_fault fault) → Some (ends [] (InWords fault)) ≡ Some r → AnswersDay a files before before r
-words_answer a files before fault r bad e = (Err (InWords fault), inl (InWords fault, (refl, (fault, refl, bad)), refl), sym (some_ending (ends [] (InWords fault)) r e))
+words_answer a files before fault r bad e = (Err (InWords fault), inl (InWords fault, (refl, (fault, refl, bad)), refl), sym (some_is (ends [] (InWords fault)) r e))
 
 -- a table does
 pub table_answer : (a : Asked) (files : List ℕ → Option (List ℕ)) (before after : Failed) (q : Question) (e : Fault) (r : Ending)
@@ -26,7 +26,7 @@ table_answer a files before after q e r asks tables is = by_trouble (trouble e) 
   where
     by_trouble : (o : Option Trouble) → IfSome o (λ t. ReadsTables files a.table a.anacrontab before after (Err t)) → option_map (ends []) o ≡ Some r → AnswersDay a files before after r
     by_trouble None h same = absurd (cc)
-    by_trouble (Some t) h same = (Err t, inr (q, (refl, asks), inl (t, h, refl)), sym (some_ending (ends [] t) r same))
+    by_trouble (Some t) h same = (Err t, inr (q, (refl, asks), inl (t, h, refl)), sym (some_is (ends [] t) r same))
 
 -- both tables are shown
 pub shown_answer : (a : Asked) (files : List ℕ → Option (List ℕ)) (before after : Failed) (q : Question) (both : Table × JobTable) (r : Ending)

@@ -9,7 +9,7 @@ use Rattle.cs_reads.specs.Reads.{ReadsTables}
 use Rattle.cs_reads.specs.Response.{Ending}
 use Rattle.cs_reads.specs.Trouble.{Trouble, ends, trouble}
 use Rattle.cs_reads.specs.declared.fault.Fault.{Fault}
-use Rattle.cs_reads.proofs.TroubleLemmas.{some_ending}
+use Rattle.cs_reads.proofs.TroubleLemmas.{some_is}
 use Rattle.cs_views.specs.DraftAnswer.{AnswersDraft, IsDrafted}
 
 -- a table has a fault
@@ -19,7 +19,7 @@ table_fault a files before after e r possible tables is = by_trouble (trouble e)
   where
     by_trouble : (o : Option Trouble) → IfSome o (λ t. ReadsTables files a.table a.anacrontab before after (Err t)) → option_map (ends []) o ≡ Some r → AnswersDraft a files before after r
     by_trouble None h same = absurd (cc)
-    by_trouble (Some t) h same = inr (possible, (Err t, inl (t, h, refl), sym (some_ending (ends [] t) r same)))
+    by_trouble (Some t) h same = inr (possible, (Err t, inl (t, h, refl), sym (some_is (ends [] t) r same)))
 
 -- both tables are drafted
 pub tables_drafted : (a : AskedDraft) (files : List ℕ → Option (List ℕ)) (before after : Failed) (both : Table × JobTable) (r : Ending)

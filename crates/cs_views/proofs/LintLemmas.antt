@@ -14,7 +14,7 @@ use Rattle.cs_lint.specs.declared.report.Verdict.TheVariants.{Clean, Odd, Faulty
 use Rattle.cs_reads.specs.Response.{Ending}
 use Rattle.cs_reads.specs.Trouble.{TellsPath, Trouble, ends, trouble}
 use Rattle.cs_reads.specs.declared.fault.Fault.{Fault}
-use Rattle.cs_reads.proofs.TroubleLemmas.{some_ending}
+use Rattle.cs_reads.proofs.TroubleLemmas.{some_is}
 use Rattle.cs_views.specs.LintAnswer.{AnswersLint, AreHeld, IfAllKnown, IfKnown, IsLong, IsShort, IsSomeUpTo, IsUnreadFile}
 
 -- a file can't be read
@@ -23,7 +23,7 @@ unread_answer a files before after e r = by_trouble (trouble e)
   where
     by_trouble : (o : Option Trouble) → IfSome o (λ t. (path : Text) × TellsPath path t) → option_map (ends []) o ≡ Some r → AnswersLint a files before after r
     by_trouble None h is = absurd (cc)
-    by_trouble (Some t) (path, told) is = inr (path, t, told, sym (some_ending (ends [] t) r is))
+    by_trouble (Some t) (path, told) is = inr (path, t, told, sym (some_is (ends [] t) r is))
 
 -- ---- what is known of a file
 

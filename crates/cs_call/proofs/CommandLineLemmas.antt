@@ -12,10 +12,8 @@ use Rattle.std.specs.Box.{box_value}
 use Rattle.clap.specs.Simple.{subcommand_rows}
 use Rattle.clap.specs.declared.parser.matches.ArgMatches.TheViews.{out-SubCommand}
 use Rattle.clap.specs.declared.parser.matches.SubCommand.{SubCommand}
-use Rattle.clap.specs.Words.{HasKind, IsAmong, Row, Text, fault_of, first_of, first_value, is_simple, is_simple_and_free, kind_of, rows_of}
+use Rattle.clap.specs.Words.{HasKind, IsAmong, Row, Text, fault_of, is_simple, is_simple_and_free, kind_of}
 use Rattle.clap.specs.declared.error.Error.{Error}
-use Rattle.clap.specs.declared.parser.matches.Found.{Found}
-use Rattle.clap.proofs.WalkLemmas.{first_value-rows}
 use Rattle.cs_call.specs.CommandLine.{asked_by, asked_of, chart_app, check_app, cronsafe_app, day_app, draft_app, explain_app, help_app, judge_and_make_app}
 use Rattle.cs_call.specs.CommandLine.{judge_app, lint_app, make_app, number_of, replay_app, run_app, top_app, up_to_explain_app, up_to_lint_app, up_to_replay_app, up_to_run_app}
 use Rattle.cs_call.specs.Asked.{FaultOf, Parses, RequestAsked}
@@ -51,10 +49,6 @@ number_refused bs r x h e d =
     let kk = subst (λ y. OkIff y ((0 < length bs) × (digits_value 10 bs < 2 ^ 64)) (digits_value 10 bs)) e k in
     let t = fails (nat_lt 0 (length bs)) (nat_lt (digits_value 10 bs) (2 ^ 64)) (λ q. kk (ltb-true 0 (length bs) q.0, ltb-true (digits_value 10 bs) (2 ^ 64) q.1)) in
     rw (d, t) refl
-
--- a getter's value, by the rows
-pub first_value_rows : (f : Found) (id : Text) (o : Option Text) → o ≡ first_value f id → first_of id (rows_of f) ≡ o
-first_value_rows f id o e = sym (e ∙ first_value-rows f id)
 
 -- what words ask is what the entries of their subcommand ask
 pub asked_named : (o : Option (Text × List Row)) (name : Text) (rows : List Row) → option_map (λ p. p.0) o ≡ Some name → option_map (λ p. p.1) o ≡ Some rows

@@ -1,9 +1,9 @@
 //! The command line, as `clap` is told of it.
 ghost use Rattle.std.specs.Prelude.{◌≡◌, IfOk, false, is_some};
-ghost use Rattle.clap.specs.Words.{app_of, rule_of, with_rule};
+ghost use Rattle.clap.specs.Words.{App, app_of, new_app, new_rule, rule_of, with_rule, with_subcommand};
 ghost use Rattle.cs_call.specs.CommandLine.{IsLocal, check_app, cronsafe_app, day_app, help_app, judge_and_make_app};
 ghost use Rattle.cs_call.specs.CommandLine.{judge_app, make_app, plan_app, replay_app, run_app};
-ghost use Rattle.cs_call.specs.CommandLine.{up_to_replay_app, up_to_run_app, with_certificate};
+ghost use Rattle.cs_call.specs.CommandLine.{top_app, up_to_replay_app, up_to_run_app, with_certificate};
 ghost use Rattle.cs_call.specs.CommandLine.{chart_app, draft_app, explain_app, lint_app};
 ghost use Rattle.cs_call.specs.CommandLine.{up_to_explain_app, up_to_lint_app};
 ghost use Rattle.cs_call.specs.CommandLine.{is_planned_name, is_shown_name};
@@ -19,7 +19,7 @@ use crate::texts::{
 };
 use crate::version::version_text;
 use clap::error::ErrorKind;
-use clap::{Arg, ArgAction, Command};
+use clap::{Arg, ArgAction, Command, Error};
 use std::alloc::{AllocError, Global};
 
 /// An argument that stands without a name, and has to.
@@ -52,39 +52,100 @@ fn flag_arg<'a>(alloc: Global, name: &'a str, help: &'a str) -> Arg<'a>
         .help(help)
 }
 
-/// A command with `TABLE DATE MAX`.
-fn with_words<'a>(alloc: Global, command: Command<'a>) -> Result<Command<'a>, AllocError>
-    ensures app { IfOk result (λ c. app_of c ≡ with_words (app_of command.entry)) }
-    ensures local { IsLocal command.entry → IfOk result IsLocal }
+/// A command that takes no words yet, with what its help says of it.
+fn described<'a>(
+    alloc: Global,
+    name: &'a str,
+    about: &'a str,
+    example: &'a str,
+) -> Result<Command<'a>, AllocError>
+    ensures app { IfOk result (λ c. app_of c ≡ new_app name.now) }
+    ensures local { IfOk result IsLocal }
 {
-    command
-        .arg(required_arg(alloc, "TABLE", TABLE_HELP))?
-        .arg(required_arg(alloc, "DATE", DATE_HELP))?
-        .arg(required_arg(alloc, "MAX", MAX_HELP))
+    Ok(Command::new(alloc, name).about(about).after_help(example))
+}
+
+/// A command with one argument more.
+fn with_arg<'a>(
+    command: Result<Command<'a>, AllocError>,
+    arg: Arg<'a>,
+) -> Result<Command<'a>, AllocError>
+    requires { arg.global ≡ false }
+    ensures app { (app : App) → IfOk command.entry (λ c. app_of c ≡ app)
+        → IfOk result (λ c. app_of c ≡ with_rule app (rule_of arg.entry)) }
+    ensures local { IfOk command.entry IsLocal → IfOk result IsLocal }
+{
+    command?.arg(arg)
+}
+
+/// A command with one argument more that stands without a name, and has to.
+fn with_required<'a>(
+    alloc: Global,
+    command: Result<Command<'a>, AllocError>,
+    id: &'a str,
+    help: &'a str,
+) -> Result<Command<'a>, AllocError>
+    ensures app { (app : App) → IfOk command.entry (λ c. app_of c ≡ app)
+        → IfOk result (λ c. app_of c ≡ with_rule app (required_rule id.now)) }
+    ensures local { IfOk command.entry IsLocal → IfOk result IsLocal }
+{
+    with_arg(command, required_arg(alloc, id, help))
+}
+
+/// A command with one argument more that stands without a name, and may be left out.
+fn with_optional<'a>(
+    alloc: Global,
+    command: Result<Command<'a>, AllocError>,
+    id: &'a str,
+    help: &'a str,
+) -> Result<Command<'a>, AllocError>
+    ensures app { (app : App) → IfOk command.entry (λ c. app_of c ≡ app)
+        → IfOk result (λ c. app_of c ≡ with_rule app (new_rule id.now)) }
+    ensures local { IfOk command.entry IsLocal → IfOk result IsLocal }
+{
+    with_arg(command, Arg::new(alloc, id).help(help))
 }
 
 /// A command with one option more.
 fn with_option<'a>(
     alloc: Global,
-    command: Command<'a>,
+    command: Result<Command<'a>, AllocError>,
     name: &'a str,
     value: &'a str,
     help: &'a str,
 ) -> Result<Command<'a>, AllocError>
-    ensures app { IfOk result (λ c.
-        app_of c ≡ with_rule (app_of command.entry) (option_rule name.now)) }
-    ensures local { IsLocal command.entry → IfOk result IsLocal }
+    ensures app { (app : App) → IfOk command.entry (λ c. app_of c ≡ app)
+        → IfOk result (λ c. app_of c ≡ with_rule app (option_rule name.now)) }
+    ensures local { IfOk command.entry IsLocal → IfOk result IsLocal }
 {
-    command.arg(option_arg(alloc, name, value, help))
+    with_arg(command, option_arg(alloc, name, value, help))
+}
+
+/// A command with `TABLE DATE MAX`.
+fn with_words<'a>(
+    alloc: Global,
+    command: Result<Command<'a>, AllocError>,
+) -> Result<Command<'a>, AllocError>
+    ensures app { (app : App) → IfOk command.entry (λ c. app_of c ≡ app)
+        → IfOk result (λ c. app_of c ≡ with_words app) }
+    ensures local { IfOk command.entry IsLocal → IfOk result IsLocal }
+{
+    let command = with_required(alloc, command, "TABLE", TABLE_HELP);
+    let command = with_required(alloc, command, "DATE", DATE_HELP);
+    with_required(alloc, command, "MAX", MAX_HELP)
 }
 
 /// A command with `[--anacrontab FILE] [--from M] [--to M]`.
-fn with_hours<'a>(alloc: Global, command: Command<'a>) -> Result<Command<'a>, AllocError>
-    ensures app { IfOk result (λ c. app_of c ≡ with_hours (app_of command.entry)) }
-    ensures local { IsLocal command.entry → IfOk result IsLocal }
+fn with_hours<'a>(
+    alloc: Global,
+    command: Result<Command<'a>, AllocError>,
+) -> Result<Command<'a>, AllocError>
+    ensures app { (app : App) → IfOk command.entry (λ c. app_of c ≡ app)
+        → IfOk result (λ c. app_of c ≡ with_hours app) }
+    ensures local { IfOk command.entry IsLocal → IfOk result IsLocal }
 {
-    let command = with_option(alloc, command, "anacrontab", "FILE", ANACRONTAB_HELP)?;
-    let command = with_option(alloc, command, "from", "M", FROM_HELP)?;
+    let command = with_option(alloc, command, "anacrontab", "FILE", ANACRONTAB_HELP);
+    let command = with_option(alloc, command, "from", "M", FROM_HELP);
     with_option(alloc, command, "to", "M", TO_HELP)
 }
 
@@ -94,19 +155,22 @@ fn day_command<'a>(alloc: Global) -> Result<Command<'a>, AllocError>
     ensures app { IfOk result (λ c. app_of c ≡ day_app) }
     ensures local { IfOk result IsLocal }
 {
-    let command = Command::new(alloc, "day")
-        .about(DAY_ABOUT)
-        .after_help(DAY_EXAMPLE);
-    with_hours(alloc, with_words(alloc, command)?)
+    let command = described(alloc, "day", DAY_ABOUT, DAY_EXAMPLE);
+    let command = with_words(alloc, command);
+    with_hours(alloc, command)
 }
 
 /// A command with `[--max N] [--anacrontab FILE] [--declarations FILE]`.
-fn with_terms<'a>(alloc: Global, command: Command<'a>) -> Result<Command<'a>, AllocError>
-    ensures app { IfOk result (λ c. app_of c ≡ with_terms (app_of command.entry)) }
-    ensures local { IsLocal command.entry → IfOk result IsLocal }
+fn with_terms<'a>(
+    alloc: Global,
+    command: Result<Command<'a>, AllocError>,
+) -> Result<Command<'a>, AllocError>
+    ensures app { (app : App) → IfOk command.entry (λ c. app_of c ≡ app)
+        → IfOk result (λ c. app_of c ≡ with_terms app) }
+    ensures local { IfOk command.entry IsLocal → IfOk result IsLocal }
 {
-    let command = with_option(alloc, command, "max", "N", REPLAY_MAX_HELP)?;
-    let command = with_option(alloc, command, "anacrontab", "FILE", ANACRONTAB_HELP)?;
+    let command = with_option(alloc, command, "max", "N", REPLAY_MAX_HELP);
+    let command = with_option(alloc, command, "anacrontab", "FILE", ANACRONTAB_HELP);
     with_option(alloc, command, "declarations", "FILE", DECLARATIONS_HELP)
 }
 
@@ -116,23 +180,24 @@ fn replay_command<'a>(alloc: Global) -> Result<Command<'a>, AllocError>
     ensures app { IfOk result (λ c. app_of c ≡ replay_app) }
     ensures local { IfOk result IsLocal }
 {
-    let command = Command::new(alloc, "replay")
-        .about(REPLAY_ABOUT)
-        .after_help(REPLAY_EXAMPLE)
-        .arg(required_arg(alloc, "TABLE", TABLE_HELP))?
-        .arg(required_arg(alloc, "SCRIPT", SCRIPT_HELP))?;
+    let command = described(alloc, "replay", REPLAY_ABOUT, REPLAY_EXAMPLE);
+    let command = with_required(alloc, command, "TABLE", TABLE_HELP);
+    let command = with_required(alloc, command, "SCRIPT", SCRIPT_HELP);
     with_terms(alloc, command)
 }
 
 /// A command with `TABLE DECLS CERT`.
-fn with_certificate<'a>(alloc: Global, command: Command<'a>) -> Result<Command<'a>, AllocError>
-    ensures app { IfOk result (λ c. app_of c ≡ with_certificate (app_of command.entry)) }
-    ensures local { IsLocal command.entry → IfOk result IsLocal }
+fn with_certificate<'a>(
+    alloc: Global,
+    command: Result<Command<'a>, AllocError>,
+) -> Result<Command<'a>, AllocError>
+    ensures app { (app : App) → IfOk command.entry (λ c. app_of c ≡ app)
+        → IfOk result (λ c. app_of c ≡ with_certificate app) }
+    ensures local { IfOk command.entry IsLocal → IfOk result IsLocal }
 {
-    command
-        .arg(required_arg(alloc, "TABLE", TABLE_HELP))?
-        .arg(required_arg(alloc, "DECLS", DECLARATIONS_HELP))?
-        .arg(required_arg(alloc, "CERT", CERTIFICATE_HELP))
+    let command = with_required(alloc, command, "TABLE", TABLE_HELP);
+    let command = with_required(alloc, command, "DECLS", DECLARATIONS_HELP);
+    with_required(alloc, command, "CERT", CERTIFICATE_HELP)
 }
 
 /// `check TABLE DECLS CERT [--anacrontab FILE]`.
@@ -141,10 +206,8 @@ fn check_command<'a>(alloc: Global) -> Result<Command<'a>, AllocError>
     ensures app { IfOk result (λ c. app_of c ≡ check_app) }
     ensures local { IfOk result IsLocal }
 {
-    let command = Command::new(alloc, "check")
-        .about(CHECK_ABOUT)
-        .after_help(CHECK_EXAMPLE);
-    let command = with_certificate(alloc, command)?;
+    let command = described(alloc, "check", CHECK_ABOUT, CHECK_EXAMPLE);
+    let command = with_certificate(alloc, command);
     with_option(alloc, command, "anacrontab", "FILE", ANACRONTAB_HELP)
 }
 
@@ -154,15 +217,10 @@ fn run_command<'a>(alloc: Global) -> Result<Command<'a>, AllocError>
     ensures app { IfOk result (λ c. app_of c ≡ run_app) }
     ensures local { IfOk result IsLocal }
 {
-    let command = Command::new(alloc, "run")
-        .about(RUN_ABOUT)
-        .after_help(RUN_EXAMPLE);
-    let command = with_certificate(alloc, command)?.arg(required_arg(
-        alloc,
-        "STAMPS",
-        STAMPS_HELP,
-    ))?;
-    let command = with_option(alloc, command, "anacrontab", "FILE", ANACRONTAB_HELP)?;
+    let command = described(alloc, "run", RUN_ABOUT, RUN_EXAMPLE);
+    let command = with_certificate(alloc, command);
+    let command = with_required(alloc, command, "STAMPS", STAMPS_HELP);
+    let command = with_option(alloc, command, "anacrontab", "FILE", ANACRONTAB_HELP);
     with_option(alloc, command, "minutes", "N", MINUTES_HELP)
 }
 
@@ -176,11 +234,9 @@ fn plan_command<'a>(
     ensures app { IfOk result (λ c. app_of c ≡ plan_app name.now) }
     ensures local { IfOk result IsLocal }
 {
-    let command = Command::new(alloc, name)
-        .about(about)
-        .after_help(example)
-        .arg(required_arg(alloc, "TABLE", TABLE_HELP))?
-        .arg(required_arg(alloc, "DECLS", DECLARATIONS_HELP))?;
+    let command = described(alloc, name, about, example);
+    let command = with_required(alloc, command, "TABLE", TABLE_HELP);
+    let command = with_required(alloc, command, "DECLS", DECLARATIONS_HELP);
     with_option(alloc, command, "anacrontab", "FILE", ANACRONTAB_HELP)
 }
 
@@ -199,8 +255,8 @@ fn make_command<'a>(alloc: Global) -> Result<Command<'a>, AllocError>
     ensures app { IfOk result (λ c. app_of c ≡ make_app) }
     ensures local { IfOk result IsLocal }
 {
-    let command = plan_command(alloc, "make", MAKE_ABOUT, MAKE_EXAMPLE)?;
-    command.arg(flag_arg(alloc, "compact", COMPACT_HELP))
+    let command = plan_command(alloc, "make", MAKE_ABOUT, MAKE_EXAMPLE);
+    with_arg(command, flag_arg(alloc, "compact", COMPACT_HELP))
 }
 
 /// `draft TABLE [--anacrontab FILE] [--max N]`.
@@ -209,11 +265,9 @@ fn draft_command<'a>(alloc: Global) -> Result<Command<'a>, AllocError>
     ensures app { IfOk result (λ c. app_of c ≡ draft_app) }
     ensures local { IfOk result IsLocal }
 {
-    let command = Command::new(alloc, "draft")
-        .about(DRAFT_ABOUT)
-        .after_help(DRAFT_EXAMPLE)
-        .arg(required_arg(alloc, "TABLE", TABLE_HELP))?;
-    let command = with_option(alloc, command, "anacrontab", "FILE", ANACRONTAB_HELP)?;
+    let command = described(alloc, "draft", DRAFT_ABOUT, DRAFT_EXAMPLE);
+    let command = with_required(alloc, command, "TABLE", TABLE_HELP);
+    let command = with_option(alloc, command, "anacrontab", "FILE", ANACRONTAB_HELP);
     with_option(alloc, command, "max", "N", DRAFT_MAX_HELP)
 }
 
@@ -223,11 +277,9 @@ fn lint_command<'a>(alloc: Global) -> Result<Command<'a>, AllocError>
     ensures app { IfOk result (λ c. app_of c ≡ lint_app) }
     ensures local { IfOk result IsLocal }
 {
-    let command = Command::new(alloc, "lint")
-        .about(LINT_ABOUT)
-        .after_help(LINT_EXAMPLE)
-        .arg(required_arg(alloc, "TABLE", TABLE_HELP))?
-        .arg(Arg::new(alloc, "DECLS").help(DECLARATIONS_HELP))?;
+    let command = described(alloc, "lint", LINT_ABOUT, LINT_EXAMPLE);
+    let command = with_required(alloc, command, "TABLE", TABLE_HELP);
+    let command = with_optional(alloc, command, "DECLS", DECLARATIONS_HELP);
     with_option(alloc, command, "anacrontab", "FILE", ANACRONTAB_HELP)
 }
 
@@ -237,11 +289,10 @@ fn chart_command<'a>(alloc: Global) -> Result<Command<'a>, AllocError>
     ensures app { IfOk result (λ c. app_of c ≡ chart_app) }
     ensures local { IfOk result IsLocal }
 {
-    let command = Command::new(alloc, "chart")
-        .about(CHART_ABOUT)
-        .after_help(CHART_EXAMPLE);
-    let command = with_hours(alloc, with_words(alloc, command)?)?;
-    let command = with_option(alloc, command, "days", "N", DAYS_HELP)?;
+    let command = described(alloc, "chart", CHART_ABOUT, CHART_EXAMPLE);
+    let command = with_words(alloc, command);
+    let command = with_hours(alloc, command);
+    let command = with_option(alloc, command, "days", "N", DAYS_HELP);
     with_option(alloc, command, "declarations", "FILE", DECLARATIONS_HELP)
 }
 
@@ -251,10 +302,8 @@ fn explain_command<'a>(alloc: Global) -> Result<Command<'a>, AllocError>
     ensures app { IfOk result (λ c. app_of c ≡ explain_app) }
     ensures local { IfOk result IsLocal }
 {
-    Command::new(alloc, "explain")
-        .about(EXPLAIN_ABOUT)
-        .after_help(EXPLAIN_EXAMPLE)
-        .arg(Arg::new(alloc, "NAME").help(NAME_HELP))
+    let command = described(alloc, "explain", EXPLAIN_ABOUT, EXPLAIN_EXAMPLE);
+    with_optional(alloc, command, "NAME", NAME_HELP)
 }
 
 /// `help [COMMAND]`.
@@ -263,25 +312,45 @@ fn help_command<'a>(alloc: Global) -> Result<Command<'a>, AllocError>
     ensures app { IfOk result (λ c. app_of c ≡ help_app) }
     ensures local { IfOk result IsLocal }
 {
-    Command::new(alloc, "help")
-        .about(HELP_ABOUT)
-        .arg(Arg::new(alloc, "COMMAND").help(COMMAND_HELP))
+    let command = Ok(Command::new(alloc, "help").about(HELP_ABOUT));
+    with_optional(alloc, command, "COMMAND", COMMAND_HELP)
+}
+
+/// A command with one subcommand more.
+fn with_subcommand<'a>(
+    command: Result<Command<'a>, AllocError>,
+    subcommand: Result<Command<'a>, AllocError>,
+) -> Result<Command<'a>, AllocError>
+    requires { IfOk subcommand IsLocal }
+    ensures { (above below : App) → IfOk command.entry (λ c. app_of c ≡ above)
+        → IfOk subcommand.entry (λ c. app_of c ≡ below)
+        → IfOk result (λ c. app_of c ≡ with_subcommand above below.top) }
+{
+    command?.subcommand(subcommand?)
+}
+
+/// The program without its subcommands.
+#[tactic(auto, unfolding(crate::specs::CommandLine::top_app))]
+fn top<'a>(alloc: Global) -> Result<Command<'a>, AllocError>
+    ensures { IfOk result (λ c. app_of c ≡ top_app) }
+{
+    Ok(
+        Command::new(alloc, "cronsafe")
+            .about(ABOUT)
+            .version(version_text())
+            .after_help(EXAMPLE)
+            .disable_help_subcommand(true)
+            .subcommand_required(true),
+    )
 }
 
 /// The program with the subcommands `judge` and `make`.
-#[tactic(auto, unfolding(crate::specs::CommandLine::top_app, crate::specs::CommandLine::judge_and_make_app))]
+#[tactic(auto, unfolding(crate::specs::CommandLine::judge_and_make_app))]
 fn judge_and_make<'a>(alloc: Global) -> Result<Command<'a>, AllocError>
     ensures { IfOk result (λ c. app_of c ≡ judge_and_make_app) }
 {
-    let cronsafe = Command::new(alloc, "cronsafe")
-        .about(ABOUT)
-        .version(version_text())
-        .after_help(EXAMPLE)
-        .disable_help_subcommand(true)
-        .subcommand_required(true);
-    cronsafe
-        .subcommand(judge_command(alloc)?)?
-        .subcommand(make_command(alloc)?)
+    let cronsafe = with_subcommand(top(alloc), judge_command(alloc));
+    with_subcommand(cronsafe, make_command(alloc))
 }
 
 /// And with `check` and `run`.
@@ -289,9 +358,8 @@ fn judge_and_make<'a>(alloc: Global) -> Result<Command<'a>, AllocError>
 fn up_to_run<'a>(alloc: Global) -> Result<Command<'a>, AllocError>
     ensures { IfOk result (λ c. app_of c ≡ up_to_run_app) }
 {
-    judge_and_make(alloc)?
-        .subcommand(check_command(alloc)?)?
-        .subcommand(run_command(alloc)?)
+    let cronsafe = with_subcommand(judge_and_make(alloc), check_command(alloc));
+    with_subcommand(cronsafe, run_command(alloc))
 }
 
 /// And with `day` and `replay`.
@@ -299,9 +367,8 @@ fn up_to_run<'a>(alloc: Global) -> Result<Command<'a>, AllocError>
 fn up_to_replay<'a>(alloc: Global) -> Result<Command<'a>, AllocError>
     ensures { IfOk result (λ c. app_of c ≡ up_to_replay_app) }
 {
-    up_to_run(alloc)?
-        .subcommand(day_command(alloc)?)?
-        .subcommand(replay_command(alloc)?)
+    let cronsafe = with_subcommand(up_to_run(alloc), day_command(alloc));
+    with_subcommand(cronsafe, replay_command(alloc))
 }
 
 /// And with `draft` and `lint`.
@@ -309,9 +376,8 @@ fn up_to_replay<'a>(alloc: Global) -> Result<Command<'a>, AllocError>
 fn up_to_lint<'a>(alloc: Global) -> Result<Command<'a>, AllocError>
     ensures { IfOk result (λ c. app_of c ≡ up_to_lint_app) }
 {
-    up_to_replay(alloc)?
-        .subcommand(draft_command(alloc)?)?
-        .subcommand(lint_command(alloc)?)
+    let cronsafe = with_subcommand(up_to_replay(alloc), draft_command(alloc));
+    with_subcommand(cronsafe, lint_command(alloc))
 }
 
 /// And with `chart` and `explain`.
@@ -319,9 +385,8 @@ fn up_to_lint<'a>(alloc: Global) -> Result<Command<'a>, AllocError>
 fn up_to_explain<'a>(alloc: Global) -> Result<Command<'a>, AllocError>
     ensures { IfOk result (λ c. app_of c ≡ up_to_explain_app) }
 {
-    up_to_lint(alloc)?
-        .subcommand(chart_command(alloc)?)?
-        .subcommand(explain_command(alloc)?)
+    let cronsafe = with_subcommand(up_to_lint(alloc), chart_command(alloc));
+    with_subcommand(cronsafe, explain_command(alloc))
 }
 
 /// The command line of the program.
@@ -329,7 +394,15 @@ fn up_to_explain<'a>(alloc: Global) -> Result<Command<'a>, AllocError>
 pub(crate) fn command<'a>(alloc: Global) -> Result<Command<'a>, AllocError>
     ensures { IfOk result (λ c. app_of c ≡ cronsafe_app) }
 {
-    up_to_explain(alloc)?.subcommand(help_command(alloc)?)
+    with_subcommand(up_to_explain(alloc), help_command(alloc))
+}
+
+/// What `clap` tells of a fault.
+fn error_text(alloc: Global, error: &Error) -> Result<String, AllocError> {
+    match error.to_string(alloc) {
+        Ok(text) => Ok(text),
+        Err(_) => Err(AllocError),
+    }
 }
 
 /// A subcommand by its name.
@@ -387,21 +460,43 @@ impl Subcommand {
         }
     }
 
+    /// Its name after the program's, as its usage shows it.
+    fn full_name(self) -> &'static str {
+        match self {
+            Subcommand::Day => "cronsafe day",
+            Subcommand::Replay => "cronsafe replay",
+            Subcommand::Check => "cronsafe check",
+            Subcommand::Run => "cronsafe run",
+            Subcommand::Judge => "cronsafe judge",
+            Subcommand::Make => "cronsafe make",
+            Subcommand::Draft => "cronsafe draft",
+            Subcommand::Lint => "cronsafe lint",
+            Subcommand::Chart => "cronsafe chart",
+            Subcommand::Explain => "cronsafe explain",
+            Subcommand::Help => "cronsafe help",
+        }
+    }
+
+    /// Its command line, as that of the program has it.
+    fn command_line<'a>(self, alloc: Global) -> Result<Command<'a>, AllocError> {
+        match self {
+            Subcommand::Day => day_command(alloc),
+            Subcommand::Replay => replay_command(alloc),
+            Subcommand::Check => check_command(alloc),
+            Subcommand::Run => run_command(alloc),
+            Subcommand::Judge => judge_command(alloc),
+            Subcommand::Make => make_command(alloc),
+            Subcommand::Draft => draft_command(alloc),
+            Subcommand::Lint => lint_command(alloc),
+            Subcommand::Chart => chart_command(alloc),
+            Subcommand::Explain => explain_command(alloc),
+            Subcommand::Help => help_command(alloc),
+        }
+    }
+
     /// Its command line alone, as its usage names it.
     fn command<'a>(self, alloc: Global) -> Result<Command<'a>, AllocError> {
-        match self {
-            Subcommand::Day => day_command(alloc)?.bin_name("cronsafe day"),
-            Subcommand::Replay => replay_command(alloc)?.bin_name("cronsafe replay"),
-            Subcommand::Check => check_command(alloc)?.bin_name("cronsafe check"),
-            Subcommand::Run => run_command(alloc)?.bin_name("cronsafe run"),
-            Subcommand::Judge => judge_command(alloc)?.bin_name("cronsafe judge"),
-            Subcommand::Make => make_command(alloc)?.bin_name("cronsafe make"),
-            Subcommand::Draft => draft_command(alloc)?.bin_name("cronsafe draft"),
-            Subcommand::Lint => lint_command(alloc)?.bin_name("cronsafe lint"),
-            Subcommand::Chart => chart_command(alloc)?.bin_name("cronsafe chart"),
-            Subcommand::Explain => explain_command(alloc)?.bin_name("cronsafe explain"),
-            Subcommand::Help => help_command(alloc)?.bin_name("cronsafe help"),
-        }
+        self.command_line(alloc)?.bin_name(self.full_name())
     }
 
     /// Its help.
@@ -409,14 +504,14 @@ impl Subcommand {
         self.command(alloc)?.render_help()
     }
 
+    /// The fault of its words, as `clap` has its own faults.
+    fn error(self, alloc: Global, message: &str) -> Result<Error, AllocError> {
+        self.command(alloc)?
+            .error(ErrorKind::ValueValidation, message)
+    }
+
     /// What is wrong with its words, and its usage, as `clap` tells its own faults.
     pub(crate) fn fault(self, alloc: Global, message: &str) -> Result<String, AllocError> {
-        let error = self
-            .command(alloc)?
-            .error(ErrorKind::ValueValidation, message)?;
-        match error.to_string(alloc) {
-            Ok(text) => Ok(text),
-            Err(_) => Err(AllocError),
-        }
+        error_text(alloc, &self.error(alloc, message)?)
     }
 }

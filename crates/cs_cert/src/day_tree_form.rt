@@ -1,15 +1,17 @@
 //! Day trees in JSON.
 
-ghost use Rattle.std.specs.Prelude.{◌≡◌, codes};
+ghost use Rattle.std.specs.Prelude.{◌≡◌, IfOk, Ok, codes};
+ghost use Rattle.serde_json.specs.Data.{member, no_members, object, string};
 ghost use Rattle.serde_json.specs.View.{view};
 ghost use Rattle.cs_json.specs.Gives.{Gives};
 ghost use Rattle.cs_json.specs.Shape.{member_as};
-ghost use Rattle.cs_daytree.specs.Tree.{Tree, tree_of};
+ghost use Rattle.cs_daytree.specs.Tree.{Tree, split, tree_of};
 ghost use Rattle.cs_daytree.specs.declared.tree.KindPart.{KindPart};
 ghost use Rattle.cs_cert.specs.TreeSaid.{day_leaf_said, day_split_said, day_tree_said, part_said};
 ghost use Rattle.cs_cert.specs.Written.{day_tree_data, part_name};
 
 use crate::form::{Form, member};
+use cs_civil::Sequence;
 use cs_daytree::{DayTree, KindPart};
 use cs_json::{BAD_SHAPE, Misread, only_members, value_at};
 use serde_json::{Value, json};
@@ -44,6 +46,24 @@ fn read_leaf(alloc: Global, value: &Value) -> Result<DayTree, Misread>
     Ok(DayTree::Leaf(member(alloc, value, "class")?))
 }
 
+/// The split of these parts.
+fn split(
+    alloc: Global,
+    part: KindPart,
+    values: Sequence<u8>,
+    inside: DayTree,
+    outside: DayTree,
+) -> Result<DayTree, Misread>
+    ensures { Gives tree_of result (Ok (split part values (tree_of inside) (tree_of outside))) }
+{
+    Ok(DayTree::Split {
+        part,
+        values,
+        inside: Box::new(alloc, inside)?,
+        outside: Box::new(alloc, outside)?,
+    })
+}
+
 #[cycle(day)]
 fn read_tree(alloc: Global, value: &Value) -> Result<DayTree, Misread>
     ensures { Gives tree_of result (day_tree_said (view value.now)) }
@@ -67,12 +87,7 @@ fn read_split(alloc: Global, value: &Value) -> Result<DayTree, Misread>
     let values = member(alloc, value, "in")?;
     let inside = read_half(alloc, value, "yes")?;
     let outside = read_half(alloc, value, "no")?;
-    Ok(DayTree::Split {
-        part,
-        values,
-        inside: Box::new(alloc, inside)?,
-        outside: Box::new(alloc, outside)?,
-    })
+    split(alloc, part, values, inside, outside)
 }
 
 #[cycle(day)]
@@ -80,6 +95,23 @@ fn read_half(alloc: Global, value: &Value, name: &str) -> Result<DayTree, Misrea
     ensures { Gives tree_of result (member_as day_tree_said name.now (view value.now)) }
 {
     read_tree(alloc, value_at(value, name)?)
+}
+
+/// The JSON of a split of these parts.
+fn split_value(
+    alloc: Global,
+    part: KindPart,
+    values: Value,
+    inside: Value,
+    outside: Value,
+) -> Result<Value, AllocError>
+    ensures { IfOk result (λ v. view v ≡ object (member (codes "in") (view values)
+        (member (codes "no") (view outside)
+        (member (codes "split") (string (part_name part))
+        (member (codes "yes") (view inside) no_members))))) }
+{
+    let part = part_name(part);
+    json!(in alloc; {"in": values, "no": outside, "split": part, "yes": inside})
 }
 
 /// `{"class": n}`, or `{"split": part, "in": [numbers], "yes": tree, "no": tree}`.
@@ -108,8 +140,7 @@ impl Form for DayTree {
                 let values = values.write(alloc)?;
                 let inside = inside.write(alloc)?;
                 let outside = outside.write(alloc)?;
-                let part = part_name(*part);
-                json!(in alloc; {"in": values, "no": outside, "split": part, "yes": inside})
+                split_value(alloc, *part, values, inside, outside)
             }
         }
     }

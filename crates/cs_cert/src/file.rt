@@ -1,6 +1,7 @@
 //! The text of a certificate.
 
-ghost use Rattle.std.specs.Prelude.{◌≡◌, ◌≤◌, IfOk, Ok, length};
+ghost use Rattle.std.specs.Prelude.{◌≡◌, ◌≤◌, IfOk, Ok, codes, length};
+ghost use Rattle.serde_json.specs.Data.{member, no_members, object};
 ghost use Rattle.serde_json.specs.View.{view};
 ghost use Rattle.serde_json.specs.Written.{compact_text};
 ghost use Rattle.cs_json.specs.Gives as json;
@@ -8,7 +9,7 @@ ghost use Rattle.cs_cert.specs.Answers.{Gives};
 ghost use Rattle.cs_cert.specs.Certificate.{content};
 ghost use Rattle.cs_cert.specs.Content.{content_of};
 ghost use Rattle.cs_cert.specs.Denoted.{carried_said, certificate_by, content_in, content_said, is_other_version, json_in, listed_said, stretches_name};
-ghost use Rattle.cs_cert.specs.Written.{certificate_data, listed_data, third_version_data};
+ghost use Rattle.cs_cert.specs.Written.{certificate_data, listed_data, number_data, third_version_data};
 
 use crate::carry_form::{read_carry_classes, write_carry_classes};
 use crate::certificate::Certificate;
@@ -130,6 +131,22 @@ pub fn read_certificate(alloc: Global, bytes: &[u8]) -> Result<Certificate, Cert
     }
 }
 
+/// The JSON of a certificate of version 3, of that of its parts.
+fn third_value(
+    alloc: Global,
+    classes: Value,
+    kinds: Value,
+    reach: Value,
+    version: u8,
+) -> Result<Value, AllocError>
+    ensures { IfOk result (λ v. view v ≡ object (member (codes "classes") (view classes)
+        (member (codes "kinds") (view kinds)
+        (member (codes "reach") (view reach)
+        (member (codes "version") (number_data version) no_members))))) }
+{
+    json!(in alloc; {"classes": classes, "kinds": kinds, "reach": reach, "version": version})
+}
+
 /// The JSON of a certificate of version 3.
 fn carried_value(alloc: Global, parts: &Parts) -> Result<Value, AllocError>
     ensures { IfOk result (λ v. view v ≡ third_version_data (content_of parts.now)) }
@@ -137,7 +154,43 @@ fn carried_value(alloc: Global, parts: &Parts) -> Result<Value, AllocError>
     let classes = write_carry_classes(alloc, parts.classes.as_slice())?;
     let kinds = parts.kinds.write(alloc)?;
     let reach = parts.reach.write(alloc)?;
-    json!(in alloc; {"classes": classes, "kinds": kinds, "reach": reach, "version": parts.version})
+    third_value(alloc, classes, kinds, reach, parts.version)
+}
+
+/// The JSON of a certificate of version 1, of that of its parts.
+fn first_value(
+    alloc: Global,
+    classes: Value,
+    kinds: Value,
+    stretches: Value,
+    reach: Value,
+    version: u8,
+) -> Result<Value, AllocError>
+    ensures { IfOk result (λ v. view v ≡ object (member (codes "classes") (view classes)
+        (member (codes "kinds") (view kinds)
+        (member (codes "pairs") (view stretches)
+        (member (codes "reach") (view reach)
+        (member (codes "version") (number_data version) no_members)))))) }
+{
+    json!(in alloc; {"classes": classes, "kinds": kinds, "pairs": stretches, "reach": reach, "version": version})
+}
+
+/// The JSON of a certificate of version 2, of that of its parts.
+fn second_value(
+    alloc: Global,
+    classes: Value,
+    kinds: Value,
+    stretches: Value,
+    reach: Value,
+    version: u8,
+) -> Result<Value, AllocError>
+    ensures { IfOk result (λ v. view v ≡ object (member (codes "classes") (view classes)
+        (member (codes "kinds") (view kinds)
+        (member (codes "reach") (view reach)
+        (member (codes "stretches") (view stretches)
+        (member (codes "version") (number_data version) no_members)))))) }
+{
+    json!(in alloc; {"classes": classes, "kinds": kinds, "reach": reach, "stretches": stretches, "version": version})
 }
 
 /// The JSON of a certificate of version 1 or 2.
@@ -149,9 +202,9 @@ fn listed_value(alloc: Global, parts: &Parts) -> Result<Value, AllocError>
     let stretches = parts.stretches.write(alloc)?;
     let reach = parts.reach.write(alloc)?;
     if parts.version == 2 {
-        json!(in alloc; {"classes": classes, "kinds": kinds, "reach": reach, "stretches": stretches, "version": parts.version})
+        second_value(alloc, classes, kinds, stretches, reach, parts.version)
     } else {
-        json!(in alloc; {"classes": classes, "kinds": kinds, "pairs": stretches, "reach": reach, "version": parts.version})
+        first_value(alloc, classes, kinds, stretches, reach, parts.version)
     }
 }
 

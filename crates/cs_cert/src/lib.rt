@@ -18,6 +18,7 @@ mod minute_tree_form;
 mod number_form;
 mod parts;
 mod reach;
+mod size;
 mod stretch;
 
 pub use certificate::Certificate;
@@ -29,4 +30,5 @@ pub use file::{read_certificate, write_certificate};
 pub use limits::{
     MAX_CERTIFICATE, MAX_CLASSES, MAX_DEPTH, MAX_ENTRIES, MAX_GROUPS, MAX_JOBS, MAX_KIND_CLASSES,
 };
+pub use size::least_text;
 pub use stretch::Stretch;

@@ -1,7 +1,7 @@
 //! Clocks, commands, stores and runs that fail.
 
 use crate::devices::Hold;
-use crate::plans::{DAILY, HOURLY, SHORT};
+use crate::plans::{CATCHING_UP, HOURLY, SHORT};
 use crate::play::{MIDNIGHT, Played, Script, day, play};
 use cs_daemon::Cause;
 use std::alloc::{AllocError, Global};
@@ -149,7 +149,7 @@ fn is_stamped(played: &Played) -> bool {
 fn stamp_not_written(rt: HostRuntime) {
     let alloc: Global = rt.alloc();
     let minutes = [MIDNIGHT + 59, MIDNIGHT + 60];
-    let mut script = Script::plain(&DAILY, &minutes);
+    let mut script = Script::plain(&CATCHING_UP, &minutes);
     script.writes = 3;
     script.failing = 2;
     let played = play(&rt, alloc, &script);

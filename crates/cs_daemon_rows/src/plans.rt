@@ -1,10 +1,15 @@
-//! Plans that were checked.
+//! Plans that were checked, and where they start.
+ghost use Rattle.std.specs.Prelude.{◌≤◌, IfSome};
+ghost use Rattle.cs_history.specs.Plan.{first_start};
 
-use cs_anacrontab::read_anacrontab;
-use cs_cert::read_certificate;
-use cs_check::{Checked, check};
-use cs_crontab::read_crontab;
-use cs_decl::{join, read_declarations};
+use arrayvec::ArrayVec;
+use cs_anacrontab::{Anacrontab, read_anacrontab};
+use cs_cert::{Certificate, read_certificate};
+use cs_check::{CheckError, Checked, check};
+use cs_civil::Minute;
+use cs_crontab::{Crontab, read_crontab};
+use cs_decl::{Declarations, Plan, join, read_declarations};
+use cs_history::Start;
 use std::alloc::Global;
 use std::process::Abort;
 
@@ -15,6 +20,15 @@ pub(crate) struct Texts {
     pub(crate) declarations: &'static str,
     pub(crate) certificate: &'static str,
 }
+
+/// No jobs.
+pub(crate) const EMPTY: Texts = Texts {
+    crontab: "",
+    anacrontab: "",
+    declarations: "{\"capacity\":1}",
+    certificate: "{\"classes\":[{\"backlog\":[],\"due\":[]}],\"kinds\":{\"class\":0},\
+        \"pairs\":[{\"of\":[0,0],\"tree\":{\"list\":[]}}],\"reach\":[],\"version\":1}",
+};
 
 /// A certificate of one job in each hour.
 const EACH_HOUR: &str = "{\"classes\":[{\"backlog\":[],\"due\":[[0,[0,60,120,180,240,300,360,420,\
@@ -41,23 +55,40 @@ pub(crate) const SHORT: Texts = Texts {
     certificate: EACH_HOUR,
 };
 
+/// A table of two jobs at 01:00, and its certificate where none waits.
+const AT_ONE: &str = "0 1 * * * /bin/a\n0 1 * * * /bin/b\n";
+
+const AT_ONE_EACH: &str = "{\"classes\":[{\"backlog\":[],\"due\":[[0,[60]],[1,[60]]]}],\
+    \"kinds\":{\"class\":0},\"pairs\":[{\"of\":[0,0],\
+    \"tree\":{\"list\":[[0,0,60],[1,0,60]]}}],\"reach\":[],\"version\":1}";
+
+/// Declarations of two jobs, of which one may run at a time.
+const ONE_PLACE: &str =
+    "{\"capacity\":1,\"cron\":[{\"line\":1,\"max\":10},{\"line\":2,\"max\":10}]}";
+
 /// Two jobs of two groups at 01:00.
 pub(crate) const TWO: Texts = Texts {
-    crontab: "0 1 * * * /bin/a\n0 1 * * * /bin/b\n",
+    crontab: AT_ONE,
     anacrontab: "",
     declarations: "{\"capacity\":2,\"groups\":[{\"name\":\"g\",\"exclusive\":true},\
         {\"name\":\"h\",\"exclusive\":true}],\"cron\":[{\"line\":1,\"max\":10,\"group\":\"g\"},\
         {\"line\":2,\"max\":10,\"group\":\"h\"}]}",
-    certificate: "{\"classes\":[{\"backlog\":[],\"due\":[[0,[60]],[1,[60]]]}],\
-        \"kinds\":{\"class\":0},\"pairs\":[{\"of\":[0,0],\
-        \"tree\":{\"list\":[[0,0,60],[1,0,60]]}}],\"reach\":[],\"version\":1}",
+    certificate: AT_ONE_EACH,
+};
+
+/// The same two jobs, which have one place.
+pub(crate) const TIGHT: Texts = Texts {
+    crontab: AT_ONE,
+    anacrontab: "",
+    declarations: ONE_PLACE,
+    certificate: AT_ONE_EACH,
 };
 
 /// A job at 01:00 and one at 01:20, for one worker.
 pub(crate) const IN_TURN: Texts = Texts {
     crontab: "0 1 * * * /bin/a\n20 1 * * * /bin/b\n",
     anacrontab: "",
-    declarations: "{\"capacity\":1,\"cron\":[{\"line\":1,\"max\":10},{\"line\":2,\"max\":10}]}",
+    declarations: ONE_PLACE,
     certificate: "{\"classes\":[{\"backlog\":[],\"due\":[[0,[60]],[1,[80]]]}],\
         \"kinds\":{\"class\":0},\"pairs\":[{\"of\":[0,0],\
         \"tree\":{\"list\":[[0,0,60],[1,0,80]]}}],\"reach\":[],\"version\":1}",
@@ -65,7 +96,7 @@ pub(crate) const IN_TURN: Texts = Texts {
 
 /// Two jobs that wait for each other at 01:00.
 pub(crate) const WAITING: Texts = Texts {
-    crontab: "0 1 * * * /bin/a\n0 1 * * * /bin/b\n",
+    crontab: AT_ONE,
     anacrontab: "",
     declarations: "{\"capacity\":2,\"groups\":[{\"name\":\"g\",\"exclusive\":true}],\
         \"cron\":[{\"line\":1,\"max\":20,\"group\":\"g\",\"mode\":\"wait\"},\
@@ -76,7 +107,7 @@ pub(crate) const WAITING: Texts = Texts {
 };
 
 /// A daily anacron job with a delay of a minute.
-pub(crate) const DAILY: Texts = Texts {
+pub(crate) const CATCHING_UP: Texts = Texts {
     crontab: "",
     anacrontab: "1 1 cron.daily /bin/b\n",
     declarations: "{\"capacity\":1,\"anacron\":[{\"id\":\"cron.daily\",\"max\":10}]}",
@@ -85,16 +116,65 @@ pub(crate) const DAILY: Texts = Texts {
         \"reach\":[],\"version\":1}",
 };
 
+/// The crontab of a text.
+pub(crate) fn crontab(rt: &impl Abort, alloc: Global, text: &str) -> Crontab {
+    read_crontab(alloc, text.as_bytes()).expect(rt, "a crontab")
+}
+
+/// The anacrontab of a text.
+fn anacrontab(rt: &impl Abort, alloc: Global, text: &str) -> Anacrontab {
+    read_anacrontab(alloc, text.as_bytes()).expect(rt, "an anacrontab")
+}
+
+/// The declarations of a text.
+fn declarations(rt: &impl Abort, alloc: Global, text: &str) -> Declarations {
+    read_declarations(alloc, text.as_bytes()).expect(rt, "declarations")
+}
+
+/// The plan of two tables and declarations.
+fn joined(
+    rt: &impl Abort,
+    alloc: Global,
+    crontab: Crontab,
+    anacrontab: Anacrontab,
+    declarations: Declarations,
+) -> Plan {
+    join(alloc, crontab, anacrontab, declarations).expect(rt, "a plan")
+}
+
+/// The plan.
+pub(crate) fn plan(rt: &impl Abort, alloc: Global, texts: &Texts) -> Plan {
+    let crontab = crontab(rt, alloc, texts.crontab);
+    let anacrontab = anacrontab(rt, alloc, texts.anacrontab);
+    let declarations = declarations(rt, alloc, texts.declarations);
+    joined(rt, alloc, crontab, anacrontab, declarations)
+}
+
+/// The certificate of a text.
+fn certificate(rt: &impl Abort, alloc: Global, text: &str) -> Certificate {
+    read_certificate(alloc, text.as_bytes()).expect(rt, "a certificate")
+}
+
+/// What the checker answers to the plan and its certificate.
+pub(crate) fn answer(rt: &impl Abort, alloc: Global, texts: &Texts) -> Result<Checked, CheckError> {
+    let plan = plan(rt, alloc, texts);
+    let certificate = certificate(rt, alloc, texts.certificate);
+    check(alloc, &plan, certificate)
+}
+
 /// The plan, with its certificate.
 pub(crate) fn checked(rt: &impl Abort, alloc: Global, texts: &Texts) -> Checked {
-    let plan = join(
-        alloc,
-        read_crontab(alloc, texts.crontab.as_bytes()).expect(rt, "a crontab"),
-        read_anacrontab(alloc, texts.anacrontab.as_bytes()).expect(rt, "an anacrontab"),
-        read_declarations(alloc, texts.declarations.as_bytes()).expect(rt, "declarations"),
-    )
-    .expect(rt, "a plan");
-    let bytes = texts.certificate.as_bytes();
-    let certificate = read_certificate(alloc, bytes).expect(rt, "a certificate");
-    check(alloc, &plan, certificate).expect(rt, "accepted")
+    answer(rt, alloc, texts).expect(rt, "accepted")
+}
+
+/// So many minutes behind 2024-01-01 00:00.
+pub(crate) fn minute(count: u64) -> Option<Minute> {
+    Minute::new(count.saturating_add(28_401_120))
+}
+
+/// A start at 2024-01-01 00:59 without stamps.
+pub(crate) fn start(up: bool) -> Option<Start>
+    ensures { IfSome result (λ start. first_start ≤ start.now) }
+{
+    Some(Start::new(Minute::new(28_401_179)?, up, ArrayVec::new()))
 }

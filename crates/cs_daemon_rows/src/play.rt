@@ -6,6 +6,7 @@ use crate::devices::{FailingLog, FailingRunner, FailingStore, Hold, HoldingGate,
 use crate::plans::{Texts, checked};
 use arrayvec::ArrayVec;
 use cs_check::Checked;
+use cs_core::Core;
 use cs_daemon::{Cause, DaemonEnd, run_daemon};
 use cs_device::{Failures, Told};
 use cs_keep::Kept;
@@ -74,15 +75,25 @@ pub(crate) struct InKeep {
     pub(crate) is_stamped: bool,
 }
 
-/// What is in the keep.
-fn in_keep(kept: &Kept) -> InKeep {
-    let core = kept.core();
+/// Whether the first anacron job has a stamp.
+fn is_stamped(core: &Core) -> bool {
+    matches!(core.stamps().first(), Some(Some(_)))
+}
+
+/// What stands in a core, beside the total.
+fn in_core(total: u64, core: &Core) -> InKeep {
     InKeep {
-        total: kept.total(),
+        total,
         minute: core.now().number(),
         is_up: core.is_up(),
-        is_stamped: matches!(core.stamps().first(), Some(Some(_))),
+        is_stamped: is_stamped(core),
     }
+}
+
+/// What is in the keep.
+fn in_keep(kept: &Kept) -> InKeep {
+    let total = kept.total();
+    in_core(total, kept.core())
 }
 
 /// What came of a daemon.

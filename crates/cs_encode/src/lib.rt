@@ -11,10 +11,8 @@ mod day_trees;
 mod grouping;
 mod kinds;
 mod minute_trees;
-mod size;
 
 pub use certificates::{certificate, stretch};
 pub use compact::compact_certificate;
 pub use day_trees::day_tree;
 pub use minute_trees::minute_tree;
-pub use size::least_text;

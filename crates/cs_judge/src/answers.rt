@@ -10,10 +10,9 @@ ghost use Rattle.cs_judge.specs.Judged.{IfUnsafe, Shows};
 ghost use Rattle.cs_refused.specs.Told.{told};
 
 use crate::judged::Judged;
-use cs_cert::{Certificate, MAX_CERTIFICATE, write_certificate};
+use cs_cert::{Certificate, MAX_CERTIFICATE, least_text, write_certificate};
 use cs_check::Checked;
 use cs_decl::Plan;
-use cs_encode::least_text;
 use cs_history::Script;
 use cs_maker::Reason;
 use cs_refused::{CheckFault, fault_text};

@@ -158,6 +158,27 @@ pub(crate) fn look_at_declared<'v>(
     Ok(look)
 }
 
+/// The names of groups, as many as there may be.
+fn known_groups<'v>(alloc: Global, groups: &IndexSet<&'v str>) -> Result<Vec<&'v str>, AllocError> {
+    let mut known = Vec::new(alloc);
+    for group in groups.iter().take(MAX_GROUPS) {
+        known.push(*group)?;
+    }
+    Ok(known)
+}
+
+/// The words for a name that none of these groups has.
+fn no_group_words(
+    alloc: Global,
+    groups: &IndexSet<&str>,
+    name: &str,
+) -> Result<String, AllocError> {
+    let known = known_groups(alloc, groups)?;
+    let hint = meant(alloc, name, "\"", known.as_slice(), "\"groups\" declares")?;
+    let text = quoted(alloc, name.as_bytes())?;
+    format!(in alloc; "no group is named {text}: {hint}")
+}
+
 /// The entries that are looked at one after the other, beside those before them and beside the
 /// tables.
 #[derive(Drop)]
@@ -196,20 +217,33 @@ impl<'v> Beside<'v> {
         self.add(alloc, entry, span, DeclFault::TwiceDeclared, why.as_str())
     }
 
+    /// Adds that a group comes a second time, or is the first that is one too many, and notes its
+    /// name.
+    fn find_in_group(
+        &mut self,
+        alloc: Global,
+        entry: &Object<'v>,
+        names: &mut IndexSet<&'v str>,
+    ) -> Result<(), AllocError> {
+        if entry.index == MAX_GROUPS {
+            let why = "there are at most 64 groups, and this is the 65th";
+            let fault = DeclFault::TooManyGroups;
+            self.add(alloc, entry, entry.bracket(), fault, why)?;
+        }
+        let Some((name, span)) = entry.text("name") else {
+            return Ok(());
+        };
+        if names.insert(name)? {
+            return Ok(());
+        }
+        self.add_twice(alloc, entry, span, "the group")
+    }
+
     /// Adds the groups that come a second time, and the first that is one too many.
     fn find_in_groups(&mut self, alloc: Global, entries: &[Object<'v>]) -> Result<(), AllocError> {
         let mut names = IndexSet::new(alloc);
         for entry in entries {
-            if entry.index == MAX_GROUPS {
-                let why = "there are at most 64 groups, and this is the 65th";
-                let fault = DeclFault::TooManyGroups;
-                self.add(alloc, entry, entry.bracket(), fault, why)?;
-            }
-            if let Some((name, span)) = entry.text("name") {
-                if !names.insert(name)? {
-                    self.add_twice(alloc, entry, span, "the group")?;
-                }
-            }
+            self.find_in_group(alloc, entry, &mut names)?;
         }
         self.groups = Some(names);
         Ok(())
@@ -227,13 +261,7 @@ impl<'v> Beside<'v> {
             let why = "\"groups\" declares no group";
             return Ok(Some(String::from_str(alloc, why)?));
         }
-        let mut known = Vec::new(alloc);
-        for group in groups.iter().take(MAX_GROUPS) {
-            known.push(*group)?;
-        }
-        let hint = meant(alloc, name, "\"", known.as_slice(), "\"groups\" declares")?;
-        let text = quoted(alloc, name.as_bytes())?;
-        Ok(Some(format!(in alloc; "no group is named {text}: {hint}")?))
+        Ok(Some(no_group_words(alloc, groups, name)?))
     }
 
     /// Adds that the group of an entry isn't declared.
@@ -313,6 +341,27 @@ impl<'v> Beside<'v> {
             self.find_in_anacron(alloc, entry, tables)?;
         }
         Ok(())
+    }
+
+    /// Adds what is wrong with all entries.
+    fn find_in_all(
+        &mut self,
+        alloc: Global,
+        groups: &Entries<'v>,
+        cron: &Entries<'v>,
+        anacron: &Entries<'v>,
+        tables: Tables<'_, '_>,
+    ) -> Result<(), AllocError> {
+        if let Some(groups) = groups {
+            self.find_in_groups(alloc, groups.as_slice())?;
+        }
+        if let Some(cron) = cron {
+            self.find_in_crons(alloc, cron.as_slice(), tables.begun)?;
+        }
+        match anacron {
+            Some(anacron) => self.find_in_anacrons(alloc, anacron.as_slice(), tables),
+            None => Ok(()),
+        }
     }
 
     /// Adds that two runs of a command that takes no lock may go on at once.
@@ -431,15 +480,7 @@ impl DeclaredLook<'_> {
             lines: IndexSet::new(alloc),
             identifiers: IndexSet::new(alloc),
         };
-        if let Some(groups) = &self.groups {
-            beside.find_in_groups(alloc, groups.as_slice())?;
-        }
-        if let Some(cron) = &self.cron {
-            beside.find_in_crons(alloc, cron.as_slice(), tables.begun)?;
-        }
-        if let Some(anacron) = &self.anacron {
-            beside.find_in_anacrons(alloc, anacron.as_slice(), tables)?;
-        }
+        beside.find_in_all(alloc, &self.groups, &self.cron, &self.anacron, tables)?;
         Ok(beside.findings)
     }
 }

@@ -61,26 +61,29 @@ fn jobs_look<'f>(
     bytes: Option<&'f [u8]>,
     entered: Option<&'f Entered>,
 ) -> Result<JobsLook<'f, 'f>, AllocError> {
-    match bytes {
-        Some(bytes) => look_at_jobs(alloc, bytes, entered),
-        None => look_at_jobs(alloc, &[], entered),
+    look_at_jobs(alloc, bytes.unwrap_or(&[]), entered)
+}
+
+/// The JSON value of declarations or why it's none, if there are any.
+fn value_in(
+    alloc: Global,
+    declarations: Option<&[u8]>,
+) -> Result<Option<Result<Value, Error>>, AllocError> {
+    match declarations {
+        Some(bytes) => Ok(Some(parsed(alloc, bytes)?)),
+        None => Ok(None),
     }
 }
 
-/// What is found in declarations beside what was found in the tables.
-fn look_beside<'d, 'f>(
+/// What declarations enter, if there are any.
+fn entered_in(
     alloc: Global,
-    look: DeclaredLook<'_>,
-    table: &TableLook<'d>,
-    jobs: &JobsLook<'f, 'f>,
-    no_job: &'static str,
-) -> Result<Findings, AllocError> {
-    let tables = Tables {
-        begun: table.commands(),
-        identifiers: jobs.names(),
-        no_job,
-    };
-    look.beside(alloc, tables)
+    declared: &Option<DeclaredLook<'_>>,
+) -> Result<Option<Entered>, AllocError> {
+    match declared {
+        Some(look) => Ok(Some(look.entered(alloc)?)),
+        None => Ok(None),
+    }
 }
 
 /// All that was found in the files of a call.
@@ -99,23 +102,43 @@ impl Looks {
         jobs: Option<&[u8]>,
         declarations: Option<&[u8]>,
     ) -> Result<Looks, AllocError> {
-        let value = match declarations {
-            Some(bytes) => Some(parsed(alloc, bytes)?),
-            None => None,
-        };
+        let value = value_in(alloc, declarations)?;
         let declared = declared_look(alloc, declarations, &value)?;
-        let entered = match &declared {
-            Some(look) => Some(look.entered(alloc)?),
-            None => None,
-        };
-        let table = look_at_table(alloc, table, entered.as_ref())?;
+        Looks::beside(alloc, table, jobs, declared)
+    }
+
+    /// What is found in tables, and in declarations beside them.
+    fn beside(
+        alloc: Global,
+        table: &[u8],
+        jobs: Option<&[u8]>,
+        declared: Option<DeclaredLook<'_>>,
+    ) -> Result<Looks, AllocError> {
+        let entered = entered_in(alloc, &declared)?;
         let no_job = match jobs {
             Some(_) => "no job of the anacrontab has this identifier",
             None => "no anacrontab is given, so there is no job of this identifier",
         };
+        let table = look_at_table(alloc, table, entered.as_ref())?;
         let jobs = jobs_look(alloc, jobs, entered.as_ref())?;
+        Looks::of(alloc, table, jobs, declared, no_job)
+    }
+
+    /// What was found in tables, and what is found in declarations beside it.
+    fn of(
+        alloc: Global,
+        table: TableLook<'_>,
+        jobs: JobsLook<'_, '_>,
+        declared: Option<DeclaredLook<'_>>,
+        no_job: &'static str,
+    ) -> Result<Looks, AllocError> {
+        let tables = Tables {
+            begun: table.commands(),
+            identifiers: jobs.names(),
+            no_job,
+        };
         let declared = match declared {
-            Some(look) => look_beside(alloc, look, &table, &jobs, no_job)?,
+            Some(look) => look.beside(alloc, tables)?,
             None => Findings::new(alloc),
         };
         Ok(Looks {

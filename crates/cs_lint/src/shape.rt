@@ -175,6 +175,13 @@ fn hours_fault(
     }
 }
 
+/// Why a text is no mode.
+fn no_mode_words(alloc: Global, mode: &str) -> Result<String, AllocError> {
+    let hint = meant(alloc, mode, "\"", MODES.as_slice(), "the modes are")?;
+    let text = quoted(alloc, mode.as_bytes())?;
+    format!(in alloc; "{text} is no mode: {hint}")
+}
+
 /// The words of a mode that is none.
 fn mode_fault(
     alloc: Global,
@@ -189,9 +196,7 @@ fn mode_fault(
     if MODES.iter().any(|known| *known == mode) {
         return Ok(None);
     }
-    let hint = meant(alloc, mode, "\"", MODES.as_slice(), "the modes are")?;
-    let text = quoted(alloc, mode.as_bytes())?;
-    let why = format!(in alloc; "{text} is no mode: {hint}")?;
+    let why = no_mode_words(alloc, mode)?;
     Ok(Some(told(alloc, object, DeclFault::BadShape, why.as_str())?))
 }
 
@@ -320,6 +325,19 @@ pub(crate) fn find_in_object(
     find_lacking(alloc, findings, object)
 }
 
+/// Adds that an entry of a list is no object.
+fn find_no_object(
+    alloc: Global,
+    findings: &mut Findings,
+    kind: Kind,
+    place: Span,
+) -> Result<(), AllocError> {
+    let name = kind.name();
+    let why = format!(in alloc; "{name} is an object, {{..}}")?;
+    let words = plan_fault(alloc, DeclFault::BadShape, None, why.as_str())?;
+    findings.add_fault(place, words)
+}
+
 /// Adds what is wrong with the entries of a list at a span, each by itself, and gives those that
 /// are objects.
 pub(crate) fn find_in_list<'v>(
@@ -338,10 +356,7 @@ pub(crate) fn find_in_list<'v>(
             find_in_object(alloc, findings, &object)?;
             entries.push(object)?;
         } else {
-            let name = kind.name();
-            let why = format!(in alloc; "{name} is an object, {{..}}")?;
-            let words = plan_fault(alloc, DeclFault::BadShape, None, why.as_str())?;
-            findings.add_fault(*place, words)?;
+            find_no_object(alloc, findings, kind, *place)?;
         }
     }
     Ok(entries)

@@ -3,9 +3,10 @@ use crate::entered::Entered;
 use crate::line::{Line, five_words, word_from};
 use crate::probe::{jobs_fault, jobs_of};
 use crate::setting::{find_bad_setting, find_unheeded};
-use cs_anacrontab::{JobFault, MAX_IDENTIFIER, MAX_JOBS};
+use crate::table::unknown_word;
+use cs_anacrontab::{Anacrontab, JobFault, MAX_IDENTIFIER, MAX_JOBS};
 use cs_crontab::{MAX_LINE, MAX_TABLE};
-use cs_finding::{Findings, Span, meant, shown};
+use cs_finding::{Findings, Span, shown};
 use indexmap::IndexMap;
 use std::alloc::{AllocError, Global};
 
@@ -70,11 +71,7 @@ fn no_identifier(word: &[u8]) -> &'static str {
 /// What is wrong with a part of a job line, and what is right.
 fn front_words(alloc: Global, word: &[u8], fault: JobFault) -> Result<String, AllocError> {
     let text = match fault {
-        JobFault::UnknownWord => {
-            let name = shown(alloc, word)?;
-            let hint = meant(alloc, name.as_str(), "", WORDS.as_slice(), "the words are")?;
-            format!(in alloc; "{name} is no such word: {hint}")?
-        }
+        JobFault::UnknownWord => unknown_word(alloc, word, WORDS.as_slice())?,
         JobFault::BadPeriod => String::from_str(
             alloc,
             "the period is a number of days from 1 to 100,000, @daily, @weekly or @monthly",
@@ -171,6 +168,24 @@ impl<'a, 'd> JobsLook<'a, 'd> {
         self.add_fault(alloc, line, line.end(), fault, why.as_str())
     }
 
+    /// Adds what is wrong with a part of a job line.
+    fn find_in_part(
+        &mut self,
+        alloc: Global,
+        line: Line<'_>,
+        front: Front,
+        word: Span,
+    ) -> Result<(), AllocError> {
+        let text = word.bytes(line.text);
+        match front_fault(alloc, front, text)? {
+            Some(fault) => {
+                let words = front_words(alloc, text, fault)?;
+                self.findings.add_fault(line.place(word), words)
+            }
+            None => Ok(()),
+        }
+    }
+
     /// Adds what is wrong with the parts of a job line.
     fn find_in_parts(&mut self, alloc: Global, line: Line<'_>) -> Result<(), AllocError> {
         let words = five_words(line.text);
@@ -178,11 +193,7 @@ impl<'a, 'd> JobsLook<'a, 'd> {
             if word.is_empty() {
                 return self.find_missing(alloc, line, front.name());
             }
-            let text = word.bytes(line.text);
-            if let Some(fault) = front_fault(alloc, *front, text)? {
-                let words = front_words(alloc, text, fault)?;
-                self.findings.add_fault(line.place(*word), words)?;
-            }
+            self.find_in_part(alloc, line, *front, *word)?;
         }
         let [_, _, identifier, _, _] = words;
         if word_from(line.text, identifier.to).is_empty() {
@@ -225,6 +236,20 @@ impl<'a, 'd> JobsLook<'a, 'd> {
         }
     }
 
+    /// Adds that a line has a job's identifier too.
+    fn add_twice(
+        &mut self,
+        alloc: Global,
+        line: Line<'_>,
+        identifier: Span,
+        first: u32,
+    ) -> Result<(), AllocError> {
+        let why = format!(in alloc;
+            "line {first} has this identifier, which names the stamp file of one job"
+        )?;
+        self.add_fault(alloc, line, identifier, JobFault::TwiceNamed, why.as_str())
+    }
+
     /// Adds that a job's identifier stood before.
     fn find_twice(
         &mut self,
@@ -233,16 +258,14 @@ impl<'a, 'd> JobsLook<'a, 'd> {
         identifier: Span,
     ) -> Result<(), AllocError> {
         let name = identifier.bytes(line.text);
-        if let Some(first) = self.identifiers.get(&name) {
-            let first = *first;
-            let why = format!(in alloc;
-                "line {first} has this identifier, which names the stamp file of one job"
-            )?;
-            let fault = JobFault::TwiceNamed;
-            return self.add_fault(alloc, line, identifier, fault, why.as_str());
-        }
-        self.identifiers.insert(name, line.number)?;
-        Ok(())
+        let first = match self.identifiers.get(&name) {
+            Some(first) => *first,
+            None => {
+                self.identifiers.insert(name, line.number)?;
+                return Ok(());
+            }
+        };
+        self.add_twice(alloc, line, identifier, first)
     }
 
     /// Adds that a job has no entry, where declarations are given.
@@ -265,13 +288,13 @@ impl<'a, 'd> JobsLook<'a, 'd> {
         }
     }
 
-    /// Adds what is found in a line.
-    fn look(&mut self, alloc: Global, line: Line<'a>) -> Result<(), AllocError> {
-        let table = match jobs_of(alloc, line.text)? {
-            Ok(table) => table,
-            Err(JobFault::Continued) => return self.look_at_continued(alloc, line),
-            Err(fault) => return self.look_at_bad(alloc, line, fault),
-        };
+    /// Adds what is found in a line that is a table by itself.
+    fn look_at_good(
+        &mut self,
+        alloc: Global,
+        line: Line<'a>,
+        table: &Anacrontab,
+    ) -> Result<(), AllocError> {
         if let Some(setting) = table.settings().first() {
             return find_unheeded(alloc, &mut self.findings, line, setting.name());
         }
@@ -283,41 +306,40 @@ impl<'a, 'd> JobsLook<'a, 'd> {
         self.find_undeclared(alloc, line, identifier)?;
         self.begin(alloc, line)
     }
-}
 
-/// What is found in an anacrontab that may be read, line by line.
-fn look_at_lines<'a, 'd>(
-    alloc: Global,
-    bytes: &'a [u8],
-    entered: Option<&'d Entered>,
-) -> Result<JobsLook<'a, 'd>, AllocError> {
-    let mut look = JobsLook::new(alloc, entered);
-    let mut line = Line {
-        number: 1,
-        start: 0,
-        text: bytes,
-    };
-    for text in bytes.split(|byte| *byte == b'\n') {
-        look.look(alloc, line.with_text(text))?;
-        line.number = line.number.saturating_add(1);
-        line.start = line.start.saturating_add(text.len()).saturating_add(1);
+    /// Adds what is found in a line.
+    fn look(&mut self, alloc: Global, line: Line<'a>) -> Result<(), AllocError> {
+        match jobs_of(alloc, line.text)? {
+            Ok(table) => self.look_at_good(alloc, line, &table),
+            Err(JobFault::Continued) => self.look_at_continued(alloc, line),
+            Err(fault) => self.look_at_bad(alloc, line, fault),
+        }
     }
-    Ok(look)
-}
 
-/// That an anacrontab is too long to be read.
-fn find_long<'a, 'd>(
-    alloc: Global,
-    entered: Option<&'d Entered>,
-) -> Result<JobsLook<'a, 'd>, AllocError> {
-    let mut look = JobsLook::new(alloc, entered);
-    look.is_whole = false;
-    let fault = JobFault::TooLong;
-    let words = format!(in alloc;
-        "{fault}: a table has at most 1,048,576 bytes, and here begins what is over"
-    )?;
-    look.findings.add_fault(Span::of(MAX_TABLE, 1), words)?;
-    Ok(look)
+    /// Adds what is found in an anacrontab that may be read, line by line.
+    fn look_at_lines(&mut self, alloc: Global, bytes: &'a [u8]) -> Result<(), AllocError> {
+        let mut line = Line {
+            number: 1,
+            start: 0,
+            text: bytes,
+        };
+        for text in bytes.split(|byte| *byte == b'\n') {
+            self.look(alloc, line.with_text(text))?;
+            line.number = line.number.saturating_add(1);
+            line.start = line.start.saturating_add(text.len()).saturating_add(1);
+        }
+        Ok(())
+    }
+
+    /// Adds that an anacrontab is too long to be read.
+    fn find_long(&mut self, alloc: Global) -> Result<(), AllocError> {
+        self.is_whole = false;
+        let fault = JobFault::TooLong;
+        let words = format!(in alloc;
+            "{fault}: a table has at most 1,048,576 bytes, and here begins what is over"
+        )?;
+        self.findings.add_fault(Span::of(MAX_TABLE, 1), words)
+    }
 }
 
 /// What is found in an anacrontab, beside what the declarations enter, where there are any.
@@ -329,9 +351,11 @@ pub fn look_at_jobs<'a, 'd>(
     bytes: &'a [u8],
     entered: Option<&'d Entered>,
 ) -> Result<JobsLook<'a, 'd>, AllocError> {
+    let mut look = JobsLook::new(alloc, entered);
     if bytes.len() > MAX_TABLE {
-        find_long(alloc, entered)
+        look.find_long(alloc)?;
     } else {
-        look_at_lines(alloc, bytes, entered)
+        look.look_at_lines(alloc, bytes)?;
     }
+    Ok(look)
 }

@@ -6,7 +6,9 @@ use crate::line::{Line, five_words, word_from};
 use crate::part::{PARTS, part_name};
 use crate::probe::table_of;
 use crate::setting::{find_bad_setting, find_unheeded};
-use cs_crontab::{Line as Command, LineFault, MAX_COMMANDS, MAX_LINE, MAX_TABLE, Schedule, When};
+use cs_crontab::{
+    Crontab, Line as Command, LineFault, MAX_COMMANDS, MAX_LINE, MAX_TABLE, Schedule, When,
+};
 use cs_decl::{DeclFault, Place};
 use cs_finding::{Findings, Span, meant, shown};
 use std::alloc::{AllocError, Global};
@@ -22,6 +24,17 @@ const WORDS: [&str; 8] = [
     "@midnight",
     "@hourly",
 ];
+
+/// What a word that begins with `@` may be, where it is none of these.
+pub(crate) fn unknown_word(
+    alloc: Global,
+    word: &[u8],
+    known: &[&str],
+) -> Result<String, AllocError> {
+    let name = shown(alloc, word)?;
+    let hint = meant(alloc, name.as_str(), "", known, "the words are")?;
+    format!(in alloc; "{name} is no such word: {hint}")
+}
 
 /// A line that begins as a command does.
 #[derive(Drop)]
@@ -146,12 +159,24 @@ impl<'d> TableLook<'d> {
         fault: LineFault,
     ) -> Result<(), AllocError> {
         if fault == LineFault::UnknownWord {
-            let name = shown(alloc, word.bytes(line.text))?;
-            let hint = meant(alloc, name.as_str(), "", WORDS.as_slice(), "the words are")?;
-            let why = format!(in alloc; "{name} is no such word: {hint}")?;
+            let why = unknown_word(alloc, word.bytes(line.text), WORDS.as_slice())?;
             self.add_fault(alloc, line, word, fault, why.as_str())?;
         }
         self.find_no_command(alloc, line, word.to)
+    }
+
+    /// Adds that a line has no such field.
+    fn find_missing(
+        &mut self,
+        alloc: Global,
+        line: Line<'_>,
+        name: &str,
+    ) -> Result<(), AllocError> {
+        let why = format!(in alloc;
+            "the {name} should stand here: five fields stand in front of a command"
+        )?;
+        let fault = LineFault::MissingField;
+        self.add_fault(alloc, line, line.end(), fault, why.as_str())
     }
 
     /// Adds what is wrong with the five fields of a line.
@@ -159,12 +184,7 @@ impl<'d> TableLook<'d> {
         let fields = five_words(line.text);
         for (part, field) in PARTS.iter().zip(fields.iter()) {
             if field.is_empty() {
-                let name = part_name(*part);
-                let why = format!(in alloc;
-                    "the {name} should stand here: five fields stand in front of a command"
-                )?;
-                let fault = LineFault::MissingField;
-                return self.add_fault(alloc, line, line.end(), fault, why.as_str());
+                return self.find_missing(alloc, line, part_name(*part));
             }
             find_in_field(alloc, &mut self.findings, line, *part, *field)?;
         }
@@ -285,12 +305,13 @@ impl<'d> TableLook<'d> {
         }
     }
 
-    /// Adds what is found in a line.
-    fn look(&mut self, alloc: Global, line: Line<'_>) -> Result<(), AllocError> {
-        let table = match table_of(alloc, line.text)? {
-            Ok(table) => table,
-            Err(fault) => return self.look_at_bad(alloc, line, fault),
-        };
+    /// Adds what is found in a line that is a table by itself.
+    fn look_at_good(
+        &mut self,
+        alloc: Global,
+        line: Line<'_>,
+        table: &Crontab,
+    ) -> Result<(), AllocError> {
         if let Some(setting) = table.settings().first() {
             return find_unheeded(alloc, &mut self.findings, line, setting.name());
         }
@@ -299,38 +320,39 @@ impl<'d> TableLook<'d> {
             None => Ok(()),
         }
     }
-}
 
-/// What is found in a crontab that may be read, line by line.
-fn look_at_lines<'d>(
-    alloc: Global,
-    bytes: &[u8],
-    entered: Option<&'d Entered>,
-) -> Result<TableLook<'d>, AllocError> {
-    let mut look = TableLook::new(alloc, entered);
-    let mut line = Line {
-        number: 1,
-        start: 0,
-        text: bytes,
-    };
-    for text in bytes.split(|byte| *byte == b'\n') {
-        look.look(alloc, line.with_text(text))?;
-        line.number = line.number.saturating_add(1);
-        line.start = line.start.saturating_add(text.len()).saturating_add(1);
+    /// Adds what is found in a line.
+    fn look(&mut self, alloc: Global, line: Line<'_>) -> Result<(), AllocError> {
+        match table_of(alloc, line.text)? {
+            Ok(table) => self.look_at_good(alloc, line, &table),
+            Err(fault) => self.look_at_bad(alloc, line, fault),
+        }
     }
-    Ok(look)
-}
 
-/// That a crontab is too long to be read.
-fn find_long<'d>(alloc: Global, entered: Option<&'d Entered>) -> Result<TableLook<'d>, AllocError> {
-    let mut look = TableLook::new(alloc, entered);
-    look.is_whole = false;
-    let fault = LineFault::TooLong;
-    let words = format!(in alloc;
-        "{fault}: a table has at most 1,048,576 bytes, and here begins what is over"
-    )?;
-    look.findings.add_fault(Span::of(MAX_TABLE, 1), words)?;
-    Ok(look)
+    /// Adds what is found in a crontab that may be read, line by line.
+    fn look_at_lines(&mut self, alloc: Global, bytes: &[u8]) -> Result<(), AllocError> {
+        let mut line = Line {
+            number: 1,
+            start: 0,
+            text: bytes,
+        };
+        for text in bytes.split(|byte| *byte == b'\n') {
+            self.look(alloc, line.with_text(text))?;
+            line.number = line.number.saturating_add(1);
+            line.start = line.start.saturating_add(text.len()).saturating_add(1);
+        }
+        Ok(())
+    }
+
+    /// Adds that a crontab is too long to be read.
+    fn find_long(&mut self, alloc: Global) -> Result<(), AllocError> {
+        self.is_whole = false;
+        let fault = LineFault::TooLong;
+        let words = format!(in alloc;
+            "{fault}: a table has at most 1,048,576 bytes, and here begins what is over"
+        )?;
+        self.findings.add_fault(Span::of(MAX_TABLE, 1), words)
+    }
 }
 
 /// What is found in a crontab, beside what the declarations enter, where there are any.
@@ -342,9 +364,11 @@ pub fn look_at_table<'d>(
     bytes: &[u8],
     entered: Option<&'d Entered>,
 ) -> Result<TableLook<'d>, AllocError> {
+    let mut look = TableLook::new(alloc, entered);
     if bytes.len() > MAX_TABLE {
-        find_long(alloc, entered)
+        look.find_long(alloc)?;
     } else {
-        look_at_lines(alloc, bytes, entered)
+        look.look_at_lines(alloc, bytes)?;
     }
+    Ok(look)
 }

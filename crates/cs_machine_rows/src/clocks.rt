@@ -3,7 +3,6 @@ use cs_civil::Minute;
 use cs_device::{Clock, Tick};
 use cs_machine::MachineClock;
 use std::cell::Cell;
-use std::test::Fail;
 use std::time::Duration;
 use std::{io, time};
 
@@ -58,29 +57,34 @@ fn at(minute: u64) -> Tick {
     }
 }
 
+/// The machine's second, the offset, and the minute that is told, 0 where none can be.
+const MINUTES: [(u64, i16, u64); 12] = [
+    (SECOND, 0, MINUTE),
+    (SECOND - 1, 0, MINUTE - 1),
+    (SECOND + 59, 0, MINUTE),
+    (SECOND, 60, MINUTE + 60),
+    (SECOND, -90, MINUTE - 90),
+    (86_400, 0, 1_440),
+    (86_399, 0, 0),
+    (0, 1_439, 0),
+    (253_402_300_799, 0, 4_223_371_679),
+    (253_402_300_800, 0, 0),
+    (253_402_300_800, -1, 4_223_371_679),
+    (u64::MAX, 0, 0),
+];
+
+/// The first answer of a clock, and for how long it slept before.
+fn first_answer(second: u64, offset: i16) -> (Tick, u64) {
+    let time = Time::new(second);
+    let answer = MachineClock::new(&time, offset, None).tick(None);
+    (answer, time.slept.get())
+}
+
 #[test]
-fn minutes_at_an_offset(rt: HostRuntime) -> Result<(), Fail> {
-    let rows = [
-        (SECOND, 0, at(MINUTE)),
-        (SECOND - 1, 0, at(MINUTE - 1)),
-        (SECOND + 59, 0, at(MINUTE)),
-        (SECOND, 60, at(MINUTE + 60)),
-        (SECOND, -90, at(MINUTE - 90)),
-        (86_400, 0, at(1_440)),
-        (86_399, 0, Tick::Failed),
-        (0, 1_439, Tick::Failed),
-        (253_402_300_799, 0, at(4_223_371_679)),
-        (253_402_300_800, 0, Tick::Failed),
-        (253_402_300_800, -1, at(4_223_371_679)),
-        (u64::MAX, 0, Tick::Failed),
-    ];
-    for (second, offset, answer) in rows {
-        let time = Time::new(second);
-        let mut clock = MachineClock::new(&time, offset, None);
-        assert!(rt; clock.tick(None) == answer, "{second}");
-        assert!(rt; time.slept.get() == 0, "{second}");
+fn minutes_at_an_offset(rt: HostRuntime) {
+    for (second, offset, minute) in MINUTES {
+        assert!(rt; first_answer(second, offset) == (at(minute), 0), "{second}");
     }
-    Ok(())
 }
 
 /// How often a clock told its first minute and each other one after it, until it stopped.
@@ -103,23 +107,24 @@ fn answers(time: &Time, limit: Option<u64>) -> (u64, u64) {
     (firsts, others)
 }
 
+/// The second in which a clock is first asked, its limit, and how often it tells each minute.
+const LIMITS: [(u64, Option<u64>, (u64, u64)); 7] = [
+    (SECOND, Some(0), (1, 0)),
+    (SECOND, Some(1), (60, 0)),
+    (SECOND + 30, Some(1), (30, 0)),
+    (SECOND + 30, Some(2), (30, 60)),
+    (SECOND + 59, Some(2), (1, 60)),
+    (SECOND + 30, None, (30, 971)),
+    (SECOND + 30, Some(u64::MAX), (30, 971)),
+];
+
 #[test]
-fn a_number_of_minutes(rt: HostRuntime) -> Result<(), Fail> {
-    let rows = [
-        (0, Some(0), (1, 0)),
-        (0, Some(1), (60, 0)),
-        (30, Some(1), (30, 0)),
-        (30, Some(2), (30, 60)),
-        (59, Some(2), (1, 60)),
-        (30, None, (30, 971)),
-        (30, Some(u64::MAX), (30, 971)),
-    ];
-    for (second, limit, count) in rows {
-        let time = Time::new(SECOND + second);
+fn a_number_of_minutes(rt: HostRuntime) {
+    for (second, limit, count) in LIMITS {
+        let time = Time::new(second);
         assert!(rt; answers(&time, limit) == count, "{second} {limit:?}");
         assert!(rt; time.slept.get() >= 1);
     }
-    Ok(())
 }
 
 /// The next answer of a clock that told this minute last.
@@ -129,7 +134,7 @@ fn next(clock: &mut MachineClock<'_, Time>, minute: u64) -> Tick {
 
 /// A second of sleep before each answer but the first.
 #[test]
-fn sleeps_for_a_second(rt: HostRuntime) -> Result<(), Fail> {
+fn sleeps_for_a_second(rt: HostRuntime) {
     let time = Time::new(SECOND);
     let mut clock = MachineClock::new(&time, 0, None);
     for slept in 0..100 {
@@ -138,7 +143,6 @@ fn sleeps_for_a_second(rt: HostRuntime) -> Result<(), Fail> {
         assert!(rt; answer == at(MINUTE + slept / 60), "{slept}");
         assert!(rt; time.slept.get() == slept, "{slept}");
     }
-    Ok(())
 }
 
 /// What a clock answers at these times, where 0 is one that can't be read.
@@ -155,20 +159,22 @@ fn told(times: &[u64], limit: Option<u64>, answers: &[Tick]) -> bool {
     true
 }
 
+/// Times, 0 where one can't be read, and what a clock with a limit of five minutes answers.
+const TIMES: [u64; 8] = [
+    0,
+    SECOND,
+    0,
+    SECOND - 60,
+    SECOND + 299,
+    SECOND + 300,
+    0,
+    SECOND + 9_000,
+];
+
 /// Times that can't be read, that go back and that come after the clock has stopped.
 #[test]
-fn looks_at_the_time(rt: HostRuntime) -> Result<(), Fail> {
-    let times = [
-        0,
-        SECOND,
-        0,
-        SECOND - 60,
-        SECOND + 299,
-        SECOND + 300,
-        0,
-        SECOND + 9_000,
-    ];
-    let stops = [
+fn looks_at_the_time(rt: HostRuntime) {
+    let answers = [
         Tick::Failed,
         at(MINUTE),
         Tick::Failed,
@@ -178,6 +184,5 @@ fn looks_at_the_time(rt: HostRuntime) -> Result<(), Fail> {
         Tick::Failed,
         Tick::Stop,
     ];
-    assert!(rt; told(times.as_slice(), Some(5), stops.as_slice()));
-    Ok(())
+    assert!(rt; told(TIMES.as_slice(), Some(5), answers.as_slice()));
 }

@@ -1,16 +1,15 @@
 //! Stamps over a machine that ends in the middle of a write.
-use crate::scratch::{new_folder, path_in};
+use crate::folders::{day, is_written, stamp};
+use crate::scratch::{new_folder, put, remove_folder};
 use cs_civil::Day;
-use cs_device::{Stamp, StampStore};
-use cs_machine::StampsFolder;
+use cs_device::Stamp;
 use std::alloc::Allocator;
 use std::cell::Cell;
 use std::fs::{Metadata, OpenFile, OpenOptions};
+use std::io;
 use std::io::{ErrorKind, Read, Seek, SeekFrom, Write};
 use std::process::id;
 use std::rt::Files;
-use std::test::Fail;
-use std::{fs, io};
 
 /// How many calls are left until the machine ends, and a digit for each that was made.
 #[derive(Drop)]
@@ -142,70 +141,54 @@ impl<'a, R: Files> Files for Mortal<'a, R> {
 }
 
 /// Whether a write is told as done on a machine with this life.
-fn write_in<'x, R: Files + AllocGlobal>(
-    rt: &'x R,
-    life: &'x Life,
-    folder: &str,
-    day: Day,
-) -> Option<bool> {
+fn write_in<'x, R: Files + AllocGlobal>(rt: &'x R, life: &'x Life, folder: &str, day: Day) -> bool {
     let mortal = Mortal { rt, life };
-    match StampsFolder::open(&mortal, rt.alloc(), folder) {
-        Ok(mut store) => Some(store.write(b"job", day)),
-        Err(_) => None,
-    }
+    is_written(&mortal, rt.alloc(), folder, b"job", day)
 }
 
 /// The same on a machine that ends after so many calls, and which calls it made.
-fn write_until<R: Files + AllocGlobal>(
-    rt: &R,
-    folder: &str,
-    day: Day,
-    calls: u64,
-) -> Option<(bool, u64)> {
+fn write_until<R: Files + AllocGlobal>(rt: &R, folder: &str, day: Day, calls: u64) -> (bool, u64) {
     let life = Life {
         left: Cell::new(calls),
         calls: Cell::new(0),
     };
-    let is_written = write_in(rt, &life, folder, day)?;
-    Some((is_written, life.calls.get()))
+    let is_written = write_in(rt, &life, folder, day);
+    (is_written, life.calls.get())
 }
 
+/// How many calls the machine makes, whether the write is told as done and which calls it made, and
+/// whether the new stamp stands.
+const ROWS: [(u64, (bool, u64), bool); 8] = [
+    (0, (false, 0), false),
+    (1, (false, 1), false),
+    (2, (false, 12), false),
+    (3, (false, 123), false),
+    (4, (false, 1_234), true),
+    (5, (false, 12_341), true),
+    (6, (true, 123_413), true),
+    (7, (true, 123_413), true),
+];
+
 /// Opened, written and synced beside, renamed, the folder opened and synced: before the renaming
-/// the old stamp stands, from then on the new one.
+/// the old stamp stands, from then on the new one. What a crash left beside is in nobody's way.
 #[test]
-fn ends_in_a_write(rt: HostRuntime) -> Result<(), Fail> {
-    let folder = new_folder(&rt, "crashes", id(rt.process()))?;
+fn ends_in_a_write(rt: HostRuntime) {
+    let folder = new_folder(&rt, "crashes", id(rt.process()));
     let folder = folder.as_str();
-    let old = Day::new(19_753).ok_or("a day")?;
-    let new = Day::new(19_754).ok_or("a day")?;
-    let rows = [
-        (0, (false, 0), old),
-        (1, (false, 1), old),
-        (2, (false, 12), old),
-        (3, (false, 123), old),
-        (4, (false, 1_234), new),
-        (5, (false, 12_341), new),
-        (6, (true, 123_413), new),
-        (7, (true, 123_413), new),
-    ];
-    for (calls, written, stamp) in rows {
-        let Ok(mut store) = StampsFolder::open(&rt, rt.alloc(), folder) else {
-            return Err(Fail::from("no folder"));
-        };
-        assert!(rt; store.write(b"job", old));
+    let old = day(&rt, 19_753);
+    let new = day(&rt, 19_754);
+    for (calls, written, is_new) in ROWS {
+        let stays = if is_new { new } else { old };
+        assert!(rt; is_written(&rt, rt.alloc(), folder, b"job", old));
+        assert!(rt; write_until(&rt, folder, new, calls) == written, "{calls}");
         assert!(rt;
-            write_until(&rt, folder, new, calls) == Some(written),
+            stamp(&rt, rt.alloc(), folder, b"job") == Some(Stamp::On(stays)),
             "{calls}"
         );
-        assert!(rt; store.read(b"job") == Stamp::On(stamp), "{calls}");
     }
-    fs::write(&rt, path_in(&rt, folder, "job new")?, "2024013")?;
-    let Ok(mut store) = StampsFolder::open(&rt, rt.alloc(), folder) else {
-        return Err(Fail::from("no folder"));
-    };
-    assert!(rt; store.read(b"job") == Stamp::On(new));
-    assert!(rt; store.write(b"job", old));
-    assert!(rt; store.read(b"job") == Stamp::On(old));
-    fs::remove_dir_all(&rt, folder)?;
-    Ok(())
+    put(&rt, folder, "job new", b"2024013");
+    assert!(rt; stamp(&rt, rt.alloc(), folder, b"job") == Some(Stamp::On(new)));
+    assert!(rt; is_written(&rt, rt.alloc(), folder, b"job", old));
+    assert!(rt; stamp(&rt, rt.alloc(), folder, b"job") == Some(Stamp::On(old)));
+    remove_folder(&rt, folder);
 }

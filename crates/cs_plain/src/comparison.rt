@@ -4,22 +4,24 @@ ghost use Rattle.cs_history.specs.Plan.{first_start};
 
 use crate::chance::Chance;
 use crate::story::{Entry, Story};
-use crate::table::Table;
+use crate::table::{Table, add};
 use crate::tally::{Tally, outcome};
 use arrayvec::ArrayVec;
 use cs_civil::{Day, Minute};
 use cs_core::Core;
+use cs_decl::Plan;
 use cs_history::{Event, Going, Refusal, Reply, Run, Start};
-use std::alloc::{AllocError, Global};
-use std::test::Fail;
+use std::process::Abort;
 
 /// How many plans there are, and how many events go to the core of each.
 const PLANS: u64 = 400;
 
 const EVENTS: u64 = 150;
 
-/// 2024-09-13 00:00, in minutes since 1970-01-01 00:00.
-const MIDNIGHT: u64 = 28_769_760;
+/// 2024-09-12 23:57, in minutes since 1970-01-01 00:00, and 2024-09-10 in days.
+const FIRST_MINUTE: u64 = 28_769_757;
+
+const FIRST_STAMP: u64 = 19_976;
 
 /// What a history starts with.
 #[derive(Debug, Drop)]
@@ -29,20 +31,25 @@ struct Opening {
     stamps: Vec<Option<u64>>,
 }
 
+/// A stamp of a day around midnight, or none.
+fn any_stamp(chance: &mut Chance) -> Option<u64> {
+    let day = FIRST_STAMP + chance.below(6);
+    if chance.once_in(4) { None } else { Some(day) }
+}
+
 impl Opening {
     /// A start soon before or after midnight, with stamps of the days around it; a list of stamps may be too short or too long.
-    fn any(alloc: Global, chance: &mut Chance) -> Result<Opening, AllocError> {
-        let minute = MIDNIGHT - 3 + chance.below(5);
-        let mut stamps = Vec::new(alloc);
+    fn any<R: Abort + AllocGlobal>(rt: &R, chance: &mut Chance) -> Opening {
+        let minute = FIRST_MINUTE + chance.below(5);
+        let mut stamps = Vec::new(rt.alloc());
         for _ in 0..chance.below(5) {
-            let day = MIDNIGHT / 1_440 - 3 + chance.below(6);
-            stamps.push(if chance.once_in(4) { None } else { Some(day) })?;
+            add(rt, &mut stamps, any_stamp(chance));
         }
-        Ok(Opening {
+        Opening {
             minute,
             is_up: !chance.once_in(3),
             stamps,
-        })
+        }
     }
 
     /// The history of these events since this start.
@@ -56,6 +63,17 @@ impl Opening {
         }
     }
 
+    /// The stamps as a core takes them.
+    fn days(&self) -> ArrayVec<Option<Day>, 64> {
+        let mut days = ArrayVec::new();
+        for stamp in self.stamps.as_slice() {
+            if days.len() < 64 {
+                days.push((*stamp).and_then(Day::new));
+            }
+        }
+        days
+    }
+
     /// The start of a core, from the first minute on at which a history may start.
     fn start(&self) -> Option<Start>
         ensures { IfSome result (λ start. first_start ≤ start.now) }
@@ -63,13 +81,7 @@ impl Opening {
         if self.minute < 4_320 {
             return None;
         }
-        let mut stamps = ArrayVec::new();
-        for stamp in self.stamps.as_slice() {
-            if stamps.len() < 64 {
-                stamps.push((*stamp).and_then(Day::new));
-            }
-        }
-        Some(Start::new(Minute::new(self.minute)?, self.is_up, stamps))
+        Some(Start::new(Minute::new(self.minute)?, self.is_up, self.days()))
     }
 }
 
@@ -135,68 +147,64 @@ fn any_among(story: &Story, jobs: &[u16], chance: &mut Chance) -> u16 {
 }
 
 /// A begin of a pending job, mostly; a minute where none is pending.
-fn any_begin(alloc: Global, story: &Story, chance: &mut Chance) -> Result<Event, AllocError> {
-    let pending = story.pending(alloc)?;
+fn any_begin<R: Abort + AllocGlobal>(rt: &R, story: &Story, chance: &mut Chance) -> Event {
+    let pending = story.pending(rt);
     if pending.is_empty() {
-        return Ok(Event::Minute(any_minute(story, chance)));
+        return Event::Minute(any_minute(story, chance));
     }
-    Ok(Event::Begin(any_among(story, pending.as_slice(), chance)))
+    Event::Begin(any_among(story, pending.as_slice(), chance))
 }
 
 /// The grant of a lock, mostly to a run that waits.
-fn any_grant(alloc: Global, story: &Story, chance: &mut Chance) -> Result<Event, AllocError> {
-    let waiting = story.waiting(alloc)?;
+fn any_grant<R: Abort + AllocGlobal>(rt: &R, story: &Story, chance: &mut Chance) -> Event {
+    let waiting = story.waiting(rt);
     let run = any_listed(story, waiting.as_slice(), chance);
-    Ok(Event::Got(run.job, run.at))
+    Event::Got(run.job, run.at)
 }
 
 /// A catch-up, mostly of a job that the open pass has still to start.
-fn any_catch(alloc: Global, story: &Story, chance: &mut Chance) -> Result<Event, AllocError> {
-    let pass = story.pass(alloc)?;
-    Ok(Event::Catch(any_among(story, pass.left.as_slice(), chance)))
+fn any_catch<R: Abort + AllocGlobal>(rt: &R, story: &Story, chance: &mut Chance) -> Event {
+    let pass = story.pass(rt);
+    Event::Catch(any_among(story, pass.left.as_slice(), chance))
 }
 
 /// An end, mostly of a run that is running.
-fn any_end(alloc: Global, story: &Story, chance: &mut Chance) -> Result<Event, AllocError> {
-    let names = names(alloc, story)?;
-    Ok(Event::End(any_listed(story, names.as_slice(), chance)))
+fn any_end<R: Abort + AllocGlobal>(rt: &R, story: &Story, chance: &mut Chance) -> Event {
+    let names = names(rt, story);
+    Event::End(any_listed(story, names.as_slice(), chance))
 }
 
 /// An event to try, of any kind and whether it may come or not; those that get on with the history are likelier.
-fn any_event(alloc: Global, story: &Story, chance: &mut Chance) -> Result<Event, AllocError> {
+fn any_event<R: Abort + AllocGlobal>(rt: &R, story: &Story, chance: &mut Chance) -> Event {
     if !story.is_up() && chance.once_in(2) {
-        return Ok(Event::Up(any_return(story, chance)));
+        return Event::Up(any_return(story, chance));
     }
     match chance.below(60) {
-        0 => Ok(Event::Down),
-        1 => Ok(Event::Up(any_return(story, chance))),
-        2..=23 => any_begin(alloc, story, chance),
-        24..=35 => Ok(Event::Minute(any_minute(story, chance))),
-        36 => Ok(Event::Begin(any_job(story.table, chance))),
-        37..=42 => any_grant(alloc, story, chance),
-        43..=45 => any_catch(alloc, story, chance),
-        _ => any_end(alloc, story, chance),
+        0 => Event::Down,
+        1 => Event::Up(any_return(story, chance)),
+        2..=23 => any_begin(rt, story, chance),
+        24..=35 => Event::Minute(any_minute(story, chance)),
+        36 => Event::Begin(any_job(story.table, chance)),
+        37..=42 => any_grant(rt, story, chance),
+        43..=45 => any_catch(rt, story, chance),
+        _ => any_end(rt, story, chance),
     }
 }
 
 /// The names of the runs that are running.
-fn names(alloc: Global, story: &Story) -> Result<Vec<Run>, AllocError> {
-    let mut names = Vec::new(alloc);
-    for going in story.running(alloc)?.as_slice() {
-        names.push(going.run)?;
+fn names<R: Abort + AllocGlobal>(rt: &R, story: &Story) -> Vec<Run> {
+    let mut names = Vec::new(rt.alloc());
+    for going in story.running(rt).as_slice() {
+        add(rt, &mut names, going.run);
     }
-    Ok(names)
+    names
 }
 
 /// What the definitions answer to an event.
-fn answer(
-    alloc: Global,
-    story: &Story,
-    event: Event,
-) -> Result<Result<Reply, Refusal>, AllocError> {
-    match story.refusal(alloc, event)? {
-        Some(refusal) => Ok(Err(refusal)),
-        None => Ok(Ok(story.reply(alloc, event)?)),
+fn answer<R: Abort + AllocGlobal>(rt: &R, story: &Story, event: Event) -> Result<Reply, Refusal> {
+    match story.refusal(rt, event) {
+        Some(refusal) => Err(refusal),
+        None => Ok(story.reply(rt, event)),
     }
 }
 
@@ -211,14 +219,34 @@ fn has_stamps(core: &Core, story: &Story) -> bool {
 }
 
 /// Whether the core's open pass is that of the history.
-fn has_pass(alloc: Global, core: &Core, story: &Story) -> Result<bool, AllocError> {
-    let pass = story.pass(alloc)?;
+fn has_pass<R: Abort + AllocGlobal>(rt: &R, core: &Core, story: &Story) -> bool {
+    let pass = story.pass(rt);
     let begun = if pass.left.is_empty() {
         None
     } else {
         Some(pass.begun)
     };
-    Ok(core.pass().map(Minute::number) == begun && core.left() == pass.left.as_slice())
+    core.pass().map(Minute::number) == begun && core.left() == pass.left.as_slice()
+}
+
+/// Whether the minute is that of the history, and the daemon up.
+fn has_clock(core: &Core, story: &Story) -> bool {
+    (core.now().number(), core.is_up()) == (story.now(), story.is_up())
+}
+
+/// Whether the same jobs are pending.
+fn has_pending<R: Abort + AllocGlobal>(rt: &R, core: &Core, story: &Story) -> bool {
+    core.pending() == story.pending(rt).as_slice()
+}
+
+/// Whether the same runs wait.
+fn has_waiting<R: Abort + AllocGlobal>(rt: &R, core: &Core, story: &Story) -> bool {
+    are_waiting(core, story.waiting(rt).as_slice())
+}
+
+/// Whether the same runs run.
+fn has_running<R: Abort + AllocGlobal>(rt: &R, core: &Core, story: &Story) -> bool {
+    are_running(core, story.running(rt).as_slice())
 }
 
 /// Whether these runs wait, in this order.
@@ -240,16 +268,13 @@ fn are_running(core: &Core, runs: &[Going]) -> bool {
 }
 
 /// Whether each reader of the core answers what the history says.
-fn is_in_state(alloc: Global, core: &Core, story: &Story) -> Result<bool, AllocError> {
-    Ok(
-        core.now().number() == story.now()
-            && core.is_up() == story.is_up()
-            && core.pending() == story.pending(alloc)?.as_slice()
-            && are_waiting(core, story.waiting(alloc)?.as_slice())
-            && are_running(core, story.running(alloc)?.as_slice())
-            && has_stamps(core, story)
-            && has_pass(alloc, core, story)?,
-    )
+fn is_in_state<R: Abort + AllocGlobal>(rt: &R, core: &Core, story: &Story) -> bool {
+    has_clock(core, story)
+        && has_pending(rt, core, story)
+        && has_waiting(rt, core, story)
+        && has_running(rt, core, story)
+        && has_stamps(core, story)
+        && has_pass(rt, core, story)
 }
 
 /// A core and a list of the same events, from the same start.
@@ -261,29 +286,40 @@ struct Trial {
     entries: Vec<Entry>,
 }
 
+/// A core of a plan.
+fn opened<R: Abort + AllocGlobal>(rt: &R, plan: &Plan, start: Start) -> Core
+    requires { first_start ≤ start.now }
+{
+    Core::open(rt.alloc(), plan, start).expect(rt, "memory")
+}
+
+/// A core of the plan of a table.
+fn core_of<R: Abort + AllocGlobal>(rt: &R, table: &Table, opening: &Opening) -> Core {
+    let plan = table.plan(rt);
+    let start = opening.start().expect(rt, "a start");
+    opened(rt, &plan, start)
+}
+
 impl Trial {
-    /// A trial without events, of a random plan and start; None where no history starts there.
-    fn any(alloc: Global, chance: &mut Chance) -> Result<Option<Trial>, Fail> {
-        let table = Table::any(alloc, chance)?;
-        let opening = Opening::any(alloc, chance)?;
-        let Some(start) = opening.start() else {
-            return Ok(None);
-        };
-        let core = Core::open(alloc, &table.plan(alloc)?, start)?;
-        Ok(Some(Trial {
+    /// A trial without events, of a random plan and start.
+    fn any<R: Abort + AllocGlobal>(rt: &R, chance: &mut Chance) -> Trial {
+        let table = Table::any(rt, chance);
+        let opening = Opening::any(rt, chance);
+        let core = core_of(rt, &table, &opening);
+        Trial {
             table,
             opening,
             core,
-            entries: Vec::new(alloc),
-        }))
+            entries: Vec::new(rt.alloc()),
+        }
     }
 
     fn story(&self) -> Story<'_> {
         self.opening.story(&self.table, self.entries.as_slice())
     }
 
-    fn has_open_pass(&self, alloc: Global) -> Result<bool, AllocError> {
-        Ok(!self.story().pass(alloc)?.left.is_empty())
+    fn has_open_pass<R: Abort + AllocGlobal>(&self, rt: &R) -> bool {
+        !self.story().pass(rt).left.is_empty()
     }
 
     /// Whether the core answers so, in a test and in a step, which it takes.
@@ -294,45 +330,61 @@ impl Trial {
     }
 
     /// Writes the event at the end of the list where it is accepted.
-    fn write(&mut self, event: Event, wanted: Result<Reply, Refusal>) -> Result<(), AllocError> {
+    fn write<R: Abort>(&mut self, rt: &R, event: Event, wanted: Result<Reply, Refusal>) {
         if let Ok(reply) = wanted {
-            self.entries.push(Entry { event, reply })?;
+            add(rt, &mut self.entries, Entry { event, reply });
         }
-        Ok(())
+    }
+
+    fn is_in_state<R: Abort + AllocGlobal>(&self, rt: &R) -> bool {
+        is_in_state(rt, &self.core, &self.story())
     }
 
     /// Sends an event to both. Says whether they answer alike, and stand alike then.
-    fn is_met(
-        &mut self,
-        alloc: Global,
-        event: Event,
-        tally: &mut Tally,
-    ) -> Result<bool, AllocError> {
-        let wanted = answer(alloc, &self.story(), event)?;
+    fn is_met<R: Abort + AllocGlobal>(&mut self, rt: &R, event: Event, tally: &mut Tally) -> bool {
+        let wanted = answer(rt, &self.story(), event);
         tally.add(outcome(&self.table, event, wanted));
-        let had_pass = self.has_open_pass(alloc)?;
+        let had_pass = self.has_open_pass(rt);
         let is_answered = self.core_answers(event, wanted);
-        self.write(event, wanted)?;
-        if !had_pass && self.has_open_pass(alloc)? {
+        self.write(rt, event, wanted);
+        if !had_pass && self.has_open_pass(rt) {
             tally.add(pass_at(event));
         }
-        Ok(is_answered && is_in_state(alloc, &self.core, &self.story())?)
+        is_answered && self.is_in_state(rt)
     }
 }
 
-/// Sends random events to a core and to a list. Says at which event they first differ, None where they don't.
-fn first_difference(alloc: Global, seed: u64, tally: &mut Tally) -> Result<Option<u64>, Fail> {
-    let mut chance = Chance::new(seed);
-    let Some(mut trial) = Trial::any(alloc, &mut chance)? else {
-        return Ok(Some(0));
-    };
+/// Sends a random event to both. Says whether they answer alike, and stand alike then.
+fn is_next_met<R: Abort + AllocGlobal>(
+    rt: &R,
+    trial: &mut Trial,
+    chance: &mut Chance,
+    tally: &mut Tally,
+) -> bool {
+    let event = any_event(rt, &trial.story(), chance);
+    trial.is_met(rt, event, tally)
+}
+
+/// Sends random events to both. Says at which event they first differ, None where they don't.
+fn first_unmet<R: Abort + AllocGlobal>(
+    rt: &R,
+    trial: &mut Trial,
+    chance: &mut Chance,
+    tally: &mut Tally,
+) -> Option<u64> {
     for number in 0..EVENTS {
-        let event = any_event(alloc, &trial.story(), &mut chance)?;
-        if !trial.is_met(alloc, event, tally)? {
-            return Ok(Some(number));
+        if !is_next_met(rt, trial, chance, tally) {
+            return Some(number);
         }
     }
-    Ok(None)
+    None
+}
+
+/// The same of a core and a list of a random plan.
+fn first_difference<R: Abort + AllocGlobal>(rt: &R, seed: u64, tally: &mut Tally) -> Option<u64> {
+    let mut chance = Chance::new(seed);
+    let mut trial = Trial::any(rt, &mut chance);
+    first_unmet(rt, &mut trial, &mut chance, tally)
 }
 
 /// What began a pass.
@@ -344,12 +396,14 @@ fn pass_at(event: Event) -> &'static str {
 }
 
 #[test]
-fn core_meets_plain_reading(rt: HostRuntime) -> Result<(), Fail> {
-    let mut tally = Tally::new(rt.alloc())?;
+fn core_meets_plain_reading(rt: HostRuntime) {
+    let mut tally = Tally::new(&rt);
     for seed in 0..PLANS {
-        let difference = first_difference(rt.alloc(), seed, &mut tally)?;
-        assert_eq!(rt; difference, None, "in the history of seed {seed}");
+        let difference = first_difference(&rt, seed, &mut tally);
+        assert!(rt;
+            difference == None,
+            "in the history of seed {seed} at event {difference:?}"
+        );
     }
-    assert_eq!(rt; tally.rarer_than(50), None);
-    Ok(())
+    assert!(rt; tally.rarer_than(50) == None);
 }

@@ -1,7 +1,7 @@
 //! What may come next in a history, and how it is replied to.
 use crate::story::Story;
 use cs_history::{Event, Mode, Refusal, Reply, Run};
-use std::alloc::{AllocError, Global};
+use std::process::Abort;
 
 /// The first and the last minute that an event may name: 1970-01-02 00:00 and 9999-12-31 23:59.
 const MINUTES: (u64, u64) = (1_440, 4_223_371_679);
@@ -10,116 +10,96 @@ fn is_civil(minute: u64) -> bool {
     MINUTES.0 <= minute && minute <= MINUTES.1
 }
 
+/// The refusal, unless the event may come.
+fn unless(may_come: bool, refusal: Refusal) -> Option<Refusal> {
+    if may_come { None } else { Some(refusal) }
+}
+
 impl Story<'_> {
     /// Whether the lock of a job's group is free for it.
-    fn is_free(&self, alloc: Global, job: u16) -> Result<bool, AllocError> {
-        let running = self.running(alloc)?;
-        Ok(
-            !running
-                .as_slice()
-                .iter()
-                .any(|going| self.table.keeps_out(going.run.job, job)),
-        )
+    fn is_free<R: Abort + AllocGlobal>(&self, rt: &R, job: u16) -> bool {
+        for going in self.running(rt).as_slice() {
+            if self.table.keeps_out(going.run.job, job) {
+                return false;
+            }
+        }
+        true
+    }
+
+    /// Whether no waiter's lock is free.
+    fn are_all_kept_out<R: Abort + AllocGlobal>(&self, rt: &R) -> bool {
+        for run in self.waiting(rt).as_slice() {
+            if self.is_free(rt, run.job) {
+                return false;
+            }
+        }
+        true
+    }
+
+    fn is_pending<R: Abort + AllocGlobal>(&self, rt: &R, job: u16) -> bool {
+        self.pending(rt).as_slice().contains(&job)
+    }
+
+    fn is_waiting<R: Abort + AllocGlobal>(&self, rt: &R, run: Run) -> bool {
+        self.waiting(rt).as_slice().contains(&run)
     }
 
     /// Whether nothing is pending and no waiter's lock is free.
-    fn is_settled(&self, alloc: Global) -> Result<bool, AllocError> {
-        for run in self.waiting(alloc)?.as_slice() {
-            if self.is_free(alloc, run.job)? {
-                return Ok(false);
+    fn is_settled<R: Abort + AllocGlobal>(&self, rt: &R) -> bool {
+        self.are_all_kept_out(rt) && self.pending(rt).is_empty()
+    }
+
+    /// Whether the job is the first of the open pass, and this delay is over since the pass began.
+    fn is_next<R: Abort + AllocGlobal>(&self, rt: &R, job: u16, delay: u64) -> bool {
+        let pass = self.pass(rt);
+        pass.left.as_slice().first() == Some(&job) && pass.begun.saturating_add(delay) <= self.now()
+    }
+
+    /// Whether an anacron run is running.
+    fn is_catching_up<R: Abort + AllocGlobal>(&self, rt: &R) -> bool {
+        for going in self.running(rt).as_slice() {
+            if self.table.anacron(going.run.job).is_some() {
+                return true;
             }
         }
-        Ok(self.pending(alloc)?.is_empty())
+        false
     }
 
-    /// Whether the job is the first of the open pass and its delay is over, no anacron run is running, and the minute of
-    /// the day is in the catch-up hours.
-    fn is_catchable(&self, alloc: Global, job: u16) -> Result<bool, AllocError> {
-        let pass = self.pass(alloc)?;
-        let Some(anacron) = self.table.anacron(job) else {
-            return Ok(false);
-        };
-        let running = self.running(alloc)?;
-        let is_alone = !running
-            .as_slice()
-            .iter()
-            .any(|going| self.table.anacron(going.run.job).is_some());
+    /// Whether the minute of the day is in the catch-up hours.
+    fn is_in_hours(&self) -> bool {
         let (from, to) = self.table.hours;
         let minute = self.now() % 1_440;
-        Ok(
-            pass.left.as_slice().first() == Some(&job)
-                && pass.begun.saturating_add(anacron.delay) <= self.now()
-                && is_alone
-                && from <= minute
-                && minute < to,
-        )
+        from <= minute && minute < to
     }
 
-    fn refusal_of_minute(&self, alloc: Global, minute: u64) -> Result<Option<Refusal>, AllocError> {
-        if !self.is_up() {
-            return Ok(Some(Refusal::NotUp));
+    /// Whether the job is the first of the open pass and its delay is over, no anacron run is running,
+    /// and the minute of the day is in the catch-up hours.
+    fn is_catchable<R: Abort + AllocGlobal>(&self, rt: &R, job: u16) -> bool {
+        match self.table.anacron(job) {
+            Some(anacron) => {
+                self.is_next(rt, job, anacron.delay)
+                    && !self.is_catching_up(rt)
+                    && self.is_in_hours()
+            }
+            None => false,
         }
+    }
+
+    fn refusal_of_minute<R: Abort + AllocGlobal>(&self, rt: &R, minute: u64) -> Option<Refusal> {
         if !is_civil(minute) {
-            return Ok(Some(Refusal::OutOfRange));
+            return Some(Refusal::OutOfRange);
         }
         if minute.checked_sub(1) != Some(self.now()) {
-            return Ok(Some(Refusal::WrongMinute));
+            return Some(Refusal::WrongMinute);
         }
-        let is_settled = self.is_settled(alloc)?;
-        Ok(if is_settled {
-            None
-        } else {
-            Some(Refusal::NotSettled)
-        })
+        unless(self.is_settled(rt), Refusal::NotSettled)
     }
 
-    fn refusal_of_begin(&self, alloc: Global, job: u16) -> Result<Option<Refusal>, AllocError> {
-        if !self.is_up() {
-            return Ok(Some(Refusal::NotUp));
+    fn refusal_of_got<R: Abort + AllocGlobal>(&self, rt: &R, run: Run) -> Option<Refusal> {
+        if !self.is_waiting(rt, run) {
+            return Some(Refusal::NotWaiting);
         }
-        let is_pending = self.pending(alloc)?.as_slice().contains(&job);
-        Ok(if is_pending {
-            None
-        } else {
-            Some(Refusal::NotDue)
-        })
-    }
-
-    fn refusal_of_got(&self, alloc: Global, run: Run) -> Result<Option<Refusal>, AllocError> {
-        if !self.is_up() {
-            return Ok(Some(Refusal::NotUp));
-        }
-        if !self.waiting(alloc)?.as_slice().contains(&run) {
-            return Ok(Some(Refusal::NotWaiting));
-        }
-        let is_free = self.is_free(alloc, run.job)?;
-        Ok(if is_free {
-            None
-        } else {
-            Some(Refusal::LockHeld)
-        })
-    }
-
-    fn refusal_of_catch(&self, alloc: Global, job: u16) -> Result<Option<Refusal>, AllocError> {
-        if !self.is_up() {
-            return Ok(Some(Refusal::NotUp));
-        }
-        let is_catchable = self.is_catchable(alloc, job)?;
-        Ok(if is_catchable {
-            None
-        } else {
-            Some(Refusal::NotCatchable)
-        })
-    }
-
-    fn refusal_of_end(&self, alloc: Global, run: Run) -> Result<Option<Refusal>, AllocError> {
-        let running = self.running(alloc)?;
-        let is_running = running.as_slice().iter().any(|going| going.run == run);
-        Ok(if is_running {
-            None
-        } else {
-            Some(Refusal::NotRunning)
-        })
+        unless(self.is_free(rt, run.job), Refusal::LockHeld)
     }
 
     fn refusal_of_up(&self, minute: u64) -> Option<Refusal> {
@@ -129,73 +109,66 @@ impl Story<'_> {
         if !is_civil(minute) {
             return Some(Refusal::OutOfRange);
         }
-        if minute < self.now() {
-            return Some(Refusal::WrongMinute);
+        unless(self.now() <= minute, Refusal::WrongMinute)
+    }
+
+    /// Since when a run has been running, None where it isn't.
+    fn since<R: Abort + AllocGlobal>(&self, rt: &R, run: Run) -> Option<u64> {
+        for going in self.running(rt).as_slice() {
+            if going.run == run {
+                return Some(going.since);
+            }
         }
         None
     }
 
     /// The refusal that comes first, None where the event may come next.
-    pub(crate) fn refusal(
-        &self,
-        alloc: Global,
-        event: Event,
-    ) -> Result<Option<Refusal>, AllocError> {
+    pub(crate) fn refusal<R: Abort + AllocGlobal>(&self, rt: &R, event: Event) -> Option<Refusal> {
         match event {
-            Event::Minute(minute) => self.refusal_of_minute(alloc, minute),
-            Event::Begin(job) => self.refusal_of_begin(alloc, job),
-            Event::Got(job, at) => self.refusal_of_got(alloc, Run { job, at }),
-            Event::Catch(job) => self.refusal_of_catch(alloc, job),
-            Event::End(run) => self.refusal_of_end(alloc, run),
-            Event::Down => Ok(if self.is_up() {
-                None
-            } else {
-                Some(Refusal::NotUp)
-            }),
-            Event::Up(minute) => Ok(self.refusal_of_up(minute)),
+            Event::End(run) => unless(self.since(rt, run).is_some(), Refusal::NotRunning),
+            Event::Up(minute) => self.refusal_of_up(minute),
+            _ if !self.is_up() => Some(Refusal::NotUp),
+            Event::Minute(minute) => self.refusal_of_minute(rt, minute),
+            Event::Begin(job) => unless(self.is_pending(rt, job), Refusal::NotDue),
+            Event::Got(job, at) => self.refusal_of_got(rt, Run { job, at }),
+            Event::Catch(job) => unless(self.is_catchable(rt, job), Refusal::NotCatchable),
+            Event::Down => None,
         }
     }
 
     /// The reply to the Begin of a job.
-    fn reply_to_begin(&self, alloc: Global, job: u16) -> Result<Reply, AllocError> {
-        let run = Run {
-            job,
-            at: self.now(),
-        };
-        if self.is_free(alloc, job)? {
-            return Ok(Reply::Started(run));
+    fn reply_to_begin<R: Abort + AllocGlobal>(&self, rt: &R, job: u16) -> Reply {
+        let at = self.now();
+        if self.is_free(rt, job) {
+            return Reply::Started(Run { job, at });
         }
-        Ok(match self.table.cron(job) {
-            Some(cron) if cron.mode == Mode::Skip => Reply::Skipped,
+        match self.table.mode(job) {
+            Mode::Skip => Reply::Skipped,
             _ => Reply::Waiting,
-        })
+        }
     }
 
     /// Whether a run that is running is within its declared time.
-    fn is_in_time(&self, alloc: Global, run: Run) -> Result<bool, AllocError> {
-        let running = self.running(alloc)?;
-        let mut is_in_time = false;
-        for going in running.as_slice() {
-            if going.run == run {
-                is_in_time = self.now() < going.since.saturating_add(self.table.max(run.job));
-            }
+    fn is_in_time<R: Abort + AllocGlobal>(&self, rt: &R, run: Run) -> bool {
+        match self.since(rt, run) {
+            Some(since) => self.now() < since.saturating_add(self.table.max(run.job)),
+            None => false,
         }
-        Ok(is_in_time)
     }
 
     /// The reply to an event that may come next.
-    pub(crate) fn reply(&self, alloc: Global, event: Event) -> Result<Reply, AllocError> {
-        Ok(match event {
+    pub(crate) fn reply<R: Abort + AllocGlobal>(&self, rt: &R, event: Event) -> Reply {
+        match event {
             Event::Minute(_) => Reply::Clock,
-            Event::Begin(job) => self.reply_to_begin(alloc, job)?,
+            Event::Begin(job) => self.reply_to_begin(rt, job),
             Event::Got(job, at) => Reply::Started(Run { job, at }),
             Event::Catch(job) => Reply::Started(Run {
                 job,
                 at: self.now(),
             }),
-            Event::End(run) => Reply::Ended(self.is_in_time(alloc, run)?),
+            Event::End(run) => Reply::Ended(self.is_in_time(rt, run)),
             Event::Down => Reply::Went,
             Event::Up(_) => Reply::Came,
-        })
+        }
     }
 }

@@ -1,7 +1,7 @@
 //! A history as a list, and the state that is read off it.
-use crate::table::Table;
+use crate::table::{Table, add};
 use cs_history::{Event, Going, Reply, Run};
-use std::alloc::{AllocError, Global};
+use std::process::Abort;
 
 /// An event that was taken, and the reply to it.
 #[derive(Clone, Copy, Debug, PartialEq, Eq)]
@@ -81,24 +81,22 @@ impl<'a> Story<'a> {
     }
 
     /// The runs that have started and not ended, in order of start.
-    pub(crate) fn running(&self, alloc: Global) -> Result<Vec<Going>, AllocError> {
-        let mut running = Vec::new(alloc);
+    pub(crate) fn running<R: Abort + AllocGlobal>(&self, rt: &R) -> Vec<Going> {
+        let mut running = Vec::new(rt.alloc());
         for (place, entry) in self.entries.iter().enumerate() {
             if let Reply::Started(run) = entry.reply {
                 if !ends(self.from(place), run) {
-                    running.push(Going {
-                        run,
-                        since: self.before(place).now(),
-                    })?;
+                    let since = self.before(place).now();
+                    add(rt, &mut running, Going { run, since });
                 }
             }
         }
-        Ok(running)
+        running
     }
 
     /// The runs whose Begin was answered Waiting, with no Got and no Down since, in order of Begin.
-    pub(crate) fn waiting(&self, alloc: Global) -> Result<Vec<Run>, AllocError> {
-        let mut waiting = Vec::new(alloc);
+    pub(crate) fn waiting<R: Abort + AllocGlobal>(&self, rt: &R) -> Vec<Run> {
+        let mut waiting = Vec::new(rt.alloc());
         for (place, entry) in self.entries.iter().enumerate() {
             if let (Event::Begin(job), Reply::Waiting) = (entry.event, entry.reply) {
                 let run = Run {
@@ -106,11 +104,11 @@ impl<'a> Story<'a> {
                     at: self.before(place).now(),
                 };
                 if !stops_waiting(self.from(place), run) {
-                    waiting.push(run)?;
+                    add(rt, &mut waiting, run);
                 }
             }
         }
-        Ok(waiting)
+        waiting
     }
 
     /// The place after the last Minute, Up or Down, and the minute where it was a Minute.
@@ -128,16 +126,16 @@ impl<'a> Story<'a> {
     }
 
     /// The jobs due at the last Minute that have had no Begin since; none after a Down or an Up until the next Minute.
-    pub(crate) fn pending(&self, alloc: Global) -> Result<Vec<u16>, AllocError> {
-        let mut pending = Vec::new(alloc);
+    pub(crate) fn pending<R: Abort + AllocGlobal>(&self, rt: &R) -> Vec<u16> {
+        let mut pending = Vec::new(rt.alloc());
         if let (place, Some(minute)) = self.last_clock() {
             for job in 0..self.table.jobs() {
                 if self.table.is_due(job, minute) && !begins(self.from(place), job) {
-                    pending.push(job)?;
+                    add(rt, &mut pending, job);
                 }
             }
         }
-        Ok(pending)
+        pending
     }
 
     /// The minute in which a run started.
@@ -177,64 +175,70 @@ impl<'a> Story<'a> {
         }
     }
 
+    fn has_delay(&self, job: u16, delay: u64) -> bool {
+        match self.table.anacron(job) {
+            Some(anacron) => anacron.delay == delay,
+            None => false,
+        }
+    }
+
     /// Adds the jobs of one delay that are due on a day and not running, in order of line.
-    fn add_owed(
+    fn add_owed<R: Abort>(
         &self,
+        rt: &R,
         owed: &mut Vec<u16>,
         running: &[Going],
         today: u64,
         delay: u64,
-    ) -> Result<(), AllocError> {
+    ) {
         for job in 0..self.table.jobs() {
-            let is_of_delay = self
-                .table
-                .anacron(job)
-                .is_some_and(|anacron| anacron.delay == delay);
             let is_running = running.iter().any(|going| going.run.job == job);
-            if is_of_delay && self.is_owed(job, today) && !is_running {
-                owed.push(job)?;
+            if self.has_delay(job, delay) && self.is_owed(job, today) && !is_running {
+                add(rt, owed, job);
             }
         }
-        Ok(())
     }
 
     /// The jobs of a pass that begins now, by delay, then line.
-    fn owed(&self, alloc: Global) -> Result<Vec<u16>, AllocError> {
-        let mut owed = Vec::new(alloc);
-        let running = self.running(alloc)?;
+    fn owed<R: Abort + AllocGlobal>(&self, rt: &R) -> Vec<u16> {
+        let mut owed = Vec::new(rt.alloc());
+        let running = self.running(rt);
+        let today = self.now() / 1_440;
         for delay in 0..10 {
-            self.add_owed(&mut owed, running.as_slice(), self.now() / 1_440, delay)?;
+            self.add_owed(rt, &mut owed, running.as_slice(), today, delay);
         }
-        Ok(owed)
+        owed
     }
 
     /// Begins a pass now, unless one is open.
-    fn open(&self, alloc: Global, pass: &mut Pass) -> Result<(), AllocError> {
+    fn open<R: Abort + AllocGlobal>(&self, rt: &R, pass: &mut Pass) {
         if pass.left.is_empty() {
             pass.begun = self.now();
-            pass.left = self.owed(alloc)?;
+            pass.left = self.owed(rt);
         }
-        Ok(())
+    }
+
+    /// What the last event does to the open pass.
+    fn go_on<R: Abort + AllocGlobal>(&self, rt: &R, pass: &mut Pass, event: Event) {
+        match event {
+            Event::Up(_) => self.open(rt, pass),
+            Event::Minute(minute) if Some(minute % 1_440) == self.table.pass => self.open(rt, pass),
+            Event::Catch(job) => pass.left.retain(|other| *other != job),
+            Event::Down => pass.left.clear(),
+            _ => {}
+        }
     }
 
     /// The open pass: it begins at an Up and at the pass minute, and is over when its last job has started, or at a Down.
-    pub(crate) fn pass(&self, alloc: Global) -> Result<Pass, AllocError> {
+    pub(crate) fn pass<R: Abort + AllocGlobal>(&self, rt: &R) -> Pass {
         let mut pass = Pass {
             begun: 0,
-            left: Vec::new(alloc),
+            left: Vec::new(rt.alloc()),
         };
         for (place, entry) in self.entries.iter().enumerate() {
             let after = self.before(place.saturating_add(1));
-            match entry.event {
-                Event::Up(_) => after.open(alloc, &mut pass)?,
-                Event::Minute(minute) if Some(minute % 1_440) == self.table.pass => {
-                    after.open(alloc, &mut pass)?
-                }
-                Event::Catch(job) => pass.left.retain(|other| *other != job),
-                Event::Down => pass.left.clear(),
-                _ => {}
-            }
+            after.go_on(rt, &mut pass, entry.event);
         }
-        Ok(pass)
+        pass
     }
 }

@@ -1,11 +1,10 @@
 //! Small plans: what they say as plain values, and the texts from which the plan itself is read.
 use crate::chance::Chance;
-use cs_anacrontab::read_anacrontab;
-use cs_crontab::read_crontab;
-use cs_decl::{Plan, join, read_declarations};
+use cs_anacrontab::{Anacrontab, read_anacrontab};
+use cs_crontab::{Crontab, read_crontab};
+use cs_decl::{Declarations, Plan, join, read_declarations};
 use cs_history::Mode;
-use std::alloc::{AllocError, Global};
-use std::test::Fail;
+use std::process::Abort;
 
 /// A cron job that is due each time so many minutes of an hour have gone by.
 #[derive(Clone, Copy, Debug, PartialEq, Eq)]
@@ -42,29 +41,57 @@ fn any_mode(chance: &mut Chance) -> Mode {
     }
 }
 
-fn any_crons(alloc: Global, chance: &mut Chance) -> Result<Vec<CronJob>, AllocError> {
-    let mut crons = Vec::new(alloc);
-    for _ in 0..2 + chance.below(4) {
-        crons.push(CronJob {
-            every: 1 + chance.below(3),
-            max: 1 + chance.below(5),
-            group: chance.below(2),
-            mode: any_mode(chance),
-        })?;
-    }
-    Ok(crons)
+/// Adds an item to a list.
+pub(crate) fn add<T, R: Abort>(rt: &R, list: &mut Vec<T>, item: T) {
+    list.push(item).expect(rt, "memory");
 }
 
-fn any_anacrons(alloc: Global, chance: &mut Chance) -> Result<Vec<AnacronJob>, AllocError> {
-    let mut anacrons = Vec::new(alloc);
-    for _ in 0..chance.below(4) {
-        anacrons.push(AnacronJob {
-            period: 1 + chance.below(3),
-            delay: chance.below(4),
-            max: 1 + chance.below(5),
-        })?;
+fn any_cron(chance: &mut Chance) -> CronJob {
+    CronJob {
+        every: 1 + chance.below(3),
+        max: 1 + chance.below(5),
+        group: chance.below(2),
+        mode: any_mode(chance),
     }
-    Ok(anacrons)
+}
+
+fn any_crons<R: Abort + AllocGlobal>(rt: &R, chance: &mut Chance) -> Vec<CronJob> {
+    let mut crons = Vec::new(rt.alloc());
+    for _ in 0..2 + chance.below(4) {
+        add(rt, &mut crons, any_cron(chance));
+    }
+    crons
+}
+
+fn any_anacron(chance: &mut Chance) -> AnacronJob {
+    AnacronJob {
+        period: 1 + chance.below(3),
+        delay: chance.below(4),
+        max: 1 + chance.below(5),
+    }
+}
+
+fn any_anacrons<R: Abort + AllocGlobal>(rt: &R, chance: &mut Chance) -> Vec<AnacronJob> {
+    let mut anacrons = Vec::new(rt.alloc());
+    for _ in 0..chance.below(4) {
+        add(rt, &mut anacrons, any_anacron(chance));
+    }
+    anacrons
+}
+
+/// Catch-up hours of ten minutes, or to the day's end.
+fn any_hours(chance: &mut Chance) -> (u64, u64) {
+    let from = chance.below(6);
+    (from, if chance.once_in(2) { 1_440 } else { from + 10 })
+}
+
+/// A pass minute soon after midnight, or none.
+fn any_pass(chance: &mut Chance) -> Option<u64> {
+    if chance.once_in(5) {
+        None
+    } else {
+        Some(chance.below(5))
+    }
 }
 
 fn mode_name(mode: Mode) -> &'static str {
@@ -76,97 +103,154 @@ fn mode_name(mode: Mode) -> &'static str {
     }
 }
 
+/// Writes a text behind another.
+fn write<R: Abort>(rt: &R, text: &mut String, more: &str) {
+    text.push_str(more).expect(rt, "memory");
+}
+
+/// What parts an entry from those before it.
+fn comma(text: &str) -> &'static str {
+    if text.is_empty() { "" } else { "," }
+}
+
+/// The line of a crontab for a job.
+fn cron_line<R: Abort + AllocGlobal>(rt: &R, every: u64) -> String {
+    format!(in rt.alloc(); "*/{every} * * * * a\n").expect(rt, "memory")
+}
+
+/// The line of an anacrontab for the job of this place.
+fn anacron_line<R: Abort + AllocGlobal>(rt: &R, place: usize, job: AnacronJob) -> String {
+    let (period, delay) = (job.period, job.delay);
+    format!(in rt.alloc(); "{period} {delay} job{place} a\n").expect(rt, "memory")
+}
+
+/// The declaration of the cron job of this place.
+fn cron_entry<R: Abort + AllocGlobal>(rt: &R, comma: &str, place: usize, job: CronJob) -> String {
+    let line = place.saturating_add(1);
+    let (max, group, mode) = (job.max, job.group, mode_name(job.mode));
+    format!(in rt.alloc();
+        "{comma}{{\"line\":{line},\"max\":{max},\"group\":\"g{group}\",\"mode\":\"{mode}\"}}"
+    ).expect(rt, "memory")
+}
+
+/// The declaration of the anacron job of this place.
+fn anacron_entry<R: Abort + AllocGlobal>(rt: &R, comma: &str, place: usize, max: u64) -> String {
+    format!(in rt.alloc(); "{comma}{{\"id\":\"job{place}\",\"max\":{max}}}").expect(rt, "memory")
+}
+
+/// The declared pass minute.
+fn pass_member<R: Abort + AllocGlobal>(rt: &R, pass: Option<u64>) -> String {
+    match pass {
+        Some(minute) => format!(in rt.alloc(); "\"pass\":{minute},").expect(rt, "memory"),
+        None => String::new(rt.alloc()),
+    }
+}
+
+/// What is declared above the jobs.
+fn terms<R: Abort + AllocGlobal>(rt: &R, hours: (u64, u64), pass: &str) -> String {
+    let (from, to) = hours;
+    format!(in rt.alloc();
+        "{{\"capacity\":64,\"hours\":[{from},{to}],{pass}\
+        \"groups\":[{{\"name\":\"g0\",\"exclusive\":true}},\
+        {{\"name\":\"g1\",\"exclusive\":false}}]"
+    )
+    .expect(rt, "memory")
+}
+
+/// The tables and declarations as they are read.
+fn read_table<R: Abort + AllocGlobal>(rt: &R, text: &str) -> Crontab {
+    read_crontab(rt.alloc(), text.as_bytes()).expect(rt, "a crontab")
+}
+
+fn read_jobs<R: Abort + AllocGlobal>(rt: &R, text: &str) -> Anacrontab {
+    read_anacrontab(rt.alloc(), text.as_bytes()).expect(rt, "an anacrontab")
+}
+
+fn read_terms<R: Abort + AllocGlobal>(rt: &R, text: &str) -> Declarations {
+    read_declarations(rt.alloc(), text.as_bytes()).expect(rt, "declarations")
+}
+
+fn joined<R: Abort + AllocGlobal>(
+    rt: &R,
+    crontab: Crontab,
+    anacrontab: Anacrontab,
+    declarations: Declarations,
+) -> Plan {
+    join(rt.alloc(), crontab, anacrontab, declarations).expect(rt, "a plan")
+}
+
 impl Table {
     /// A plan whose pass minute, where it has one, comes soon after midnight.
-    pub(crate) fn any(alloc: Global, chance: &mut Chance) -> Result<Table, AllocError> {
-        let from = chance.below(6);
-        Ok(Table {
-            crons: any_crons(alloc, chance)?,
-            anacrons: any_anacrons(alloc, chance)?,
-            hours: (from, if chance.once_in(2) { 1_440 } else { from + 10 }),
-            pass: if chance.once_in(5) {
-                None
-            } else {
-                Some(chance.below(5))
-            },
-        })
+    pub(crate) fn any<R: Abort + AllocGlobal>(rt: &R, chance: &mut Chance) -> Table {
+        let hours = any_hours(chance);
+        let crons = any_crons(rt, chance);
+        let anacrons = any_anacrons(rt, chance);
+        Table {
+            crons,
+            anacrons,
+            hours,
+            pass: any_pass(chance),
+        }
     }
 
-    fn crontab(&self, alloc: Global) -> Result<String, AllocError> {
-        let mut text = String::new(alloc);
+    fn crontab<R: Abort + AllocGlobal>(&self, rt: &R) -> String {
+        let mut text = String::new(rt.alloc());
         for job in self.crons.as_slice() {
-            let every = job.every;
-            let line = format!(in alloc; "*/{every} * * * * a\n")?;
-            text.push_str(line.as_str())?;
+            write(rt, &mut text, cron_line(rt, job.every).as_str());
         }
-        Ok(text)
+        text
     }
 
-    fn anacrontab(&self, alloc: Global) -> Result<String, AllocError> {
-        let mut text = String::new(alloc);
+    fn anacrontab<R: Abort + AllocGlobal>(&self, rt: &R) -> String {
+        let mut text = String::new(rt.alloc());
         for (place, job) in self.anacrons.as_slice().iter().enumerate() {
-            let (period, delay) = (job.period, job.delay);
-            let line = format!(in alloc; "{period} {delay} job{place} a\n")?;
-            text.push_str(line.as_str())?;
+            write(rt, &mut text, anacron_line(rt, place, *job).as_str());
         }
-        Ok(text)
+        text
     }
 
     /// The entries of the cron jobs.
-    fn cron_entries(&self, alloc: Global) -> Result<String, AllocError> {
-        let mut text = String::new(alloc);
+    fn cron_entries<R: Abort + AllocGlobal>(&self, rt: &R) -> String {
+        let mut text = String::new(rt.alloc());
         for (place, job) in self.crons.as_slice().iter().enumerate() {
-            let comma = if place == 0 { "" } else { "," };
-            let (line, max, group, mode) = (
-                place as u64 + 1,
-                job.max,
-                job.group,
-                mode_name(job.mode),
-            );
-            let entry = format!(in alloc;
-                "{comma}{{\"line\":{line},\"max\":{max},\"group\":\"g{group}\",\"mode\":\"{mode}\"}}"
-            )?;
-            text.push_str(entry.as_str())?;
+            let entry = cron_entry(rt, comma(text.as_str()), place, *job);
+            write(rt, &mut text, entry.as_str());
         }
-        Ok(text)
+        text
     }
 
     /// The entries of the anacron jobs.
-    fn anacron_entries(&self, alloc: Global) -> Result<String, AllocError> {
-        let mut text = String::new(alloc);
+    fn anacron_entries<R: Abort + AllocGlobal>(&self, rt: &R) -> String {
+        let mut text = String::new(rt.alloc());
         for (place, job) in self.anacrons.as_slice().iter().enumerate() {
-            let comma = if place == 0 { "" } else { "," };
-            let max = job.max;
-            let entry = format!(in alloc; "{comma}{{\"id\":\"job{place}\",\"max\":{max}}}")?;
-            text.push_str(entry.as_str())?;
+            let entry = anacron_entry(rt, comma(text.as_str()), place, job.max);
+            write(rt, &mut text, entry.as_str());
         }
-        Ok(text)
+        text
     }
 
-    /// The member of the pass minute.
-    fn pass_member(&self, alloc: Global) -> Result<String, AllocError> {
-        match self.pass {
-            Some(minute) => format!(in alloc; "\"pass\":{minute},"),
-            None => Ok(String::new(alloc)),
-        }
+    /// What is declared, but for the jobs.
+    fn terms<R: Abort + AllocGlobal>(&self, rt: &R) -> String {
+        let pass = pass_member(rt, self.pass);
+        terms(rt, self.hours, pass.as_str())
     }
 
-    fn declarations(&self, alloc: Global) -> Result<String, AllocError> {
-        let (from, to) = self.hours;
-        let pass = self.pass_member(alloc)?;
-        let crons = self.cron_entries(alloc)?;
-        let anacrons = self.anacron_entries(alloc)?;
-        format!(in alloc;
-            "{{\"capacity\":64,\"hours\":[{from},{to}],{pass}\"groups\":[{{\"name\":\"g0\",\"exclusive\":true}},{{\"name\":\"g1\",\"exclusive\":false}}],\"cron\":[{crons}],\"anacron\":[{anacrons}]}}"
-        )
+    fn declarations<R: Abort + AllocGlobal>(&self, rt: &R) -> String {
+        let mut text = self.terms(rt);
+        write(rt, &mut text, ",\"cron\":[");
+        write(rt, &mut text, self.cron_entries(rt).as_str());
+        write(rt, &mut text, "],\"anacron\":[");
+        write(rt, &mut text, self.anacron_entries(rt).as_str());
+        write(rt, &mut text, "]}");
+        text
     }
 
     /// The plan, read from its texts.
-    pub(crate) fn plan(&self, alloc: Global) -> Result<Plan, Fail> {
-        let crontab = read_crontab(alloc, self.crontab(alloc)?.as_bytes())?;
-        let anacrontab = read_anacrontab(alloc, self.anacrontab(alloc)?.as_bytes())?;
-        let declared = read_declarations(alloc, self.declarations(alloc)?.as_bytes())?;
-        Ok(join(alloc, crontab, anacrontab, declared)?)
+    pub(crate) fn plan<R: Abort + AllocGlobal>(&self, rt: &R) -> Plan {
+        let crontab = read_table(rt, self.crontab(rt).as_str());
+        let anacrontab = read_jobs(rt, self.anacrontab(rt).as_str());
+        let declarations = read_terms(rt, self.declarations(rt).as_str());
+        joined(rt, crontab, anacrontab, declarations)
     }
 
     /// The cron job of this number.

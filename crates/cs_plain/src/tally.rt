@@ -1,7 +1,7 @@
 //! How often each thing came up.
-use crate::table::Table;
+use crate::table::{Table, add};
 use cs_history::{Event, Mode, Refusal, Reply};
-use std::alloc::{AllocError, Global};
+use std::process::Abort;
 
 /// What an event may come to.
 pub(crate) const OUTCOMES: [&str; 26] = [
@@ -40,12 +40,12 @@ pub(crate) struct Tally {
 }
 
 impl Tally {
-    pub(crate) fn new(alloc: Global) -> Result<Tally, AllocError> {
-        let mut counts = Vec::new(alloc);
+    pub(crate) fn new<R: Abort + AllocGlobal>(rt: &R) -> Tally {
+        let mut counts = Vec::new(rt.alloc());
         for _ in OUTCOMES {
-            counts.push(0)?;
+            add(rt, &mut counts, 0);
         }
-        Ok(Tally { counts })
+        Tally { counts }
     }
 
     pub(crate) fn add(&mut self, outcome: &str) {

@@ -1,5 +1,0 @@
-//! Rows of chains of days and stretches in use.
-#![tactic(auto)]
-
-#[cfg(test)]
-mod chains;

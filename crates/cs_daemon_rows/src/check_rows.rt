@@ -1,0 +1,26 @@
+//! What the checker by one thread refuses. The program checks by several threads, and the cases of
+//! `check` show what that accepts and refuses; the other rows here are of plans that this one accepts.
+
+use crate::plans::{TIGHT, answer};
+use cs_check::{CheckError, CheckFault};
+
+/// Whether two runs meet where one may run: at 1970-01-03 01:00, on the first day that is looked at.
+fn is_over_at_one(fault: &CheckFault) -> bool {
+    match fault {
+        CheckFault::OverCapacity { at, load } => (at.number(), *load) == (2_940, 2),
+        _ => false,
+    }
+}
+
+fn is_too_full(error: &CheckError) -> bool {
+    match error {
+        CheckError::Fault(fault) => is_over_at_one(fault),
+        _ => false,
+    }
+}
+
+#[test]
+fn over_the_capacity(rt: HostRuntime) {
+    let error = answer(&rt, rt.alloc(), &TIGHT).expect_err(&rt, "refused");
+    assert!(rt; is_too_full(&error));
+}

@@ -1,0 +1,48 @@
+//! A full journal.
+use crate::desk::Desk;
+use cs_civil::Minute;
+use cs_history::{Event, Refusal};
+use cs_keep::{MAX_ENTRIES, TickFault};
+use std::process::Abort;
+use std::sync::ledger::Ledger;
+
+/// The first minute, the last that there is room for, and the one behind it.
+const FIRST: u64 = 28_401_180;
+
+const LAST: u64 = 32_595_483;
+
+const NEXT: u64 = 32_595_484;
+
+/// Makes minutes until one is refused, and answers the refusal.
+fn fill<L: Ledger>(desk: &mut Desk<L>) -> Option<Refusal> {
+    for minute in FIRST..=NEXT {
+        let answer = desk.step(Event::Minute(minute));
+        if answer.is_err() {
+            return answer.err();
+        }
+    }
+    None
+}
+
+/// Whether a tick to the next minute finds the journal full.
+fn is_full_for_a_tick<L: Ledger>(desk: &mut Desk<L>) -> bool {
+    let Some(next) = Minute::new(NEXT) else {
+        return false;
+    };
+    let last = desk.now();
+    desk.tick(last, next) == Err(TickFault::HistoryFull)
+}
+
+/// Whether the journal is full, and the last minute is the present one.
+fn is_full<L: Ledger>(desk: &Desk<L>) -> bool {
+    desk.place() == ((4_194_304, MAX_ENTRIES, 4_194_304), LAST)
+}
+
+pub(crate) fn fill_and_cut<L: Ledger, R: Abort>(rt: &R, desk: &mut Desk<L>) {
+    assert!(rt; MAX_ENTRIES == 4_194_304 && fill(desk) == Some(Refusal::HistoryFull));
+    assert!(rt; is_full(desk));
+    assert!(rt; is_full_for_a_tick(desk));
+    assert!(rt; is_full(desk));
+    assert!(rt; desk.cut() && desk.step(Event::Minute(NEXT)).is_ok());
+    assert!(rt; desk.counts() == (4_194_305, 1, 4_194_305));
+}

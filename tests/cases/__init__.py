@@ -1,0 +1,275 @@
+"""Worked examples: calls of the program with the answers that are wanted, one file each.
+
+A case is a file tests/cases/SUBCOMMAND/NAME.case. Those of the subcommand `run` are in 'running',
+and calls without a subcommand in 'program'. It has these sections, each once and in any order:
+
+  --- call        the call as one line of a shell, as 'cronsafe judge crontab evening.json'
+  --- file NAME   a file that a word of the calls names
+  --- stdin       standard input; without this section it is empty
+  --- status N    the exit status; this section has no text
+  --- stdout      the whole standard output; a line '*' takes one or more lines, YYYY-MM-DD any
+                  date, HH: and :MM any hour and minute
+  --- stderr      the same of standard error; without this section it is empty
+  --- then        a second call, which puts to use what the first one printed: its word 'stdout'
+                  names that, 'script' the same without its first line, and it ends with status 0
+
+The text of a section is all lines up to the next one that begins with '--- '. A text that ends
+without a newline says so on its head: '--- file NAME (no newline)'. A text with a line that begins
+with '--- ', with control characters or with bytes that aren't UTF-8 is '(escaped)', or '(escaped,
+no newline)': \\xNN is the byte of these two hexadecimal digits, and \\\\ a backslash.
+"""
+import re
+import shlex
+from dataclasses import dataclass, field
+from pathlib import Path
+
+from harness import BadUse
+
+FOLDER = Path(__file__).resolve().parent
+NAME = r"[^\s()/](?:[^()/]*[^\s()/])?"
+HEAD = re.compile(
+    rf"--- (?:(call|stdin|stdout|stderr|then)|status (\d{{1,3}})|file ({NAME}))"
+    r"(?: \((escaped|no newline|escaped, no newline)\))?"
+)
+ESCAPE = re.compile(rb"\\(x[0-9a-f]{2}|\\|)")
+ANY = {rb"YYYY\-MM\-DD": rb"\d{4}-\d\d-\d\d", b"HH:": rb"\d\d:", b":MM": rb":\d\d"}
+
+
+class BadCase(BadUse):
+    """What is wrong with cases, or with a name that is no case's: a line for each fault."""
+
+
+@dataclass
+class Case:
+    """A case. Words, names of files and texts are bytes; the words leave out `cronsafe`."""
+
+    name: str
+    words: list
+    files: dict = field(default_factory=dict)
+    stdin: bytes = b""
+    status: int = None
+    stdout: bytes = None
+    stderr: bytes = b""
+    then: list = field(default_factory=list)
+
+    def text(self):
+        """Returns the file of the case; a status or standard output of None is left out."""
+        parts = {"call": call_line(self.words)}
+        parts.update({f"file {it.decode()}": self.files[it] for it in sorted(self.files)})
+        parts["stdin"] = self.stdin or None
+        parts[f"status {self.status}"] = None if self.status is None else b""
+        parts.update({"stdout": self.stdout, "stderr": self.stderr or None})
+        parts["then"] = call_line(self.then) if self.then else None
+        return b"".join(section(head, it) for head, it in parts.items() if it is not None)
+
+    def is_met(self, out, err):
+        """Returns whether these outputs are the wanted ones."""
+        return is_met(self.stdout, out) and is_met(self.stderr, err)
+
+
+def path_of(name):
+    """Returns the path of the case SUBCOMMAND/NAME."""
+    return FOLDER / f"{name}.case"
+
+
+def cases_of(names=()):
+    """Returns the cases of these names, which may be subcommands; all cases where none is given.
+
+    A BadCase tells all that is wrong with them.
+    """
+    cases, wrong = [], []
+    for path in paths_of(names):
+        try:
+            cases.append(read(str(path.relative_to(FOLDER).with_suffix("")), path.read_bytes()))
+        except BadCase as error:
+            wrong.append(str(error))
+    if wrong:
+        raise BadCase("\n".join(wrong))
+    return cases
+
+
+def paths_of(names):
+    found, folders = [], {it.name for it in FOLDER.iterdir() if it.is_dir()} - {"__pycache__"}
+    for name in names or sorted(folders):
+        name = name.removeprefix("tests/").removeprefix("cases/").removesuffix(".case").rstrip("/")
+        if name not in folders and not path_of(name).is_file():
+            raise BadCase(f"there is no case {name}")
+        found += sorted((FOLDER / name).iterdir()) if name in folders else [path_of(name)]
+    for path in found:
+        if path.suffix != ".case" or not path.is_file():
+            raise BadCase(f"{path.relative_to(FOLDER)} is no case")
+    if not found:
+        raise BadCase("there is no case")
+    return found
+
+
+def is_plain(line):
+    """Returns whether a line has only tabs and printable characters, as UTF-8."""
+    try:
+        return line.decode().replace("\t", "").isprintable()
+    except UnicodeDecodeError:
+        return False
+
+
+def escaped(line):
+    """Returns a line as an escaped text has it."""
+    if line.startswith(b"--- "):
+        return b"\\x2d" + escaped(line[1:])
+    line = line.replace(b"\\", b"\\\\")
+    if is_plain(line):
+        return line
+    return b"".join(b"%c" % it if 32 <= it < 127 or it == 9 else b"\\x%02x" % it for it in line)
+
+
+def section(head, text):
+    """Returns a section of a case."""
+    marks, lines = [], text.split(b"\n")
+    if not all(is_plain(it) and not it.startswith(b"--- ") for it in lines):
+        marks.append("escaped")
+        lines = [escaped(it) for it in lines]
+    if lines[-1]:
+        marks.append("no newline")
+        lines.append(b"")
+    mark = f" ({', '.join(marks)})" if marks else ""
+    return f"--- {head}{mark}\n".encode() + b"\n".join(lines)
+
+
+def call_line(words):
+    """Returns a call as a line of a shell."""
+    words = [it.decode("utf-8", "surrogateescape") for it in [b"cronsafe", *words]]
+    return shlex.join(words).encode("utf-8", "surrogateescape") + b"\n"
+
+
+def words_of(line):
+    """Returns the words of a call, which is to be written as call_line does."""
+    try:
+        words = shlex.split(line.decode("utf-8", "surrogateescape"))
+    except ValueError as error:
+        raise BadCase(f"the call is no line of a shell: {error}") from error
+    words = [it.encode("utf-8", "surrogateescape") for it in words]
+    if words[:1] != [b"cronsafe"]:
+        raise BadCase("the call doesn't begin with 'cronsafe'")
+    if line != call_line(words[1:]):
+        line = call_line(words[1:]).decode("utf-8", "backslashreplace").rstrip()
+        raise BadCase(f"the call is to be written as: {line}")
+    return words[1:]
+
+
+def shell_text(text):
+    """Returns a text as the shell takes it by printf."""
+    signs = {10: "\\n", 9: "\\t", 37: "%%", 39: "'\\''", 92: "\\\\"}
+    plain = [signs.get(it) or (chr(it) if 32 <= it < 127 else f"\\{it:03o}") for it in text]
+    return f"printf '{''.join(plain)}'"
+
+
+def shell_call(words, stdin):
+    """Returns a call as it is typed, with its standard input."""
+    call = call_line(words).decode("utf-8", "surrogateescape").rstrip("\n")
+    return f"{shell_text(stdin)} | {call}" if stdin else call
+
+
+def is_named(name, words):
+    """Returns whether a word is that name, or an option with it after its equals sign."""
+    return any(word == name or word.endswith(b"=" + name) for word in words)
+
+
+def is_met(wanted, got):
+    """Returns whether a text is the wanted one; a line '*' stands for one or more lines."""
+    lines = wanted.split(b"\n")
+    parts = [rb"(?s:.*)" if it == b"*" else pattern_of(it) for it in lines]
+    if lines[-2:] == [b"*", b""] or lines[-1] == b"*":
+        parts = [*parts[: -2 if lines[-1] == b"" else -1], b"(?s:.+)"]
+    return re.fullmatch(b"\n".join(parts), got) is not None
+
+
+def pattern_of(line):
+    """Returns what a wanted line takes: itself, and any date, hour and minute where it says so."""
+    pattern = re.escape(line)
+    for sign, taken in ANY.items():
+        pattern = pattern.replace(sign, taken)
+    return pattern
+
+
+def read(name, text):
+    """Returns the case that a file holds."""
+    return Reader(name, text).case()
+
+
+class Reader:
+    """The sections of a file: the text of each, and the line of its head."""
+
+    def __init__(self, name, text):
+        self.name, self.texts, self.heads = name, {}, {}
+        self.lines = text.split(b"\n")
+        if self.lines.pop():
+            self.fail(len(self.lines) + 1, "the last line has no newline")
+        for number, line in enumerate(self.lines, 1):
+            if not is_plain(line):
+                self.fail(number, "a control character, or bytes that aren't UTF-8")
+        at = [number for number, line in enumerate(self.lines, 1) if line.startswith(b"--- ")]
+        if at[:1] != [1]:
+            self.fail(1, "a case begins with the head of a section")
+        for number, end in zip(at, [*at[1:], len(self.lines) + 1]):
+            self.read_section(number, self.lines[number : end - 1])
+
+    def fail(self, number, what):
+        raise BadCase(f"{self.name}.case, line {number}: {what}")
+
+    def read_section(self, number, lines):
+        head = self.lines[number - 1].decode()
+        found = HEAD.fullmatch(head)
+        if not found:
+            self.fail(number, f"there is no section '{head[4:]}'")
+        kind, status, file, marks = found.groups("")
+        key = ("file", file) if file else kind or "status"
+        if key in self.heads:
+            self.fail(number, "this section is there already")
+        if status and (lines or marks or int(status) > 255):
+            self.fail(number, "this is no exit status alone")
+        self.heads[key] = number
+        self.texts[key] = int(status) if status else self.text_of(number, lines, marks)
+
+    def text_of(self, number, lines, marks):
+        if "escaped" in marks:
+            lines = [self.unescaped(it, line) for it, line in enumerate(lines, number + 1)]
+        text = b"".join(line + b"\n" for line in lines)
+        if "no newline" not in marks:
+            return text
+        if not text[:-1] or text.endswith(b"\n\n"):
+            self.fail(number, "there is no last line without a newline")
+        return text[:-1]
+
+    def unescaped(self, number, line):
+        def byte(found):
+            if not found[1]:
+                self.fail(number, r"a backslash begins neither \xNN nor \\")
+            return bytes.fromhex(found[1][1:].decode()) or b"\\"
+
+        return ESCAPE.sub(byte, line)
+
+    def words(self, key):
+        try:
+            return words_of(self.texts[key]) if key in self.texts else []
+        except BadCase as error:
+            return self.fail(self.heads[key] + 1, error)
+
+    def case(self):
+        for key in ("call", "status", "stdout"):
+            if key not in self.texts:
+                self.fail(len(self.lines), f"the case ends without a section '{key}'")
+        files = {it[1]: self.texts[it] for it in self.texts if it[0] == "file"}
+        case = Case(self.name, self.words("call"), status=self.texts["status"])
+        case.files = {it.encode(): text for it, text in files.items()}
+        for key in ("stdin", "stdout", "stderr"):
+            setattr(case, key, self.texts.get(key, b""))
+        case.then = self.words("then")
+        words = case.words + case.then
+        for it in files:
+            if not is_named(it.encode(), words) or case.then and it in ("stdout", "script"):
+                self.fail(self.heads["file", it], "no word of the calls names this file")
+        if "then" in self.texts:
+            if not any(is_named(it, case.then) for it in (b"stdout", b"script")):
+                self.fail(self.heads["then"], "no word of this call is 'stdout' or 'script'")
+        elif set(case.stdout.split(b"\n")) - {b""} == {b"*"}:
+            self.fail(self.heads["stdout"], "this takes any text")
+        return case

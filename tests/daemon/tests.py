@@ -1,0 +1,441 @@
+"""The tests of `run`. Each says which wrong daemons it is there for.
+
+The clock is the machine's own. A job of an anacrontab that has no stamp is started at once, so that
+tests with such jobs alone take some seconds; a command of a crontab waits for its minute.
+"""
+import os
+import signal
+import time
+from collections import Counter
+
+from harness import Fault, wanted
+
+from daemon import SOON, daily, date_text, early_minute, minute_now, stamp_text
+
+MINUTE = 60
+DAY = 1440
+# so long a run of a job may take that ends at once
+MAX = 2
+# a job of an anacrontab that says that it ran
+ONE_JOB = "7 0 a echo x >>ran\n"
+
+
+def declared(capacity, lines=(), identifiers=(), groups=(), offset=0, **terms):
+    """Returns declarations of jobs, each with the short time and the terms of its name.
+
+    The name is the identifier, or line1 for line 1. The groups are exclusive.
+    """
+    return {
+        "capacity": capacity,
+        "offset": offset,
+        "groups": [{"name": it, "exclusive": True} for it in groups],
+        "cron": [{"line": it, "max": MAX, **terms.get(f"line{it}", {})} for it in lines],
+        "anacron": [{"id": it, "max": MAX, **terms.get(it, {})} for it in identifiers],
+    }
+
+
+def runs(*names):
+    """Returns the lines of runs that exit with status 0."""
+    return [line for it in names for line in (f"started {it}", f"ended {it} status 0")]
+
+
+def look_at_log(daemon, lines):
+    """Holds what was printed against these lines.
+
+    Their order isn't promised, but a run is told as started before it is told as ended.
+    """
+    printed = daemon.printed().splitlines()
+    missing, more = Counter(lines) - Counter(printed), Counter(printed) - Counter(lines)
+    if missing or more:
+        raise Fault(f"lines missing: {list(missing.elements())}, wrong: {list(more.elements())}")
+    for place, line in enumerate(printed):
+        if line.startswith("ended "):
+            start = f"started {line[6:].rpartition(' status ')[0]}"
+            if start not in printed[:place]:
+                raise Fault(f"'{line}' doesn't stand behind '{start}': {printed}")
+
+
+def jobs_are_run(room):
+    """Minutely commands and a job of an anacrontab, at an offset, with settings and inputs.
+
+    For a daemon that starts nothing, starts what is due in the minute in which it comes up, a run
+    twice, or not in each minute; that goes by UTC in place of the offset; that loses or mixes up
+    settings, a shell, `%` or an input; that lets jobs read what is its own; that goes on.
+    """
+    shell = room.folder / "shell"
+    shell.write_text("#!/bin/sh\nprintf '%s\\n' \"$0 $1 $2\" >>words\nexec /bin/sh \"$@\"\n")
+    shell.chmod(0o755)
+    table = (
+        "# no command stands here\n"
+        "FIRST = 'of two  words '\n"
+        "* * * * * date +\\%s >>times\n"
+        '* * * * * echo "$FIRST,${LATER-none},$SHELL,$OUTSIDE" >>settings\n'
+        "* * * * * cat >>input; echo : >>input%one%two\\%\n"
+        "* * * * * cat >>nothing; echo : >>nothing\n"
+        "CRON_TZ = UTC\n"
+        "FIRST = once more\n"
+        "LATER =\n"
+        f"SHELL = {shell}\n"
+        '* * * * * echo "$FIRST,${LATER-none},$SHELL" >>others\n'
+    )
+    anacrontab = 'KIND=anacron\n7 0 a.b echo "$KIND %" >own; cat >>own\n'
+    lines = (3, 4, 5, 6, 11)
+    room.take(declared(11, lines, ["a.b"], offset=90), table, anacrontab)
+    first = early_minute(90)
+    daemon = room.run("--minutes", "3", seconds=4 * MINUTE)
+    minutes = [first + 1, first + 2]
+    names = [f"line {it} due {date_text(minute)}" for it in lines for minute in minutes]
+    look_at_log(daemon, runs(f"job a.b at {date_text(first)}", *names))
+    wanted("warnings", "warning: CRON_TZ on line 7 of the crontab has no effect\n", daemon.said())
+    started = [int(it) // MINUTE + 90 for it in room.read("times").split()]
+    wanted("minutes of the runs", minutes, started)
+    wanted("settings", "of two  words ,none,/bin/sh,inherited\n" * 2, room.read("settings"))
+    wanted("input", "one\ntwo%:\n" * 2, room.read("input"))
+    wanted("no input", ":\n" * 2, room.read("nothing"))
+    wanted("other settings", f"once more,,{shell}\n" * 2, room.read("others"))
+    words = f'{shell} -c echo "$FIRST,${{LATER-none}},$SHELL" >>others\n'
+    wanted("words of the shell", words * 2, room.read("words"))
+    wanted("output of the job of the anacrontab", "anacron %\n", room.read("own"))
+    wanted("stamps", {"a.b": stamp_text(first)}, room.stamps())
+
+
+def no_minutes(room):
+    """A clock that stops at once, with the table on standard input.
+
+    For a daemon that takes 0 for no limit, starts what is due in the minute in which it comes up
+    or a job whose stamp is young enough, or prints more than there is to tell.
+    """
+    table, stamp = "* * * * * echo x >>ran\n", stamp_text(minute_now() - DAY)
+    room.take(declared(3, [1], ["a"]), table, ONE_JOB)
+    room.write("stamps/a", stamp)
+    daemon = room.start(room.words("--minutes", "0", table="-"), given=table)
+    wanted("status", 0, daemon.wait(SOON))
+    wanted("output", ("", ""), (daemon.printed(), daemon.said()))
+    wanted("ran", "", room.read("ran"))
+    wanted("stamps", {"a": stamp}, room.stamps())
+
+
+def stamps_are_kept(room):
+    """Calls one after the other: without a stamp, with that of the first, with other days.
+
+    For a daemon that writes no stamp, another day or text, or leaves files beside; that runs a job
+    again on the same day, a day too early or late, or never again, also where its stamp is of a day
+    that is still to come.
+    """
+    room.take(declared(1, [], ["a"]), "", ONE_JOB)
+    day = early_minute()
+    run = f"job a at {date_text(day)}"
+    look_at_log(room.run("--minutes", "0"), runs(run))
+    wanted("stamps", {"a": stamp_text(day)}, room.stamps())
+    look_at_log(room.run("--minutes", "0"), [])
+    for days, lines in ((6, []), (7, runs(run)), (-1, runs(run))):
+        room.write("stamps/a", stamp_text(day - days * DAY))
+        look_at_log(room.run("--minutes", "0"), lines)
+    wanted("ran", "x\n" * 3, room.read("ran"))
+    wanted("stamps", {"a": stamp_text(day)}, room.stamps())
+
+
+def unreadable_stamps(room):
+    """A stamp file that holds something else, and an empty one.
+
+    For a daemon that gives up there, doesn't run the job, doesn't tell, or tells of an empty file,
+    which is no stamp.
+    """
+    room.take(declared(1, [], ["a"]), "", ONE_JOB)
+    room.write("stamps/a", "yesterday\n")
+    day = early_minute()
+    run = f"job a at {date_text(day)}"
+    look_at_log(room.run("--minutes", "0"), ["stamp not read a", *runs(run)])
+    wanted("stamps", {"a": stamp_text(day)}, room.stamps())
+    room.write("stamps/a", "")
+    look_at_log(room.run("--minutes", "0"), runs(run))
+    wanted("stamps", {"a": stamp_text(day)}, room.stamps())
+
+
+def unwritable_folder(room):
+    """A folder of stamps in which nothing can be written.
+
+    For a daemon that gives up, doesn't run the job, or doesn't tell that a stamp is lost.
+    """
+    room.take(declared(1, [], ["not-written"]), "", "1 0 not-written echo x >>ran\n")
+    run = f"job not-written at {date_text(early_minute())}"
+    # (not even the superuser makes files there)
+    daemon = room.start(room.words("--minutes", "0", stamps="/proc"))
+    wanted("status", 0, daemon.wait(SOON))
+    lost = daemon.printed().splitlines().count("stamp not written not-written")
+    # one try at the end, and one more where the run had ended at the clock's second answer
+    look_at_log(daemon, [*runs(run), *["stamp not written not-written"] * min(max(lost, 1), 2)])
+    wanted("ran", "x\n", room.read("ran"))
+
+
+def unwritable_stamps(room):
+    """A folder that stands in the place of a stamp file, and is taken away later.
+
+    For a daemon that gives up, tries once alone, doesn't tell of each try, writes on and on, or
+    ends by itself though it has no number of minutes.
+    """
+    room.take(declared(1, [], ["a"]), "", ONE_JOB)
+    in_the_way = room.folder / "stamps/a"
+    in_the_way.mkdir()
+    day = early_minute()
+    daemon = room.start(room.words())
+    daemon.wait_for_line("stamp not written a", 2 * SOON, times=3)
+    in_the_way.rmdir()
+    daemon.wait_for("the stamp", in_the_way.is_file, SOON)
+    written = os.stat(in_the_way).st_mtime_ns
+    tries = daemon.printed().splitlines().count("stamp not written a")
+    time.sleep(3)
+    daemon.end()
+    told = ["stamp not read a", *["stamp not written a"] * tries]
+    look_at_log(daemon, [*runs(f"job a at {date_text(day)}"), *told])
+    wanted("stamps", {"a": stamp_text(day)}, room.stamps())
+    wanted("time of the stamp file", written, os.stat(in_the_way).st_mtime_ns)
+
+
+def no_folder(room):
+    """Paths that name no folder of stamps: nothing, and a file.
+
+    For a daemon that goes on without stamps, makes a folder, or ends with another status or text.
+    """
+    room.take(declared(1, [], ["a"]), "", ONE_JOB)
+    room.write("file", "")
+    for path in ("none", "file"):
+        daemon = room.start(room.words("--minutes", "0", stamps=path))
+        wanted("status", 6, daemon.wait(SOON))
+        wanted("output", ("", f"cronsafe: no folder {path}\n"), (daemon.printed(), daemon.said()))
+    wanted("ran", "", room.read("ran"))
+    wanted("a folder was made", False, (room.folder / "none").exists())
+
+
+def refused_certificate(room):
+    """What `check` refuses: a certificate, a damaged one, none, declarations, a table.
+
+    For a daemon that runs what wasn't accepted, before or after it says so, and for one that says
+    it in other words or with another status than `check`.
+    """
+    absent = "cronsafe: can't read certificate: there is no such file\n"
+    empty_leaf = (
+        '{"classes":[{"backlog":[],"due":[]}],"kinds":{"class":0},'
+        '"pairs":[{"of":[0,0],"tree":{"list":[]}}],"reach":[],"version":1}'
+    )
+    window = "catch-up of a from 1970-01-02 00:00 at 1970-01-03 00:00"
+    plan = declared(1, [], ["a"])
+    cases = [
+        ("", plan, empty_leaf, (1, f"refused 5 WindowMissing: {window}\n", "")),
+        ("", plan, empty_leaf[:-1], (3, "", "cronsafe: certificate: 2 NotJson\n")),
+        ("", plan, None, (6, "", absent)),
+        ("", declared(1), empty_leaf, (3, "", "cronsafe: declarations: 4 Undeclared at job a\n")),
+        ("60 * * * * x\n", plan, empty_leaf, (3, "", "cronsafe: crontab line 1: 7 OutOfField\n")),
+    ]
+    for table, declarations, certificate, answer in cases:
+        room.take_tables(declarations, table, ONE_JOB)
+        (room.folder / "certificate").unlink(missing_ok=True)
+        if certificate is not None:
+            room.write("certificate", certificate)
+        wanted("check", answer, room.call("check", "crontab", "declarations", "certificate"))
+        daemon = room.start(room.words("--minutes", "0"))
+        wanted("run", answer, (daemon.wait(SOON), daemon.printed(), daemon.said()))
+    wanted("ran", "", room.read("ran"))
+    wanted("stamps", {}, room.stamps())
+
+
+def time_of(room, name):
+    """Returns the seconds at which a job that wrote them began and ended."""
+    times = [int(it) for it in room.read(name).split()]
+    wanted(f"number of times in {name}", 2, len(times))
+    return times
+
+
+def runs_that_wait(room):
+    """Two commands of one minute and one lock that wait, and two that share another lock.
+
+    For a daemon that takes no locks, gives a waiting run no turn or tells it twice, starts it again
+    when it gets its turn, or has one worker alone.
+    """
+    names = ("wait1", "wait2", "share1", "share2")
+    wait, share = {"group": "g", "mode": "wait"}, {"group": "h", "mode": "shared"}
+    terms = {"line1": wait, "line2": wait, "line3": share, "line4": share}
+    due = early_minute() + 1
+    write = "date +\\%s >>"
+    table = "".join(f"{daily(due)} {write}{it}; sleep 8; {write}{it}\n" for it in names)
+    room.take(declared(4, (1, 2, 3, 4), groups=["g", "h"], **terms), table)
+    daemon = room.run("--minutes", "2", seconds=3 * MINUTE)
+    told = runs(*[f"line {it} due {date_text(due)}" for it in (1, 2, 3, 4)])
+    look_at_log(daemon, [*told, f"waiting line 2 due {date_text(due)}"])
+    times = {it: time_of(room, it) for it in names}
+    if times["wait2"][0] < times["wait1"][1]:
+        raise Fault(f"the second waiting run began before the first had ended: {times}")
+    if not max(times[it][0] for it in names[2:]) < min(times[it][1] for it in names[2:]):
+        raise Fault(f"the runs that share a lock weren't at work at once: {times}")
+
+
+def skipped_run(room):
+    """A command that takes longer than declared, and one of its lock that doesn't wait for it.
+
+    For a daemon that starts the second, lets it wait, starts a command in minutes in which it isn't
+    due, tells an overrun of a command never or each second, or ends the first.
+    """
+    due = early_minute() + 1
+    lock = {"max": 1, "group": "g", "mode": "skip"}
+    table = f"{daily(due)} sleep 64; echo x >>first\n{daily(due + 1)} echo x >>second\n"
+    room.take(declared(2, (1, 2), groups=["g"], line1=lock, line2=lock), table)
+    daemon = room.start(room.words())
+    first, second = (f"line {it + 1} due {date_text(due + it)}" for it in (0, 1))
+    daemon.wait_for_line(f"ended {first} status 0", 3 * MINUTE)
+    # (the second would get its turn now, had it waited)
+    time.sleep(3)
+    daemon.end()
+    look_at_log(daemon, [*runs(first), f"overrun {first}", f"skipped {second}"])
+    wanted("what ran", ("x\n", ""), (room.read("first"), room.read("second")))
+
+
+def lost_log(room):
+    """A log that can't be written: a full device, a pipe that nobody reads, a closed output.
+
+    For a daemon that ends there, by a status or a signal, that doesn't run the job, or whose log
+    goes into another file.
+    """
+    room.take(declared(1, [], ["a"]), "", ONE_JOB)
+    table, words, ran = room.read("anacrontab"), room.words("--minutes", "0"), ""
+    read_end, write_end = os.pipe()
+    os.close(read_end)
+    with open("/dev/full", "wb") as full, open(write_end, "wb") as broken:
+        for what, output, call in (
+            ("a full device", full, words),
+            ("a broken pipe", broken, words),
+            ("a closed output", None, ["/bin/sh", "-c", 'exec "$@" >&-', "sh", *words]),
+        ):
+            (room.folder / "stamps/a").unlink(missing_ok=True)
+            day, ran = early_minute(), ran + "x\n"
+            wanted(f"status with {what}", 0, room.start(call, output=output).wait(SOON))
+            wanted(f"ran with {what}", ran, room.read("ran"))
+            wanted(f"stamps with {what}", {"a": stamp_text(day)}, room.stamps())
+            wanted(f"table with {what}", table, room.read("anacrontab"))
+
+
+def ended_by_a_signal(room):
+    """SIGTERM while a job runs.
+
+    For a daemon that doesn't end at the signal or only once the job has ended, or writes a stamp of
+    a run that hasn't ended; and for a log that isn't written until the end.
+    """
+    room.take(declared(1, [], ["a"]), "", "1 0 a sleep 100; echo x >>ran\n")
+    run = f"job a at {date_text(early_minute())}"
+    daemon = room.start(room.words())
+    daemon.wait_for_line(f"started {run}", SOON)
+    daemon.send(signal.SIGTERM)
+    wanted("status", -signal.SIGTERM, daemon.wait(SOON))
+    wanted("output", (f"started {run}\n", ""), (daemon.printed(), daemon.said()))
+    wanted("stamps", {}, room.stamps())
+
+
+def overruns(room):
+    """A run that is late for two minutes.
+
+    For a daemon that tells it never, each second or each minute, ends the run, or gives up.
+    """
+    day = early_minute()
+    command = f"sleep $(({MINUTE * (day + 2) + 3} - $(date +%s))); echo x >>ran"
+    room.take(declared(1, [], ["a"], a={"max": 1}), "", f"1 0 a {command}\n")
+    daemon = room.start(room.words())
+    run = f"job a at {date_text(day)}"
+    daemon.wait_for_line(f"overrun {run}", 2 * MINUTE)
+    wanted("ran at the overrun", "", room.read("ran"))
+    daemon.wait_for_line(f"ended {run} status 0", 2 * MINUTE)
+    daemon.wait_for("the stamp", (room.folder / "stamps/a").is_file, SOON)
+    daemon.end()
+    look_at_log(daemon, [*runs(run), f"overrun {run}"])
+    wanted("ran", "x\n", room.read("ran"))
+    wanted("stamps", {"a": stamp_text(day)}, room.stamps())
+
+
+def job_not_started(room):
+    """Jobs whose shell isn't there or whose command isn't UTF-8, and one more.
+
+    For a daemon that ends there, waits for such a run, doesn't tell, or tells it as ended; and for
+    one that leaves such a job without a stamp, so that it would be tried on each pass.
+    """
+    anacrontab = (
+        b"SHELL = /no/such\n1 0 a echo x >>ran\n"
+        b"SHELL = /bin/sh\n1 0 b echo \xff >>ran\n1 0 c echo c >>ran\n"
+    )
+    room.take(declared(1, [], ["a", "b", "c"]), "", anacrontab)
+    day = early_minute()
+    daemon = room.run("--minutes", "1", seconds=2 * MINUTE)
+    names = [f"job {it} at {date_text(day)}" for it in "abc"]
+    lost = [f"{word} {it}" for it in names[:2] for word in ("started", "not started")]
+    look_at_log(daemon, [*lost, *runs(names[2])])
+    wanted("ran", "c\n", room.read("ran"))
+    wanted("stamps", dict.fromkeys("abc", stamp_text(day)), room.stamps())
+
+
+def ways_to_end(room):
+    """Jobs of an anacrontab that end in several ways, and the order in which they are started.
+
+    For a daemon that tells another status or none, keeps what a job writes to itself, starts a job
+    before its delay is over or beside another one, or goes by lines before delays.
+    """
+    anacrontab = (
+        "7 1 later echo later >>order\n"
+        "7 0 fine echo fine >>order; sleep 3; echo fine >>order; echo told; echo wrong >&2\n"
+        "7 0 failed echo failed >>order; exit 3\n"
+        "7 0 killed echo killed >>order; kill -9 $$\n"
+        "7 0 unknown echo unknown >>order; /no/such/command\n"
+    )
+    names = ("fine", "failed", "killed", "unknown", "later")
+    room.take(declared(1, [], names), "", anacrontab)
+    first = early_minute()
+    daemon = room.run("--minutes", "2", seconds=3 * MINUTE)
+    statuses = {"fine": 0, "failed": 3, "killed": "none", "unknown": 127, "later": 0}
+    lines = ["told"]
+    for name, status in statuses.items():
+        run = f"job {name} at {date_text(first + (name == 'later'))}"
+        lines += [f"started {run}", f"ended {run} status {status}"]
+    look_at_log(daemon, lines)
+    said = daemon.said().splitlines()
+    wanted("first line on standard error", "wrong", said[0] if said else "")
+    wanted("order", ["fine", *names], room.read("order").split())
+    day = {it: stamp_text(first) for it in names}
+    wanted("stamps", {**day, "later": stamp_text(first + 1)}, room.stamps())
+
+
+def outage(room):
+    """A daemon that is held up for more than a minute.
+
+    For a daemon that makes up for the minutes that it missed, starts what is due in the minute in
+    which it comes up, doesn't tell, tells it twice, or gives up.
+    """
+    room.take(declared(3, [1], ["a"]), "* * * * * echo x >>line\n", ONE_JOB)
+    first = early_minute()
+    daemon = room.start(room.words())
+    daemon.wait_for("the stamp", (room.folder / "stamps/a").is_file, SOON)
+    daemon.send(signal.SIGSTOP)
+    time.sleep(max(0, MINUTE * (first + 2) + 3 - time.time()))
+    daemon.send(signal.SIGCONT)
+    line = f"outage {date_text(first)} to {date_text(first + 2)}"
+    daemon.wait_for_line(line, SOON)
+    run = f"line 1 due {date_text(first + 3)}"
+    daemon.wait_for_line(f"ended {run} status 0", 2 * MINUTE)
+    daemon.end()
+    look_at_log(daemon, [line, *runs(f"job a at {date_text(first)}", run)])
+    wanted("ran", ("x\n", "x\n"), (room.read("line"), room.read("ran")))
+
+
+TESTS = [
+    jobs_are_run,
+    no_minutes,
+    stamps_are_kept,
+    unreadable_stamps,
+    unwritable_folder,
+    unwritable_stamps,
+    no_folder,
+    refused_certificate,
+    runs_that_wait,
+    skipped_run,
+    lost_log,
+    ended_by_a_signal,
+    overruns,
+    job_not_started,
+    ways_to_end,
+    outage,
+]

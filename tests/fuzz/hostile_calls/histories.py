@@ -1,0 +1,147 @@
+"""Scripts of random events over random small plans, whether an event may come or not.
+
+Those that get on with a history are likelier: what is pending, waits or runs is known from the
+second reading, which plays each script as it is made.
+"""
+import json
+
+from model.anacrontab import read_anacrontab
+from model.calendar import day_text, minute_text
+from model.crontab import read_crontab
+from model.declarations import read_plan
+from model.replay import Refused, State
+from model.script import Event, Start, Script
+
+from hostile_calls.calls import call_of
+
+PLANS = 400
+EVENTS = 150
+# Of one plan in so many the history is longer.
+LONG_ONE_IN, EVENTS_OF_A_LONG_ONE = 20, 3_000
+# 2024-09-13 00:00.
+MIDNIGHT = 28_769_760
+DAY = 1_440
+MODES = ("none", "skip", "wait", "shared")
+WEIGHTS = {"begin": 22, "minute": 12, "end": 14, "got": 6, "catch": 3, "down": 1, "up": 1}
+
+
+def files_of(chance):
+    """Returns tables and declarations of jobs that are due often, in one of two groups."""
+    lines, jobs = chance.randint(2, 5), chance.randint(0, 3)
+    first = chance.randint(0, 5)
+    found = {
+        "capacity": 64,
+        "hours": [first, chance.choice((DAY, first + 10))],
+        "groups": [{"name": "g0", "exclusive": True}, {"name": "g1", "exclusive": False}],
+        "cron": [
+            {
+                "line": at + 1,
+                "max": chance.randint(1, 5),
+                "group": chance.choice(("g0", "g1")),
+                "mode": chance.choice(MODES),
+            }
+            for at in range(lines)
+        ],
+        "anacron": [{"id": f"job{at}", "max": chance.randint(1, 5)} for at in range(jobs)],
+    }
+    if chance.randrange(5):
+        found["pass"] = chance.randint(0, 4)
+    table = "".join(f"*/{chance.randint(1, 3)} * * * * a\n" for _ in range(lines))
+    rows = [f"{chance.randint(1, 3)} {chance.randint(0, 3)} job{at} a\n" for at in range(jobs)]
+    return table.encode(), "".join(rows).encode(), json.dumps(found).encode()
+
+
+class History:
+    """A plan, the lines of a script so far, and the state that they leave."""
+
+    def __init__(self, chance, plan):
+        self.chance, self.plan, minute = chance, plan, MIDNIGHT + chance.randint(-3, 1)
+        is_up, stamps = bool(chance.randrange(3)), self.stamps()
+        start = Start(minute, is_up)
+        self.state = State(plan, Script(start, stamps, []))
+        self.lines = [f"start {minute_text(minute)} {'up' if is_up else 'down'}"]
+        self.lines += [f"stamp {self.name(job)} {day_text(day)}" for job, day in stamps.items()]
+
+    def stamps(self):
+        """Returns stamps of days around midnight, for some of the jobs of the anacrontab."""
+        commands = len(self.plan.crontab.commands)
+        chosen = [it for it in range(commands, len(self.plan.jobs)) if self.chance.randrange(4)]
+        return {job: MIDNIGHT // DAY + self.chance.randint(-3, 2) for job in chosen}
+
+    def name(self, job):
+        of = self.plan.jobs[job].of
+        is_command = job < len(self.plan.crontab.commands)
+        return str(of.line) if is_command else of.identifier.decode()
+
+    def any_of(self, runs):
+        """Returns the job and minute of one of these runs, mostly; else such as no run may have."""
+        if runs and self.chance.randrange(8):
+            run = self.chance.choice(runs)
+            return run.job, run.named
+        return self.any_job(), self.state.minute - self.chance.randint(0, 3)
+
+    def any_job(self):
+        return self.chance.randrange(len(self.plan.jobs))
+
+    def any_minute(self, kind):
+        ahead = (0, 2, 1, 1, 1, 1, 1, 1, 1, 1, 1, 1)
+        if kind == "up":
+            ahead = (-1, 0, 0, 1, 2, 3, 3, DAY, 2 * DAY, 3 * DAY)
+        return self.state.minute + self.chance.choice(ahead)
+
+    def any_event(self):
+        """Returns an event of any kind."""
+        state, chance = self.state, self.chance
+        kind = chance.choices(list(WEIGHTS), list(WEIGHTS.values()))[0]
+        if not state.is_up and chance.randrange(2):
+            kind = "up"
+        if kind == "begin" and not state.pending and chance.randrange(8):
+            kind = "minute"
+        likely = state.pending if kind == "begin" else []
+        if kind == "catch" and state.open_pass:
+            likely = state.open_pass.left
+        job = chance.choice(likely) if likely and chance.randrange(8) else self.any_job()
+        if kind == "got":
+            return kind, *self.any_of(state.waiting)
+        if kind == "end":
+            return kind, *self.any_of(state.running)
+        if kind in ("minute", "up"):
+            return kind, None, self.any_minute(kind)
+        return kind, None if kind == "down" else job, None
+
+    def line(self, kind, job, minute):
+        """Returns the line of an event; none where a script has no such line."""
+        is_command = job is not None and job < len(self.plan.crontab.commands)
+        if job is not None and is_command == (kind == "catch"):
+            return None
+        if job is not None and not is_command and kind in ("begin", "got"):
+            return None
+        sort = {"begin": "line ", "got": "line ", "end": "line " if is_command else "job "}
+        words = [kind, "" if job is None else sort.get(kind, "") + self.name(job)]
+        words.append("" if minute is None else minute_text(minute))
+        return " ".join(it for it in words if it)
+
+    def add_event(self):
+        kind, job, minute = self.any_event()
+        line = self.line(kind, job, minute)
+        if line is None:
+            return
+        self.lines.append(line)
+        verb = getattr(self.state, "clock" if kind == "minute" else kind)
+        try:
+            verb(Event(len(self.lines), kind, job, minute))
+        except Refused:
+            pass
+
+
+def histories(chance):
+    """Yields the calls that replay random scripts."""
+    for number in range(PLANS):
+        crontab, anacrontab, declarations = files_of(chance)
+        tables = read_crontab(crontab), read_anacrontab(anacrontab)
+        history = History(chance, read_plan(declarations, *tables))
+        for _ in range(EVENTS if number % LONG_ONE_IN else EVENTS_OF_A_LONG_ONE):
+            history.add_event()
+        text = "".join(f"{it}\n" for it in history.lines).encode()
+        beside = {b"crontab": crontab, b"anacrontab": anacrontab, b"declarations": declarations}
+        yield call_of(f"history {number}", b"script", text, beside)

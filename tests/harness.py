@@ -1,0 +1,127 @@
+"""What the test programs have in common: their words, folders, calls of the program, the count.
+
+A test is a name and a function that raises Fault where it finds something wrong. A test program
+ends with status 0 where all tests pass, 1 where one fails, and 2 where its words or its files are
+malformed; its last line is 'N passed, M failed'.
+"""
+import argparse
+import difflib
+import os
+import signal
+import subprocess
+import sys
+import tempfile
+from concurrent.futures import ThreadPoolExecutor
+from contextlib import contextmanager
+from pathlib import Path
+
+TOP = Path(__file__).resolve().parent.parent
+PROGRAM = TOP / "crates/cronsafe/out/cronsafe"
+NAME = os.path.relpath(os.path.realpath(sys.argv[0]), TOP)
+
+
+class Fault(Exception):
+    """What a test finds wrong."""
+
+
+class BadUse(Exception):
+    """What is wrong with the words of a test program or with its files, a line for each fault."""
+
+
+def wanted(what, right, got):
+    """Raises a Fault where something isn't what it has to be."""
+    if got == right:
+        return
+    if isinstance(right, str) and right.count("\n") > 1:
+        sides = right.splitlines(), got.splitlines()
+        told = "\n".join(difflib.unified_diff(*sides, "wanted", "got", lineterm=""))
+        raise Fault(f"{what}:\n{told}")
+    raise Fault(f"{what}: wanted {right!r}, got {got!r}")
+
+
+def words_of(doc, has_names=True, **options):
+    """Returns what is asked of a test program: options with their defaults, and `names` of tests.
+
+    An option `program` has to be a program that is there.
+    """
+    parser = argparse.ArgumentParser(
+        prog=NAME,
+        usage=argparse.SUPPRESS,
+        description=doc,
+        formatter_class=argparse.RawDescriptionHelpFormatter,
+    )
+    for option, default in options.items():
+        parser.add_argument(f"--{option}", type=type(default), default=default)
+    if has_names:
+        parser.add_argument("names", nargs="*")
+    asked = parser.parse_args()
+    if "program" in options:
+        asked.program = asked.program.resolve()
+        if not asked.program.is_file() or not os.access(asked.program, os.X_OK):
+            raise BadUse(f"there is no program {asked.program}: ./cronsafe --help builds it")
+    return asked
+
+
+def chosen(tests, names):
+    """Returns the functions of these names; all where none is given."""
+    by_name = {it.__name__: it for it in tests}
+    for it in names:
+        if it not in by_name:
+            raise BadUse(f"there is no test {it}: it is one of {', '.join(by_name)}")
+    return [by_name[it] for it in names] or tests
+
+
+@contextmanager
+def folder_with(files):
+    """Makes a folder of these files, whose names and texts are bytes, and takes it away again."""
+    with tempfile.TemporaryDirectory(prefix="cronsafe-test-") as folder:
+        for name, text in files.items():
+            Path(folder, os.fsdecode(name)).write_bytes(text)
+        yield Path(folder)
+
+
+def called(program, words, folder, stdin=b"", seconds=10, **more):
+    """Returns status, standard output and standard error of a call of the program."""
+    pipes = dict.fromkeys(("stdin", "stdout", "stderr"), subprocess.PIPE)
+    given = {"executable": program, "cwd": folder, "start_new_session": True, **pipes, **more}
+    try:
+        ran = subprocess.Popen(["cronsafe", *words], **given)
+    except OSError as error:
+        raise BadUse(f"{program} doesn't start: {error.strerror}") from error
+    try:
+        out, err = ran.communicate(stdin, seconds)
+    except subprocess.TimeoutExpired:
+        os.killpg(ran.pid, signal.SIGKILL)
+        ran.communicate()
+        raise Fault(f"it ran for more than {seconds} seconds") from None
+    return ran.returncode, out, err
+
+
+def outcome(test):
+    """Returns what is wrong, nothing where the test passes."""
+    try:
+        test()
+    except (Fault, OSError, subprocess.SubprocessError) as fault:
+        return str(fault) or type(fault).__name__
+    return ""
+
+
+def count(tests, at_once=os.cpu_count()):
+    """Runs tests, so many side by side; prints which fail and the count, and returns the status."""
+    failed = 0
+    with ThreadPoolExecutor(at_once) as pool:
+        for (name, _), wrong in zip(tests, pool.map(outcome, [test for _, test in tests])):
+            if wrong:
+                failed += 1
+                print(f"{name} failed: {wrong}", flush=True)
+    print(f"{len(tests) - failed} passed, {failed} failed")
+    return 1 if failed else 0
+
+
+def end_with(main):
+    """Ends this program with the status that `main` returns."""
+    try:
+        sys.exit(main())
+    except BadUse as error:
+        print(*(f"{NAME}: {it}" for it in str(error).split("\n")), sep="\n", file=sys.stderr)
+        sys.exit(2)

@@ -1,0 +1,95 @@
+"""The bytes of an anacrontab to a table, or to the first fault with its line."""
+from collections import namedtuple
+
+from model import crontab
+from model.crontab import Setting, Wrong, part_of
+from model.faults import Fault
+
+MOST_JOBS = 64
+MOST_BYTES_OF_AN_IDENTIFIER = 200
+GREATEST = 100_000
+MONTHLY = "monthly"
+WORDS = {b"@daily": 1, b"@weekly": 7, b"@monthly": MONTHLY}
+
+# The period is a number of days, or MONTHLY.
+Job = namedtuple("Job", "line period delay identifier command environment")
+Anacrontab = namedtuple("Anacrontab", "settings jobs")
+NONE = Anacrontab([], [])
+
+
+def is_number_from(least, text):
+    """Returns whether a text is digits with a value from the least one to 100,000."""
+    digits, behind = crontab.digits_of(text)
+    return digits != b"" and behind == b"" and least <= int(digits) <= GREATEST
+
+
+def period_of(text):
+    if text.startswith(b"@"):
+        if text not in WORDS:
+            raise Wrong("UnknownWord")
+        return WORDS[text]
+    if not is_number_from(1, text):
+        raise Wrong("BadPeriod")
+    return int(text)
+
+
+def delay_of(text):
+    if not is_number_from(0, text):
+        raise Wrong("BadDelay")
+    return int(text)
+
+
+def is_utf8(text):
+    try:
+        text.decode("utf-8", "strict")
+    except UnicodeDecodeError:
+        return False
+    return True
+
+
+def identifier_of(text):
+    """Returns a text as an identifier, which no blank can be in here."""
+    is_short = len(text) <= MOST_BYTES_OF_AN_IDENTIFIER
+    if not is_short or not is_utf8(text) or b"/" in text or text in (b".", b".."):
+        raise Wrong("BadIdentifier")
+    return text
+
+
+def parts_of(line):
+    """Returns period, delay, identifier and command of a line, each read before the next."""
+    parts = []
+    for read in (period_of, delay_of, identifier_of):
+        if not line:
+            raise Wrong("MissingField")
+        text, line = part_of(line)
+        parts.append(read(text))
+    if not line:
+        raise Wrong("MissingField")
+    return [*parts, line]
+
+
+def job_of(number, line, settings, jobs):
+    """Returns the job of a line that is no setting."""
+    period, delay, identifier, command = parts_of(line)
+    if any(job.identifier == identifier for job in jobs):
+        raise Wrong("TwiceNamed")
+    if len(jobs) == MOST_JOBS:
+        raise Wrong("TooManyJobs")
+    environment = crontab.environment_of(settings)
+    return Job(number, period, delay, identifier, command, environment)
+
+
+def read_anacrontab(text):
+    """Returns the table that the bytes of an anacrontab denote."""
+    settings, jobs = [], []
+    for number, line in crontab.lines_that_count(text, "anacrontab"):
+        try:
+            if line.endswith(b"\\"):
+                raise Wrong("Continued")
+            if crontab.begins_as_setting(line):
+                settings.append(Setting(number, *crontab.setting_of(line)))
+            else:
+                jobs.append(job_of(number, line, settings, jobs))
+        except Wrong as wrong:
+            raise Fault("anacrontab", str(wrong), number) from None
+    return Anacrontab(settings, jobs)

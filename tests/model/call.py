@@ -1,0 +1,203 @@
+"""What a whole call answers, as far as this reading goes.
+
+Words, files and standard input go in; out come the status and both outputs. Of `check`, `judge`
+and `make` only faults of what is read are known here: past them an answer is not told. Of `lint`
+it is known whether there is a fault, of `draft` whether there is one of the words or of a table.
+"""
+from collections import namedtuple
+
+from model import calendar, crontab, script, warnings
+from model.anacrontab import NONE, read_anacrontab
+from model.day import day_answer
+from model.declarations import DAY, GREATEST_MAX, plain_plan, read_plan
+from model.faults import Fault
+from model.replay import replay_answer
+
+# The words of each subcommand and its options; those in capitals are the paths of inputs.
+CALLS = {
+    b"day": (("TABLE", "date", "max"), ("ANACRONTAB", "from", "to")),
+    b"check": (("TABLE", "DECLS", "CERT"), ("ANACRONTAB",)),
+    b"judge": (("TABLE", "DECLS"), ("ANACRONTAB",)),
+    b"make": (("TABLE", "DECLS"), ("ANACRONTAB",)),
+    b"replay": (("TABLE", "SCRIPT"), ("ANACRONTAB", "DECLARATIONS", "max")),
+    b"lint": (("TABLE", "DECLS"), ("ANACRONTAB",)),
+    b"draft": (("TABLE",), ("ANACRONTAB", "max")),
+}
+# How many of the last words of a subcommand may be left out.
+LEFT_OUT = {b"lint": 1}
+NUMBERS = ("max", "from", "to")
+HELP = (b"help", b"-h", b"--help")
+
+# Outputs that aren't told are none, and so is a status.
+Answer = namedtuple("Answer", "status out err")
+
+
+class NoCall(Exception):
+    """The words are no call."""
+
+
+class Unread(Exception):
+    """A path can't be read."""
+
+
+def asks_help(words):
+    """Returns whether the answer is help or the version, of which this reading knows nothing."""
+    return any(it in HELP or it == b"--version" for it in words)
+
+
+def number_of(word):
+    """Returns the number that a word holds: digits below 2^64, leading zeros too."""
+    digits, behind = crontab.digits_of(word)
+    digits = digits.lstrip(b"0") or digits[:1]
+    if not digits or behind or len(digits) > 20 or int(digits) >= 2**64:
+        raise NoCall
+    return int(digits)
+
+
+def named(words, options):
+    """Returns the words without options, and the values of the options by their names."""
+    plain, found, at = [], {}, 1
+    names = {b"--" + it.lower().encode(): it for it in options}
+    if words[0] == b"make":
+        names[b"--compact"] = "compact"
+    while at < len(words):
+        option, equals, value = words[at].partition(b"=")
+        at += 1
+        if not option.startswith(b"-") or option == b"-":
+            plain.append(words[at - 1])
+            continue
+        if option not in names or names[option] in found:
+            raise NoCall
+        if option == b"--compact":
+            if equals:
+                raise NoCall
+        elif not equals:
+            if at == len(words) or (words[at].startswith(b"-") and words[at] != b"-"):
+                raise NoCall
+            value = words[at]
+            at += 1
+        found[names[option]] = value
+    return plain, found
+
+
+def asked(words):
+    """Returns what words ask, by name; numbers as such."""
+    if not words or words[0] not in CALLS:
+        raise NoCall
+    plain, options = CALLS[words[0]]
+    values, found = named(words, options)
+    if not len(plain) - LEFT_OUT.get(words[0], 0) <= len(values) <= len(plain):
+        raise NoCall
+    found.update(zip(plain, values))
+    if sum(value == b"-" for name, value in found.items() if name.isupper()) > 1:
+        raise NoCall
+    for name in NUMBERS:
+        if name in found:
+            found[name] = number_of(found[name])
+    return found
+
+
+class Call:
+    """A call that is answered, with what it has to warn of so far."""
+
+    def __init__(self, words, files, stdin):
+        self.words, self.files, self.stdin = words, files, stdin
+        self.warned = b""
+
+    def bytes_of(self, path):
+        if path == b"-":
+            return self.stdin
+        if path not in self.files:
+            raise Unread(path)
+        return self.files[path]
+
+    def read_tables(self, found):
+        """Reads both tables, and warns of them once both were read well."""
+        table = crontab.read_crontab(self.bytes_of(found["TABLE"]))
+        jobs = NONE
+        if "ANACRONTAB" in found:
+            jobs = read_anacrontab(self.bytes_of(found["ANACRONTAB"]))
+        self.warned = warnings.warnings_of(table, jobs)
+        return table, jobs
+
+    def day(self, found):
+        day = calendar.day_of_text(found["date"])
+        if day < calendar.FIRST_START_DAY:
+            raise Fault("date", "OutOfRange")
+        look_at_max(found["max"])
+        hours = found.get("from", 0), found.get("to", DAY)
+        if not 0 <= hours[0] < hours[1] <= DAY:
+            raise Fault("declarations", "BadHours")
+        return 0, day_answer(*self.read_tables(found), day, found["max"], hours)
+
+    def lint(self, found):
+        """Tells whether there is a fault; all files are read before one is looked at."""
+        for role in ("TABLE", "ANACRONTAB", "DECLS"):
+            if role in found:
+                self.bytes_of(found[role])
+        try:
+            tables = self.read_tables(found)
+            if "DECLS" in found:
+                read_plan(self.bytes_of(found["DECLS"]), *tables)
+        except Fault:
+            return 3, None
+        finally:
+            self.warned = b""
+        return None, None
+
+    def draft(self, found):
+        look_at_max(found.get("max", 60))
+        self.read_tables(found)
+        self.warned = None
+        return 0, None
+
+    def judge(self, found):
+        tables = self.read_tables(found)
+        read_plan(self.bytes_of(found["DECLS"]), *tables)
+        return None, None
+
+    def check(self, found):
+        tables = self.read_tables(found)
+        read_plan(self.bytes_of(found["DECLS"]), *tables)
+        self.bytes_of(found["CERT"])
+        return None, None
+
+    def replay(self, found):
+        longest = found.get("max", DAY)
+        if "DECLARATIONS" not in found:
+            look_at_max(longest)
+        tables = self.read_tables(found)
+        if "DECLARATIONS" in found:
+            plan = read_plan(self.bytes_of(found["DECLARATIONS"]), *tables)
+        else:
+            plan = plain_plan(longest, *tables)
+        return replay_answer(plan, script.read_script(self.bytes_of(found["SCRIPT"]), plan))
+
+    def answer(self):
+        verbs = {
+            **{b"day": self.day, b"check": self.check, b"replay": self.replay},
+            **{b"lint": self.lint, b"draft": self.draft},
+        }
+        try:
+            status, out = verbs.get(self.words[0], self.judge)(asked(self.words))
+            return Answer(status, out, self.warned)
+        except Fault as fault:
+            return Answer(3, b"", self.warned + b"cronsafe: %s\n" % fault.text())
+        except Unread as unread:
+            why = b"it is a folder" if unread.args[0] == b"." else b"there is no such file"
+            told = b"cronsafe: can't read %s: %s\n" % (unread.args[0], why)
+            return Answer(6, b"", self.warned + told)
+        except NoCall:
+            return Answer(4, b"", None)
+
+
+def look_at_max(longest):
+    if not 1 <= longest <= GREATEST_MAX:
+        raise Fault("declarations", "BadMax")
+
+
+def answer_of(words, files, stdin=b""):
+    """Returns the answer to words, over files by their paths and what standard input holds."""
+    if not words:
+        return Answer(4, b"", None)
+    return Call(words, files, stdin).answer()

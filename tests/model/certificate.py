@@ -1,0 +1,262 @@
+"""Reads certificates as docs/CERTIFICATE.md says, or tells their fault.
+
+The fault of the smallest number that stands anywhere in the value is answered, so each kind of
+fault is looked for in the whole certificate, in the order of the numbers. Whatever a number means,
+it may be any whole one as long as shapes are read; if it is out of range is asked later.
+"""
+from model.json_text import NotJson, read_json
+
+LONGEST = 16_777_216
+DEEPEST = 24
+MOST_ENTRIES = 4096
+MOST_CLASSES = {1: 512, 2: 512, 3: 2562}
+GREATEST_REACH = {1: 1440, 2: 4320, 3: 4320}
+DAYS_BACK = {1: 1, 2: 3}
+STRETCH_DAYS = {1: (2,), 2: (2, 3, 4)}
+JOBS, GROUPS, DAY, GREATEST_VALUE = 320, 64, 1440, 1_000_000
+NUMBERS_OF = {"month": range(1, 13), "day": range(1, 32), "weekday": range(7)}
+FAULTS = "TooLong NotJson BadVersion BadShape TooDeep BadSplit BadClass BadEntry".split()
+FAULTS += ["TooManyClasses", "LeafTooLong"]
+
+
+class Fault(Exception):
+    """A fault of a certificate's text, by its number."""
+
+    def __init__(self, name):
+        super().__init__(f"{FAULTS.index(name) + 1} {name}")
+
+
+class Certificate:
+    """What a certificate says.
+
+    version    1, 2 or 3
+    classes    of each class its due minutes by job and its pieces of a backlog by group; in version
+               3 the pieces are the carries at minute 0, and nothing is due
+    kinds      the day tree: a number of a class, or (field, numbers, yes, no)
+    stretches  of each stretch its classes and its minute tree: a list of entries, or (at, before,
+               after); none in version 3
+    reach      pairs of job and reach
+    """
+
+    def __init__(self, version, value):
+        self.version = version
+        self.classes = [class_said(it, version) for it in list_said(value["classes"])]
+        self.kinds = day_tree_said(value["kinds"])
+        self.reach = [numbers_said(it, 2) for it in list_said(value["reach"])]
+        name = {1: "pairs", 2: "stretches"}.get(version)
+        listed = list_said(value[name]) if name else []
+        self.stretches = [stretch_said(it, version) for it in listed]
+
+
+# Shapes: what a value has to be for any meaning. All else is BadShape.
+
+
+def object_said(value, *names):
+    """Returns the values of an object that has these members and no other."""
+    if not isinstance(value, dict) or set(value) != set(names):
+        raise Fault("BadShape")
+    return [value[name] for name in names]
+
+
+def list_said(value, length=None):
+    """Returns a list, of that length where one is asked for."""
+    if not isinstance(value, list) or length not in (None, len(value)):
+        raise Fault("BadShape")
+    return value
+
+
+def is_whole(value):
+    """Returns whether a value is a whole number; a boolean is one in Python, but none in JSON."""
+    return isinstance(value, int) and not isinstance(value, bool)
+
+
+def number_said(value):
+    if not is_whole(value):
+        raise Fault("BadShape")
+    return value
+
+
+def numbers_said(value, length=None):
+    return [number_said(it) for it in list_said(value, length)]
+
+
+def class_said(value, version):
+    """Returns the due minutes and the backlogs of a class: pairs of a job, a group and its list."""
+    if version == 3:
+        [carry] = object_said(value, "carry")
+        pairs = [numbers_said(it, 2) for it in list_said(carry)]
+        return [], [(group, [[0, minutes]]) for group, minutes in pairs]
+    due, backlog = object_said(value, "due", "backlog")
+    jobs = [list_said(it, 2) for it in list_said(due)]
+    groups = [list_said(it, 2) for it in list_said(backlog)]
+    return (
+        [(number_said(job), numbers_said(minutes)) for job, minutes in jobs],
+        [
+            (number_said(group), [numbers_said(it, 2) for it in list_said(pieces)])
+            for group, pieces in groups
+        ],
+    )
+
+
+def day_tree_said(value):
+    if isinstance(value, dict) and "class" in value:
+        return number_said(*object_said(value, "class"))
+    field, numbers, yes, no = object_said(value, "split", "in", "yes", "no")
+    if not isinstance(field, str) or field not in NUMBERS_OF:
+        raise Fault("BadShape")
+    return field, numbers_said(numbers), day_tree_said(yes), day_tree_said(no)
+
+
+def minute_tree_said(value):
+    if isinstance(value, dict) and "list" in value:
+        return [tuple(numbers_said(it, 3)) for it in list_said(*object_said(value, "list"))]
+    at, before, after = object_said(value, "at", "before", "after")
+    return number_said(at), minute_tree_said(before), minute_tree_said(after)
+
+
+def stretch_said(value, version):
+    of, tree = object_said(value, "of", "tree")
+    classes = numbers_said(of)
+    if len(classes) not in STRETCH_DAYS[version]:
+        raise Fault("BadShape")
+    return tuple(classes), minute_tree_said(tree)
+
+
+# Rules: what stands in a certificate whose shape is right.
+
+
+def rises(numbers):
+    return all(one < next_one for one, next_one in zip(numbers, numbers[1:]))
+
+
+def are_within(numbers, first, last):
+    return all(first <= it <= last for it in numbers)
+
+
+def depth(tree):
+    """Returns the most splits on a way from the root of a tree of either sort to a leaf."""
+    return 1 + max(depth(half) for half in tree[-2:]) if isinstance(tree, tuple) else 0
+
+
+def leaves(tree):
+    """Returns the leaves of a tree of either sort, from left to right."""
+    return [it for half in tree[-2:] for it in leaves(half)] if isinstance(tree, tuple) else [tree]
+
+
+def is_day_tree_split_well(tree, left):
+    """Returns whether each split has rising numbers that are left there, one at least, not all."""
+    if not isinstance(tree, tuple):
+        return True
+    field, numbers, yes, no = tree
+    others = [it for it in left[field] if it not in numbers]
+    if not numbers or not rises(numbers) or not set(numbers) <= set(left[field]) or not others:
+        return False
+    return is_day_tree_split_well(yes, {**left, field: numbers}) and is_day_tree_split_well(
+        no, {**left, field: others}
+    )
+
+
+def is_minute_tree_split_well(tree, first, end):
+    """Returns whether each split leaves minutes on both of its sides."""
+    if not isinstance(tree, tuple):
+        return True
+    at, before, after = tree
+    return (
+        first < at < end
+        and is_minute_tree_split_well(before, first, at)
+        and is_minute_tree_split_well(after, at, end)
+    )
+
+
+def has_deep_tree(it):
+    return any(depth(tree) > DEEPEST for tree in [it.kinds, *(tree for _, tree in it.stretches)])
+
+
+def has_bad_split(it):
+    return not is_day_tree_split_well(it.kinds, NUMBERS_OF) or any(
+        not is_minute_tree_split_well(tree, 0, DAY) for _, tree in it.stretches
+    )
+
+
+def has_bad_class(it):
+    named = leaves(it.kinds) + [number for of, _ in it.stretches for number in of]
+    order = [(len(of), of) for of, _ in it.stretches]
+    return not are_within(named, 0, len(it.classes) - 1) or not rises(order)
+
+
+def is_class_in_range(due, backlogs):
+    jobs, groups = [job for job, _ in due], [group for group, _ in backlogs]
+    if not rises(jobs) or not are_within(jobs, 0, JOBS - 1):
+        return False
+    if not rises(groups) or not are_within(groups, 0, GROUPS - 1):
+        return False
+    for _, minutes in due:
+        if not minutes or not rises(minutes) or not are_within(minutes, 0, DAY - 1):
+            return False
+    for _, pieces in backlogs:
+        minutes, values = [at for at, _ in pieces], [value for _, value in pieces]
+        if not rises(minutes) or not are_within(minutes, 0, DAY - 1):
+            return False
+        if not are_within(values, 1, GREATEST_VALUE):
+            return False
+    return True
+
+
+def has_bad_entry(it):
+    jobs, reaches = [job for job, _ in it.reach], [reach for _, reach in it.reach]
+    if not rises(jobs) or not are_within(jobs, 0, JOBS - 1):
+        return True
+    if not are_within(reaches, 1, GREATEST_REACH[it.version]):
+        return True
+    if not all(is_class_in_range(due, backlogs) for due, backlogs in it.classes):
+        return True
+    for _, tree in it.stretches:
+        for job, back, minute in [entry for leaf in leaves(tree) for entry in leaf]:
+            if not (0 <= job < JOBS and 0 <= back <= DAYS_BACK[it.version] and 0 <= minute < DAY):
+                return True
+    return False
+
+
+def has_too_many_classes(it):
+    return len(it.classes) > MOST_CLASSES[it.version]
+
+
+def has_long_leaf(it):
+    return any(len(leaf) > MOST_ENTRIES for _, tree in it.stretches for leaf in leaves(tree))
+
+
+RULES = (
+    ("TooDeep", has_deep_tree),
+    ("BadSplit", has_bad_split),
+    ("BadClass", has_bad_class),
+    ("BadEntry", has_bad_entry),
+    ("TooManyClasses", has_too_many_classes),
+    ("LeafTooLong", has_long_leaf),
+)
+
+
+def members_of(version):
+    """Returns the names of a certificate's members."""
+    listed = {1: ["pairs"], 2: ["stretches"], 3: []}[version]
+    return ["version", "classes", "kinds", "reach", *listed]
+
+
+def read(text):
+    """Returns the certificate that bytes stand for; raises its fault."""
+    if len(text) > LONGEST:
+        raise Fault("TooLong")
+    try:
+        value = read_json(text)
+    except NotJson as error:
+        raise Fault("NotJson") from error
+    if not isinstance(value, dict) or not is_whole(value.get("version")):
+        raise Fault("BadShape")
+    version = value["version"]
+    if version not in (1, 2, 3):
+        raise Fault("BadVersion")
+    object_said(value, *members_of(version))
+    certificate = Certificate(version, value)
+    for name, stands_in in RULES:
+        if stands_in(certificate):
+            raise Fault(name)
+    return certificate

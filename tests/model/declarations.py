@@ -1,0 +1,277 @@
+"""The bytes of declarations, joined with two tables to a plan, or their first fault."""
+from collections import namedtuple
+
+from model.faults import Fault
+from model.json_text import NotJson, read_json
+
+MODES = ("none", "skip", "wait", "shared")
+MOST_GROUPS = 64
+GREATEST_MAX = 4_320
+GREATEST_WEIGHT = 64
+GREATEST_CAPACITY = 64
+GREATEST_OFFSET = 1_439
+DAY = 1_440
+
+# What the bytes say; `mode` of an anacron entry is whether it has one.
+Declared = namedtuple("Declared", "capacity offset hours pass_minute groups cron anacron")
+Group = namedtuple("Group", "name exclusive")
+Entry = namedtuple("Entry", "job max weight group mode")
+# A job of a plan by its number: `of` is the command or the job of its table.
+PlanJob = namedtuple("PlanJob", "of max weight group mode")
+Plan = namedtuple("Plan", "crontab anacrontab jobs groups capacity hours pass_minute offset")
+
+
+class OtherShape(Exception):
+    """A value has another shape than it has to have."""
+
+
+def whole(value):
+    # A boolean is a number in Python, but none in JSON.
+    if not isinstance(value, int) or isinstance(value, bool):
+        raise OtherShape
+    return value
+
+
+def boolean(value):
+    if not isinstance(value, bool):
+        raise OtherShape
+    return value
+
+
+def text(value):
+    if not isinstance(value, str):
+        raise OtherShape
+    return value
+
+
+def mode(value):
+    if value not in MODES or not isinstance(value, str):
+        raise OtherShape
+    return value
+
+
+def offset(value):
+    if not -GREATEST_OFFSET <= whole(value) <= GREATEST_OFFSET:
+        raise OtherShape
+    return value
+
+
+def hours(value):
+    if not isinstance(value, list) or len(value) != 2:
+        raise OtherShape
+    return whole(value[0]), whole(value[1])
+
+
+def anything(_):
+    return True
+
+
+def list_of(read):
+    """Returns the reader of lists whose items it reads."""
+
+    def read_list(value):
+        if not isinstance(value, list):
+            raise OtherShape
+        return [read(item) for item in value]
+
+    return read_list
+
+
+# The members of each kind of object: how each is read, and what it is where it is absent.
+REQUIRED = object()
+GROUP = {"name": (text, REQUIRED), "exclusive": (boolean, REQUIRED)}
+COMMON = {"max": (whole, REQUIRED), "weight": (whole, 1), "group": (text, None)}
+CRON = {"line": (whole, REQUIRED), "mode": (mode, "none"), **COMMON}
+ANACRON = {"id": (text, REQUIRED), "mode": (anything, False), **COMMON}
+
+
+def members(value, shape):
+    """Returns the members of an object as that shape has them."""
+    if not isinstance(value, dict) or any(name not in shape for name in value):
+        raise OtherShape
+    found = {}
+    for name, (read, default) in shape.items():
+        if name not in value and default is REQUIRED:
+            raise OtherShape
+        found[name] = read(value[name]) if name in value else default
+    return found
+
+
+def group(value):
+    return Group(**members(value, GROUP))
+
+
+def entry(shape, name):
+    """Returns the reader of entries of that shape, whose job has that name in them."""
+
+    def read_entry(value):
+        found = members(value, shape)
+        return Entry(job=found.pop(name), **found)
+
+    return read_entry
+
+
+DECLARATIONS = {
+    "capacity": (whole, REQUIRED),
+    "offset": (offset, 0),
+    "hours": (hours, (0, DAY)),
+    "pass": (whole, None),
+    "groups": (list_of(group), []),
+    "cron": (list_of(entry(CRON, "line")), []),
+    "anacron": (list_of(entry(ANACRON, "id")), []),
+}
+
+
+def declared_of(value):
+    """Returns what a JSON value declares."""
+    found = members(value, DECLARATIONS)
+    return Declared(pass_minute=found.pop("pass"), **found)
+
+
+def identifier_text(job):
+    return job.identifier.decode("utf-8")
+
+
+def second_times(keys):
+    """Returns the places, from 1, at which a key stands that stood before."""
+    return [at for at, key in enumerate(keys, 1) if key in keys[: at - 1]]
+
+
+def places(word, found):
+    return [word + b" %d" % at for at in found]
+
+
+class Rules:
+    """The rules beside the shape: for each fault the places where it stands, the first first."""
+
+    def __init__(self, declared, crontab, anacrontab):
+        self.declared, self.crontab, self.anacrontab = declared, crontab, anacrontab
+
+    def entries(self, is_wrong):
+        """Returns the places of the entries that are wrong, of cron and then of anacron."""
+        cron = [at for at, it in enumerate(self.declared.cron, 1) if is_wrong(it)]
+        anacron = [at for at, it in enumerate(self.declared.anacron, 1) if is_wrong(it)]
+        return places(b"cron", cron) + places(b"anacron", anacron)
+
+    def no_such_line(self):
+        names = {it.line for it in self.crontab.commands}
+        names |= {identifier_text(it) for it in self.anacrontab.jobs}
+        return self.entries(lambda it: it.job not in names)
+
+    def undeclared(self):
+        lines = [it.job for it in self.declared.cron]
+        names = [it.job for it in self.declared.anacron]
+        jobs = [it for it in self.crontab.commands if it.schedule and it.line not in lines]
+        found = [b"line %d" % it.line for it in jobs]
+        jobs = [it for it in self.anacrontab.jobs if identifier_text(it) not in names]
+        return found + [b"job " + it.identifier for it in jobs]
+
+    def twice_declared(self):
+        groups = second_times([it.name for it in self.declared.groups])
+        lines = second_times([it.job for it in self.declared.cron])
+        names = second_times([it.job for it in self.declared.anacron])
+        found = places(b"group", groups) + places(b"cron", lines)
+        return found + places(b"anacron", names)
+
+    def bad_max(self):
+        return self.entries(lambda it: not 1 <= it.max <= GREATEST_MAX)
+
+    def bad_weight(self):
+        return self.entries(lambda it: not 1 <= it.weight <= GREATEST_WEIGHT)
+
+    def bad_capacity(self):
+        return [] if 1 <= self.declared.capacity <= GREATEST_CAPACITY else [b""]
+
+    def mode_needs_group(self):
+        wrong = [it.mode != "none" and it.group is None for it in self.declared.cron]
+        return places(b"cron", [at for at, it in enumerate(wrong, 1) if it])
+
+    def unknown_group(self):
+        names = [None, *(it.name for it in self.declared.groups)]
+        return self.entries(lambda it: it.group not in names)
+
+    def too_many_groups(self):
+        is_over = len(self.declared.groups) > MOST_GROUPS
+        return places(b"group", [MOST_GROUPS + 1] if is_over else [])
+
+    def bad_hours(self):
+        first, past = self.declared.hours
+        return [] if 0 <= first < past <= DAY else [b""]
+
+    def mode_on_anacron(self):
+        found = [at for at, it in enumerate(self.declared.anacron, 1) if it.mode]
+        return places(b"anacron", found)
+
+    def reboot_line(self):
+        return reboot_places(self.crontab)
+
+    def bad_pass_minute(self):
+        minute = self.declared.pass_minute
+        return [] if minute is None or 0 <= minute < DAY else [b""]
+
+
+# What declarations say alone, by number behind 1 NotJson and 2 BadShape; and then, where none of
+# these stands, what they say of the tables, by number too.
+ALONE = (
+    ("TwiceDeclared", Rules.twice_declared),
+    ("BadMax", Rules.bad_max),
+    ("BadWeight", Rules.bad_weight),
+    ("BadCapacity", Rules.bad_capacity),
+    ("ModeNeedsGroup", Rules.mode_needs_group),
+    ("UnknownGroup", Rules.unknown_group),
+    ("TooManyGroups", Rules.too_many_groups),
+    ("BadHours", Rules.bad_hours),
+    ("ModeOnAnacron", Rules.mode_on_anacron),
+    ("BadPassMinute", Rules.bad_pass_minute),
+)
+OF_TABLES = (
+    ("NoSuchLine", Rules.no_such_line),
+    ("Undeclared", Rules.undeclared),
+    ("RebootLine", Rules.reboot_line),
+)
+
+
+def reboot_places(crontab):
+    """Returns the places of the commands at startup."""
+    return [b"line %d" % it.line for it in crontab.commands if it.schedule is None]
+
+
+def joined(declared, crontab, anacrontab):
+    """Returns the plan of tables and declarations in which no fault stands."""
+    numbers = {it.name: at for at, it in enumerate(declared.groups)}
+    numbers[None] = None
+    lines = {it.job: it for it in declared.cron}
+    names = {it.job: it for it in declared.anacron}
+    jobs = []
+    for of in crontab.commands:
+        it = lines[of.line]
+        jobs.append(PlanJob(of, it.max, it.weight, numbers[it.group], it.mode))
+    for of in anacrontab.jobs:
+        it = names[identifier_text(of)]
+        jobs.append(PlanJob(of, it.max, it.weight, numbers[it.group], "none"))
+    rest = declared.groups, declared.capacity, declared.hours, declared.pass_minute
+    return Plan(crontab, anacrontab, jobs, *rest, declared.offset)
+
+
+def read_plan(data, crontab, anacrontab):
+    """Returns the plan that the bytes of declarations make of two tables."""
+    try:
+        declared = declared_of(read_json(data))
+    except NotJson:
+        raise Fault("declarations", "NotJson") from None
+    except OtherShape:
+        raise Fault("declarations", "BadShape") from None
+    rules = Rules(declared, crontab, anacrontab)
+    for name, places_of in ALONE + OF_TABLES:
+        for place in places_of(rules):
+            raise Fault("declarations", name, place)
+    return joined(declared, crontab, anacrontab)
+
+
+def plain_plan(longest, crontab, anacrontab):
+    """Returns the plan of tables without declarations, each job with that longest time."""
+    for place in reboot_places(crontab):
+        raise Fault("declarations", "RebootLine", place)
+    found = [*crontab.commands, *anacrontab.jobs]
+    jobs = [PlanJob(of, longest, 1, None, "none") for of in found]
+    return Plan(crontab, anacrontab, jobs, [], GREATEST_CAPACITY, (0, DAY), None, 0)

@@ -52,7 +52,7 @@ fn hourly() -> Schedule
     )
 }
 
-/// What the word behind `@` stands for, `@reboot` aside (crontab(5)).
+/// The schedule of the word after `@`, except `@reboot` (crontab(5)).
 pub(crate) fn word_schedule(word: &[u8]) -> Option<Schedule>
     ensures { result ≡ times_of_word word.now }
 {

@@ -1,4 +1,5 @@
-//! What makes a certificate accepted, and why an accepted plan is calm at every minute and safe in every history.
+//! What makes a certificate accepted, and why an accepted plan is calm at every minute and safe in
+//! every history.
 #![tactic(auto)]
 
 mod laws;

@@ -1,4 +1,5 @@
-//! Certificates: what is claimed of each kind of day, its JSON text, and the rules that a certificate keeps by itself.
+//! Certificates: what they claim of each kind of day, their JSON text, and the rules that a
+//! certificate keeps whatever the plan.
 #![tactic(auto)]
 
 mod carry_form;

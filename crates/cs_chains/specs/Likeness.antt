@@ -28,8 +28,8 @@ is_due_minute Reboot minute = false
 abbrev pub has_just : (ℕ → Bool) → (ℕ → Bool) → Bool
 has_just due test = list_all (λ m. same_bool (due m) (test m)) day_minutes
 
--- what a class is to a job, by the due minutes that it has for the job and those of the days on which the job is due: whether it
--- has just these, and whether it has none
+-- what a class is to a job, by the due minutes that it has for the job and those of the days on
+-- which the job is due: whether it has just these, and whether it has none
 abbrev pub likeness_by : (ℕ → Bool) → (ℕ → Bool) → Likeness
 likeness_by due times =
     record { when_due = has_just due times; when_not = has_just due (λ m. false) }

@@ -55,8 +55,9 @@ fn add_chains(
     Ok(())
 }
 
-/// All that so many successive days can be, in the order of [`all_kinds`]: each kind, followed by each that can come next,
-/// and so on. After 28 February come 29 February and 1 March. The only error is want of memory.
+/// Returns all that so many successive days can be, in the order of [`all_kinds`]: each kind,
+/// followed by each that can come next, and so on. After 28 February come 29 February and 1 March.
+/// The only error is out of memory.
 pub fn chains(alloc: Global, days: u8) -> Result<Vec<Chain>, AllocError>
     requires { (1 ≤ days) × (days ≤ 4) }
     ensures { IfOk result (λ listed. map kinds_of listed.items ≡ chains days) }

@@ -38,8 +38,8 @@ fn cron_ends_on(schedule: &Schedule, reach: u16, days: u8, kind: DayKind) -> boo
         .all(|minute| ends_by(minute, reach, end))
 }
 
-/// Whether the windows of a cron job end within so many days. Only those that last longer than the days before the last
-/// and a minute have to be looked for, kind by kind.
+/// Whether the windows of a cron job end within so many days. Only those that last longer than the
+/// days before the last and a minute have to be looked for, kind by kind.
 fn cron_fits(schedule: &Schedule, reach: u16, days: u8) -> bool
     requires { 1 ≤ days }
     ensures { result ≡ job_fits days (record { begins = is_due schedule.now; lasts = reach }) }
@@ -85,8 +85,9 @@ fn all_fit(jobs: &[Occupied], days: u8) -> bool
     true
 }
 
-/// The length of the stretches by which a plan whose jobs occupy these windows is checked: 2, 3 or 4 days, the fewest that
-/// no window outlasts, counted from the start of the day on which it begins. Where one outlasts four days, 4.
+/// Returns the length of the stretches by which a plan whose jobs occupy these windows is checked:
+/// 2, 3 or 4 days, the fewest that no window outlasts, counted from the start of the day on which
+/// it begins. Where one outlasts four days, 4.
 pub fn stretch_length(jobs: &[Occupied]) -> u8
     ensures range { (2 ≤ result) × (result ≤ 4) }
     ensures value { (p : Plan) (on : ℕ → Kind → ℕ → Bool) (c : ℕ → ℕ)

@@ -49,8 +49,9 @@ fn have_classes(claim: &Claim<'_>, first: u32, days: u8, classes: &[u32]) -> boo
     classes_from(claim, first, days).as_slice() == classes
 }
 
-/// The first day, counted from 1970-01-01 as 0, that ends so many days of these classes: of the days from that number on,
-/// of which as many are looked at as 28 years have. Where none does, the number of days.
+/// Returns the first day, counted from 1970-01-01 as 0, that ends so many days of these classes: of
+/// the days from that number on, of which as many are looked at as 28 years have. Where none does,
+/// the number of days.
 pub fn last_day(claim: &Claim<'_>, classes: &[u32], days: u8) -> u32
     requires { (1 ≤ days) × (days ≤ 4) }
     ensures value { result ≡ last_of (as_certificate (said claim.now)) days classes.now }

@@ -1,4 +1,5 @@
-//! The stretches of days that a certificate has to speak of, and the first two rules that it is accepted by.
+//! The stretches of days that a certificate has to speak of, and the first two rules that it is
+//! accepted by.
 #![tactic(auto)]
 
 mod by_classes;

@@ -47,7 +47,8 @@ fn times_of(line: &Line) -> MinuteSet
     }
 }
 
-/// The minutes at which each cron job is due on each day on which it is due, by number. The only error is want of memory.
+/// The minutes at which each cron job is due on each day on which it is due, by number. The only
+/// error is out of memory.
 fn times_of_jobs(alloc: Global, plan: &Plan) -> Result<Vec<MinuteSet>, AllocError>
     ensures { IfOk result (λ times. AreTimes plan.now times.items) }
 {
@@ -58,8 +59,8 @@ fn times_of_jobs(alloc: Global, plan: &Plan) -> Result<Vec<MinuteSet>, AllocErro
     Ok(times)
 }
 
-/// What a class is to a cron job, by the due minutes that it has for the job, those of the days on which the job is due, and
-/// none.
+/// What a class is to a cron job, by the due minutes that it has for the job, those of the days on
+/// which the job is due, and none.
 fn likeness_of(minutes: &MinuteSet, times: &MinuteSet, none: &MinuteSet) -> Likeness
     requires { none.now ≡ [] }
     ensures { result ≡ likeness_by (has minutes.now) (has times.now) }
@@ -87,7 +88,8 @@ fn row_of(
     Ok(row)
 }
 
-/// What each class is to each cron job: a row for each class, by number. The only error is want of memory.
+/// What each class is to each cron job: a row for each class, by number. The only error is out of
+/// memory.
 pub(crate) fn likenesses(
     alloc: Global,
     plan: &Plan,

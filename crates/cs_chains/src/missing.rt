@@ -20,8 +20,8 @@ fn is_listed(lists: &IndexSet<&[u32]>, classes: &[u32]) -> bool
     lists.contains(classes)
 }
 
-/// The first kinds of so many successive days, in the order of [`chains`](crate::chains), whose classes no stretch of the
-/// certificate has. The only error is want of memory.
+/// Returns the first kinds of so many successive days, in the order of [`chains`](crate::chains),
+/// whose classes no stretch of the certificate has. The only error is out of memory.
 pub fn first_missing(
     alloc: Global,
     claim: &Claim<'_>,

@@ -1,4 +1,5 @@
-//! Which of a certificate's stretches successive days have, and which one that they have is missing.
+//! Which of a certificate's stretches successive days have, and which one that they have is
+//! missing.
 ghost use Rattle.std.specs.Prelude.{◌≡◌, ◌≤◌, All, IfNone, IfOk, IfSome, List, Some, false, map, slice_get};
 ghost use Rattle.std.specs.List.{list_any};
 ghost use Rattle.cs_accepted.specs.Faults.{used_stretches};
@@ -15,7 +16,8 @@ use crate::classed::classed_chains;
 use cs_cert::{Claim, Stretch};
 use std::alloc::{AllocError, Global};
 
-/// A stretch of a certificate that successive days have, its place among the stretches, and kinds of such days.
+/// A stretch of a certificate that successive days have, its place among the stretches, and kinds
+/// of such days.
 #[derive(Debug, Drop)]
 pub struct UsedStretch<'a> {
     pub stretch: &'a Stretch,
@@ -47,7 +49,8 @@ fn used_by<'a>(
     })
 }
 
-/// The stretches of so many days that successive days have, in the certificate's order. The only error is want of memory.
+/// Returns the stretches of so many days that successive days have, in the certificate's order. The
+/// only error is out of memory.
 pub fn used_stretches<'a>(
     alloc: Global,
     claim: &Claim<'a>,

@@ -175,8 +175,8 @@ fn worked_out(
     Ok(WorkedOut { classes, stretches })
 }
 
-/// What a certificate of version 3 stands for under a plan, or nothing for the other versions, which say it themselves, by one
-/// thread. The only error is want of memory.
+/// What a certificate of version 3 stands for under a plan, or nothing for the other versions,
+/// which say it themselves, by one thread. The only error is out of memory.
 pub fn work_out(
     alloc: Global,
     plan: &Plan,
@@ -192,7 +192,7 @@ pub fn work_out(
     Ok(Some(worked_out(alloc, plan, &claim, classes)?))
 }
 
-/// The same by as many threads as the machine has processors.
+/// Returns the same by as many threads as the machine has processors.
 pub fn work_out_parallel<R: Threads + Sync>(
     rt: &R,
     alloc: Global,

@@ -28,7 +28,7 @@ fn civil(number: u64) -> Minute
     }
 }
 
-/// The civil minute at a minute of the day, on the first day that ends such days.
+/// The civil minute at a minute of the day, on the first day that ends a stretch of such days.
 fn minute_on(case: &Case<'_>, used: &UsedStretch<'_>, minute: u16) -> u64
     requires { IsCase case.now }
     ensures value { result
@@ -40,7 +40,8 @@ fn minute_on(case: &Case<'_>, used: &UsedStretch<'_>, minute: u16) -> u64
     1_440 * u64::from(last) + u64::from(minute)
 }
 
-/// The first minute of the last day but one, and the first group there, whose bound doesn't follow what arrives.
+/// The first minute of the last day but one, and the first group there, whose bound doesn't follow
+/// the arrivals.
 fn rise(
     alloc: Global,
     case: &Case<'_>,
@@ -108,7 +109,7 @@ fn collision(
     }
 }
 
-/// The first minute of the last day at which the windows weigh too much.
+/// The first minute of the last day at which the windows exceed the capacity.
 fn overload(
     alloc: Global,
     case: &Case<'_>,
@@ -150,7 +151,8 @@ fn blocked(
     }
 }
 
-/// The first fault of a stretch by one rule. One that passes the rule's quick test has none, and the finder doesn't look at it.
+/// The first fault of a stretch by one rule. If the stretch passes the rule's quick test it has
+/// none, and the finder isn't called.
 fn fault_by(
     alloc: Global,
     case: &Case<'_>,

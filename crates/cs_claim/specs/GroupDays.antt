@@ -12,8 +12,8 @@ use Rattle.cs_wait.specs.Bounds.{StepsHoldWithin}
 abbrev pub no_day : GroupDay
 no_day = record { follows = true; left = 0; first = 0 }
 
--- of a group with a job that waits: whether its bound follows what arrives at each step within the day, the bound and what
--- arrives in the last minute, and the bound in the first
+-- of a group with a job that waits: whether its bound follows what arrives at each step within the
+-- day, the bound and what arrives in the last minute, and the bound in the first
 pub record IsWaitedDay (p : Plan) (class : Class) (g : ℕ) (day : GroupDay) : Type 0 where
   pub within : IsTrue day.follows ↔ StepsHoldWithin (bound_in class g) (arrivals_in p class g)
   pub last : day.left ≡ bound_in class g 1439 + arrivals_in p class g 1439
@@ -29,6 +29,7 @@ abbrev pub AreGroupDays : Plan → Class → List GroupDay → Type 0
 AreGroupDays p class days = (length days ≡ p.groups)
     × ((g : ℕ) → g < p.groups → IsGroupDay p class g (slice_index_or days g no_day))
 
--- the steps within the eve hold, and the bound in the first minute of the day after is at least what the eve leaves, less one
+-- the steps within the eve hold, and the bound in the first minute of the day after is at least
+-- what the eve leaves, less one
 abbrev pub Leads : GroupDay → GroupDay → Type 0
 Leads eve day = (eve.follows ≡ true) × (eve.left ≤ day.first + 1)

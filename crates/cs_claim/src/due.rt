@@ -64,7 +64,7 @@ pub(crate) fn due_in_order(class: &Class, job: u16) -> MinuteSet
     minutes_among(class.due.as_slice(), job)
 }
 
-/// The minutes of the day at which a job is due on the days of a class.
+/// Returns the minutes of the day at which a job is due on the days of a class.
 pub fn due_minutes(class: &Class, job: u16) -> MinuteSet
     ensures { (m : ℕ) → m < 1440 → has result m ≡ is_due_in class.now job m }
 {
@@ -108,8 +108,8 @@ fn add_to_jobs(sets: &mut [MinuteSet], due: &[DueList])
     }
 }
 
-/// The minutes of the day at which each of so many jobs is due on the days of a class, by the job's number. The only error
-/// is want of memory.
+/// Returns the minutes of the day at which each of so many jobs is due on the days of a class, by
+/// the job's number. The only error is out of memory.
 pub fn due_sets(alloc: Global, class: &Class, jobs: usize) -> Result<Vec<MinuteSet>, AllocError>
     ensures { IfOk result (λ sets. AreDueSets class.now jobs sets.items) }
 {

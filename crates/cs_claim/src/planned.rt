@@ -52,9 +52,10 @@ fn occupied_by<'a>(plan: &'a Plan, reaches: &[JobReach], number: usize, job: Job
     }
 }
 
-/// What the jobs of a plan occupy, by number. The windows of a cron job last its declared time, those of one that waits the
-/// reach that is listed for it, its declared time where there is none. The catch-up window of an anacron job lasts from
-/// the start of the catch-up hours to the end of a run that starts in their last minute. The only error is want of memory.
+/// What the jobs of a plan occupy, by number. The windows of a cron job last its declared time,
+/// those of one that waits the reach that is listed for it, its declared time where there is none.
+/// The catch-up window of an anacron job lasts from the start of the catch-up hours to the end of a
+/// run that starts in their last minute. The only error is out of memory.
 pub fn occupied<'a>(
     alloc: Global,
     plan: &'a Plan,

@@ -1,4 +1,5 @@
-//! What arrives for the locks of the groups, and the first step from one day to the next at which a bound doesn't follow it.
+//! What arrives for the locks of the groups, and the first step from one day to the next at which a
+//! bound doesn't follow it.
 ghost use Rattle.std.specs.Prelude.{◌≡◌, ◌≤◌, ◌<◌, ◌+◌, ◌*◌, ◌^◌, ℕ, [], IfOk, if◌then◌else◌, length, slice_index};
 ghost use Rattle.cs_cert.specs.Certificate.{pieces_of};
 ghost use Rattle.cs_cert.specs.declared.class.Class.{Class};
@@ -161,8 +162,9 @@ fn rise_at(works: &[Option<Work<'_>>], minute: u16) -> Option<(u16, usize)>
     None
 }
 
-/// The first minute of a day of the first class, and the first group there, whose bound doesn't follow what arrives in the
-/// step to the next minute, which may lie on a day of the second class. The only error is want of memory.
+/// Returns the first minute of a day of the first class, and the first group there, whose bound
+/// doesn't follow what arrives in the step to the next minute, which may lie on a day of the second
+/// class. The only error is out of memory.
 pub fn first_rise(
     alloc: Global,
     plan: &Plan,

@@ -131,10 +131,11 @@ fn bounds_on(
     Ok(bounds)
 }
 
-/// The class that stands for one that says what is left over at midnight, on days of a kind: when each cron job is due on
-/// them (`crontab(5)`), and for each group with a job that waits the bound that begins with what is left over and follows
-/// what arrives, up to [`MAX_BACKLOG`](cs_wait::MAX_BACKLOG). Where there is no kind, nothing is due. The only error is want
-/// of memory.
+/// Returns the class that stands for one that says what is left over at midnight, on days of a
+/// kind: when each cron job is due on them (`crontab(5)`), and for each group with a job that waits
+/// the bound that begins with what is left over and follows what arrives, up to
+/// [`MAX_BACKLOG`](cs_wait::MAX_BACKLOG). Where there is no kind, nothing is due. The only error is
+/// out of memory.
 pub fn worked_class(
     alloc: Global,
     plan: &Plan,

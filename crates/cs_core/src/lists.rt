@@ -18,7 +18,7 @@ pub(crate) fn take_job(pending: &mut ArrayVec<u16, 256>, job: u16)
     pending.retain(|other| !(job == *other));
 }
 
-/// The stamp at a place of the list, None behind its end.
+/// The stamp at a place of the list, None after its end.
 pub(crate) fn stamp_at(stamps: &[Option<Day>], place: usize) -> Option<Day>
     ensures { result ≡ get_or stamps.now place None }
 {

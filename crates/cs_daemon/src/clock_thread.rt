@@ -27,8 +27,8 @@ pub(crate) struct ClockEnd<J: PlanLedger> {
 }
 
 impl<'w, J: PlanLedger, R: Wait, G, O: io::Write> Shared<'w, J, R, G, O> {
-    /// Goes by the clock from its first minute to the end, goes down, and lets the workers end. With
-    /// no first minute it makes no event.
+    /// Goes by the clock from its first minute to the end, goes down, and lets the workers end.
+    /// With no first minute it makes no event.
     pub(crate) fn lead<C: Clock, S: StampStore>(
         &self,
         clock: &mut C,
@@ -143,7 +143,7 @@ impl<'w, J: PlanLedger, R: Wait, G, O: io::Write> Shared<'w, J, R, G, O> {
     }
 }
 
-/// Whether the daemon ends behind a tick to the minute, and why.
+/// Whether the daemon ends after a tick to the minute, and why.
 fn cause_to_end(ticked: Result<(), TickFault>, minute: Minute) -> Result<(), Cause>
     ensures ticked { OnOk result (IsOk ticked) }
     ensures cause { IfErr result IsFromTick }

@@ -31,7 +31,7 @@ pub(crate) struct Round {
     pub(crate) has_start: bool,
     /// What is to be logged.
     pub(crate) notices: Notices,
-    /// The stamps behind the tick.
+    /// The stamps after the tick.
     pub(crate) stamps: Stamps,
 }
 

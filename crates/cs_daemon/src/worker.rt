@@ -58,7 +58,7 @@ impl<'w, J: PlanLedger, R: Wait, G: Gate, O: io::Write> Shared<'w, J, R, G, O> {
     }
 }
 
-/// Runs the command of a job, with its input and its settings. The only error is want of memory.
+/// Runs the command of a job, with its input and its settings. The only error is out of memory.
 fn run_command<W: Runner>(
     alloc: Global,
     plan: &Plan,

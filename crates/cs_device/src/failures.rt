@@ -27,7 +27,7 @@ impl Model for Failures {
 }
 
 impl Failures {
-    /// No failure yet.
+    /// Returns no failure yet.
     pub fn none() -> Failures
         ensures { result ≡ 0 }
     {

@@ -29,7 +29,7 @@ impl Model for Told {
 }
 
 impl Told {
-    /// No answer yet.
+    /// Returns no answer yet.
     pub fn nothing() -> Told
         ensures { result ≡ nothing_told }
     {

@@ -126,7 +126,8 @@ midnights l = plan_of 1 [] (at_of (0 ∷ [])) 3 true (λ _. l) 1
 abbrev pub sundays : Plan
 sundays = plan_of 1 [] (λ j t. ((t / 1440 + 4) % 7 == 0) && (t % 1440 == 720)) 3 true (λ _. 4320) 1
 
--- a cron job at minute m of the day, and two anacron jobs of its group, all of up to an hour, with catch-up hours 03:00 to 05:00
+-- a cron job at minute m of the day, and two anacron jobs of its group, all of up to an hour, with
+-- catch-up hours 03:00 to 05:00
 abbrev pub beside_catch_up : ℕ → Plan
 beside_catch_up m = record {
   crons = 1;
@@ -160,7 +161,8 @@ abbrev pub spring : Plan
 spring = plan_of 2 [] (λ j t. t == get_or (27960420 ∷ 27960510 ∷ []) j 0) 3 true
     (λ j. if j == 0 then 120 else 10) 1
 
--- the first goes on over an outage that ends one minute before the second is due, or this much later
+-- the first goes on over an outage that ends one minute before the second is due, or this much
+-- later
 abbrev pub over_outage : ℕ → History
 over_outage later = history (record { now = 27960419; up = true; stamps = [] })
     (Minute 27960420 ∷ Begin 0 ∷ Down ∷ Up (later + 27960509) ∷ Minute (later + 27960510) ∷ Begin 1

@@ -1,6 +1,7 @@
 use crate::run::Run;
 
-/// What may happen next. Minutes are civil minutes; one that is out of range is refused when the event is tried.
+/// What may happen next. Minutes are civil minutes; one that is out of range is refused when the
+/// event is tried.
 #[derive(Clone, Copy, Debug, PartialEq, Eq)]
 pub enum Event {
     /// The clock reaches this minute.

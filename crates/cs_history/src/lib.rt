@@ -1,4 +1,5 @@
-//! What happens to the jobs of a crontab and an anacrontab, event by event, and what a history of such events leaves.
+//! What happens to the jobs of a crontab and an anacrontab, event by event, and what a history of
+//! such events leaves.
 #![tactic(auto)]
 
 mod boundaries;

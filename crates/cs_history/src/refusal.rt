@@ -5,7 +5,8 @@ ghost use Rattle.cs_history.specs.declared.refusal.Refusal.TheVariants.{OutOfMem
 use std::alloc::{AllocError, AllocFailed};
 use thiserror::Error;
 
-/// Why an event was refused. It is printed as its number and its name, `4 NotSettled`, and want of memory as `out of memory`.
+/// Why an event was refused. It is printed as its number and its name, `4 NotSettled`, and want of
+/// memory as `out of memory`.
 #[derive(Clone, Copy, Debug, PartialEq, Eq, Error)]
 #[error("{}", self.text())]
 pub enum Refusal {
@@ -36,7 +37,7 @@ pub enum Refusal {
 }
 
 impl Refusal {
-    /// Its number and its name, as it is printed.
+    /// Returns its number and name, as printed.
     pub fn text(self) -> &'static str
         ensures { result.now ≡ refusal_text self }
     {

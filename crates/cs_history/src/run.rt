@@ -1,5 +1,5 @@
-/// A run by its name: its job, and the minute in which the job was due (`cron(8)`) or, of an anacron job, the minute in
-/// which the run started.
+/// A run by its name: its job, and the minute in which the job was due (`cron(8)`) or, of an
+/// anacron job, the minute in which the run started.
 ///
 /// Jobs are counted from 0, those of the crontab first. Minutes are civil minutes.
 #[derive(Clone, Copy, Debug, PartialEq, Eq, Hash)]

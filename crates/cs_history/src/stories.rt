@@ -221,8 +221,8 @@ pub fn passes_and_stamps()
         } }
 {}
 
-/// Worked examples: windows, and minutes that are calm or not, whatever the certificate gives those that wait. Day 2 is
-/// 1970-01-03. The call does nothing.
+/// Worked examples: windows, and minutes that are calm or not, whatever the certificate gives those
+/// that wait. Day 2 is 1970-01-03. The call does nothing.
 pub fn windows_and_calm()
 
     // 23:30 for 30 minutes ends at midnight, for 60 it meets what begins there

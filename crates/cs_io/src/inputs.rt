@@ -77,8 +77,9 @@ impl From<AllocError> for ReadFault {
 /// The most reads that a path takes.
 pub const MOST_READS: u32 = 16_777_217;
 
-/// Reads all of a path, or more than `limit` bytes of it where it is longer: an input without end is
-/// left as soon as it is too long. Each read gives a byte at least, so there are at most `limit + 1`.
+/// Reads all of a path, or more than `limit` bytes of it where it is longer: an input without end
+/// is left as soon as it is too long. Each read gives a byte at least, so there are at most `limit
+/// + 1`.
 pub fn read_up_to<I: Inputs>(
     alloc: Global,
     inputs: &mut I,

@@ -16,7 +16,7 @@ pub struct Machine<'a, R: Files + Input> {
 }
 
 impl<'a, R: Files + Input> Machine<'a, R> {
-    /// The machine's inputs, of which none is open and no read has failed.
+    /// Returns the machine's inputs, of which none is open and no read has failed.
     pub fn new(rt: &'a R) -> Machine<'a, R>
         ensures { result.has_failed ≡ false }
     {

@@ -9,7 +9,7 @@ use std::io::Write;
 #[derive(Clone, Copy, Debug, PartialEq, Eq)]
 pub struct CannotWrite;
 
-/// Standard output or standard error: texts are written to it one behind the other.
+/// Standard output or standard error: texts are written to it one after the other.
 pub trait Output {
     /// The bytes that it holds, where they are known.
     ghost contents: { Self → Option (List ℕ) } = { λ _. None };
@@ -32,7 +32,7 @@ pub struct Printer<W: Write> {
 }
 
 impl<W: Write> Printer<W> {
-    /// The output that writes to a writer, of which no write has failed.
+    /// Returns the output that writes to a writer, of which no write has failed.
     pub fn new(writer: W) -> Printer<W>
         ensures writer { result.writer ≡ writer }
         ensures fresh { result.has_failed ≡ false }
@@ -43,7 +43,7 @@ impl<W: Write> Printer<W> {
         }
     }
 
-    /// The writer again.
+    /// Returns the writer again.
     pub fn into_writer(self) -> W
         ensures { result ≡ self.writer }
     {

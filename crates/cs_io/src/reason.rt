@@ -31,7 +31,7 @@ impl Reason {
         }
     }
 
-    /// What is told behind the path: nothing where nothing is known.
+    /// What is told after the path: nothing where nothing is known.
     pub fn text(self) -> &'static str
         ensures { result.now ≡ reason_text self }
     {

@@ -6,7 +6,8 @@ use std::alloc::{AllocError, AllocFailed};
 /// What is wrong with a text or a JSON value.
 #[derive(Clone, Copy, Debug, PartialEq, Eq)]
 pub enum JsonFault {
-    /// The bytes are no JSON text as `serde_json` reads one: UTF-8, one value, nested at most 127 deep.
+    /// The bytes are no JSON text as `serde_json` reads one: UTF-8, one value, nested at most 127
+    /// deep.
     NotJson,
     /// The value has another shape: a type, a length or a member that isn't the one wanted.
     BadShape,

@@ -22,12 +22,14 @@ pub trait FromJson: Drop {
     /// What a JSON value says, or `BadShape`.
     ghost shape: { Data → Result Seen JsonFault };
 
-    /// What the JSON value says. `BadShape` where it has another shape; `Memory` where memory ran out.
+    /// What the JSON value says. `BadShape` where it has another shape; `Memory` where memory ran
+    /// out.
     fn from_json(alloc: Global, value: &Value) -> Result<Self, Misread>
         ensures { Gives seen result (shape (view value.now)) };
 }
 
-/// A whole number, one that `serde_json` holds as a `u64` or an `i64`: `BadShape` for `1.0`, `1e2`, `-0` and what is wider.
+/// A whole number, one that `serde_json` holds as a `u64` or an `i64`: `BadShape` for `1.0`, `1e2`,
+/// `-0` and what is wider.
 impl FromJson for i128 {
     ghost Seen = { ℤ };
 
@@ -85,7 +87,7 @@ impl<T: FromJson> FromJson for Vec<T> {
     }
 }
 
-/// The items of a list.
+/// Returns the items of a list.
 pub fn items(value: &Value) -> Result<&Vec<Value>, Misread>
     ensures { Gives (λ l. items_view l.now.items) result
         (or_bad_shape (as_array (view value.now))) }

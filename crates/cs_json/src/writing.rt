@@ -9,7 +9,8 @@ ghost use Rattle.cs_json.specs.NoFloat.{list_no_float, pair_no_float, triple_no_
 use serde_json::Value;
 use std::alloc::{AllocError, Global};
 
-/// What has a JSON value. An object's members stand in alphabetical order, as `serde_json` keeps them.
+/// What has a JSON value. An object's members stand in alphabetical order, as `serde_json` keeps
+/// them.
 pub trait ToJson {
     /// The JSON value that is written.
     ghost spelled: { Self → Data };
@@ -139,7 +140,8 @@ fn values<T: ToJson>(alloc: Global, list: &[T]) -> Result<Vec<Value>, AllocError
     Ok(found)
 }
 
-/// The compact text of a value, which reads back where it nests at most 127 deep. An error only where memory ran out.
+/// Returns the compact text of a value, which reads back where it nests at most 127 deep. An error
+/// only where memory ran out.
 pub fn write<T: ToJson>(alloc: Global, value: &T) -> Result<Vec<u8>, AllocError>
     ensures text { IfOk result (λ b. b.items ≡ compact_text (T.spelled value.now)) }
     ensures reads_back { IfOk result

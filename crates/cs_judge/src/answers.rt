@@ -25,7 +25,8 @@ use std::alloc::{AllocError, Global};
 pub enum Wanted {
     /// Whether it is safe.
     Verdict,
-    /// A certificate that it is: one of version 1 or 2, which lists its windows, where a file can hold that.
+    /// A certificate that it is: one of version 1 or 2, which lists its windows, where a file can
+    /// hold that.
     Certificate,
     /// A certificate of version 3, which says only what the plan doesn't.
     Compact,
@@ -90,7 +91,7 @@ fn outcome_of(judged: &Judged) -> Outcome
     }
 }
 
-/// Why nothing is known of a plan, a line, and the line of the refusal behind it.
+/// Why nothing is known of a plan, a line, and the line of the refusal after it.
 #[tactic(auto, unfolding(crate::specs::Answer::refusal_text))]
 fn refused_text(
     alloc: Global,
@@ -165,10 +166,11 @@ fn made(alloc: Global, plan: &Plan, judged: &Judged) -> Result<(Outcome, Vec<u8>
 
 /// What is printed of a plan that was judged, and how it was found.
 ///
-/// A verdict is `safe`, a line; or what a history breaks first and the script of it, lines; or `unknown: REASON` and, where the
-/// checker refused a certificate, the line of that refusal. Where a certificate is wanted, the one that the checker has accepted
-/// is printed in place of `safe`, a line, and no refusal behind what is unknown; one that a file can't hold (16 MiB) is
-/// `unknown: LeafTooLong`. The only error is want of memory.
+/// A verdict is `safe`, a line; or what a history breaks first and the script of it, lines; or
+/// `unknown: REASON` and, where the checker refused a certificate, the line of that refusal. Where
+/// a certificate is wanted, the one that the checker has accepted is printed in place of `safe`, a
+/// line, and no refusal after what is unknown; one that a file can't hold (16 MiB) is `unknown:
+/// LeafTooLong`. The only error is out of memory.
 pub fn answer(
     alloc: Global,
     plan: &Plan,

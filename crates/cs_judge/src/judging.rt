@@ -81,7 +81,8 @@ fn accepted<R: Threads + Sync>(
     }
 }
 
-/// What is known by the compact certificate of the least bounds; none where there is none, or the checker refuses it.
+/// What is known by the compact certificate of the least bounds; none where there is none, or the
+/// checker refuses it.
 fn judged_by_bounds<R: Threads + Sync>(rt: &R, alloc: Global, plan: &Plan) -> Option<Judged>
     ensures safe { IfSome result (λ judged. IfSafe judged (IsCheckedFor plan.now)) }
     ensures headline { IfSome result (λ judged.
@@ -98,7 +99,8 @@ fn judged_by_bounds<R: Threads + Sync>(rt: &R, alloc: Global, plan: &Plan) -> Op
     }
 }
 
-/// The same by the certificate that lists the windows of these bounds; none too where no file can hold the list.
+/// The same by the certificate that lists the windows of these bounds; none too where no file can
+/// hold the list.
 fn judged_by_list<R: Threads + Sync>(rt: &R, alloc: Global, plan: &Plan) -> Option<Judged>
     ensures safe { IfSome result (λ judged. IfSafe judged (IsCheckedFor plan.now)) }
     ensures headline { IfSome result (λ judged.
@@ -118,8 +120,8 @@ fn judged_by_list<R: Threads + Sync>(rt: &R, alloc: Global, plan: &Plan) -> Opti
     accepted(rt, alloc, plan, certificate)
 }
 
-/// What is known by what the maker gives where no certificate of the least bounds is accepted: a script that shows that the plan
-/// is unsafe, or why nothing is known.
+/// What is known by what the maker gives where no certificate of the least bounds is accepted: a
+/// script that shows that the plan is unsafe, or why nothing is known.
 fn judged_by_story<R: Threads + Sync>(rt: &R, alloc: Global, plan: &Plan) -> Judged
     ensures safe { IfSafe result (IsCheckedFor plan.now) }
     ensures headline { IfSafe result (λ checked. IsHeadline (as_plan plan.now)) }
@@ -136,16 +138,17 @@ fn judged_by_story<R: Threads + Sync>(rt: &R, alloc: Global, plan: &Plan) -> Jud
     }
 }
 
-/// Judges a plan by what the maker gives for it, which isn't trusted: a certificate is checked, by as many threads as the machine
-/// has processors, and a script is tried. A compact certificate is tried first, so that a plan that is safe costs little more than
-/// a check.
+/// Judges a plan by what the maker gives for it, which isn't trusted: a certificate is checked, by
+/// as many threads as the machine has processors, and a script is tried. A compact certificate is
+/// tried first, so that a plan that is safe costs little more than a check.
 ///
-/// `Safe` says that every legal history in which each run ends within its declared time is safe, and `Unsafe` shows one that
-/// isn't. `Unknown` has the maker's reason, `NotChecked` where what it gave wasn't confirmed, and `NoMemory` where memory ran
-/// out. The certificate is of version 3, but where one that lists windows is wanted and a file can hold it.
+/// `Safe` says that every legal history in which each run ends within its declared time is safe,
+/// and `Unsafe` shows one that isn't. `Unknown` has the maker's reason, `NotChecked` where what it
+/// gave wasn't confirmed, and `NoMemory` where memory ran out. The certificate is of version 3, but
+/// where one that lists windows is wanted and a file can hold it.
 pub fn judge<R: Threads + Sync>(rt: &R, alloc: Global, plan: &Plan, wanted: Wanted) -> Judged
-    // what is called safe was accepted by the checker, every legal history in time is safe, and each
-    // minute from 1970-01-04 on is calm
+    // what is called safe was accepted by the checker, every legal history in time is safe, and
+    // each minute from 1970-01-04 on is calm
     ensures safe { IfSafe result (IsCheckedFor plan.now) }
     ensures headline { IfSafe result (λ checked. IsHeadline (as_plan plan.now)) }
     ensures calm { IfSafe result (IsCalmBy plan.now) }
@@ -153,7 +156,7 @@ pub fn judge<R: Threads + Sync>(rt: &R, alloc: Global, plan: &Plan, wanted: Want
     // what is called unsafe is shown by a script that can be written
     ensures shown { IfUnsafe result (Shows plan.now) }
 
-    // a refusal behind what is unknown is the checker's
+    // a refusal after what is unknown is the checker's
     ensures refused { IfRefused result (IsRefusal plan.now) }
 
     // and where a compact certificate is wanted, it is by one that the plan was found safe

@@ -57,12 +57,13 @@ IsFewInTime k = IsInTime (plan_of k) (told k.base k.journal)
 abbrev pub runs_after : Keeping → Event → ℕ
 runs_after k e = length (after (plan_of k) k.core.state e).running
 
--- no room in the journal, or in a total of 64 bits, for the event and the ends of what runs after it
+-- no room in the journal, or in a total of 64 bits, for the event and the ends of what runs after
+-- it
 abbrev pub is_full : Keeping → Event → Bool
 is_full k e = nat_lt MAX_ENTRIES (length k.journal + 1 + runs_after k e)
     || nat_lt (2 ^ 64 - 1) (k.total + 1 + runs_after k e)
 
--- the core's refusal, and behind it that of a full journal
+-- the core's refusal, and after it that of a full journal
 abbrev pub or_full : Option Refusal → Bool → Option Refusal
 or_full (Some r) full = Some r
 or_full None full = if full then Some HistoryFull else None

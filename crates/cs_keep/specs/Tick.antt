@@ -89,8 +89,8 @@ abbrev pub skipping : ℕ → Plan → State → List Event
 skipping m p s = then_from p s (Down ∷ []) (coming m p)
 
 -- The events for a minute that is not below the present one. A core that is down comes up, and
--- catches up. One that is up settles and catches up; in the minute after the present one it settles,
--- moves on, and does so again; past that it goes down and comes up.
+-- catches up. One that is up settles and catches up; in the minute after the present one it
+-- settles, moves on, and does so again; past that it goes down and comes up.
 abbrev pub tick_events : ℕ → Plan → State → List Event
 tick_events m p s =
     if s.up then (if m == s.now then settling_catching p s

@@ -101,7 +101,7 @@ impl Entry {
         }
     }
 
-    /// The event.
+    /// Returns the event.
     pub fn event(&self) -> Event
         ensures { result ≡ self.now.0 }
     {

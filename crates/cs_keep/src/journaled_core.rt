@@ -13,8 +13,8 @@ use cs_history::{Event, Refusal, Reply, Start};
 use std::alloc::{AllocError, Global};
 use std::marker::Model;
 
-/// An event core of a checked plan with the journal of its events since a base. Replaying the journal
-/// from the base gives the core.
+/// An event core of a checked plan with the journal of its events since a base. Replaying the
+/// journal from the base gives the core.
 #[derive(Drop)]
 pub(crate) struct JournaledCore {
     core: Core,
@@ -41,7 +41,7 @@ impl Model for JournaledCore {
 }
 
 impl JournaledCore {
-    /// An empty journal of a checked plan from this start. The only error is want of memory.
+    /// An empty journal of a checked plan from this start. The only error is out of memory.
     pub(crate) fn open(
         alloc: Global,
         checked: &Checked,

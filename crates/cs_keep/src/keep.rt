@@ -17,8 +17,8 @@ use std::alloc::{AllocError, Global};
 use std::marker::Model;
 use std::sync::ledger::{Blank, Book, Ledger};
 
-/// An event core of a checked plan with the journal of its events, and with the book of their total.
-/// It may be shared by threads under a lock.
+/// An event core of a checked plan with the journal of its events, and with the book of their
+/// total. It may be shared by threads under a lock.
 #[derive(Drop)]
 pub struct Keep<L: Ledger> {
     journaled: JournaledCore,
@@ -37,8 +37,9 @@ impl<L: Ledger> Model for Keep<L> {
 }
 
 impl<L: Ledger> Keep<L> {
-    /// An empty journal of a checked plan from this start, and a seat with every part of the blank, of
-    /// which there are `parts`. The keep holds a copy of the plan. The only error is want of memory.
+    /// Returns an empty journal of a checked plan from this start, and a seat with every part of
+    /// the blank, of which there are `parts`. The keep holds a copy of the plan. The only error is
+    /// out of memory.
     pub fn open(
         alloc: Global,
         blank: Blank,
@@ -67,10 +68,10 @@ impl<L: Ledger> Keep<L> {
         ))
     }
 
-    /// Makes the event, writes it into the journal with its reply, and counts it in the total and in
-    /// the seat's share. A refused event changes nothing: the core's refusals come first, then
-    /// `HistoryFull`, then `OutOfMemory`. A place is kept for the end of each run that runs, so an end
-    /// is refused by the core alone.
+    /// Makes the event, writes it into the journal with its reply, and counts it in the total and
+    /// in the seat's share. A refused event changes nothing: the core's refusals come first, then
+    /// `HistoryFull`, then `OutOfMemory`. A place is kept for the end of each run that runs, so an
+    /// end is refused by the core alone.
     pub fn step(&mut self, seat: &mut Seat<L>, event: Event) -> Result<Reply, Refusal>
         ensures legal { OnOk result (refusal_in self.old event ≡ None) }
         ensures reply { IfOk result (λ r. r ≡ reply_in self.old event) }
@@ -78,8 +79,8 @@ impl<L: Ledger> Keep<L> {
         ensures seat { OnOk result (seat.new ≡ counted seat.old self.new.total) }
         ensures refused { IfErr result (IsRefused self.old event) }
         ensures same { OnErr result ((self.new ≡ self.old) × (seat.new ≡ seat.old)) }
-        // Where each run has ended within its declared time, the journal is safe, and no more runs run
-        // than the capacity.
+        // Where each run has ended within its declared time, the journal is safe, and no more runs
+        // run than the capacity.
         ensures safe { IsSafeInTime self.new }
         ensures few { IsFewInTime self.new }
     {
@@ -112,8 +113,8 @@ impl<L: Ledger> Keep<L> {
         self.journaled.cut()
     }
 
-    /// How the seat's share stands to the total: who holds every part holds all of it, so no step of
-    /// any seat is missing or made up. The call does nothing.
+    /// How the seat's share stands to the total: who holds every part holds all of it, so no step
+    /// of any seat is missing or made up. The call does nothing.
     pub fn audit(&mut self, seat: &mut Seat<L>)
         ensures keep { self.new ≡ self.old }
         ensures seat { seat.new ≡ seat.old }
@@ -125,7 +126,7 @@ impl<L: Ledger> Keep<L> {
         let _total = self.journaled.total();
     }
 
-    /// The events since the base with their replies, the latest last.
+    /// Returns the events since the base with their replies, the latest last.
     pub fn journal(&self) -> &[Entry]
         ensures value { result.now ≡ self.now.journal }
         // It is a legal history of the core's plan, and leaves the core's state.
@@ -134,7 +135,7 @@ impl<L: Ledger> Keep<L> {
         self.journaled.journal()
     }
 
-    /// The start from which the journal goes on.
+    /// Returns the start from which the journal goes on.
     pub fn base(&self) -> &Start
         ensures { result.now ≡ self.now.base }
     {
@@ -148,20 +149,21 @@ impl<L: Ledger> Keep<L> {
         self.journaled.total()
     }
 
-    /// The event core.
+    /// Returns the event core.
     pub fn core(&self) -> &Core
         ensures value { result.now ≡ self.now.core }
         // It is in the state that the journal leaves.
         ensures kept { IsKept self.now }
-        // Where each run has ended within its declared time, the journal is safe, and no more runs run
-        // than the capacity.
+        // Where each run has ended within its declared time, the journal is safe, and no more runs
+        // run than the capacity.
         ensures safe { IsSafeInTime self.now }
         ensures few { IsFewInTime self.now }
     {
         self.journaled.core()
     }
 
-    /// The journal without its book, beside what was checked: the very value that it is handed.
+    /// Returns the journal without its book, beside what was checked: the very value that it is
+    /// handed.
     pub fn close(self, checked: Checked) -> Kept
         requires { plan_in checked ≡ self.core.plan }
         ensures checked { checked_in result ≡ checked }

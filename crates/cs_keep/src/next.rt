@@ -1,5 +1,5 @@
-//! The choice that comes first of a kind, found without a list of all: so that a minute in which nothing can be
-//! chosen costs the same however many runs wait.
+//! The choice that comes first of a kind, found without a list of all: so that a minute in which
+//! nothing can be chosen costs the same however many runs wait.
 ghost use Rattle.std.specs.Prelude.{◌≡◌, IsTrue, None, true};
 ghost use Rattle.cs_core.specs.Choices.{is_before};
 ghost use Rattle.cs_decl.specs.Plan.{as_plan};

@@ -11,7 +11,7 @@ use cs_core::Core;
 use cs_history::Start;
 
 impl Kept {
-    /// The events since the base with their replies, the latest last.
+    /// Returns the events since the base with their replies, the latest last.
     pub fn journal(&self) -> &[Entry]
         ensures value { result.now ≡ (keeping_in self.now).journal }
         // It is a legal history of what was checked, and leaves the core's state.
@@ -20,7 +20,7 @@ impl Kept {
         self.journaled.journal()
     }
 
-    /// The start from which the journal goes on.
+    /// Returns the start from which the journal goes on.
     pub fn base(&self) -> &Start
         ensures { result.now ≡ (keeping_in self.now).base }
     {
@@ -34,13 +34,13 @@ impl Kept {
         self.journaled.total()
     }
 
-    /// The event core.
+    /// Returns the event core.
     pub fn core(&self) -> &Core
         ensures value { result.now ≡ (keeping_in self.now).core }
         // It is in the state that the journal leaves.
         ensures kept { IsKept (keeping_in self.now) }
-        // Where each run has ended within its declared time, the journal is safe, and no more runs run
-        // than the capacity.
+        // Where each run has ended within its declared time, the journal is safe, and no more runs
+        // run than the capacity.
         ensures safe { IsSafeInTime (keeping_in self.now) }
         ensures few { IsFewInTime (keeping_in self.now) }
     {

@@ -44,7 +44,7 @@ impl<L: Ledger> Seat<L> {
         self.share
     }
 
-    /// The total that it last saw.
+    /// Returns the total that it last saw.
     pub fn seen(&self) -> u64
         ensures { result ≡ self.now.seen }
     {

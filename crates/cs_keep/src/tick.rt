@@ -34,13 +34,13 @@ pub(crate) enum Kind {
 }
 
 impl<L: Ledger> Keep<L> {
-    /// Goes on to a minute. A core that is down comes up in it. One that is up settles, moves on where
-    /// the minute is the next one, and settles again; past that it goes down and comes up. In the end
-    /// each catch-up run that may start does. To settle is to make the first Begin or Got of the
-    /// choices until there is none.
+    /// Goes on to a minute. A core that is down comes up in it. One that is up settles, moves on
+    /// where the minute is the next one, and settles again; past that it goes down and comes up. In
+    /// the end each catch-up run that may start does. To settle is to make the first Begin or Got
+    /// of the choices until there is none.
     ///
-    /// `last` is the present minute. `ClockBack` changes nothing; where the journal is full or memory
-    /// runs out the earlier events stay.
+    /// `last` is the present minute. `ClockBack` changes nothing; where the journal is full or
+    /// memory runs out the earlier events stay.
     pub fn tick(
         &mut self,
         seat: &mut Seat<L>,

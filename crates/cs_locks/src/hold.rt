@@ -1,4 +1,5 @@
-/// What a run has to do with the lock of its group (`flock(1)`): it holds the lock, or waits for it, in this way.
+/// What a run has to do with the lock of its group (`flock(1)`): it holds the lock, or waits for
+/// it, in this way.
 #[derive(Clone, Copy, Debug, PartialEq, Eq)]
 pub enum Hold {
     /// The run takes no lock.

@@ -7,8 +7,8 @@ ghost use Rattle.cs_history.specs.declared.run.Run.{Run};
 ghost use Rattle.cs_locks.specs.Locks.{Counts, HasRoom, IsCounted, bars, hold_of, takes};
 ghost use Rattle.cs_locks.specs.declared.hold.Hold.{Hold};
 
-/// What runs have to do with locks says which of them are in the way of which, so whose lock is free. The call does
-/// nothing.
+/// What runs have to do with locks says which of them are in the way of which, so whose lock is
+/// free. The call does nothing.
 pub fn holds_say_what_is_free()
 
     // a run is in the way of another where it keeps the lock from it

@@ -9,8 +9,8 @@ use std::marker::Model;
 /// The number of groups that a plan may have.
 const GROUPS: usize = 64;
 
-/// Of each group how many runs hold its lock, or wait for it, alone, and how many share it. No call takes memory, and
-/// each takes the same time, however many runs are counted.
+/// Of each group how many runs hold its lock, or wait for it, alone, and how many share it. No call
+/// takes memory, and each takes the same time, however many runs are counted.
 #[derive(Debug, Drop)]
 pub struct LockTable {
     alone: [u64; GROUPS],
@@ -26,7 +26,7 @@ impl Model for LockTable {
 }
 
 impl LockTable {
-    /// A table that counts no run.
+    /// Returns a table that counts no run.
     pub fn new() -> LockTable
         ensures { IsCounted [] result }
     {
@@ -75,7 +75,7 @@ impl LockTable {
         }
     }
 
-    /// Whether none of the runs that are counted keeps the lock from a run.
+    /// Checks whether none of the runs that are counted keeps the lock from a run.
     pub fn is_free(&self, hold: Hold) -> bool
         requires listed { is_listed hold ≡ true }
         ensures { (hs : List Hold) → IsCounted hs self.now
@@ -91,7 +91,8 @@ impl LockTable {
         }
     }
 
-    /// Whether one of the runs that wait would find its lock free. Those that wait take a lock, each of them.
+    /// Checks whether one of the runs that wait would find its lock free. Those that wait take a
+    /// lock, each of them.
     pub fn frees(&self, waiting: &LockTable) -> bool
         ensures { (hs ws : List Hold) → IsCounted hs self.now → IsCounted ws waiting.now
             → AllByRecursion (λ w. takes w ≡ true) ws

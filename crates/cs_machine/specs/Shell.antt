@@ -34,6 +34,6 @@ value_with name before setting = if bytes_eq setting.0 name then Some setting.1 
 abbrev pub value_of : List Variable → List ℕ → Option (List ℕ)
 value_of env name = fold (value_with name) None env
 
--- the words behind the shell's name
+-- the words after the shell's name
 abbrev pub shell_words : List ℕ → List (List ℕ)
 shell_words command = codes "-c" ∷ command ∷ []

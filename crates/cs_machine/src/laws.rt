@@ -1,7 +1,7 @@
 ghost use Rattle.std.specs.Prelude.{◌≡◌, ◌≢◌, ℕ, List};
 ghost use Rattle.cs_machine.specs.Files.{IsFileName, file_of, new_file_of};
 
-/// The files of a folder of stamps don't meet. The call does nothing.
+/// Returns the files of a folder of stamps don't meet. The call does nothing.
 #[tactic(auto, using(crate::proofs::Names::own_file, crate::proofs::Names::new_file_apart))]
 pub fn files_differ()
 

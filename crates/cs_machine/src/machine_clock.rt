@@ -25,7 +25,8 @@ pub struct MachineClock<'r, R> {
 }
 
 impl<'r, R: time::Clock> MachineClock<'r, R> {
-    /// A clock that has told nothing yet, at an offset in minutes that the clocks are ahead of UTC.
+    /// Returns a clock that has told nothing yet, at an offset in minutes that the clocks are ahead
+    /// of UTC.
     ///
     /// With a limit it stops so many minutes after its first answer, with 0 at its second.
     pub fn new(rt: &'r R, offset: i16, limit: Option<u64>) -> MachineClock<'r, R>

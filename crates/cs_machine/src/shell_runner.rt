@@ -39,7 +39,7 @@ fn finish<S: OpenProcess>(child: &mut Child<S>, input: Option<&[u8]>) -> Outcome
 }
 
 impl<'r, P: Processes> ShellRunner<'r, P> {
-    /// A runner that has not failed yet.
+    /// Returns a runner that has not failed yet.
     pub fn new(processes: &'r P, alloc: Global) -> ShellRunner<'r, P>
         ensures { result.failures ≡ 0 }
     {

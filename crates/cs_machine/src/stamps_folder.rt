@@ -71,7 +71,8 @@ fn day_in(text: &[u8]) -> io::Result<Option<Day>>
 }
 
 impl<'r, 'f, R: Files> StampsFolder<'r, 'f, R> {
-    /// The folder of that path, with no failure yet. [`NoFolder`] where the path names no folder.
+    /// Returns the folder of that path, with no failure yet. [`NoFolder`] where the path names no
+    /// folder.
     pub fn open(
         rt: &'r R,
         alloc: Global,

@@ -37,7 +37,7 @@ fn push_kind(alloc: Global, text: &mut Vec<u8>, kind: DayKind) -> Result<(), All
     push_number(alloc, text, u128::from(kind.dow()))
 }
 
-/// Adds the days that follow, each behind ` then `.
+/// Adds the days that follow, each after ` then `.
 fn push_following(alloc: Global, text: &mut Vec<u8>, kinds: &[DayKind]) -> Result<(), AllocError>
     ensures { OnOk result (text.new.items ≡ text.old.items ++ flat_map then_text kinds.now) }
 {
@@ -306,13 +306,15 @@ fn push_place(
     }
 }
 
-/// Why a certificate is refused, in one line without a newline: the rule by its number and name, then the place.
+/// Why a certificate is refused, in one line without a newline: the rule by its number and name,
+/// then the place.
 ///
-/// 1 `refused 1 ClassNotDue: month M day D weekday W`, 2 `refused 2 MissingPair: ` with such days, ` then ` between them,
-/// 3 `refused 3 BacklogRises: group NAME at DT`, 4 `refused 4 ReachTooShort: line N`, 5 `refused 5 WindowMissing: WINDOW at DT`,
-/// 6 `refused 6 Collision: WINDOW and WINDOW meet at DT`, 7 `refused 7 OverCapacity: LOAD of CAPACITY at DT`,
-/// 8 `refused 8 SkipBlocked: WINDOW and WINDOW`, the skip job's first. A window is `line N due DT` or `catch-up of ID from DT`,
-/// and DT is `YYYY-MM-DD HH:MM`. The only error is want of memory.
+/// 1 `refused 1 ClassNotDue: month M day D weekday W`, 2 `refused 2 MissingPair: ` with such days,
+/// ` then ` between them, 3 `refused 3 BacklogRises: group NAME at DT`, 4 `refused 4 ReachTooShort:
+/// line N`, 5 `refused 5 WindowMissing: WINDOW at DT`, 6 `refused 6 Collision: WINDOW and WINDOW
+/// meet at DT`, 7 `refused 7 OverCapacity: LOAD of CAPACITY at DT`, 8 `refused 8 SkipBlocked:
+/// WINDOW and WINDOW`, the skip job's first. A window is `line N due DT` or `catch-up of ID from
+/// DT`, and DT is `YYYY-MM-DD HH:MM`. The only error is out of memory.
 #[tactic(auto, unfolding(crate::specs::Refused::fault_text))]
 pub fn fault_text(alloc: Global, plan: &Plan, fault: &CheckFault) -> Result<Bytes, AllocError>
     ensures { IfOk result (λ text. text ≡ fault_text plan.now (told fault.now)) }

@@ -30,7 +30,7 @@ impl Model for Roster {
 }
 
 impl Roster {
-    /// A roster without a run. It takes no memory.
+    /// Returns a roster without a run. It takes no memory.
     pub fn new(alloc: Global) -> Roster
         ensures { result ≡ [] }
     {
@@ -48,7 +48,7 @@ impl Roster {
         self.entries.len() - self.gone
     }
 
-    /// Whether there is no run.
+    /// Checks whether there is no run.
     #[tactic(auto, using(crate::proofs::Marks::none_counted, crate::proofs::Marks::some_counted))]
     pub fn is_empty(&self) -> bool
         ensures { IsTrue result ↔ (self.now ≡ []) }
@@ -56,7 +56,7 @@ impl Roster {
         self.len() == 0
     }
 
-    /// Whether the run of this name is there.
+    /// Checks whether the run of this name is there.
     pub fn contains(&self, run: Run) -> bool
         ensures { result ≡ has self.now run }
     {
@@ -66,7 +66,7 @@ impl Roster {
         }
     }
 
-    /// The minute in which the run of this name came, if it is there.
+    /// Returns the minute in which the run of this name came, if it is there.
     pub fn since(&self, run: Run) -> Option<u64>
         ensures { result ≡ option_map (λ x. x.since) (find (λ x. same_run run x.run) self.now) }
     {
@@ -76,7 +76,7 @@ impl Roster {
         }
     }
 
-    /// Adds a run behind the others. The only error is want of memory, and then nothing changes.
+    /// Adds a run after the others. The only error is out of memory, and then nothing changes.
     pub fn push(&mut self, going: Going) -> Result<(), AllocError>
         requires { has self.old going.run ≡ false }
         ensures more { OnOk result (self.new ≡ self.old ++ going ∷ []) }
@@ -133,7 +133,7 @@ impl Roster {
         self.gone = 0;
     }
 
-    /// The runs, in the order in which they came.
+    /// Returns the runs, in the order in which they came.
     pub fn iter(&self) -> Runs<'_>
         ensures { result ≡ self.now }
     {

@@ -65,7 +65,8 @@ fn lowest_bit(word: u64) -> u16
     word.trailing_zeros() as u16
 }
 
-/// The first minute from this one on that is set, where one is in the same word, and else the last minute of the day in that word.
+/// The first minute from this one on that is set, where one is in the same word, and else the last
+/// minute of the day in that word.
 fn near(words: &[u64; 23], minute: u16) -> u16
     requires { minute < 1440 }
     ensures from { minute ≤ result }
@@ -91,14 +92,15 @@ fn is_alike(words: &[u64; 23], others: &[u64; 23], place: u16) -> bool
 }
 
 impl MinuteSet {
-    /// No minute.
+    /// Returns no minute.
     pub fn new() -> MinuteSet
         ensures { result ≡ [] }
     {
         MinuteSet { words: [0; 23] }
     }
 
-    /// The minutes of a day whose hour is one of the hours and whose minute of the hour is one of the minutes.
+    /// The minutes of a day whose hour is one of the hours and whose minute of the hour is one of
+    /// the minutes.
     pub(crate) fn of_times(hours: &Numbers, minutes: &Numbers) -> MinuteSet
         ensures { result ≡ minutes_where (λ k. has hours.now (k / 60) && has minutes.now (k % 60)) }
     {
@@ -119,15 +121,15 @@ impl MinuteSet {
         put(&mut self.words, minute);
     }
 
-    /// Whether the minute is one of the set: false from 1,440 on.
+    /// Checks whether the minute is one of the set: false from 1,440 on.
     pub fn has(&self, minute: u16) -> bool
         ensures { result ≡ has self.now minute }
     {
         minute < 1_440 && is_set(&self.words, minute)
     }
 
-    /// The minutes of this block of a day that are in the set, one bit each, the lowest for the minute `MINUTES_OF_BLOCK * block`:
-    /// 0 from block 45 on.
+    /// Returns the minutes of this block of a day that are in the set, one bit each, the lowest for
+    /// the minute `MINUTES_OF_BLOCK * block`: 0 from block 45 on.
     pub fn bits_of_block(&self, block: u16) -> u32
         ensures { (place : ℕ) → place < MINUTES_OF_BLOCK
             → has_bit result place ≡ has self.now (MINUTES_OF_BLOCK * block + place) }
@@ -155,14 +157,14 @@ impl MinuteSet {
         count
     }
 
-    /// Whether there are none.
+    /// Checks whether there are none.
     pub fn is_empty(&self) -> bool
         ensures { IsTrue result ↔ (self.now ≡ []) }
     {
         self.len() == 0
     }
 
-    /// Whether both have the same minutes of a day.
+    /// Checks whether both have the same minutes of a day.
     pub fn is_same(&self, other: &MinuteSet) -> bool
         ensures { IsTrue result ↔ ((m : ℕ) → m < 1440 → has self.now m ≡ has other.now m) }
     {
@@ -174,7 +176,7 @@ impl MinuteSet {
         true
     }
 
-    /// The minutes, rising.
+    /// Returns the minutes, rising.
     pub fn iter(&self) -> Minutes
         ensures { result ≡ self.now }
     {

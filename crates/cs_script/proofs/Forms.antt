@@ -203,9 +203,9 @@ job_run_again : (identifier moment : List ℕ) → IsWord identifier → IsMomen
 unfolding job_run
 job_run_again identifier moment i m = rw (word_again identifier moment i, moment_again moment m) refl
 
--- ---- forms behind their first words
+-- ---- forms after their first words
 
--- a form that is written behind a front of its text
+-- a form that is written after a front of its text
 abbrev IsBehind : List ℕ → List ℕ → Form → Type 0
 IsBehind front text form = IsForm (front ++ text) form
 

@@ -1,4 +1,4 @@
--- One line behind a draft: what it says is added, and what fails there is its fault.
+-- One line after a draft: what it says is added, and what fails there is its fault.
 use Rattle.std.proofs.Common.{◌≡◌, ◌≢◌, ◌⊎◌, inl, inr, ℕ, Bool, true, false, not, ◌||◌, ◌==◌, cond, List, [], ◌∷◌, length, get_or, Option, Some, None, Result, Ok, Err, refl, sym, ap, ◌∙◌}
 use Rattle.std.specs.Prelude.{is_some}
 use Rattle.std.proofs.lemmas.Bool.{eqb-true, ne_eqb, false_from_ne_true}
@@ -81,7 +81,7 @@ counts line form is = ap is_ignored is.0 ∙ form_counts form
 
 -- ---- forms that may not stand there
 
--- the draft behind a start, stamps and events
+-- the draft after a start, stamps and events
 abbrev pub behind : ℕ × Bool → List (Option ℕ) → List (ℕ × Event) → Draft
 behind o days events = record { opening = Some o; stamps = days; events = events }
 
@@ -171,7 +171,7 @@ module _ (d : Declared) (o : ℕ × Bool) (days : List (Option ℕ)) (events : L
       true_false : true ≡ false → ⊥
       true_false e = cc
 
-  -- ---- a line behind a start
+  -- ---- a line after a start
 
   -- what is taken of a line that counts
   abbrev pub TakesBehind : ℕ → List ℕ → Draft → Type 0

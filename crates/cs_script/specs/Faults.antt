@@ -21,7 +21,7 @@ FormFails d form fault =
     (((t : ℕ) → HasDate form t → ⊥) × (fault ≡ BadDate))
     ⊎ (((t : ℕ) × HasDate form t) × ((j : ℕ) → HasName d form j → ⊥) × (fault ≡ UnknownName))
 
--- a second start, and a stamp behind an event or a stamp of the same job
+-- a second start, and a stamp after an event or a stamp of the same job
 abbrev pub IsMisplaced : Declared → Numbered → Form → Type 0
 IsMisplaced d script (Start moment up) = Unit {0}
 IsMisplaced d script (Stamp identifier date) =
@@ -40,13 +40,13 @@ IsMisplaced d script (EndJob identifier moment) = ⊥
 abbrev pub IsStart : Form → Type 0
 IsStart form = (moment : List ℕ) × (up : Bool) × (form ≡ Start moment up)
 
--- behind nothing that counts: the form fails, or is a good one and no start
+-- after nothing that counts: the form fails, or is a good one and no start
 abbrev pub FailsFirst : Declared → Form → ScriptFault → Type 0
 FailsFirst d form fault =
     FormFails d form fault
     ⊎ (¬ (IsStart form) × ((x : Entry) × FormSays d form x) × (fault ≡ NoStart))
 
--- behind the lines of a script: the form may not stand there, or else it fails
+-- after the lines of a script: the form may not stand there, or else it fails
 abbrev pub FailsBehind : Declared → Numbered → Form → ScriptFault → Type 0
 FailsBehind d script form fault =
     (IsMisplaced d script form × (fault ≡ BadLine))
@@ -56,7 +56,7 @@ FailsBehind d script form fault =
 abbrev pub IsNoLine : List ℕ → Type 0
 IsNoLine line = ¬ (IsIgnored line) × ((form : Form) → IsForm line form → ⊥)
 
--- The line is none of a script, or its form fails behind what was said before it.
+-- The line is none of a script, or its form fails after what was said before it.
 abbrev pub LineFails : Declared → List (ℕ × Entry) → List ℕ → ScriptFault → Type 0
 LineFails d said line fault =
     (IsNoLine line × (fault ≡ BadLine))

@@ -59,7 +59,7 @@ unfoldable pub is_too_late : Declared → Draft → List ℕ → Bool
 is_too_late d draft identifier =
     not (length draft.events == 0) || has_stamp draft.stamps (place_of d identifier)
 
--- the form may not stand behind those before it
+-- the form may not stand after those before it
 abbrev pub is_misplaced : Declared → Draft → Form → Bool
 is_misplaced d draft (Start moment up) = is_some draft.opening
 is_misplaced d draft (Stamp identifier date) = is_too_late d draft identifier
@@ -86,7 +86,7 @@ fitted d draft form =
     if is_misplaced d draft form then Err BadLine
     else entry_of d form >>= behind_start (is_some draft.opening)
 
--- what a line says behind those before it
+-- what a line says after those before it
 unfoldable pub said_behind : Declared → Draft → List ℕ → Result Entry ScriptFault
 said_behind d draft line = or_fault BadLine (form_of line) >>= fitted d draft
 
@@ -107,7 +107,7 @@ abbrev pub numbered : {A : Type 0} → ℕ → Result A ScriptFault → Result A
 numbered number (Ok x) = Ok x
 numbered number (Err fault) = Err (number, fault)
 
--- the lines behind the draft, of which the first has this number
+-- the lines after the draft, of which the first has this number
 unfoldable pub lines_from : Declared → ℕ → Draft → List (List ℕ) → Result Draft Fault
 lines_from d number draft [] = Ok draft
 lines_from d number draft (text ∷ texts) = do

@@ -87,7 +87,7 @@ impl Draft {
         }
     }
 
-    /// Whether a form may not stand behind those before it.
+    /// Whether a form may not stand after those before it.
     fn is_misplaced(&self, plan: &Plan, form: &Form<'_>) -> bool
         ensures { result ≡ is_misplaced plan.now self.now (form_seen form.now) }
     {
@@ -105,7 +105,7 @@ impl Draft {
         }
     }
 
-    /// What a line says behind those before it.
+    /// What a line says after those before it.
     #[tactic(auto, unfolding(crate::specs::Script::said_behind))]
     fn said(&self, plan: &Plan, line: &[u8]) -> Result<Entry, ScriptFault>
         ensures value { Gives entry_seen result (said_behind plan.now self.now line.now) }

@@ -23,7 +23,7 @@ pub enum ScriptFault {
 }
 
 impl ScriptFault {
-    /// Its number and its name, as it is printed.
+    /// Returns its number and name, as printed.
     pub fn text(self) -> &'static str
         ensures { result.now ≡ fault_text self }
     {

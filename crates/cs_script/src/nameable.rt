@@ -125,8 +125,8 @@ fn are_nameable_events(plan: &Plan, events: &[Event]) -> bool
     events.iter().all(|event| is_nameable_event(plan, *event))
 }
 
-/// Whether the script has a text: its start is from 1970-01-04 00:00 on; it has one place for a
-/// stamp for each job of the anacrontab, and each stamp is from 1970-01-02 on;
+/// Checks whether the script has a text: its start is from 1970-01-04 00:00 on; it has one place
+/// for a stamp for each job of the anacrontab, and each stamp is from 1970-01-02 on;
 /// [`Begin`](Event::Begin) and [`Got`](Event::Got) name jobs of the crontab,
 /// [`Catch`](Event::Catch) of the anacrontab, [`End`](Event::End) of either; and each minute is
 /// from 1970-01-02 00:00 to 9999-12-31 23:59.

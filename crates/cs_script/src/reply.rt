@@ -45,7 +45,7 @@ fn push_refusal(text: &mut Vec<u8>, refusal: Refusal) -> Result<(), AllocError>
     }
 }
 
-/// Adds what is told of an event's answer behind the text. The only error is want of memory.
+/// Adds what is told of an event's answer after the text. The only error is out of memory.
 pub fn push_reply(text: &mut Vec<u8>, answer: Result<Reply, Refusal>) -> Result<(), AllocError>
     ensures { OnOk result (text.new.items ≡ text.old.items ++ reply_text answer) }
 {
@@ -58,7 +58,7 @@ pub fn push_reply(text: &mut Vec<u8>, answer: Result<Reply, Refusal>) -> Result<
 /// What is told of an event's answer: `clock`, `started`, `waiting`, `skipped`, `ended in time`,
 /// `ended late`, `went` or `came`, and of a refusal `refused` with its number and its name, as
 /// `refused 4 NotSettled`; of want of memory `out of memory`. There is no newline at its end. The
-/// only error is want of memory.
+/// only error is out of memory.
 pub fn reply_text(alloc: Global, answer: Result<Reply, Refusal>) -> Result<Bytes, AllocError>
     ensures { IfOk result (λ text. text ≡ reply_text answer) }
 {

@@ -42,15 +42,15 @@ impl Model for NumberedScript {
 impl NumberedScript {
     ghost use Rattle.cs_history.specs.Plan.{first_start};
 
-    /// The start.
+    /// Returns the start.
     pub fn start(&self) -> &Start
         ensures { result.now ≡ self.now.start }
     {
         &self.opening
     }
 
-    /// The start, and the events, each with the number of its line. The start is from 1970-01-04
-    /// 00:00 on.
+    /// Returns the start, and the events, each with the number of its line. The start is from
+    /// 1970-01-04 00:00 on.
     pub fn into_parts(self) -> (Start, Sequence<(u32, Event)>)
         ensures start { result.0 ≡ self.start }
         ensures late { first_start ≤ result.0.now }
@@ -60,7 +60,7 @@ impl NumberedScript {
         (opening, list)
     }
 
-    /// The events, each with the number of its line.
+    /// Returns the events, each with the number of its line.
     pub fn events(&self) -> &[(u32, Event)]
         ensures { result.now ≡ self.now.events }
     {
@@ -108,8 +108,8 @@ fn read_numbered(alloc: Global, plan: &Plan, bytes: &[u8]) -> Result<NumberedScr
     }
 }
 
-/// The script that the bytes denote under the plan, with the number of the line of each event, or
-/// its first fault, as [`read_script`] answers it.
+/// Returns the script that the bytes denote under the plan, with the number of the line of each
+/// event, or its first fault, as [`read_script`] answers it.
 pub fn read_numbered_script(
     alloc: Global,
     plan: &Plan,
@@ -148,14 +148,14 @@ fn read_plain(alloc: Global, plan: &Plan, bytes: &[u8]) -> Result<Script, Script
     })
 }
 
-/// The script that the bytes denote under the plan, or its first fault.
+/// Returns the script that the bytes denote under the plan, or its first fault.
 ///
-/// Empty lines and lines that begin with `#` count for nothing. The first other line is
-/// `start DT up` or `start DT down`, DT being `YYYY-MM-DD HH:MM` from 1970-01-04 00:00 on.
-/// `stamp ID YYYY-MM-DD` comes before any event, each identifier once. The events are `minute DT`,
-/// `up DT`, `down`, `begin line N`, `got line N DT`, `catch ID`, `end line N DT` and
-/// `end job ID DT`, where N is the number of a command's line in the crontab and ID an identifier
-/// of the anacrontab. Words are parted by one space and by nothing else.
+/// Empty lines and lines that begin with `#` count for nothing. The first other line is `start DT
+/// up` or `start DT down`, DT being `YYYY-MM-DD HH:MM` from 1970-01-04 00:00 on. `stamp ID
+/// YYYY-MM-DD` comes before any event, each identifier once. The events are `minute DT`, `up DT`,
+/// `down`, `begin line N`, `got line N DT`, `catch ID`, `end line N DT` and `end job ID DT`, where
+/// N is the number of a command's line in the crontab and ID an identifier of the anacrontab. Words
+/// are parted by one space and by nothing else.
 ///
 /// In a line the faults come in the order of [`ScriptFault`]'s numbers. A line without fault that
 /// should be the start is [`NoStart`](ScriptFault::NoStart).

@@ -11,7 +11,7 @@ fn first_space(text: &[u8]) -> Option<usize>
     text.iter().position(|byte| *byte == b' ')
 }
 
-/// The first word, and the text behind the one space after it.
+/// The first word, and the text after the one space after it.
 #[tactic(auto, using(crate::proofs::FirstWord::no_space, crate::proofs::FirstWord::space_in_front, crate::proofs::FirstWord::space_behind))]
 pub(crate) fn first_word(text: &[u8]) -> Option<(&[u8], &[u8])>
     ensures { option_map (λ parts. (parts.0.now, parts.1.now)) result ≡ first_word text.now }

@@ -10,7 +10,8 @@ use Rattle.cs_history.specs.declared.event.Event.TheVariants.{Minute, Begin, Got
 use Rattle.cs_shown.specs.declared.shown.Shown.{Shown}
 use Rattle.cs_shown.specs.declared.shown.Shown.TheVariants.{Together, Load, Skipped}
 
--- runs of these jobs may not go on at once, that of i having started first: both are of one exclusive group, and not both share its lock (flock(1), -s)
+-- runs of these jobs may not go on at once, that of i having started first: both are of one
+-- exclusive group, and not both share its lock (flock(1), -s)
 abbrev pub clash : Plan → ℕ → ℕ → Bool
 clash p i j = rivals p j i && not (both_share p j i)
 
@@ -20,7 +21,8 @@ clash_of p r [] = None
 clash_of p r (q ∷ qs) =
     if clash p r.run.job q.run.job then Some (Together r.run q.run) else clash_of p r qs
 
--- of the runs in order of start the first two that may not go on at once, by the one that started first
+-- of the runs in order of start the first two that may not go on at once, by the one that started
+-- first
 abbrev pub first_clash : Plan → List Going → Option Shown
 first_clash p [] = None
 first_clash p (r ∷ rs) = option_or (clash_of p r rs) (first_clash p rs)

@@ -50,7 +50,7 @@ fn weigh(plan: &Plan, running: &Roster) -> u64
     sum
 }
 
-/// What it breaks that the run starts behind these, which break nothing.
+/// What it breaks that the run starts after these, which break nothing.
 pub(crate) fn break_by_run(plan: &Plan, earlier: &Roster, run: Run) -> Option<Shown>
     requires { weight_of (as_plan plan.now) earlier.now ≤ (as_plan plan.now).capacity }
     ensures { result ≡ break_by_run (as_plan plan.now) earlier.now run }

@@ -10,9 +10,9 @@ use cs_decl::Plan;
 use cs_history::Script;
 use std::alloc::Global;
 
-/// Whether a script shows that the plan is unsafe: exactly where each of its events may come when it
-/// comes, each run has ended within its declared time, and something is broken. What is broken first
-/// is answered. The script starts at 1970-01-04 00:00 or later.
+/// Checks whether a script shows that the plan is unsafe: exactly where each of its events may come
+/// when it comes, each run has ended within its declared time, and something is broken. What is
+/// broken first is answered. The script starts at 1970-01-04 00:00 or later.
 ///
 /// Otherwise the first event is answered that is refused or, being legal, finds a run that has
 /// passed its declared time; or that nothing is broken. `OutOfMemory` is want of memory alone.

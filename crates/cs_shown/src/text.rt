@@ -163,7 +163,7 @@ fn push_break(
 /// What a script breaks that [`prove_unsafe`](crate::prove_unsafe) shows of the same plan, in one
 /// line without a newline: `unsafe: RUN and RUN run together`, the run that started first first,
 /// `unsafe: load LOAD of CAPACITY` or `unsafe: RUN is skipped`. A run is `line N due DT` of a cron
-/// job and `job ID at DT` of an anacron job, DT being `YYYY-MM-DD HH:MM`. The only error is want of
+/// job and `job ID at DT` of an anacron job, DT being `YYYY-MM-DD HH:MM`. The only error is out of
 /// memory.
 #[tactic(auto, unfolding(crate::specs::ShownText::shown_text))]
 pub fn shown_text(alloc: Global, plan: &Plan, shown: &Shown) -> Result<Bytes, AllocError>

@@ -60,8 +60,8 @@ fn fault_of(number: usize, refusal: Refusal) -> NotShown
 }
 
 impl Trial {
-    /// The trial of a start, which is at 1970-01-04 00:00 or later: nothing runs, and nothing is
-    /// broken. It keeps a copy of the plan. The only error is want of memory.
+    /// Returns the trial of a start, which is at 1970-01-04 00:00 or later: nothing runs, and
+    /// nothing is broken. It keeps a copy of the plan. The only error is out of memory.
     pub fn open(alloc: Global, plan: &Plan, start: &Start) -> Result<Trial, AllocError>
         requires { first_start ≤ start.now.now }
         ensures { IfOk result (λ trial. trial ≡ opening plan.now start.now) }
@@ -80,8 +80,8 @@ impl Trial {
         self.shown
     }
 
-    /// The core that has taken the events: it says what waits, runs and is pending, and which
-    /// events may come next.
+    /// Returns the core that has taken the events: it says what waits, runs and is pending, and
+    /// which events may come next.
     pub fn core(&self) -> &Core
         ensures plan { result.now.plan ≡ self.now.plan }
         ensures state { result.now.state ≡ self.now.state }
@@ -90,11 +90,11 @@ impl Trial {
     }
 
     /// Takes an event, whose number counted from 1 an error names: `Illegal` where it is refused,
-    /// `Late` where it is legal and finds a run that has passed its declared time, `OutOfMemory` for
-    /// want of memory, and no other. An event that isn't taken changes nothing.
+    /// `Late` where it is legal and finds a run that has passed its declared time, `OutOfMemory`
+    /// for want of memory, and no other. An event that isn't taken changes nothing.
     ///
     /// Only what the event changes is looked at: of a start the run that starts, beside those that
-    /// run, and at a minute the deadline, behind which alone the runs are looked at one by one.
+    /// run, and at a minute the deadline, after which alone the runs are looked at one by one.
     #[tactic(auto, using(crate::proofs::Breaks::shown_next, crate::proofs::Breaks::quiet_next, crate::proofs::Deadlines::deadline_next))]
     pub fn take(&mut self, event: Event, number: usize) -> Result<(), NotShown>
         ensures taken { OnOk result (IsTaken (as_plan self.old.plan) event self.old self.new) }

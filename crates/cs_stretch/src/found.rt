@@ -133,7 +133,8 @@ fn overload_at(
     Ok(Some((minute, weight)))
 }
 
-/// The first minute of the day at which the windows weigh more than the capacity, and what they weigh.
+/// The first minute of the day at which the windows weigh more than the capacity, and what they
+/// weigh.
 pub(crate) fn overload(
     alloc: Global,
     roles: &[Role],
@@ -216,7 +217,8 @@ fn blocked_at(
     Ok(first_blocked(roles, minute, held.as_slice()))
 }
 
-/// The first minute of the day at which a lock is kept from a skip job, with its window and the one that keeps it.
+/// The first minute of the day at which a lock is kept from a skip job, with its window and the one
+/// that keeps it.
 pub(crate) fn blocked(
     alloc: Global,
     roles: &[Role],
@@ -262,7 +264,8 @@ fn missing_at(
     }
 }
 
-/// The first minute of the day, and the first window that holds it, that isn't in the leaf there.
+/// Returns the first minute of the day, and the first window that holds it, that isn't in the leaf
+/// there.
 pub fn missing(
     alloc: Global,
     tree: &MinuteTree,

@@ -1,4 +1,5 @@
-//! What is wrong with the windows of one stretch of days: a quick test, and finders of the first fault.
+//! What is wrong with the windows of one stretch of days: a quick test, and finders of the first
+//! fault.
 #![tactic(auto)]
 
 mod found;

@@ -121,8 +121,8 @@ fn group_load(alone: &[u8; GROUPS], shared: &[u128; GROUPS], groups: usize) -> u
     sum
 }
 
-/// What the windows weigh together: each without a lock, of each group the greater of the greatest that holds its lock
-/// alone and all that share it, and the greatest of catch-up.
+/// What the windows weigh together: each without a lock, of each group the greater of the greatest
+/// that holds its lock alone and all that share it, and the greatest of catch-up.
 pub(crate) fn load(roles: &[Role], groups: usize, windows: &[Window]) -> u128
     requires few { groups ≤ 64 }
     ensures { result ≡ load_by roles.now groups windows.now }
@@ -145,7 +145,8 @@ fn most_load(roles: &[Role], windows: &[Window]) -> u128
     sum
 }
 
-/// Whether the windows weigh together at most the capacity. What they weigh is looked at only where it may be more.
+/// Whether the windows weigh together at most the capacity. What they weigh is looked at only where
+/// it may be more.
 #[tactic(auto, using(crate::proofs::MostWeights::load_most))]
 pub(crate) fn fits(roles: &[Role], groups: usize, capacity: u8, windows: &[Window]) -> bool
     requires few { groups ≤ 64 }

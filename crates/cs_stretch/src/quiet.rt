@@ -8,7 +8,8 @@ use crate::role::{Role, clash, role_of, share_group};
 use cs_windows::{MINUTES_OF_DAY, Window};
 use std::alloc::{AllocError, Global};
 
-/// By which rules a quick test finds the windows of a stretch in order. Where it doesn't, the rule's finder tells whether something is wrong.
+/// By which rules a quick test finds the windows of a stretch in order. Where it doesn't, the
+/// rule's finder tells whether something is wrong.
 #[derive(Clone, Copy, Debug, PartialEq, Eq)]
 pub struct Quiet {
     /// No two runs of an exclusive group may meet.
@@ -20,7 +21,7 @@ pub struct Quiet {
 }
 
 impl Quiet {
-    /// Whether it does by all three.
+    /// Checks whether it does by all three.
     pub fn by_all(self) -> bool
         ensures { result ≡ (self.is_apart && (self.is_within && self.is_free)) }
     {
@@ -28,7 +29,8 @@ impl Quiet {
     }
 }
 
-/// The minute at which the day looked at begins, counted from the start of the day on which the window begins.
+/// The minute at which the day looked at begins, counted from the start of the day on which the
+/// window begins.
 pub(crate) fn day_start(window: &Window) -> u32
     ensures value { result ≡ 1440 * window.now.day_back }
     ensures small { result ≤ 367200 }
@@ -54,7 +56,8 @@ fn is_open_at(window: &Window, other: &Window) -> bool
         && minute < u32::from(other.from) + u32::from(other.reach)
 }
 
-/// Whether the first window is a skip job's, and the second holds the lock of its group when it begins.
+/// Whether the first window is a skip job's, and the second holds the lock of its group when it
+/// begins.
 fn bars(roles: &[Role], window: &Window, other: &Window) -> bool
     ensures { result ≡ role_bars roles.now window.now other.now }
 {
@@ -99,8 +102,8 @@ fn leave_met(active: &mut Vec<Window>, window: &Window)
     );
 }
 
-/// By which rules each window, looked at with those before it that it meets, is harmless. Where they are in order of start, no
-/// minute of the day then has a fault by that rule.
+/// By which rules each window, looked at with those before it that it meets, is harmless. Where
+/// they are in order of start, no minute of the day then has a fault by that rule.
 pub(crate) fn quiet_by_rule(
     alloc: Global,
     roles: &[Role],

@@ -67,8 +67,8 @@ pub(crate) fn share_group(one: Role, other: Role) -> bool
     }
 }
 
-/// Whether their windows may not hold one minute: they are of one exclusive group, one of them is of the crontab, and not
-/// both take the lock.
+/// Whether their windows may not hold one minute: they are of one exclusive group, one of them is
+/// of the crontab, and not both take the lock.
 pub(crate) fn clash(one: Role, other: Role) -> bool
     ensures { result ≡ roles_clash one other }
 {

@@ -15,11 +15,12 @@ use cs_windows::Window;
 use std::alloc::{AllocError, Global};
 use std::marker::Model;
 
-/// From so many windows on a stretch is tested by sums, which take as long for each window; the other test
-/// looks at each with all that are open then.
+/// From so many windows on a stretch is tested by sums, which take as long for each window; the
+/// other test looks at each with all that are open then.
 const MANY_WINDOWS: usize = 512;
 
-/// What the jobs of a plan are to the rules about windows: read off the plan once, for all stretches.
+/// What the jobs of a plan are to the rules about windows: read off the plan once, for all
+/// stretches.
 #[derive(Debug, Drop)]
 pub struct Roles {
     jobs: Vec<Role>,
@@ -80,7 +81,7 @@ fn jobs_of(alloc: Global, plan: &Plan) -> Result<Vec<Role>, AllocError>
 }
 
 impl Roles {
-    /// The roles of the jobs of this plan. The only error is want of memory.
+    /// Returns the roles of the jobs of this plan. The only error is out of memory.
     pub fn of(alloc: Global, plan: &Plan) -> Result<Roles, AllocError>
         ensures { IfOk result (λ roles. IsOf (as_plan plan.now) roles) }
     {
@@ -111,9 +112,10 @@ impl Roles {
         self.capacity
     }
 
-    /// A quick test of the windows of a stretch, in order of start, by each of three rules. Where it answers true for one, no
-    /// minute of the last day has a collision, too great a load, or a due skip job that is barred from its lock. Where it
-    /// answers false, the rule's finder tells whether something is wrong. The only error is want of memory.
+    /// Returns a quick test of the windows of a stretch, in order of start, by each of three rules.
+    /// Where it answers true for one, no minute of the last day has a collision, too great a load,
+    /// or a due skip job that is barred from its lock. Where it answers false, the rule's finder
+    /// tells whether something is wrong. The only error is out of memory.
     pub fn quiet(&self, alloc: Global, windows: &[Window]) -> Result<Quiet, AllocError>
         requires rising { IsRising windows.now }
         ensures apart { IfOk result (λ quiet. IsTrue quiet.is_apart
@@ -130,9 +132,10 @@ impl Roles {
         }
     }
 
-    /// The first minute of the last day of a stretch, and the first two windows of one exclusive group there that may not
-    /// hold it together: one of them is of the crontab, and not both take the group's lock. By minute, then group, then
-    /// the order of the windows. The only error is want of memory.
+    /// Returns the first minute of the last day of a stretch, and the first two windows of one
+    /// exclusive group there that may not hold it together: one of them is of the crontab, and not
+    /// both take the group's lock. By minute, then group, then the order of the windows. The only
+    /// error is out of memory.
     pub fn collision(
         &self,
         alloc: Global,
@@ -144,8 +147,8 @@ impl Roles {
         found::collision(alloc, self.jobs(), self.groups(), windows)
     }
 
-    /// The first minute of the last day of a stretch at which its windows weigh more than the capacity, and what they
-    /// weigh. The only error is want of memory.
+    /// Returns the first minute of the last day of a stretch at which its windows weigh more than
+    /// the capacity, and what they weigh. The only error is out of memory.
     pub fn overload(
         &self,
         alloc: Global,
@@ -157,8 +160,9 @@ impl Roles {
         found::overload(alloc, self.jobs(), self.groups(), self.capacity(), windows)
     }
 
-    /// The first due minute of a skip job on the last day of a stretch at which another window holds the lock of its group,
-    /// with the skip job's window and that one. The only error is want of memory.
+    /// Returns the first due minute of a skip job on the last day of a stretch at which another
+    /// window holds the lock of its group, with the skip job's window and that one. The only error
+    /// is out of memory.
     pub fn blocked(
         &self,
         alloc: Global,

@@ -1,5 +1,5 @@
-//! The one pass over all windows of a stretch: what those that take no lock weigh at each minute, and the
-//! few that are looked at again.
+//! The one pass over all windows of a stretch: what those that take no lock weigh at each minute,
+//! and the few that are looked at again.
 ghost use Rattle.std.specs.Prelude.{◌≡◌, ◌++◌, IfOk, [], ◌∷◌, filter, if◌then◌else◌, map};
 ghost use Rattle.cs_stretch.specs.Split.{share_at, share_in};
 ghost use Rattle.cs_stretch.specs.Sums.{IsDay, IsSum, amount_in, has_group_or_catches};
@@ -90,9 +90,10 @@ fn keep(others: &mut Vec<Window>, is_kept: bool, window: &Window) -> Result<(), 
     Ok(())
 }
 
-/// What the cron jobs that take no lock weigh at each minute; and in order the windows of the jobs that have
-/// a group and those of catch-up, mostly a few of all. Each weight is added where the window begins, and
-/// again, to be taken off, where it ends, so that the cost doesn't grow with the minutes that windows hold.
+/// What the cron jobs that take no lock weigh at each minute; and in order the windows of the jobs
+/// that have a group and those of catch-up, mostly a few of all. Each weight is added where the
+/// window begins, and again, to be taken off, where it ends, so that the cost doesn't grow with the
+/// minutes that windows hold.
 pub(crate) fn free_and_others(
     alloc: Global,
     roles: &[Role],

@@ -97,8 +97,8 @@ fn are_apart(roles: &[Role], windows: &[Window]) -> bool
     none_clash(&runs, &plain, &cron)
 }
 
-/// Whether one run at most takes a lock at the minute at which this window begins, where it is of a skip
-/// job that is due on the day looked at.
+/// Whether one run at most takes a lock at the minute at which this window begins, where it is of a
+/// skip job that is due on the day looked at.
 fn is_lone(roles: &[Role], takers: &[u16], window: &Window) -> bool
     requires { IsDay takers.now }
     ensures { IsTrue result → IsLone roles.now takers.now window.now }
@@ -172,8 +172,8 @@ fn is_within(load: &[u16], capacity: u8) -> bool
     true
 }
 
-/// Adds what the windows of catch-up weigh at each minute, all of which are among the others, to what those
-/// without a lock weigh.
+/// Adds what the windows of catch-up weigh at each minute, all of which are among the others, to
+/// what those without a lock weigh.
 fn add_catch_up(free: &mut [u16], roles: &[Role], windows: &[Window], others: &[Window])
     requires free { IsDay free.old × IsSum (amount_in roles.now FreeWeight) windows.now free.old }
     requires others { others.now ≡ filter (has_group_or_catches roles.now) windows.now }

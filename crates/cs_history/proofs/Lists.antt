@@ -52,7 +52,7 @@ pub none_pass : {X : Type 0} (t : X → Bool) (xs : List X) → AllByRecursion (
 none_pass t [] a = refl
 none_pass t (x ∷ xs) a = either_false (t x) (list_any t xs) a.0 (none_pass t xs a.1)
 
--- what holds of each is had of one that passes
+-- what holds for each holds for one that passes
 pub any_at : {X : Type 0} (t : X → Bool) (P : X → Type 0) (xs : List X) → list_any t xs ≡ true → AllByRecursion P xs → (x : X) × (t x ≡ true) × P x
 any_at t P [] e a = absurd (cc)
 any_at {X} t P (x ∷ xs) e a =

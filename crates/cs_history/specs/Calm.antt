@@ -54,7 +54,7 @@ pub record IsCalm (p : Plan) (c : ℕ → ℕ) (t : ℕ) : Type 0 where
   pub exclusive : (v w : Run) → Holds p c t v → Holds p c t w → same_run v w ≡ false
       → is_cron p v.job ≡ true → is_cron p w.job ≡ true → rivals p v.job w.job ≡ true
       → (takes_lock p v.job ≡ true) × (takes_lock p w.job ≡ true)
-  -- no cron window is beside a catch-up window of its exclusive group
+  -- no cron window meets a catch-up window of its exclusive group
   pub beside : (v w : Run) → Holds p c t v → Holds p c t w → is_cron p v.job ≡ true
       → is_cron p w.job ≡ false → (rivals p v.job w.job ≡ false) × (rivals p w.job v.job ≡ false)
   -- all the windows together are within the capacity

@@ -54,7 +54,7 @@ is_up (h ▸ e) = is_up h
 abbrev pub is_free : Plan → List Going → ℕ → Bool
 is_free p rs j = not (list_any (λ r. in_the_way p j r.run.job) rs)
 
--- what the Begin of a job comes to
+-- what the Begin of a job leads to
 pub data Answer : Type 0 where
   Starts : Answer
   Waits : Answer
@@ -230,7 +230,7 @@ pub record IsSafeNow (p : Plan) (h : History) : Type 0 where
       (running p h)
   pub load : total (λ r. p.weight r.run.job) (running p h) ≤ p.capacity
 
--- the event is no Begin that comes to a skip
+-- the event is no Begin that is skipped
 abbrev pub IsNoSkip : Plan → History → Event → Type 0
 IsNoSkip p h (Begin j) = answer p (running p h) j ≢ Skips
 IsNoSkip p h e = ⊤

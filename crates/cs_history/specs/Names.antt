@@ -17,7 +17,7 @@ jobs_left (Some o) = o.left
 
 -- what each state that a legal history leaves keeps, runs that pass their declared time or not
 pub record AreNamed (p : Plan) (s : State) : Type 0 where
-  -- a name stands at most once among the runs that run, those that wait, and those that the pending
+  -- a name occurs at most once among the runs that run, those that wait, and those that the pending
   -- jobs would start
   pub once : (n : Run)
       → number_of (λ r. same_run n r.run) s.running + number_of

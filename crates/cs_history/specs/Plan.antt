@@ -128,7 +128,7 @@ pub record IsCivil (t : ℕ) : Type 0 where
   pub first : first_minute ≤ t
   pub last : t ≤ last_minute
 
--- 1970-01-04 00:00, the first minute at which a history may start: three whole days lie before it
+-- 1970-01-04 00:00, the first minute at which a history may start, after three whole days
 abbrev pub first_start : ℕ
 first_start = 4320
 

@@ -119,7 +119,7 @@ is_in_time p t r [] = true
 is_in_time p t r (x ∷ xs) =
     if same_run r x.run then nat_lt t (x.since + p.limit r.job) else is_in_time p t r xs
 
--- how it is said what a Begin comes to
+-- the reply to a Begin
 abbrev pub said : Answer → Run → Reply
 said Starts r = Started r
 said Waits r = Waiting
@@ -135,7 +135,7 @@ reply p s (End r) = Ended (is_in_time p s.now r s.running)
 reply p s Down = Went
 reply p s (Up t) = Came
 
--- what a refusal names: the one that comes first, or want of memory where none does
+-- what a refusal names: the first one, or OutOfMemory if there is none
 abbrev pub IsFirst : Refusal → Option Refusal → Type 0
 IsFirst f None = f ≡ OutOfMemory
 IsFirst f (Some g) = f ≡ g

@@ -4,10 +4,10 @@ use arrayvec::ArrayVec;
 use cs_civil::{Day, Minute};
 use std::marker::Model;
 
-/// How many stamps a start holds, and how many jobs an anacrontab has at most.
+/// The most stamps of a start, and jobs of an anacrontab.
 pub const MAX_STAMPS: usize = 64;
 
-/// How a history starts: at this minute the daemon is up or down, nothing runs, and the anacron
+/// The start of a history: the daemon is up or down at this minute, nothing runs, and the anacron
 /// jobs have these stamps.
 #[derive(Debug, Drop)]
 pub struct Start {
@@ -26,8 +26,8 @@ impl Model for Start {
 
 impl Start {
     /// Returns the start at this minute. `stamps` are by anacron job, in order of line, `None` for
-    /// a job without a stamp; jobs that the list doesn't reach have none, and what stands past the
-    /// last job counts for nothing.
+    /// a job without a stamp; jobs past its end have none, and stamps past the last job are
+    /// ignored.
     pub fn new(now: Minute, up: bool, stamps: ArrayVec<Option<Day>, 64>) -> Start
         ensures { result ≡ record { now = now; up = up; stamps = stamps.items } }
     {

@@ -68,7 +68,7 @@ abbrev pub or_full : Option Refusal → Bool → Option Refusal
 or_full (Some r) full = Some r
 or_full None full = if full then Some HistoryFull else None
 
--- the refusal that comes first, want of memory aside
+-- the first refusal, except OutOfMemory
 abbrev pub refusal_in : Keeping → Event → Option Refusal
 refusal_in k e = or_full (refusal (plan_of k) k.core.state e) (is_full k e)
 
@@ -81,8 +81,8 @@ is_end (End r) = true
 is_end Down = false
 is_end (Up t) = false
 
--- Why an event was refused: the first refusal, or where there is none want of memory. An end is
--- refused by the core alone.
+-- Why an event was refused: the first refusal, or if there is none, out of memory. Only the core
+-- refuses an end.
 pub record IsRefused (k : Keeping) (e : Event) (f : Refusal) : Type 0 where
   pub first : (refusal_in k e ≡ Some f) ⊎ ((refusal_in k e ≡ None) × (f ≡ OutOfMemory))
   pub end : is_end e ≡ true → refusal (plan_of k) k.core.state e ≡ Some f

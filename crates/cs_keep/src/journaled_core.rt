@@ -1,4 +1,4 @@
-//! An event core beside its journal, which replays to it.
+//! An event core with its journal, which replays to it.
 ghost use Rattle.std.specs.Prelude.{◌≡◌, ◌↔◌, ◌≤◌, IfErr, IfOk, IsTrue, None, OnErr, OnOk, if◌then◌else◌};
 ghost use Rattle.cs_check.specs.Checked.{plan_in};
 ghost use Rattle.cs_history.specs.Plan.{first_start};
@@ -93,7 +93,7 @@ impl JournaledCore {
         &self.core
     }
 
-    /// Makes the event, and writes it into the journal.
+    /// Steps the core, and writes the event into the journal.
     pub(crate) fn step(&mut self, event: Event) -> Result<Reply, Refusal>
         ensures legal { OnOk result (refusal_in self.old event ≡ None) }
         ensures reply { IfOk result (λ r. r ≡ reply_in self.old event) }
@@ -116,8 +116,8 @@ impl JournaledCore {
         Ok(reply)
     }
 
-    /// Begins the journal anew at the present state, where nothing is pending, waits or runs and no
-    /// pass is open.
+    /// Starts a new journal at the present state, if nothing is pending, waits or runs and no pass
+    /// is open.
     pub(crate) fn cut(&mut self) -> bool
         ensures idle { IsTrue result ↔ IsIdle self.old.core.state }
         ensures cut { self.new ≡ (if result then cut_here self.old else self.old) }

@@ -22,8 +22,8 @@ use Rattle.cs_windows.specs.Tree.{Tree, entries_at}
 abbrev pub reach_in : Plan → Certificate → ℕ → ℕ
 reach_in p a j = unwrap_or (a.reach j) (p.limit j)
 
--- whether a window of the job begins at a minute of such a day: where `on` tells that a cron job is
--- due, and where the catch-up hours begin
+-- whether a window of the job begins at a minute of such a day: where a cron job is due by `on`,
+-- and where the catch-up hours begin
 abbrev pub begins_on : {D : Type 0} → Plan → (ℕ → D → ℕ → Bool) → ℕ → D → ℕ → Bool
 begins_on p on j day m = if is_cron p j then on j day m else (m == p.from)
 
@@ -32,7 +32,7 @@ abbrev pub occupied : {D : Type 0} → Plan → (ℕ → D → ℕ → Bool) →
 occupied p on c =
     map (λ j. record { begins = begins_on p on j; lasts = reach p c j }) (below p.jobs)
 
--- when a job is due on a day of a class, as the certificate says
+-- when a job is due on a day of a class, by the certificate
 abbrev pub due_in : Certificate → ℕ → ℕ → ℕ → Bool
 due_in a j class m = a.due class j m
 
@@ -132,7 +132,7 @@ AreFree p ws = (m : ℕ) → m < 1440
 abbrev pub InEach : Certificate → ℕ → (Stretch → Type 0) → Type 0
 InEach a n P = AllByRecursion (λ s. IsUsed a n s.of → P s) a.stretches
 
--- The eight rules, for stretches of n days. `on` tells at which minutes of a day of a kind a cron
+-- The eight rules, for stretches of n days. `on` decides at which minutes of a day of a kind a cron
 -- job is due.
 pub record IsAccepted (p : Plan) (on : ℕ → Kind → ℕ → Bool) (a : Certificate) (n : ℕ) : Type 0 where
   -- due minutes: each kind's class has exactly those of the kind

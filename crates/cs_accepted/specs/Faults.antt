@@ -37,7 +37,7 @@ abbrev pub first_of : {A B : Type 0} → (A → Option B) → List A → Option 
 first_of f [] = None
 first_of f (x ∷ xs) = or_else (f x) (first_of f xs)
 
--- the first element that stands badly with a later one, and the first such later one
+-- the first element that is bad with a later one, and the first such later one
 abbrev pub first_pair : {A : Type 0} → (A → A → Bool) → List A → Option (A × A)
 first_pair bad [] = None
 first_pair bad (x ∷ xs) = or_else (option_map (λ y. (x, y)) (find (bad x) xs)) (first_pair bad xs)

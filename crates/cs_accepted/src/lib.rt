@@ -1,4 +1,4 @@
-//! What makes a certificate accepted, and why an accepted plan is calm at every minute and safe in
+//! When a certificate is accepted, and why an accepted plan is calm at every minute and safe in
 //! every history.
 #![tactic(auto)]
 

@@ -41,7 +41,7 @@ likeness_of when job class = likeness_by (is_due_in class job) (is_due_minute wh
 abbrev pub likeness_on : Likeness → Bool → Bool
 likeness_on likeness due = if due then likeness.when_due else likeness.when_not
 
--- that at the place of a job: nothing is known of what stands past the last
+-- that at the place of a job; nothing is known past the last
 abbrev pub likeness_at : List Likeness → ℕ → Likeness
 likeness_at row n = slice_index_or row n (record { when_due = false; when_not = false })
 

@@ -11,7 +11,7 @@ use cs_cert::Stretch;
 use indexmap::{IndexMap, IndexSet};
 use std::alloc::{AllocError, Global};
 
-/// Chains by their classes, the first of those that have the same.
+/// Chains by their classes: the first with those classes.
 pub(crate) type ByClasses<'a> = IndexMap<&'a [u32], &'a ClassedChain>;
 
 /// A chain that has these classes, if there is one.

@@ -27,7 +27,7 @@ pub(crate) fn classes_of(claim: &Claim<'_>, chain: &Chain) -> ArrayVec<u32, 4>
     classes
 }
 
-/// All chains of so many days with their classes.
+/// All chains of this many days with their classes.
 pub(crate) fn classed_chains(
     alloc: Global,
     claim: &Claim<'_>,

@@ -15,7 +15,7 @@ use rayon::prelude::*;
 use std::alloc::{AllocError, Global};
 use std::thread::Threads;
 
-/// How few rows are worth a thread of their own.
+/// The fewest rows that are worth a thread.
 const LEAST_ROWS: usize = 8;
 
 /// What a class is to a cron job.
@@ -23,7 +23,7 @@ const LEAST_ROWS: usize = 8;
 pub(crate) struct Likeness {
     /// Whether the class has the job's due minutes of the days on which the job is due.
     pub(crate) when_due: bool,
-    /// Whether it has none for the job, as on the other days.
+    /// Whether the class has no due minutes for the job, as on the other days.
     pub(crate) when_not: bool,
 }
 
@@ -105,7 +105,7 @@ pub(crate) fn likenesses(
     Ok(rows)
 }
 
-/// The same by several threads.
+/// Like `likenesses`, with several threads.
 pub(crate) fn likenesses_parallel<R: Threads + Sync>(
     rt: &R,
     alloc: Global,

@@ -1,4 +1,4 @@
-//! The first of the stretches that successive days have that a certificate lacks.
+//! The first stretch of successive days that a certificate lacks.
 ghost use Rattle.std.specs.Prelude.{◌≡◌, ◌≤◌, IfOk, option_map};
 ghost use Rattle.cs_accepted.specs.Faults.{stretch_fault};
 ghost use Rattle.cs_cert.specs.Claim.{said};
@@ -20,7 +20,7 @@ fn is_listed(lists: &IndexSet<&[u32]>, classes: &[u32]) -> bool
     lists.contains(classes)
 }
 
-/// Returns the first kinds of so many successive days, in the order of [`chains`](crate::chains),
+/// Returns the first kinds of this many successive days, in the order of [`chains`](crate::chains),
 /// whose classes no stretch of the certificate has. The only error is out of memory.
 pub fn first_missing(
     alloc: Global,

@@ -43,8 +43,8 @@ fn is_alike(plan: &Plan, claim: &Claim<'_>, rows: &[Sequence<Likeness>], kind: D
     true
 }
 
-/// The first kind of day, in the order of [`all_kinds`], whose class has not the due minutes of
-/// each cron job, by the rows of the classes.
+/// The first kind of day, in the order of [`all_kinds`], whose class doesn't have the due minutes
+/// of each cron job, by the rows of the classes.
 fn first_by_rows(plan: &Plan, claim: &Claim<'_>, rows: &[Sequence<Likeness>]) -> Option<DayKind>
     requires { AreLikenesses plan.now (said claim.now) rows.now }
     ensures { option_map ClassNotDue result
@@ -58,8 +58,8 @@ fn first_by_rows(plan: &Plan, claim: &Claim<'_>, rows: &[Sequence<Likeness>]) ->
     None
 }
 
-/// Returns the first kind of day, in the order of [`all_kinds`], whose class has not exactly the
-/// due minutes that the plan's cron jobs have on such days (`crontab(5)`). The only error is out of
+/// Returns the first kind of day, in the order of [`all_kinds`], whose class doesn't have exactly
+/// the due minutes of the plan's cron jobs on such days (`crontab(5)`). The only error is out of
 /// memory.
 pub fn first_unlike(
     alloc: Global,
@@ -74,7 +74,7 @@ pub fn first_unlike(
     Ok(first_by_rows(plan, claim, rows.as_slice()))
 }
 
-/// Returns the same, where several threads look at the classes.
+/// Like [`first_unlike`], with several threads.
 pub fn first_unlike_parallel<R: Threads + Sync>(
     rt: &R,
     alloc: Global,

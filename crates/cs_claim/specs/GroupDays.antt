@@ -1,4 +1,4 @@
--- What a class says of the lock of a group on its days, with nothing of the days before and after.
+-- What a class has for the lock of a group on its days, without the days before and after.
 use Rattle.std.specs.Prelude.{◌≡◌, ℕ, ◌+◌, ◌<◌, ◌≤◌, ◌↔◌, IsTrue, true, false, List, length, slice_index_or}
 use Rattle.cs_accepted.specs.Faults.{has_waiter}
 use Rattle.cs_cert.specs.Certificate.{bound_in}
@@ -8,7 +8,7 @@ use Rattle.cs_claim.specs.declared.group_day.GroupDay.{GroupDay}
 use Rattle.cs_history.specs.Plan.{Plan}
 use Rattle.cs_wait.specs.Bounds.{StepsHoldWithin}
 
--- what stands past the last group: nothing arrives, and nothing is bounded
+-- the group past the last: no arrivals and no bound
 abbrev pub no_day : GroupDay
 no_day = record { follows = true; left = 0; first = 0 }
 

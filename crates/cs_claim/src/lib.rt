@@ -1,5 +1,5 @@
 //! What a certificate claims of a plan's jobs: when they are due, what they occupy, and how long
-//! those wait that wait for a lock.
+//! they wait for a lock.
 #![tactic(auto)]
 
 mod due;

@@ -1,4 +1,4 @@
-//! How it is told why a certificate is refused.
+//! The text of a refusal.
 ghost use Rattle.std.specs.Prelude.{◌≡◌, ◌≤◌, ◌++◌, IfOk, OnOk, decimal, flat_map};
 ghost use Rattle.cs_decl.specs.Plan.{crons};
 ghost use Rattle.cs_refused.specs.Told.{told};
@@ -37,7 +37,7 @@ fn push_kind(alloc: Global, text: &mut Vec<u8>, kind: DayKind) -> Result<(), All
     push_number(alloc, text, u128::from(kind.dow()))
 }
 
-/// Adds the days that follow, each after ` then `.
+/// Adds the other days, each after ` then `.
 fn push_following(alloc: Global, text: &mut Vec<u8>, kinds: &[DayKind]) -> Result<(), AllocError>
     ensures { OnOk result (text.new.items ≡ text.old.items ++ flat_map then_text kinds.now) }
 {
@@ -84,7 +84,7 @@ fn push_line(alloc: Global, text: &mut Vec<u8>, plan: &Plan, job: usize) -> Resu
     push_number(alloc, text, u128::from(number))
 }
 
-/// The identifier of an anacron job, nothing where there is no such job.
+/// The identifier of an anacron job, nothing if there is no such job.
 fn identifier_of(plan: &Plan, job: usize) -> &[u8]
     requires { crons plan.now ≤ job }
     ensures { result.now ≡ identifier_of plan.now job }
@@ -184,7 +184,7 @@ fn push_both(
     push_window(alloc, text, plan, at, other)
 }
 
-/// The name of a group, nothing where there is no such group.
+/// The name of a group, nothing if there is no such group.
 fn group_name(plan: &Plan, group: usize) -> &[u8]
     ensures { result.now ≡ group_name plan.now group }
 {
@@ -239,7 +239,7 @@ fn push_collision(
     push_at(text, at)
 }
 
-/// Adds what is too much, and where.
+/// Adds which load exceeds the capacity, and where.
 #[tactic(auto, unfolding(crate::specs::Refused::overload_text))]
 fn push_overload(
     alloc: Global,
@@ -306,8 +306,8 @@ fn push_place(
     }
 }
 
-/// Why a certificate is refused, in one line without a newline: the rule by its number and name,
-/// then the place.
+/// Formats why a certificate is refused, in one line without a newline: the rule by number and
+/// name, then the place.
 ///
 /// 1 `refused 1 ClassNotDue: month M day D weekday W`, 2 `refused 2 MissingPair: ` with such days,
 /// ` then ` between them, 3 `refused 3 BacklogRises: group NAME at DT`, 4 `refused 4 ReachTooShort:

@@ -5,7 +5,7 @@ use Rattle.std.proofs.lemmas.Bool.{both_ways, cases_lt}
 use Rattle.std.proofs.lemmas.Nat.Bits.{bit_at_xor, bit_at-lt}
 use Rattle.cs_schedule.specs.Minutes.{is_in}
 
--- a bit of the exclusive or is clear where both have the same, and set where they differ
+-- a bit of the exclusive or is clear if both have the same, and set if they differ
 pub bits_same : (a b i : ℕ) → bit_at (bit_xor a b) i ≡ 0 → bit_at a i ≡ bit_at b i
 bits_same a b i clear =
     let one = bit_at-lt a i in

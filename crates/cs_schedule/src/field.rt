@@ -4,8 +4,8 @@ ghost use Rattle.cs_schedule.specs.Numbers.{has};
 use crate::numbers::Numbers;
 use std::marker::Model;
 
-/// What one time and date field says: its numbers, and whether its text begins with `*`, so that it
-/// restricts nothing.
+/// A time and date field: its numbers, and whether its text begins with `*`, so that it restricts
+/// nothing.
 #[derive(Debug, Drop)]
 pub struct Field {
     starred: bool,
@@ -31,7 +31,7 @@ impl Field {
         }
     }
 
-    /// Returns the same field.
+    /// Copies the field.
     pub fn copy(&self) -> Field
         ensures { result ≡ self.now }
     {

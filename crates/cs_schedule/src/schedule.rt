@@ -10,8 +10,8 @@ use crate::part::Part;
 use cs_civil::{DayKind, Minute, kind_of};
 use std::marker::Model;
 
-/// When a command is due: the five time and date fields of crontab(5), each with numbers of its
-/// range alone.
+/// When a command is due: the five time and date fields of crontab(5), each with numbers in its
+/// range.
 #[derive(Debug, Drop)]
 pub struct Schedule {
     minute: Field,
@@ -50,7 +50,7 @@ impl Schedule {
         }
     }
 
-    /// Returns the same schedule.
+    /// Copies the schedule.
     pub fn copy(&self) -> Schedule
         ensures { result ≡ self.now }
     {
@@ -63,8 +63,7 @@ impl Schedule {
         }
     }
 
-    /// Returns one of its fields, whose numbers lie in their range, weekdays from 0 for Sunday to
-    /// 6.
+    /// Returns one of its fields, with numbers in its range, weekdays from 0 for Sunday to 6.
     pub fn field(&self, part: Part) -> &Field
         ensures value { result.now ≡ choice_of self.now part }
         ensures within { IsWithin part (choice_of self.now part).numbers }
@@ -78,8 +77,8 @@ impl Schedule {
         }
     }
 
-    /// Checks whether the command is due on days of this kind, at the minutes that
-    /// [`times`](Schedule::times) gives.
+    /// Checks whether the command is due on days of this kind, at the minutes of
+    /// [`times`](Schedule::times).
     pub fn is_day_due(&self, kind: DayKind) -> bool
         ensures { result ≡ is_day_due self.now kind }
     {
@@ -100,7 +99,7 @@ impl Schedule {
         self.is_due_on(kind_of(minute.day()), minute.minute_of_day())
     }
 
-    /// Checks whether the command is due at this minute, counted from 0, of a day of this kind.
+    /// Checks whether the command is due at this minute, from 0, of a day of this kind.
     pub fn is_due_on(&self, kind: DayKind, minute_of_day: u16) -> bool
         requires { minute_of_day < 1440 }
         ensures { result ≡ is_due self.now kind minute_of_day }
@@ -111,7 +110,7 @@ impl Schedule {
     }
 
     /// Returns the minutes, from 0 to 1,439, at which the command is due on each day on which it is
-    /// due at all.
+    /// due.
     pub fn times(&self) -> MinuteSet
         ensures { result ≡ minutes_where (is_time_due self.now) }
     {

@@ -1,4 +1,4 @@
--- What the numbers of windows at a minute tell of the three rules there.
+-- What the numbers of windows at a minute mean for the three rules there.
 use Rattle.std.proofs.Common.{ℕ, ◌+◌, ◌<◌, ◌≤◌, ◌≡◌, max, Bool, true, false, not, ◌&&◌, ◌||◌, cond, if◌then◌else◌, List, [], ◌∷◌, filter, Option, None, Some, refl, sym, ap, ◌∙◌, subst, arith, ⊎_elim, ◌⊎◌, ◌==◌, slice_index, is_some}
 use Rattle.std.specs.List.{AllByRecursion}
 use Rattle.std.proofs.lemmas.Bool.{and_parts, both_ways, false_from_ne_true, eq-eqb, eqb-true}

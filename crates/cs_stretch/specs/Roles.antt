@@ -15,7 +15,7 @@ role_of p j = record {
   is_exclusive = exclusive_group p (p.group j);
 }
 
--- what stands past the last job
+-- the role of a job past the last
 abbrev pub nobody : Role
 nobody = record { is_cron = false; mode = Plain; weight = 1; group = None; is_exclusive = false }
 

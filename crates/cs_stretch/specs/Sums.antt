@@ -87,7 +87,7 @@ AreFreeBy roles ws = EachMinute
 abbrev pub AreGrouped : List Role → ℕ → Type 0
 AreGrouped roles groups = (j g : ℕ) → (role_at roles j).group ≡ Some g → g < groups
 
--- ---- tables that tell of them
+-- ---- tables for them
 
 -- at each minute of the day one run at most, or none without the lock, or none of a cron job
 abbrev pub NoneClash : List ℕ → List ℕ → List ℕ → Type 0

@@ -6,7 +6,7 @@ ghost use Rattle.cs_stretch.specs.Roles.{role_at, share_group, roles_clash};
 use cs_history::Mode;
 use cs_windows::Window;
 
-/// What a job is to the rules.
+/// What the rules need of a job.
 #[derive(Clone, Copy, Debug)]
 pub(crate) struct Role {
     /// Whether it is a job of the crontab.
@@ -67,8 +67,8 @@ pub(crate) fn share_group(one: Role, other: Role) -> bool
     }
 }
 
-/// Whether their windows may not hold one minute: they are of one exclusive group, one of them is
-/// of the crontab, and not both take the lock.
+/// Whether their windows may not overlap: they are of one exclusive group, one of them is of the
+/// crontab, and not both take the lock.
 pub(crate) fn clash(one: Role, other: Role) -> bool
     ensures { result ≡ roles_clash one other }
 {

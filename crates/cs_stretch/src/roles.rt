@@ -15,12 +15,11 @@ use cs_windows::Window;
 use std::alloc::{AllocError, Global};
 use std::marker::Model;
 
-/// From so many windows on a stretch is tested by sums, which take as long for each window; the
-/// other test looks at each with all that are open then.
+/// From this many windows on a stretch is tested by sums, whose time is the same for each window;
+/// the other test compares each with all that are open then.
 const MANY_WINDOWS: usize = 512;
 
-/// What the jobs of a plan are to the rules about windows: read off the plan once, for all
-/// stretches.
+/// What the rules about windows need of the jobs of a plan: read off once for all stretches.
 #[derive(Debug, Drop)]
 pub struct Roles {
     jobs: Vec<Role>,
@@ -81,7 +80,7 @@ fn jobs_of(alloc: Global, plan: &Plan) -> Result<Vec<Role>, AllocError>
 }
 
 impl Roles {
-    /// Returns the roles of the jobs of this plan. The only error is out of memory.
+    /// Returns the roles of the plan's jobs. The only error is out of memory.
     pub fn of(alloc: Global, plan: &Plan) -> Result<Roles, AllocError>
         ensures { IfOk result (λ roles. IsOf (as_plan plan.now) roles) }
     {
@@ -112,10 +111,10 @@ impl Roles {
         self.capacity
     }
 
-    /// Returns a quick test of the windows of a stretch, in order of start, by each of three rules.
-    /// Where it answers true for one, no minute of the last day has a collision, too great a load,
-    /// or a due skip job that is barred from its lock. Where it answers false, the rule's finder
-    /// tells whether something is wrong. The only error is out of memory.
+    /// Tests the windows of a stretch, in order of start, quickly by each of three rules. A rule
+    /// that is true has no fault in a minute of the last day: no collision, no load above the
+    /// capacity, no due skip job that finds its lock held. For a rule that is false its finder
+    /// decides. The only error is out of memory.
     pub fn quiet(&self, alloc: Global, windows: &[Window]) -> Result<Quiet, AllocError>
         requires rising { IsRising windows.now }
         ensures apart { IfOk result (λ quiet. IsTrue quiet.is_apart
@@ -133,9 +132,9 @@ impl Roles {
     }
 
     /// Returns the first minute of the last day of a stretch, and the first two windows of one
-    /// exclusive group there that may not hold it together: one of them is of the crontab, and not
-    /// both take the group's lock. By minute, then group, then the order of the windows. The only
-    /// error is out of memory.
+    /// exclusive group that may not both hold it: one of them is of the crontab, and not both take
+    /// the group's lock. By minute, then group, then the order of the windows. The only error is
+    /// out of memory.
     pub fn collision(
         &self,
         alloc: Global,
@@ -147,8 +146,8 @@ impl Roles {
         found::collision(alloc, self.jobs(), self.groups(), windows)
     }
 
-    /// Returns the first minute of the last day of a stretch at which its windows weigh more than
-    /// the capacity, and what they weigh. The only error is out of memory.
+    /// Returns the first minute of the last day of a stretch at which the load exceeds the
+    /// capacity, and the load. The only error is out of memory.
     pub fn overload(
         &self,
         alloc: Global,

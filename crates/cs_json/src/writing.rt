@@ -9,13 +9,13 @@ ghost use Rattle.cs_json.specs.NoFloat.{list_no_float, pair_no_float, triple_no_
 use serde_json::Value;
 use std::alloc::{AllocError, Global};
 
-/// What has a JSON value. An object's members stand in alphabetical order, as `serde_json` keeps
-/// them.
+/// A type that has a JSON value. An object's members are in alphabetical order, as `serde_json`
+/// keeps them.
 pub trait ToJson {
     /// The JSON value that is written.
     ghost spelled: { Self → Data };
 
-    /// The JSON value. An error only where memory ran out.
+    /// Returns the JSON value. The only error is out of memory.
     fn to_json(&self, alloc: Global) -> Result<Value, AllocError>
         ensures { IfOk result (λ v. view v ≡ spelled self.now) };
 
@@ -140,8 +140,8 @@ fn values<T: ToJson>(alloc: Global, list: &[T]) -> Result<Vec<Value>, AllocError
     Ok(found)
 }
 
-/// Returns the compact text of a value, which reads back where it nests at most 127 deep. An error
-/// only where memory ran out.
+/// Writes the compact text of a value, which can be read back if it nests at most 127 deep. The
+/// only error is out of memory.
 pub fn write<T: ToJson>(alloc: Global, value: &T) -> Result<Vec<u8>, AllocError>
     ensures text { IfOk result (λ b. b.items ≡ compact_text (T.spelled value.now)) }
     ensures reads_back { IfOk result

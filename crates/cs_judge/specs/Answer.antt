@@ -90,8 +90,7 @@ IsAnswer Certificate plan judged found text = IsMade plan judged found text
 IsAnswer Compact plan judged found text =
     IsJudgedBy Compact judged × IsMade plan judged found text
 
--- the text tells what a script breaks first, and is followed by the script: it shows that the plan
--- is unsafe
+-- the text says what a script breaks first, and then has the script, which shows the plan unsafe
 pub record IsStory (plan : Declared) (text : List ℕ) : Type 0 where
   pub script : Script
   pub shown : Shown

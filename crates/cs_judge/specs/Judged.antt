@@ -43,8 +43,8 @@ abbrev pub IsCalmBy : Declared → Checked → Type 0
 IsCalmBy plan checked =
     IsCalmThroughout (as_plan plan) (reach_for plan (certificate_in checked))
 
--- the script can be written, and shows that the plan is unsafe: each of its events may come when it
--- comes, each run ends within its declared time, and this is broken first, of which can be told
+-- the script can be written, and shows the plan unsafe: each of its events may come when it comes,
+-- each run ends within its declared time, and this, which has a text, is broken first
 pub record Shows (plan : Declared) (script : Script) (shown : Shown) : Type 0 where
   pub nameable : is_nameable plan script ≡ true
   pub breaks : IsShown (as_plan plan) script shown

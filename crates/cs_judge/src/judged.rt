@@ -12,7 +12,6 @@ pub enum Judged {
     /// It is unsafe: this script is a history in which each run ends in time, and breaks this
     /// first.
     Unsafe(Script, Shown),
-    /// Neither is known, and why; and why the checker refuses the certificate that the maker gave,
-    /// if it gave one.
+    /// Neither, and why; and why the checker refuses the maker's certificate, if there was one.
     Unknown(Reason, Option<CheckFault>),
 }

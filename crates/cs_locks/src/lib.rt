@@ -1,5 +1,5 @@
-//! Of each group of jobs, how many runs have its lock or wait for it: so whether a lock is free is
-//! told at a cost that doesn't grow with the runs.
+//! How many runs hold each group's lock or wait for it: whether a lock is free is found at a cost
+//! that doesn't grow with the runs.
 #![tactic(auto)]
 
 mod hold;

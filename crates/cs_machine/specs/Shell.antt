@@ -1,4 +1,4 @@
--- What the shell of a command is told (crontab(5)).
+-- The shell of a command, and its words (crontab(5)).
 use Rattle.std.specs.Prelude.{ℕ, List, [], ◌∷◌, Bool, ◌&&◌, Option, Some, None, codes, if◌then◌else◌}
 use Rattle.std.specs.List.{fold, list_all}
 use Rattle.std.specs.Str.{bytes_eq, is_utf8}

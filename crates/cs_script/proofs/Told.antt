@@ -38,7 +38,7 @@ set_stamps days stamps = fold set_stamp days stamps
 abbrev pub AreOnce : List StampLine → Type 0
 AreOnce stamps = AllPairs (λ x y. x.place ≢ y.place) stamps
 
--- none of these stamps has a place where one stands
+-- none of these stamps is for a job that has one
 abbrev pub AreFresh : List (Option ℕ) → List StampLine → Type 0
 AreFresh days stamps = All (λ s. get_or days s.place None ≡ None) stamps
 
@@ -66,7 +66,7 @@ all_both P Q S weaker xs one two = λ k d below. weaker _ (one k d below) (two k
 some_none : (day : ℕ) → ◌≡◌ {A = Option ℕ} (Some day) None → ⊥
 some_none day e = cc
 
--- ---- what a stamp and an event say of their forms
+-- ---- the forms of a stamp and an event
 
 module _ (d : Declared) (o : ℕ × Bool) (days : List (Option ℕ)) (events : List (ℕ × Event)) where
   start_misplaced : (form : Form) (t : ℕ) (up : Bool) → FormSays d form (Starts t up) → IsMisplaced d (script_from o days events) form
@@ -108,7 +108,7 @@ module _ (d : Declared) (o : ℕ × Bool) (days : List (Option ℕ)) (events : L
   unfolding place_of
   place_below identifier place is = (position-Some (λ line. bytes_eq line.identifier identifier) d.anacrontab.lines place no_line is).0
 
-  -- where a stamp may stand
+  -- where a stamp is in place
   abbrev StampFits : ℕ → Type 0
   StampFits place = (events ≡ []) × (get_or days place None ≡ None) × (place < length d.anacrontab.lines)
 

@@ -46,7 +46,7 @@ FailsFirst d form fault =
     FormFails d form fault
     ⊎ (¬ (IsStart form) × ((x : Entry) × FormSays d form x) × (fault ≡ NoStart))
 
--- after the lines of a script: the form may not stand there, or else it fails
+-- after the lines of a script: the form is out of place, or else it fails
 abbrev pub FailsBehind : Declared → Numbered → Form → ScriptFault → Type 0
 FailsBehind d script form fault =
     (IsMisplaced d script form × (fault ≡ BadLine))
@@ -108,7 +108,7 @@ abbrev pub IsFaultOf : Declared → List ℕ → ScriptError → Type 0
 IsFaultOf d text OutOfMemory = Unit {0}
 IsFaultOf d text (At line fault) = IsFault d text line fault
 
--- The same without the numbers of the events' lines.
+-- the same without the line numbers of the events
 abbrev pub PlainMeaning : Type 0
 PlainMeaning = Result Script (ℕ × ScriptFault)
 

@@ -111,7 +111,7 @@ end_form text = do
   parts ← first_word text
   ended parts.0 parts.1
 
--- a form by its first word, and what stands after it
+-- a form by its first word and the rest
 unfoldable pub form_behind : List ℕ → List ℕ → Option Form
 form_behind verb text =
     if bytes_eq verb (codes "start") then start_form text

@@ -59,7 +59,7 @@ unfoldable pub is_too_late : Declared → Draft → List ℕ → Bool
 is_too_late d draft identifier =
     not (length draft.events == 0) || has_stamp draft.stamps (place_of d identifier)
 
--- the form may not stand after those before it
+-- the form is out of place after those before it
 abbrev pub is_misplaced : Declared → Draft → Form → Bool
 is_misplaced d draft (Start moment up) = is_some draft.opening
 is_misplaced d draft (Stamp identifier date) = is_too_late d draft identifier
@@ -86,7 +86,7 @@ fitted d draft form =
     if is_misplaced d draft form then Err BadLine
     else entry_of d form >>= behind_start (is_some draft.opening)
 
--- what a line says after those before it
+-- the content of a line after those before it
 unfoldable pub said_behind : Declared → Draft → List ℕ → Result Entry ScriptFault
 said_behind d draft line = or_fault BadLine (form_of line) >>= fitted d draft
 
@@ -114,7 +114,7 @@ lines_from d number draft (text ∷ texts) = do
   more ← numbered number (taken d number draft text)
   lines_from d (number + 1) more texts
 
--- the script of all lines: one without a start has a fault that stands in no line
+-- the script of all lines: one without a start has a fault in no line
 abbrev pub whole : Draft → Option (ℕ × Bool) → Result Numbered Fault
 whole draft None = Err (0, NoStart)
 whole draft (Some opening) = Ok (record {

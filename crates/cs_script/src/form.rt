@@ -1,4 +1,4 @@
-//! The form of a script's line: its words, whatever its date and its name are.
+//! The form of a script's line: its words, whatever date and name.
 ghost use Rattle.std.specs.Prelude.{◌≡◌, option_map};
 ghost use Rattle.cs_script.specs.Reading.{begin_form, catch_form, end_form, form_behind, form_of};
 ghost use Rattle.cs_script.specs.Reading.{got_form, job_run, line_run, minute_form, stamp_form};
@@ -7,7 +7,7 @@ ghost use Rattle.cs_script.specs.Seen.{form_seen};
 
 use crate::words::{first_word, is_moment, is_number, is_word};
 
-/// What a line's words are: texts of minutes, dates, numbers of lines and identifiers.
+/// The words of a line: texts of minutes, dates, line numbers and identifiers.
 #[derive(Drop)]
 pub(crate) enum Form<'a> {
     /// `start DT up` or `start DT down`.
@@ -164,7 +164,7 @@ fn end_form(text: &[u8]) -> Option<Form<'_>>
     None
 }
 
-/// A form by its first word, and what stands after it.
+/// A form by its first word and the rest.
 #[tactic(auto, unfolding(crate::specs::Reading::form_behind))]
 fn form_behind<'a>(verb: &[u8], text: &'a [u8]) -> Option<Form<'a>>
     ensures { option_map form_seen result ≡ form_behind verb.now text.now }

@@ -177,9 +177,9 @@ fn push_start(text: &mut Vec<u8>, start: &Start) -> Result<(), AllocError>
     }
 }
 
-/// Returns the text of a script that can be named: the start, its stamps and the events, a line
-/// each. [`read_script`](crate::read_script) answers the script again, where the text is no longer
-/// than a script may be. The only error is out of memory.
+/// Formats a script that is [`is_nameable`](crate::is_nameable): a line each for the start, its
+/// stamps and the events. [`read_script`](crate::read_script) returns the same script if the text
+/// isn't too long. The only error is out of memory.
 #[tactic(auto, unfolding(crate::specs::ScriptText::script_text), using(crate::proofs::NamedJobs::events_nameable, crate::proofs::BackScript::reads_back))]
 pub fn script_text(alloc: Global, plan: &Plan, script: &Script) -> Result<Bytes, AllocError>
     requires { is_nameable plan.now script.now ≡ true }

@@ -72,7 +72,7 @@ IsNotShown p script OutOfMemory = ⊤
 abbrev pub IsRunOf : Plan → Run → Type 0
 IsRunOf p r = (r.job < p.jobs) × IsReached r.at
 
--- what is shown can be told: it names such runs, and as one that gave up a run of a cron job
+-- what is shown has a text: it has such runs, and as skipped one a run of a cron job
 abbrev pub IsTellable : Plan → Shown → Type 0
 IsTellable p (Together r q) = IsRunOf p r × IsRunOf p q
 IsTellable p (Load n) = ⊤

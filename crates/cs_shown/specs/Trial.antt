@@ -83,7 +83,7 @@ clash_before p (r ∷ rs) q =
 abbrev pub break_by_run : Plan → List Going → Run → Option Shown
 break_by_run p rs r = option_or (clash_before p rs r) (overload p (weight_of p rs + p.weight r.job))
 
--- the same, looked at only where nothing was broken before
+-- the same, worked out only if nothing was broken before
 abbrev pub break_by_start : Plan → Option Shown → List Going → Option Run → Option Shown
 break_by_start p (Some s) rs run = None
 break_by_start p None rs None = None

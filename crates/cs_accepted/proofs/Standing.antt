@@ -1,5 +1,4 @@
--- The windows of a stretch that hold a minute of its last day are those that hold this civil
--- minute.
+-- The windows of a stretch at a minute of its last day are those that hold this civil minute.
 use Rattle.std.proofs.Common.{ℕ, ◌+◌, ◌-◌, ◌*◌, ◌/◌, ◌%◌, ◌<◌, ◌≤◌, ◌≡◌, max, min, Bool, true, false, map, refl, sym, ap, ◌∙◌, arith, ◌==◌, if◌then◌else◌}
 use Rattle.std.specs.List.{range_with_len}
 use Rattle.std.proofs.lemmas.Bool.{ltb-true, lt-ltb}

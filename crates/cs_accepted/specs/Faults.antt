@@ -1,5 +1,4 @@
--- The fault that a checker answers: the first of the eight rules that is broken, and of it the
--- first place.
+-- The fault that a checker returns: the first of the eight rules broken, and its first place.
 use Rattle.std.specs.Prelude.{ℕ, zero, suc, ◌+◌, ◌-◌, ◌*◌, Bool, true, false, not, ◌&&◌, ◌||◌, List, [], ◌∷◌, Option, Some, None, if◌then◌else◌, nat_lt, nat_le, ◌==◌, filter, find, flat_map, map, length, unwrap_or, option_map}
 use Rattle.std.specs.List.{list_all, list_any, range_with_len}
 use Rattle.cs_civil.specs.Calendar.{Kind, kind, kinds_after}

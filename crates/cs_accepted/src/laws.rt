@@ -53,8 +53,7 @@ pub fn accepted_is_safe()
         → IsLegal p h → IsInTime p h → IsSafe p h }
 {}
 
-/// Lemma. A certificate is accepted if and only if no fault is found, and its stretches are long
-/// enough.
+/// Lemma. A certificate is accepted exactly if no fault is found, and stretches are long enough.
 pub fn no_fault_is_accepted()
     ensures faults { (p : Plan) (on : ℕ → Kind → ℕ → Bool) (a : Certificate) (n : ℕ) → IsPlan p
         → 1 ≤ n → (first_fault p on a n ≡ None) ↔ IsAccepted p on a n }

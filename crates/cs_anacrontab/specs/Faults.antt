@@ -70,8 +70,7 @@ TextFails (b ∷ bs) fault =
     × (((begins_setting b ≡ true) × SettingFails (b ∷ bs) fault)
     ⊎ ((begins_setting b ≡ false) × JobFails (b ∷ bs) fault))))
 
--- The line is too long; or it holds a zero byte; or its text after the blanks at its front has the
--- fault.
+-- The line is too long, or holds a zero byte, or its text after leading blanks has the fault.
 abbrev pub LineFails : List ℕ → JobFault → Type 0
 LineFails line fault =
     ((MAX_LINE < length line) × (fault ≡ faults.TooLong))

@@ -71,8 +71,7 @@ pub(crate) fn word_period(word: &[u8]) -> Option<Period>
     }
 }
 
-/// Checks whether a job with that period is due today, where the stamp is the day of its last run
-/// (anacron(8)).
+/// Checks whether a job is due today, its stamp being the day of its last run (anacron(8)).
 ///
 /// It is due without a stamp, with one later than today (this profile), and once the period has
 /// passed since its stamp: [`Monthly`](Period::Monthly) once the month or the year is another.

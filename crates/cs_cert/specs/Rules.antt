@@ -74,8 +74,7 @@ due_list_fits d = nat_lt d.job 320 && nat_lt 0 (length d.minutes) && rises d.min
 abbrev pub due_fits : List DueList → Bool
 due_fits due = each_next (λ a b. nat_lt a.job b.job) due && list_all due_list_fits due
 
--- from this minute on: the minutes rise strictly below 1,440, and the values are from 1 to
--- 1,000,000
+-- from this minute on, minutes rise strictly below 1,440, and values are from 1 to 1,000,000
 abbrev pub is_backlog_from : ℕ → List Piece → Bool
 is_backlog_from least [] = true
 is_backlog_from least (p ∷ ps) =

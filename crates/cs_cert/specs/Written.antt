@@ -1,5 +1,4 @@
--- The JSON of a certificate as it is written: members in alphabetical order, lists in the order
--- held.
+-- The JSON of a certificate as written: members in alphabetical order, lists as they are.
 use Rattle.std.specs.Prelude.{ℕ, List, map, codes, if◌then◌else◌, ◌==◌}
 use Rattle.serde_json.specs.Data.{Data, number, unsigned, string, array, item, no_items, object, member, no_members}
 use Rattle.serde_json.specs.View.{items_of}

@@ -20,8 +20,7 @@ pub struct DueList {
     pub minutes: Sequence<u16>,
 }
 
-/// A bound for each minute of a day on the minutes of runs that wait for the lock of a group or
-/// hold it.
+/// A bound for each minute of a day on the minutes of runs that wait for a group's lock or hold it.
 #[derive(Debug, Drop)]
 pub struct GroupBacklog {
     /// The group's number, below 64.
@@ -153,8 +152,7 @@ fn bound_among(backlog: &[GroupBacklog], group: u8, minute: u16) -> u32
 }
 
 impl Class {
-    /// Checks whether a job is listed as due at a minute of a day of this class: never in version
-    /// 3.
+    /// Checks whether a job is listed as due at a minute of days of this class: never in version 3.
     pub fn is_due(&self, job: u16, minute: u16) -> bool
         ensures { result ≡ is_due_in self.now job minute }
     {

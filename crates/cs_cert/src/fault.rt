@@ -18,8 +18,7 @@ pub enum CertFault {
     /// The version is a whole number other than 1, 2 and 3.
     BadVersion,
     /// A member is unknown, absent or of another type, a number isn't whole, or a list is of
-    /// another length; or in version 3 there is a stretch, or more than what is left over at
-    /// midnight.
+    /// another length; or version 3 has a stretch, or more than what is left over at midnight.
     BadShape,
     /// A tree is deeper than [`MAX_DEPTH`](crate::MAX_DEPTH).
     TooDeep,

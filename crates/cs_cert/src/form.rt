@@ -89,8 +89,7 @@ pub(crate) fn write_each<T: Form>(alloc: Global, list: &[T]) -> Result<Vec<Value
     Ok(found)
 }
 
-/// A required member of an object. `BadShape` if it is absent or has another shape; `Memory` if
-/// memory runs out.
+/// A required member of an object. `BadShape` if absent or misshapen; `Memory` if memory runs out.
 pub(crate) fn member<T: Form>(alloc: Global, value: &Value, name: &str) -> Result<T, Misread>
     ensures { Gives T.seen result (member_as T.said name.now (view value.now)) }
 {

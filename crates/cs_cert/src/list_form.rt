@@ -60,8 +60,7 @@ impl Form for Piece {
     }
 }
 
-/// The pieces of a group. Those that make no backlog become none of a group out of range: the
-/// greatest `u8`.
+/// The pieces of a group. Those that make no backlog become none, of a group out of range: 255.
 pub(crate) fn held_backlog(alloc: Global, group: u8, pieces: Sequence<Piece>) -> GroupBacklog
     ensures { result ≡ held_backlog group pieces }
 {

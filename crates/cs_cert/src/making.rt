@@ -98,8 +98,7 @@ impl Certificate {
         self.parts().kinds.class_of(kind)
     }
 
-    /// Returns the stretches, strictly rising: by length, then by their classes. Version 3 has
-    /// none.
+    /// Returns the stretches, strictly rising by length, then by their classes. Version 3 has none.
     pub fn stretches(&self) -> &[Stretch]
         ensures value { map stretch_of result.now ≡ (content self.now).stretches }
         ensures kept { Keeps (content self.now) }

@@ -36,8 +36,7 @@ fn entries_fit(entries: &[Entry], days: u8) -> bool
     entries.iter().all(|entry| entry_fits(entry, days))
 }
 
-/// Whether each entry has a job in range, starts less than `days` days before, and at a minute of
-/// that day.
+/// Whether each entry has a job and a minute in range, and starts less than `days` days before.
 pub(crate) fn has_entries(tree: &MinuteTree, days: u8) -> bool
     ensures { result ≡ leaves_pass (entries_fit days) (tree_of tree.now) }
 {

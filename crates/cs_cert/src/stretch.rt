@@ -101,8 +101,7 @@ pub(crate) fn rise(stretches: &[Stretch]) -> bool
     stretches.is_sorted_by(|one, next| one.comes_before(next))
 }
 
-/// Whether each entry has a job in range, starts less than `days` days before, and at a minute of
-/// that day.
+/// Whether each entry has a job and a minute in range, and starts less than `days` days before.
 pub(crate) fn have_entries(stretches: &[Stretch], days: u8) -> bool
     ensures { result ≡ list_all (λ s. has_entries days (stretch_of s)) stretches.now }
 {

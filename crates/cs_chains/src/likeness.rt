@@ -88,8 +88,7 @@ fn row_of(
     Ok(row)
 }
 
-/// What each class is to each cron job: a row for each class, by number. The only error is out of
-/// memory.
+/// What each class is to each cron job, a row for each class. The only error is out of memory.
 pub(crate) fn likenesses(
     alloc: Global,
     plan: &Plan,

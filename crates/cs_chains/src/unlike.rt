@@ -15,8 +15,7 @@ use cs_decl::Plan;
 use std::alloc::{AllocError, Global};
 use std::thread::Threads;
 
-/// Whether a class has the due minutes of a cron job on days of this kind, by what it is to the
-/// job.
+/// Whether a class has a cron job's due minutes on days of this kind, by what it is to the job.
 fn is_job_alike(likeness: Likeness, line: &Line, kind: DayKind) -> bool
     ensures { result ≡ likeness_on likeness (is_due_day line.now.when kind) }
 {

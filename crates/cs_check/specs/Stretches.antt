@@ -84,8 +84,7 @@ pub record IsGood (p : Plan) (a : Certificate) (n : ℕ) (s : Stretch) : Type 0 
 abbrev pub IsGoodIn : Case → UsedStretch → Type 0
 IsGoodIn k u = IsGood (plan_of k) (claim_of k) k.days (seen_of k u)
 
--- the kinds are those of days of the classes of the stretch, and its tree's splits are inside their
--- ranges
+-- the kinds are of days of the stretch's classes, and its tree's splits are inside their ranges
 pub record IsInUse (c : Content) (n : ℕ) (u : UsedStretch) : Type 0 where
   pub kinds : HaveClasses c n u.stretch.now.of u.kinds.items
   pub splits : SplitsInside (tree_of u.stretch.now.tree) 0 1440

@@ -16,8 +16,7 @@ use cs_wait::Backlog;
 use cs_windows::{Occupied, Window, windows_on};
 use std::alloc::{AllocError, Global};
 
-/// What each stretch needs of a plan and a certificate whose classes have the due minutes of their
-/// kinds.
+/// What each stretch needs of a plan and a certificate whose classes have their kinds' due minutes.
 #[derive(Drop)]
 pub(crate) struct Case<'a> {
     pub(crate) plan: &'a Plan,
@@ -92,8 +91,7 @@ impl<'a> Case<'a> {
         &self.class_days.as_slice()[number as usize]
     }
 
-    /// Whether the leaves of a stretch in use list all these windows, if the certificate's version
-    /// lists windows.
+    /// Whether the leaves of a stretch in use list these windows, if the version lists windows.
     pub(crate) fn covers(&self, used: &UsedStretch<'_>, windows: &[Window]) -> bool
         requires { IsInUse (said self.now.claim.now) self.now.days used.now }
         ensures { IsTrue result → ListsAll (seen_of self.now used.now).tree windows.now }

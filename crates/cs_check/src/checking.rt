@@ -94,8 +94,7 @@ fn judge_claim_parallel<R: Threads + Sync>(
     answer(alloc, &case, stretches.as_slice(), good)
 }
 
-/// Nothing if what the certificate stands for breaks no rule, else the first fault, with one
-/// thread.
+/// Nothing if what the certificate stands for breaks no rule, else the first fault; one thread.
 fn judge(
     alloc: Global,
     plan: &Plan,

@@ -108,8 +108,7 @@ pub(crate) fn case_of<'a>(
     })
 }
 
-/// The stretches in use, or the fault of the first kinds of successive days whose stretch is
-/// missing.
+/// The stretches in use, or the fault of the first successive kinds whose stretch is missing.
 pub(crate) fn stretches_of<'a>(
     alloc: Global,
     case: &Case<'a>,

@@ -13,8 +13,7 @@ const FIRST_MINUTE: u64 = 1_440;
 /// 9999-12-31 23:59.
 const LAST_MINUTE: u64 = 4_223_371_679;
 
-/// A minute on the clock of the crontab's machine, which has one offset from UTC all year (this
-/// profile).
+/// A minute on the clock of the crontab's machine, at one offset from UTC all year (this profile).
 ///
 /// Counted in minutes since 1970-01-01 00:00 at the offset: from 1,440, which is 1970-01-02 00:00,
 /// to 4,223,371,679, which is 9999-12-31 23:59.

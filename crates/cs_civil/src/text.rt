@@ -9,12 +9,11 @@ use crate::digits::{read_two, write_two};
 use crate::minute::MINUTES_OF_DAY;
 use crate::{CivilFault, Day, Minute};
 
-/// Returns the civil minute of a moment.
+/// Returns the civil minute of a moment, in seconds since 1970-01-01 00:00 UTC.
 ///
-/// The moment is in seconds since 1970-01-01 00:00 UTC; the offset is the minutes by which the
-/// clock is ahead of UTC. Seconds are rounded down, before 1970 too.
-/// [`OutOfRange`](CivilFault::OutOfRange) before 1970-01-02 00:00 and after 9999-12-31 23:59 at the
-/// offset (this profile).
+/// The offset is the minutes by which the clock is ahead of UTC. Seconds are rounded down, before
+/// 1970 too. [`OutOfRange`](CivilFault::OutOfRange) before 1970-01-02 00:00 and after 9999-12-31
+/// 23:59 at the offset (this profile).
 pub fn minute_at(unix_seconds: i64, offset: i16) -> Result<Minute, CivilFault>
     ensures in_range { IsOk result
         ↔ IsBetween (pos first_minute) (pos last_minute)
@@ -49,9 +48,8 @@ pub fn day_text(day: Day) -> [u8; 10]
 
 /// Reads a day, `YYYY-MM-DD` (this profile).
 ///
-/// [`NotADate`](CivilFault::NotADate) for any other text and for a date that the Gregorian calendar
-/// of the years 0000 to 9999 doesn't have; [`OutOfRange`](CivilFault::OutOfRange) for a date before
-/// 1970-01-02.
+/// [`NotADate`](CivilFault::NotADate) for any other text and for a date not in the Gregorian
+/// calendar of the years 0000 to 9999; [`OutOfRange`](CivilFault::OutOfRange) before 1970-01-02.
 #[tactic(auto, using(crate::proofs::Texts::no_day, crate::proofs::Texts::one_day))]
 pub fn read_day(text: &[u8]) -> Result<Day, CivilFault>
     ensures ok { IfOk result (λ day. (1 ≤ day) × (day ≤ last_day) × (text.now ≡ day_text day)) }

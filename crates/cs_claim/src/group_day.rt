@@ -17,11 +17,9 @@ use std::alloc::{AllocError, Global};
 /// What a class has for the lock of one group on its days.
 #[derive(Clone, Copy, Debug, PartialEq, Eq)]
 pub struct GroupDay {
-    /// Whether the bound follows the arrivals at each step within the day: true if no job waits for
-    /// the lock.
+    /// Whether the bound follows the arrivals at each step within the day: true if no job waits.
     pub follows: bool,
-    /// The bound in the last minute of the day plus the arrivals in it, in minutes of runs: 0 if no
-    /// job waits.
+    /// The bound in the last minute plus the arrivals in it, in minutes of runs: 0 if no job waits.
     pub left: u64,
     /// The bound in the first minute of the day, in minutes of runs.
     pub first: u32,

@@ -25,8 +25,7 @@ needs_memory p s (End r) = false
 needs_memory p s Down = false
 needs_memory p s (Up t) = false
 
--- the effect of a call that takes an event which is not refused: all of it, or nothing if memory
--- runs out
+-- the effect of a call that takes an event not refused: all of it, or nothing if memory runs out
 abbrev pub Takes : Plan → State → Event → Result Reply Refusal → State → Type 0
 Takes p s e (Ok r) n = (r ≡ reply p s e) × (n ≡ after p s e)
 Takes p s e (Err f) n = (f ≡ OutOfMemory) × (n ≡ s)

@@ -87,8 +87,7 @@ impl Core {
         })
     }
 
-    /// Checks the event: err is the refusal that [`step`](Core::step) would return, except
-    /// `OutOfMemory`.
+    /// Checks the event: err is the refusal of [`step`](Core::step), unless that is `OutOfMemory`.
     pub fn test(&self, event: &Event) -> Result<(), Refusal>
         ensures { MatchResult result
             (λ _. refusal (as_plan self.now.plan) self.now.state event.now ≡ None)

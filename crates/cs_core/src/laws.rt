@@ -7,15 +7,14 @@ ghost use Rattle.cs_history.specs.Step.{State, refusal, state_of};
 ghost use Rattle.cs_history.specs.declared.event.Event.{Event};
 ghost use Rattle.cs_history.specs.declared.run.Run.{Run};
 
-/// Lemma. The choices are exactly the events that may come next, where one Up stands for all, and
-/// are in order.
+/// Lemma. The choices are exactly the events that may come next, one Up for all, and are in order.
 pub fn choices_are_legal_events()
 
     // each choice may come next
     ensures choice { (p : Plan) (h : History) (e : Event) → Contains (choices p (state_of p h)) e
         → May p h e }
 
-    // and what may come next is a choice, or an Up for which one stands
+    // and what may come next is a choice, or an Up like one
     ensures legal { (p : Plan) (h : History) (e : Event) → IsLegal p h → May p h e
         → Contains (choices p (state_of p h)) (choice_for (state_of p h) e) }
 

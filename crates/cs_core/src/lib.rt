@@ -1,5 +1,4 @@
-//! The event core: takes the events of a history one by one, lists those that may come next, and
-//! keeps the state.
+//! The event core: takes the events of a history, lists those that may come next, keeps the state.
 #![tactic(auto)]
 
 mod choices;

@@ -20,8 +20,7 @@ abbrev pub input_of : List (List ℕ) → Option (List ℕ)
 input_of [] = None
 input_of (line ∷ lines) = Some (join_with_byte 10 (line ∷ lines))
 
--- The command and the lines of its input, each `%` in them escaped and `%` between them, are the
--- text.
+-- The text is the command and the input's lines, `%` between them and each `%` in them escaped.
 abbrev pub AreParts : List ℕ → List ℕ × Option (List ℕ) → Type 0
 AreParts text parts = (lines : List (List ℕ))
     × (text ≡ join_with_byte 37 (map escaped (parts.0 ∷ lines))) × ArePlain (parts.0 ∷ lines)

@@ -53,8 +53,7 @@ abbrev pub SettingFails : List ℕ → LineFault → Type 0
 SettingFails text fault =
     (fault ≡ faults.BadSetting) × ((name value : List ℕ) → IsSetting text name value → ⊥)
 
--- A text without leading blanks is, by its first byte, a comment without fault, a word, a setting
--- or fields.
+-- By its first byte a text without leading blanks is a good comment, a word, a setting or fields.
 abbrev pub TextFails : List ℕ → LineFault → Type 0
 TextFails [] fault = ⊥
 TextFails (b ∷ bs) fault =
@@ -62,8 +61,7 @@ TextFails (b ∷ bs) fault =
     ⊎ (((begins_setting b ≡ true) × SettingFails (b ∷ bs) fault)
     ⊎ ((b ≢ 35) × (b ≢ 64) × (begins_setting b ≡ false) × FieldsFail five_parts (b ∷ bs) fault))
 
--- The line is too long; or it holds a zero byte; or its text after the blanks at its front has the
--- fault.
+-- The line is too long, or holds a zero byte, or its text after leading blanks has the fault.
 abbrev pub LineFails : List ℕ → LineFault → Type 0
 LineFails line fault =
     ((MAX_LINE < length line) × (fault ≡ faults.TooLong))

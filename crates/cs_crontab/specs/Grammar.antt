@@ -21,8 +21,7 @@ pub record IsDigits (part : Part) (text : List ℕ) (n : ℕ) : Type 0 where
   pub low : first_of part ≤ n
   pub high : n ≤ last_of part
 
--- three letters that are the name of a number of the field: the first name is that of its first
--- number
+-- three letters that name a number of the field: the first name is that of its first number
 abbrev pub IsName : Part → List ℕ → ℕ → Type 0
 IsName part text n = (place : ℕ) × (length text ≡ 3) × (place_of part text ≡ Some place)
     × (n ≡ first_of part + place)

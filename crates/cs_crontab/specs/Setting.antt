@@ -10,8 +10,7 @@ is_quote b = b == 34 || b == 39
 abbrev pub is_name_byte : ℕ → Bool
 is_name_byte b = not (is_blank b) && not (b == 61)
 
--- the name as it is, which begins with no quote, or the name in quotes, which does not hold that
--- quote
+-- the name, which begins with no quote, or the name in quotes, which doesn't hold that quote
 abbrev pub IsName : List ℕ → List ℕ → Type 0
 IsName text name =
     ((text ≡ name) × Are is_name_byte name × StopsAt is_quote name)

@@ -40,8 +40,7 @@ fn copied(alloc: Global, variables: &Variables<'_>) -> Result<Vec<(Bytes, Bytes)
     Ok(copies)
 }
 
-/// Returns the environment of the line with that number, from 1: the settings above it
-/// (crontab(5)).
+/// Returns the environment of the line with that number: the settings above it (crontab(5)).
 ///
 /// Each name comes once, in the place of its first setting, with the value of its last. The only
 /// error is out of memory.

@@ -167,8 +167,7 @@ fn copy_lines(alloc: Global, lines: &[Line]) -> Result<Sequence<Line>, AllocErro
     Ok(copies)
 }
 
-/// A crontab: its settings, and at most [`MAX_COMMANDS`](crate::MAX_COMMANDS) command lines, each
-/// in order of line.
+/// A crontab: its settings, and at most [`MAX_COMMANDS`](crate::MAX_COMMANDS) commands, by line.
 #[derive(Debug, Drop)]
 pub struct Crontab {
     variables: Sequence<Setting>,

@@ -119,8 +119,7 @@ impl<J: PlanLedger> Dispatch<J> {
         entries.any(|entry| matches!(entry.reply(), Reply::Started(_)))
     }
 
-    /// Notes which runs wait or are skipped, by the entries from an index on. `last` is the minute
-    /// there.
+    /// Notes which runs wait or are skipped, by the entries from an index on, of minute `last`.
     fn note_replies(&self, notices: &mut Notices, from: usize, last: Minute) {
         let mut at = last.number();
         for entry in self.keep.journal().iter().skip(from) {

@@ -54,8 +54,7 @@ pub(crate) fn has(values: &[u8], number: u8) -> bool
 }
 
 impl DayTree {
-    /// Returns the class of a kind, by its half at each split. Impossible splits are followed
-    /// likewise.
+    /// Returns the class of a kind, by its half at each split, impossible splits included.
     pub fn class_of(&self, kind: DayKind) -> u32
         ensures value { result ≡ class_in (tree_of self.now) kind }
         ensures within { result ≤ greatest_class (tree_of self.now) }

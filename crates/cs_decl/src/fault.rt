@@ -12,8 +12,7 @@ use thiserror::Error;
 pub enum DeclFault {
     /// The bytes are not JSON.
     NotJson,
-    /// A member is absent, unknown or of another type, a number is not whole, or the offset is out
-    /// of range.
+    /// A member is absent, unknown or of another type, a number not whole, or the offset too great.
     BadShape,
     /// The line has no command, or no job has the identifier.
     NoSuchLine,

@@ -32,9 +32,8 @@ pub trait Clock {
     /// How many answers were a minute later than all before.
     ghost risen: { Self → ℕ };
 
-    /// Returns the next answer. `now` is the last minute returned, none before the first: a clock
-    /// returns at once from the first call and waits in each other, so that a loop over its answers
-    /// isn't a busy one.
+    /// Returns the next answer. `now` is the last minute returned, none before the first. A clock
+    /// returns at once from the first call and waits in each other, so no loop over it is busy.
     fn tick(&mut self, now: Option<Minute>) -> Tick
         ensures last { last self.new ≡ Some result }
         ensures failures { failures self.old ≤ failures self.new }

@@ -150,8 +150,7 @@ term_below f (suc n) k l =
     last : (n k : ℕ) → k < suc n → (k ≡ n) ⊎ (k < n)
     last n k l = ⊎_elim (λ h. inr h) (λ h. inl (omega (arith, h, l))) (cases_lt k n)
 
--- Of those that pass t no two are but such as both pass s: then they are one at most, or all pass
--- s.
+-- If any two that pass t both pass s, then at most one passes t, or all that do pass s.
 alone : (a c : Bool) → ((a && true) && not (c && false)) ≡ false → a ≡ false
 alone true true e = absurd (cc)
 alone true false e = absurd (cc)

@@ -8,8 +8,7 @@ use Rattle.cs_history.specs.declared.mode.Mode.TheVariants.{Skip}
 use Rattle.cs_history.specs.declared.run.Run.{Run}
 use Rattle.cs_history.specs.declared.run.Going.{Going}
 
--- a window of the job begins at this minute: where a cron job is due, where the catch-up hours
--- begin
+-- a window of the job begins at this minute: a cron job is due, or the catch-up hours begin
 abbrev pub opens : Plan → ℕ → ℕ → Bool
 opens p j d = if is_cron p j then p.due j d else (d % 1440 == p.from)
 

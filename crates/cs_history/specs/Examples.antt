@@ -161,8 +161,7 @@ abbrev pub spring : Plan
 spring = plan_of 2 [] (λ j t. t == get_or (27960420 ∷ 27960510 ∷ []) j 0) 3 true
     (λ j. if j == 0 then 120 else 10) 1
 
--- the first goes on over an outage that ends one minute before the second is due, or this much
--- later
+-- the first goes on over an outage that ends a minute before the second is due, or this much later
 abbrev pub over_outage : ℕ → History
 over_outage later = history (record { now = 27960419; up = true; stamps = [] })
     (Minute 27960420 ∷ Begin 0 ∷ Down ∷ Up (later + 27960509) ∷ Minute (later + 27960510) ∷ Begin 1

@@ -60,8 +60,7 @@ pub data Answer : Type 0 where
   Waits : Answer
   Skips : Answer
 
--- where the lock is held (flock(1)): -n gives up, flock alone and -s wait; without a lock a job
--- starts
+-- if the lock is held (flock(1)), -n skips, flock alone and -s wait; without a lock a job starts
 abbrev pub when_held : Mode → Answer
 when_held Plain = Starts
 when_held Skip = Skips

@@ -1,5 +1,4 @@
--- The state that a history leaves; of a state and an event the next state, the reply and the
--- refusal.
+-- The state after a history; for a state and an event the next state, the reply and the refusal.
 use Rattle.std.specs.Prelude.{◌≡◌, ℕ, ◌+◌, ◌-◌, ◌%◌, ◌/◌, Bool, true, false, not, ◌&&◌, List, [], ◌∷◌, ◌++◌, Option, Some, None, if◌then◌else◌, nat_lt, nat_le, ◌==◌, filter, set, Result, Ok, Err}
 use Rattle.std.specs.List.{list_any}
 use Rattle.cs_civil.specs.Calendar.{first_minute, last_minute}
@@ -88,8 +87,7 @@ abbrev pub is_turn : Plan → ℕ → Option Pass → ℕ → Bool
 is_turn p t None j = false
 is_turn p t (Some o) j = is_first p t o.at o.left j
 
--- it is the job's turn, no anacron run is running, and the minute of the day is in the catch-up
--- hours
+-- it is the job's turn, no anacron run is running, and the minute is in the catch-up hours
 abbrev pub is_catchable : Plan → State → ℕ → Bool
 is_catchable p s j = is_turn p s.now s.pass j
     && not (list_any (λ r. not (is_cron p r.run.job)) s.running) && nat_le p.from (s.now % 1440)

@@ -3,8 +3,7 @@
 pub struct Run {
     /// Its job, counted from 0, those of the crontab first.
     pub job: u16,
-    /// The civil minute in which the job was due (`cron(8)`), or in which an anacron job's run
-    /// started.
+    /// The civil minute in which the job was due (`cron(8)`), or an anacron job's run started.
     pub at: u64,
 }
 

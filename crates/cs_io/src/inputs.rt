@@ -30,8 +30,7 @@ pub trait Inputs {
     /// The paths of all reads so far, the latest first, if known.
     ghost reads: { Self → Option (List (List ℕ)) } = { λ _. None };
 
-    /// Reads the next bytes of a path, and 0 bytes at its end, after which a read begins at its
-    /// front again.
+    /// Reads the next bytes of a path; 0 bytes at its end, after which a read begins at its front.
     fn read(&mut self, path: &str, buf: &mut [u8]) -> Result<usize, CannotRead>
         ensures bound { IfOk result (λ n. n ≤ length buf.new) }
         ensures bytes { IfOk result (λ n. IsNextOf path.now (whole self.old) (left self.old)

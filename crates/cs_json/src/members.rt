@@ -19,8 +19,7 @@ pub fn value_at<'v>(value: &'v Value, name: &str) -> Result<&'v Value, Misread>
     value.get(name).ok_or(BAD_SHAPE)
 }
 
-/// Reads a required member. `BadShape` if it is absent or has another shape; `Memory` if memory
-/// runs out.
+/// Reads a required member. `BadShape` if absent or of another shape; `Memory` if memory runs out.
 pub fn member<T: FromJson>(alloc: Global, value: &Value, name: &str) -> Result<T, Misread>
     ensures { Gives T.seen result (member_as T.shape name.now (view value.now)) }
 {

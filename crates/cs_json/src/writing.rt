@@ -9,8 +9,7 @@ ghost use Rattle.cs_json.specs.NoFloat.{list_no_float, pair_no_float, triple_no_
 use serde_json::Value;
 use std::alloc::{AllocError, Global};
 
-/// A type that has a JSON value. An object's members are in alphabetical order, as `serde_json`
-/// keeps them.
+/// A type that has a JSON value. Members are in alphabetical order, as `serde_json` keeps them.
 pub trait ToJson {
     /// The JSON value that is written.
     ghost spelled: { Self → Data };

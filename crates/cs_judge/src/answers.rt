@@ -167,9 +167,8 @@ fn made(alloc: Global, plan: &Plan, judged: &Judged) -> Result<(Outcome, Vec<u8>
 ///
 /// A verdict is `safe`, a line; or what a history breaks first and its script, lines; or `unknown:
 /// REASON` and, if the checker refused a certificate, a line for that refusal. If a certificate is
-/// asked for, the accepted one is printed in place of `safe`, a line, and no refusal after
-/// `unknown`; a certificate above 16 MiB is `unknown: LeafTooLong`. The only error is out of
-/// memory.
+/// asked for, the accepted one replaces `safe`, and no refusal follows `unknown`; a certificate
+/// above 16 MiB is `unknown: LeafTooLong`. The only error is out of memory.
 pub fn answer(
     alloc: Global,
     plan: &Plan,

@@ -57,8 +57,7 @@ IsFewInTime k = IsInTime (plan_of k) (told k.base k.journal)
 abbrev pub runs_after : Keeping → Event → ℕ
 runs_after k e = length (after (plan_of k) k.core.state e).running
 
--- no room in the journal, or in a total of 64 bits, for the event and the ends of what runs after
--- it
+-- no room in the journal, or in a total of 64 bits, for the event and the ends of what runs then
 abbrev pub is_full : Keeping → Event → Bool
 is_full k e = nat_lt MAX_ENTRIES (length k.journal + 1 + runs_after k e)
     || nat_lt (2 ^ 64 - 1) (k.total + 1 + runs_after k e)

@@ -37,9 +37,8 @@ impl<L: Ledger> Model for Keep<L> {
 }
 
 impl<L: Ledger> Keep<L> {
-    /// Opens a keep of a checked plan at this start, with an empty journal, and a seat with every
-    /// part of the blank, of which there are `parts`. The keep copies the plan. The only error is
-    /// out of memory.
+    /// Opens a keep of a checked plan, which it copies, at this start, with an empty journal, and a
+    /// seat with every part of the blank: `parts` of them. The only error is out of memory.
     pub fn open(
         alloc: Global,
         blank: Blank,

@@ -83,8 +83,7 @@ hold_in false shares (Some g) = Nothing
 hold_in true false (Some g) = Alone g
 hold_in true true (Some g) = Shared g
 
--- what a run of a job has to do with a lock: nothing where its mode takes none, or where it has no
--- group
+-- what a run of a job has to do with a lock: nothing if its mode takes none, or without a group
 abbrev pub hold_of : Plan → ℕ → Hold
 hold_of p j = hold_in (takes_lock p j) (shares p j) (p.group j)
 

@@ -91,8 +91,7 @@ impl LockTable {
         }
     }
 
-    /// Checks whether one of the waiting runs, each of which takes a lock, would find its lock
-    /// free.
+    /// Checks whether a waiting run would find its lock free. Each of them takes a lock.
     pub fn frees(&self, waiting: &LockTable) -> bool
         ensures { (hs ws : List Hold) → IsCounted hs self.now → IsCounted ws waiting.now
             → AllByRecursion (λ w. takes w ≡ true) ws

@@ -1,7 +1,7 @@
 ghost use Rattle.std.specs.Prelude.{◌≡◌, ◌≢◌, ℕ, List};
 ghost use Rattle.cs_machine.specs.Files.{IsFileName, file_of, new_file_of};
 
-/// Lemma. The files of a folder of stamps are apart.
+/// Lemma. No two files of a folder of stamps have the same path.
 #[tactic(auto, using(crate::proofs::Names::own_file, crate::proofs::Names::new_file_apart))]
 pub fn files_differ()
 

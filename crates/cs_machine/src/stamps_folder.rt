@@ -19,8 +19,7 @@ use std::{fs, io, str};
 #[derive(Clone, Copy, Debug, PartialEq, Eq)]
 pub struct NoFolder;
 
-/// A folder of stamps: for each identifier a file of its name, which holds `YYYYMMDD` and a newline
-/// (anacron(8)).
+/// A folder of stamps: each identifier's file holds `YYYYMMDD` and a newline (anacron(8)).
 ///
 /// An empty file, as anacron(8) makes them, is no stamp; one with anything else can't be read (this
 /// profile). An identifier that can't be a file's name can't be read or written. No contract says
@@ -109,8 +108,7 @@ impl<'r, 'f, R: Files> StampsFolder<'r, 'f, R> {
         Ok(path)
     }
 
-    /// The path at which it is written before it replaces that file: with its blank it is no
-    /// identifier's.
+    /// The path at which it is first written, which with its blank is no identifier's.
     fn new_file_of(&self, identifier: &[u8]) -> io::Result<String>
         ensures { IfOk result
             (λ path. string_bytes path ≡ new_file_of self.now.folder.now identifier.now) }

@@ -52,8 +52,7 @@ fn begins_with(days: &[u16], place: usize, profiles: &[u16]) -> bool {
 }
 
 /// The first civil day from 2024-01-01 on that is the last of days with these profiles, counted
-/// from 1970-01-01. There always is one within 28 years; otherwise this is the calendar's first
-/// day.
+/// from 1970-01-01. There is one within 28 years; otherwise this is the calendar's first day.
 pub(crate) fn last_day(calendar: &Calendar, profiles: &[u16]) -> u64 {
     let days = calendar.profiles();
     let days_before = profiles.len().saturating_sub(1);
@@ -97,8 +96,7 @@ fn held_at(
     Ok(held)
 }
 
-/// The breach found in these windows of the stretch that ends on this day. The only error is out of
-/// memory.
+/// The breach in these windows of the stretch up to this day. The only error is out of memory.
 pub(crate) fn breach_on(
     alloc: Global,
     day: u64,

@@ -89,8 +89,7 @@ fn listed_certificate(
     }
 }
 
-/// The certificate of these bounds in the form wanted, or why there is none. The only error is out
-/// of memory.
+/// The certificate of these bounds in this form, or why none. The only error is out of memory.
 pub(crate) fn certificate_of(
     alloc: Global,
     plan: &Plan,

@@ -1,5 +1,4 @@
-//! Counterexamples with jobs that wait for a lock, from windows exactly as long as their runs can
-//! go on.
+//! Counterexamples with jobs that wait for a lock, from windows as long as runs can really go on.
 ghost use Rattle.std.specs.Prelude.{◌≤◌, length};
 
 use crate::breaches::{breach_on, broken_by};
@@ -53,8 +52,7 @@ fn kinds_until(last_day: u64, days: u8) -> Chain {
     kinds
 }
 
-/// How many looks the quick test of these windows takes: at each, for each other that is open with
-/// it.
+/// How many looks the quick test of these windows takes: at each, for each other open with it.
 fn looks_at_open(windows: &[Window]) -> u64 {
     let mut held = 0u64;
     for window in windows {

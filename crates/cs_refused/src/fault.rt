@@ -17,8 +17,7 @@ pub enum CheckFault {
         group: usize,
         at: Minute,
     },
-    /// This job waits for a lock and has no reach, or one that ends before its group's bound is
-    /// zero.
+    /// This job waits for a lock and has no reach, or one that ends before its group's bound is 0.
     ReachTooShort {
         job: usize,
     },
@@ -38,8 +37,7 @@ pub enum CheckFault {
         at: Minute,
         load: u128,
     },
-    /// The skip job's run that is due at this minute may find its lock held by a run of the other
-    /// window.
+    /// The skip job's run that is due at this minute may find its lock held by the other window's.
     SkipBlocked {
         at: Minute,
         skip: Window,

@@ -21,7 +21,7 @@ pub fn calm_plans_are_safe()
         → ((t : ℕ) → IsReached t → IsCalm p c t) → IsLegal p h → IsInTime p h → IsSafe p h }
 {}
 
-/// Lemma. Then no more runs than the capacity run at once.
+/// Lemma. If so, at most as many runs as the capacity run at once.
 pub fn few_runs()
     ensures { (p : Plan) (c : ℕ → ℕ) (b : ℕ → ℕ → ℕ) (h : History) → IsPlan p → IsBounded p c b
         → ((t : ℕ) → IsReached t → IsCalm p c t) → IsLegal p h → IsInTime p h

@@ -41,8 +41,7 @@ minute_of_bit words place bit low =
     let same : (64 * place + bit) % 64 ≡ bit = omega arith in
     rw (there, same) refl
 
--- where the minutes of a word are the same, the first bit that differs is past the word, or past
--- the day
+-- where a word has the same minutes, the first bit that differs is past the word, or past the day
 pub alike_past : (words others : List ℕ) (place unlike : ℕ) → unlike ≤ 64 → (unlike < 64 → bit_at (xor_at words others place) unlike ≡ 1)
     → ((m : ℕ) → m < 1440 → m / 64 ≡ place → is_in words m ≡ is_in others m) → 64 * place + unlike < 1440 → unlike ≡ 64
 alike_past words others place unlike within set alike day =

@@ -4,8 +4,7 @@ ghost use Rattle.cs_schedule.specs.Numbers.{has};
 use crate::numbers::Numbers;
 use std::marker::Model;
 
-/// A time and date field: its numbers, and whether its text begins with `*`, so that it restricts
-/// nothing.
+/// A time and date field: its numbers, and whether it begins with `*` and so restricts nothing.
 #[derive(Debug, Drop)]
 pub struct Field {
     starred: bool,

@@ -99,8 +99,7 @@ impl MinuteSet {
         MinuteSet { words: [0; 23] }
     }
 
-    /// The minutes of a day whose hour is one of the hours and whose minute of the hour is one of
-    /// the minutes.
+    /// The minutes of a day whose hour and whose minute of the hour are among the numbers.
     pub(crate) fn of_times(hours: &Numbers, minutes: &Numbers) -> MinuteSet
         ensures { result ≡ minutes_where (λ k. has hours.now (k / 60) && has minutes.now (k % 60)) }
     {

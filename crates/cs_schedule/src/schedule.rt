@@ -10,8 +10,7 @@ use crate::part::Part;
 use cs_civil::{DayKind, Minute, kind_of};
 use std::marker::Model;
 
-/// When a command is due: the five time and date fields of crontab(5), each with numbers in its
-/// range.
+/// When a command is due: the five time and date fields of crontab(5), with numbers in range.
 #[derive(Debug, Drop)]
 pub struct Schedule {
     minute: Field,
@@ -109,8 +108,7 @@ impl Schedule {
             && self.is_day_due(kind)
     }
 
-    /// Returns the minutes, from 0 to 1,439, at which the command is due on each day on which it is
-    /// due.
+    /// Returns the minutes, from 0 to 1,439, at which the command is due on each day it is due.
     pub fn times(&self) -> MinuteSet
         ensures { result ≡ minutes_where (is_time_due self.now) }
     {

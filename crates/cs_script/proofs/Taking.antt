@@ -44,7 +44,7 @@ pub guard_err : {A : Type 0} (t : Bool) (g : ScriptFault) (r : Result A ScriptFa
 guard_err true g r d e = inl (refl, cc)
 guard_err false g r d e = inr (refl, e)
 
--- ---- lines that count for nothing
+-- ---- lines that are ignored
 
 pub ignored_takes : (line : List ℕ) → is_ignored line ≡ true → IsIgnored line
 ignored_takes [] e = inl refl

@@ -87,8 +87,7 @@ pub record IsEmpty (d : Declared) (text : List ℕ) : Type 0 where
   pub short : length text ≤ MAX_SCRIPT
   pub none : AreLines d 1 (lines_of text) []
 
--- the text's fault, with the number of its line: the text's own length and the want of a start have
--- line 0
+-- the text's fault, with its line: too long a text and a missing start are in line 0
 abbrev pub IsFault : Declared → List ℕ → ℕ → ScriptFault → Type 0
 IsFault d text number fault =
     ((MAX_SCRIPT < length text) × (number ≡ 0) × (fault ≡ TooLong))

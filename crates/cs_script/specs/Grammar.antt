@@ -88,8 +88,7 @@ IsMinute text t = (text ≡ minute_text t) × (first_minute ≤ t) × (t ≤ las
 abbrev pub IsDay : List ℕ → ℕ → Type 0
 IsDay text day = (text ≡ day_text day) × (1 ≤ day) × (day ≤ last_day)
 
--- the minute or the day of a form's date: a start's is from 1970-01-04 on, and where there is no
--- date any will do
+-- the minute or the day of a form's date: a start's is from 1970-01-04 on; any if it has none
 abbrev pub HasDate : Form → ℕ → Type 0
 HasDate (Start moment up) t = IsMinute moment t × (first_start ≤ t)
 HasDate (Stamp identifier date) day = IsDay date day
@@ -102,8 +101,7 @@ HasDate (Catch identifier) t = Unit {0}
 HasDate (EndLine number moment) t = IsMinute moment t
 HasDate (EndJob identifier moment) t = IsMinute moment t
 
--- the job that a form names, of a stamp its place in the anacrontab; where there is no name any
--- will do
+-- the job that a form names, of a stamp its place in the anacrontab; any if it has no name
 abbrev pub HasName : Declared → Form → ℕ → Type 0
 HasName d (Start moment up) j = Unit {0}
 HasName d (Stamp identifier date) place = place_of d identifier ≡ Some place
@@ -148,8 +146,7 @@ Says d line x = (form : Form) × IsForm line form × FormSays d form x
 abbrev pub IsIgnored : List ℕ → Type 0
 IsIgnored line = (line ≡ []) ⊎ ((comment : List ℕ) × (line ≡ 35 ∷ comment))
 
--- the content of the lines that aren't ignored, each with its number, where the first line has this
--- number
+-- the content of the lines that aren't ignored, each with its number, from this one on
 abbrev pub AreLines : Declared → ℕ → List (List ℕ) → List (ℕ × Entry) → Type 0
 AreLines d number [] said = said ≡ []
 AreLines d number (line ∷ lines) said =

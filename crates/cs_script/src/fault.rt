@@ -11,8 +11,7 @@ use thiserror::Error;
 pub enum ScriptFault {
     /// The script is longer than [`MAX_SCRIPT`](crate::MAX_SCRIPT).
     TooLong,
-    /// The line has no form of a script, or is a second start, or a stamp after an event or a
-    /// second time.
+    /// The line has no form of a script, or is a second start, or a stamp late or a second time.
     BadLine,
     /// A date is none, or out of range.
     BadDate,
@@ -40,8 +39,7 @@ impl ScriptFault {
 /// Why a script could not be read.
 #[derive(Clone, Copy, Debug, PartialEq, Eq, Error)]
 pub enum ScriptError {
-    /// The first line with a fault, from 1, or 0 if the script is too long or has no start; and the
-    /// fault.
+    /// The first line with a fault, from 1, or 0 if the script is too long or has no start.
     #[error("line {line}: {fault}")]
     At { line: u32, fault: ScriptFault },
     /// Memory ran out.

@@ -49,8 +49,7 @@ impl NumberedScript {
         &self.opening
     }
 
-    /// Returns the start, which is from 1970-01-04 00:00 on, and the events, each with its line
-    /// number.
+    /// Returns the start, from 1970-01-04 00:00 on, and the events, each with its line number.
     pub fn into_parts(self) -> (Start, Sequence<(u32, Event)>)
         ensures start { result.0 ≡ self.start }
         ensures late { first_start ≤ result.0.now }

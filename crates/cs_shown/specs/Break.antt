@@ -21,8 +21,7 @@ clash_of p r [] = None
 clash_of p r (q ∷ qs) =
     if clash p r.run.job q.run.job then Some (Together r.run q.run) else clash_of p r qs
 
--- of the runs in order of start the first two that may not go on at once, by the one that started
--- first
+-- of the runs in order of start, the first two that may not overlap, by the earlier one
 abbrev pub first_clash : Plan → List Going → Option Shown
 first_clash p [] = None
 first_clash p (r ∷ rs) = option_or (clash_of p r rs) (first_clash p rs)

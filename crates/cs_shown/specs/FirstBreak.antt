@@ -16,8 +16,7 @@ use Rattle.cs_shown.specs.declared.shown.Shown.TheVariants.{Together, Load, Skip
 abbrev pub AreFine : Plan → Going → Going → Type 0
 AreFine p r q = clash p r.run.job q.run.job ≡ false
 
--- of the runs in order of start these are the first two that may not go on at once, by the one that
--- started first
+-- of the runs in order of start, these are the first two that may not overlap, by the earlier one
 pub record IsFirstPair (p : Plan) (rs : List Going) (r q : Run) : Type 0 where
   pub front : List Going
   pub one : Going

@@ -8,13 +8,11 @@ use thiserror::Error;
 /// What a script breaks although each of its runs ends within its declared time.
 #[derive(Clone, Copy, Debug, PartialEq, Eq)]
 pub enum Shown {
-    /// Two runs of an exclusive group overlap and don't both share its lock. The first started
-    /// first.
+    /// Two overlapping runs of an exclusive group, the earlier first, that don't share its lock.
     Together(Run, Run),
     /// The runs weigh this much, which exceeds the capacity.
     Load(u64),
-    /// The skip job of this number, whose run is due at this civil minute, finds its lock held and
-    /// is skipped.
+    /// The skip job of this number, due at this civil minute, finds its lock held and is skipped.
     Skipped(u16, u64),
 }
 

@@ -80,8 +80,7 @@ impl Trial {
         self.shown
     }
 
-    /// Returns the core that has taken the events, with its state and the events that may come
-    /// next.
+    /// Returns the core that has taken the events, whose state is that of the trial.
     pub fn core(&self) -> &Core
         ensures plan { result.now.plan ≡ self.now.plan }
         ensures state { result.now.state ≡ self.now.state }

@@ -216,8 +216,7 @@ fn blocked_at(
     Ok(first_blocked(roles, minute, held.as_slice()))
 }
 
-/// The first minute of the day at which a lock is kept from a skip job, with its window and the one
-/// that keeps it.
+/// The first minute of the day at which a skip job finds its lock held, its window, and the other.
 pub(crate) fn blocked(
     alloc: Global,
     roles: &[Role],
@@ -263,8 +262,7 @@ fn missing_at(
     }
 }
 
-/// Returns the first minute of the day with a window that holds it and isn't in its leaf, and that
-/// window.
+/// Returns the first minute of the day, and the first window that holds it, that its leaf lacks.
 pub fn missing(
     alloc: Global,
     tree: &MinuteTree,

@@ -27,8 +27,7 @@ fn catch_weight(roles: &[Role], window: &Window) -> u8
     if role.is_cron { 0 } else { role.weight }
 }
 
-/// The most that a window weighs: its weight, or twice that for a catch-up window that takes a
-/// lock.
+/// The most that a window weighs: its weight, twice that for a catch-up window that takes a lock.
 fn most_weight(roles: &[Role], window: &Window) -> u16
     ensures value { result ≡ most_weight roles.now window.now }
     ensures small { result ≤ 510 }

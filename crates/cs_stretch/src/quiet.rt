@@ -29,8 +29,7 @@ impl Quiet {
     }
 }
 
-/// The minute at which the day looked at begins, counted from the start of the day on which the
-/// window begins.
+/// The first minute of the day looked at, from the start of the day on which the window begins.
 pub(crate) fn day_start(window: &Window) -> u32
     ensures value { result ≡ 1440 * window.now.day_back }
     ensures small { result ≤ 367200 }
@@ -56,8 +55,7 @@ fn is_open_at(window: &Window, other: &Window) -> bool
         && minute < u32::from(other.from) + u32::from(other.reach)
 }
 
-/// Whether the first window is a skip job's, and the second holds the lock of its group when it
-/// begins.
+/// Whether the first window is a skip job's, and the second holds its group's lock as it begins.
 fn bars(roles: &[Role], window: &Window, other: &Window) -> bool
     ensures { result ≡ role_bars roles.now window.now other.now }
 {

@@ -160,8 +160,7 @@ impl Roles {
     }
 
     /// Returns the first due minute of a skip job on the last day of a stretch at which another
-    /// window holds the lock of its group, with the skip job's window and that one. The only error
-    /// is out of memory.
+    /// window holds its group's lock, its window and the other. The only error is out of memory.
     pub fn blocked(
         &self,
         alloc: Global,

@@ -1,5 +1,4 @@
-//! Tables over the minutes of the day looked at: a sum or a maximum over the windows that hold a
-//! minute.
+//! Tables over the minutes of the day looked at: sums or maxima over the windows at a minute.
 ghost use Rattle.std.specs.Prelude.{◌≡◌, ◌+◌, ◌*◌, ◌<◌, ◌≤◌, ℕ, if◌then◌else◌, length, max, slice_index};
 ghost use Rattle.cs_stretch.specs.Sums.{AreAtMost, EachMinute, HoldsFrom, IsChanged, IsDay, IsGreatest, IsRaisedAt, IsRunning, IsSum, amount_in, amount_of, capped, up_to};
 
@@ -152,8 +151,7 @@ pub(crate) fn raise_at(table: &mut [u32], place: usize, number: u8)
     table[place] += u32::from(number);
 }
 
-/// From two tables, of what begins at each minute and of what has ended by it, what goes on at
-/// each.
+/// From tables of what begins at each minute and has ended by it, what goes on at each.
 pub(crate) fn running(begun: &[u32], ended: &[u32]) -> [u16; MINUTES]
     requires long { (length begun.now ≡ 1441) × (length ended.now ≡ 1441) }
     requires order { EachMinute (λ m. up_to ended.now (m + 1) ≤ up_to begun.now (m + 1)) }

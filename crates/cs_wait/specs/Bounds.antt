@@ -3,8 +3,7 @@ use Rattle.std.specs.Prelude.{◌≡◌, ℕ, ◌+◌, ◌-◌, ◌*◌, ◌<◌
 use Rattle.cs_wait.specs.declared.backlog.Piece.{Piece}
 use Rattle.cs_wait.specs.declared.backlog.TheConstants.{MINUTES_OF_DAY, MAX_BACKLOG}
 
--- from this minute on: the minutes rise strictly below 1,440, and the values are from 1 to
--- 1,000,000
+-- from this minute on, minutes rise strictly below 1,440, and values are from 1 to 1,000,000
 abbrev pub IsBacklogFrom : ℕ → List Piece → Type 0
 IsBacklogFrom least [] = Unit {0}
 IsBacklogFrom least (p ∷ ps) = (least ≤ p.minute) × (p.minute < MINUTES_OF_DAY) × (1 ≤ p.value)
@@ -41,8 +40,7 @@ following first arrivals = following_from 0 first 0 arrivals
 unfoldable pub none : List ℕ
 none = replicate 1440 0
 
--- the bound over successive days, whose minutes are counted from the start of the first; 0 past the
--- last
+-- the bound over successive days, in minutes from the start of the first; 0 past the last
 abbrev pub at_days : List (ℕ → ℕ) → ℕ → ℕ
 at_days [] minute = 0
 at_days (day ∷ days) minute =

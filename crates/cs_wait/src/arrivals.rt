@@ -52,9 +52,8 @@ impl Arrivals {
     }
 }
 
-/// Checks each step from a minute of the day to the next of the same day: the later bound is at
-/// least the earlier plus the arrivals, less one, and at least 0. The step over midnight is left
-/// out.
+/// Checks each step from a minute of the day to the next, except over midnight: the later bound is
+/// at least the earlier plus the arrivals, less one, and at least 0.
 pub fn steps_within(bounds: &Backlog, arrivals: &Arrivals) -> bool
     ensures { IsTrue result ↔ StepsHoldWithin (at bounds.now) (slice_index arrivals.now) }
 {
@@ -67,8 +66,7 @@ pub fn steps_within(bounds: &Backlog, arrivals: &Arrivals) -> bool
     true
 }
 
-/// Whether a bound follows from the bound and the arrivals a minute before: the lock takes one
-/// minute of runs off.
+/// Whether a bound follows from that of a minute before plus the arrivals, less one minute of runs.
 fn follows(before: u32, arrives: u32, bound: u32) -> bool
     ensures { IsTrue result ↔ (before + arrives - 1 ≤ bound) }
 {

@@ -113,8 +113,7 @@ struct Walk {
     bound: u32,
 }
 
-/// The walk after the piece that begins at the minute, if one does: its bound is that of the
-/// minute.
+/// The walk past the piece that begins at the minute, if one does: its bound is the minute's.
 fn turn(list: &[Piece], walk: Walk, minute: u16) -> Walk
     requires { IsBacklogFrom minute (drop walk.place list.now) }
     ensures left { IsBacklogFrom (minute + 1) (drop result.place list.now) }

@@ -35,8 +35,7 @@ fn starter_on(job: u16, own: &Occupied<'_>, day: DayKind, day_back: u8) -> Optio
     })
 }
 
-/// The starts of each job of which a window may begin on this day and reach the day `day_back` days
-/// later.
+/// The starts of each job whose windows may begin on this day and reach the day `day_back` later.
 fn starters_on(
     alloc: Global,
     occupied: &[Occupied<'_>],
@@ -56,8 +55,7 @@ fn starters_on(
     Ok(starters)
 }
 
-/// Replaces what was kept by the starts, in a block of minutes, of the jobs of which a window may
-/// begin there.
+/// Keeps only the starts, in a block of minutes, of the jobs whose windows may begin there.
 fn keep_near(near: &mut Vec<Near>, starters: &[Starter], block: u16) -> Result<(), AllocError>
     ensures { OnOk result (BeginAlike block near.new.items starters.now) }
 {

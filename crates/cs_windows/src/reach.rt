@@ -2,8 +2,7 @@ ghost use Rattle.std.specs.Prelude.{◌≡◌};
 ghost use Rattle.cs_windows.specs.Reach.{reach_of};
 
 /// How long a run of a job that waits for a lock may go on: one due in minute d holds no minute
-/// from d + reach on. A certificate lists a reach for each job that takes a lock and may have to
-/// wait.
+/// from d + reach on. A certificate lists a reach for each job that may have to wait for a lock.
 #[derive(Clone, Copy, Debug, PartialEq, Eq)]
 pub struct JobReach {
     /// The job's number in its plan, below 320.

@@ -98,8 +98,7 @@ impl MinuteTree {
         }
     }
 
-    /// Returns the one leaf whose range holds the minute of the day. Each split has to be inside
-    /// its range.
+    /// Returns the one leaf whose range holds the minute. Each split has to be inside its range.
     pub fn leaf_at(&self, minute: u16) -> LeafAt<'_>
         requires day { minute < MINUTES_OF_DAY }
         requires splits { SplitsInside (tree_of self.now) 0 MINUTES_OF_DAY }

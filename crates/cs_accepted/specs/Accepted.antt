@@ -1,5 +1,4 @@
--- What makes a certificate accepted: eight rules about the kinds of days and the stretches that
--- successive days have.
+-- What makes a certificate accepted: eight rules about kinds of days and stretches of days.
 use Rattle.std.specs.Prelude.{◌≡◌, ℕ, ◌+◌, ◌-◌, ◌*◌, ◌/◌, ◌%◌, ◌<◌, ◌≤◌, Bool, true, false, not, ◌&&◌, ◌||◌, List, [], ◌∷◌, Option, Some, None, if◌then◌else◌, ◌==◌, filter, map, length, get_or, unwrap_or, Contains, ⊤}
 use Rattle.std.specs.List.{AllByRecursion, range_with_len}
 use Rattle.cs_civil.specs.Calendar.{Kind, IsKind, kind, kinds_after}
@@ -82,8 +81,7 @@ arrivals p a g class m = total (λ j. if locks p g j then p.limit j else 0)
 abbrev pub nth : List ℕ → ℕ → ℕ
 nth s i = get_or s i 0
 
--- windows of these jobs may not hold one minute: they are of one exclusive group, one of them is
--- cron's, and not both take its lock
+-- two jobs' windows may not meet: of one exclusive group, one is cron's, and not both take its lock
 abbrev pub clash : Plan → ℕ → ℕ → Bool
 clash p i j =
     rivals p i j && ((is_cron p i || is_cron p j) && not (takes_lock p i && takes_lock p j))
@@ -132,8 +130,7 @@ AreFree p ws = (m : ℕ) → m < 1440
 abbrev pub InEach : Certificate → ℕ → (Stretch → Type 0) → Type 0
 InEach a n P = AllByRecursion (λ s. IsUsed a n s.of → P s) a.stretches
 
--- The eight rules, for stretches of n days. `on` decides at which minutes of a day of a kind a cron
--- job is due.
+-- The eight rules, for stretches of n days. `on` decides when cron jobs are due on a kind of day.
 pub record IsAccepted (p : Plan) (on : ℕ → Kind → ℕ → Bool) (a : Certificate) (n : ℕ) : Type 0 where
   -- due minutes: each kind's class has exactly those of the kind
   pub due : (k : Kind) → IsKind k → (j m : ℕ) → is_cron p j ≡ true → m < 1440
@@ -141,8 +138,7 @@ pub record IsAccepted (p : Plan) (on : ℕ → Kind → ℕ → Bool) (a : Certi
   -- stretches: each n successive kinds have the stretch of their classes
   pub listed : (ks : List Kind) → IsChain ks → length ks ≡ n
       → Contains (map (λ s. s.of) a.stretches) (map a.class_of ks)
-  -- backlog steps: in each stretch in use, from its last day but one to its last, for each group
-  -- with a waiting job
+  -- backlog steps: in each stretch in use, from the last day but one, for each waiting job's group
   pub steps : (g : ℕ) → HasWaiter p g
       → InEach a n
       (λ s. StepsHold (a.bound (nth s.of (n - 2)) g) (arrivals p a g (nth s.of (n - 2)))
@@ -154,8 +150,7 @@ pub record IsAccepted (p : Plan) (on : ℕ → Kind → ℕ → Bool) (a : Certi
       × InEach a n
       (λ s. (m : ℕ) → m < 1440 → a.due (nth s.of 0) j m ≡ true
       → ClearsBy (map (λ class. a.bound class g) s.of) m r)
-  -- leaves: where windows are listed, at each minute of the last day the leaf there lists each
-  -- window that holds it
+  -- leaves: where windows are listed, each minute's leaf on the last day lists all that hold it
   pub covered : InEach a n (IsCovered p a)
   -- collisions, capacity, skip jobs: on the last day
   pub apart : InEach a n (λ s. AreApart p (windows_of p a s.of))

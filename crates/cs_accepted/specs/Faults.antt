@@ -109,8 +109,7 @@ steps_at p a n s m g = nat_le ((a.bound (nth s.of (n - 2)) g m + arrivals p a g
     (nth s.of (n - 2)) m) - 1)
     (at_days (a.bound (nth s.of (n - 2)) g ∷ a.bound (nth s.of (n - 1)) g ∷ []) (m + 1))
 
--- the first minute of the eve, and the first group there, whose step fails: the bound of the next
--- minute is too low
+-- the first minute of the eve, and the first group there, whose next bound is too low
 abbrev pub rise_in : Plan → Certificate → ℕ → Stretch → Option (ℕ × ℕ)
 rise_in p a n s = first_of
     (λ m. first_of (λ g. unless (not (has_waiter p g) || steps_at p a n s m g) (m, g))

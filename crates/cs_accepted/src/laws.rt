@@ -61,8 +61,7 @@ pub fn no_fault_is_accepted()
         → IsLength p on c (stretch_length p on c) }
 {}
 
-/// Lemma. If each kind's class has the due minutes of that kind, the windows of successive kinds
-/// are those of their classes.
+/// Lemma. If classes have their kinds' due minutes, successive kinds have their classes' windows.
 pub fn classes_have_the_windows_of_kinds()
     ensures { (p : Plan) (on : ℕ → Kind → ℕ → Bool) (a : Certificate) (ks : List Kind)
         → ((k : Kind) → IsKind k → (j m : ℕ) → is_cron p j ≡ true → m < 1440

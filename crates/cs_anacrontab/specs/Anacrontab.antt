@@ -63,8 +63,7 @@ pub record IsPossible (job : JobLine) : Type 0 where
   pub period : IsPossiblePeriod job.period
   pub delay : job.delay ≤ MAX_DELAY
 
--- There are not too many jobs, with periods and delays in range and different identifiers; settings
--- and jobs are in order of line, each on its own.
+-- There are not too many jobs, in range and with different identifiers, and all is in line order.
 pub record IsOrdered (table : Table) : Type 0 where
   pub few : length table.lines ≤ MAX_JOBS
   pub possible : All IsPossible table.lines

@@ -43,7 +43,6 @@ impl Draft {
         }
     }
 
-    /// Whether a job has that identifier.
     fn is_named(&self, identifier: &[u8]) -> bool
         ensures { result ≡ is_named identifier.now self.now.lines }
     {

@@ -22,8 +22,7 @@ use Rattle.cs_cert.specs.Content.{Content, StretchTree}
 abbrev pub is_version : ℕ → Bool
 is_version version = version == 1 || (version == 2 || version == 3)
 
--- the most days of a stretch, which has two at least, so that version 3 has none: a window begins
--- fewer days back
+-- the most days of a stretch, at least two, so that version 3 has none: windows begin fewer back
 abbrev pub most_days : ℕ → ℕ
 most_days version = if version == 1 then 2 else (if version == 2 then 4 else 0)
 

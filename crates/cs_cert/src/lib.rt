@@ -1,5 +1,4 @@
-//! Certificates: what they claim of each kind of day, their JSON text, and the rules that a
-//! certificate keeps whatever the plan.
+//! Certificates: their claims for each kind of day, their JSON text, and their rules for any plan.
 #![tactic(auto)]
 
 mod carry_form;

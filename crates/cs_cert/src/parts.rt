@@ -26,7 +26,6 @@ pub(crate) struct Parts {
     pub(crate) reach: Sequence<JobReach>,
 }
 
-/// The most days of a stretch.
 fn most_days(version: u8) -> u8
     ensures { result ≡ most_days version }
 {
@@ -44,7 +43,6 @@ fn most_reach(version: u8) -> u16
     if version == 1 { 1_440 } else { 4_320 }
 }
 
-/// The most classes.
 fn most_classes(version: u8) -> usize
     ensures { result ≡ most_classes version }
 {

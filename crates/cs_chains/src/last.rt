@@ -15,7 +15,6 @@ use cs_civil::{Day, kind_of};
 /// All chains of days occur within this many days, 28 years.
 const SEARCHED: u32 = 10_227;
 
-/// The class of a day.
 fn class_on(claim: &Claim<'_>, day: u32) -> u32
     requires { day ≤ 100000 }
     ensures { result ≡ class_of (said claim.now) (kind day) }

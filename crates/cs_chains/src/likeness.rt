@@ -47,8 +47,7 @@ fn times_of(line: &Line) -> MinuteSet
     }
 }
 
-/// The minutes at which each cron job is due on each day on which it is due, by number. The only
-/// error is out of memory.
+/// The due minutes of each cron job on a day on which it is due. The only error is out of memory.
 fn times_of_jobs(alloc: Global, plan: &Plan) -> Result<Vec<MinuteSet>, AllocError>
     ensures { IfOk result (λ times. AreTimes plan.now times.items) }
 {

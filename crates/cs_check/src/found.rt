@@ -151,8 +151,7 @@ fn blocked(
     }
 }
 
-/// The first fault of a stretch by one rule. If the stretch passes the rule's quick test it has
-/// none, and the finder isn't called.
+/// The first fault of a stretch by one rule: none, without the finder, if it passes the quick test.
 fn fault_by(
     alloc: Global,
     case: &Case<'_>,

@@ -4,7 +4,6 @@ ghost use Rattle.cs_civil.specs.Calendar.{first_minute, last_minute, last_day};
 use crate::Day;
 use std::marker::Model;
 
-/// The minutes of a day.
 pub(crate) const MINUTES_OF_DAY: u64 = 1_440;
 
 /// 1970-01-02 00:00.

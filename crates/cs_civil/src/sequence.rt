@@ -23,8 +23,7 @@ impl<T> Model for Sequence<T> {
 pub type Bytes = Sequence<u8>;
 
 impl<T> Sequence<T> {
-    /// Returns an empty sequence, without allocating. The allocator is kept for
-    /// [`push`](Sequence::push).
+    /// Returns an empty sequence, without allocating; [`push`](Sequence::push) uses the allocator.
     pub fn new(alloc: Global) -> Sequence<T>
         ensures { result ≡ [] }
     {

@@ -39,8 +39,7 @@ due_of d (Some kind) =
 abbrev pub unbounded : Declared → Option Kind → Class
 unbounded d kind = record { due = due_of d kind; backlog = [] }
 
--- the bound of a group on such a day: it begins with what is left over from the days before, and
--- follows what arrives
+-- the bound of a group on such a day: what is left over from before, and then by the arrivals
 abbrev pub bound_of : Declared → Class → ℕ → ℕ → GroupBacklog
 bound_of d day carry g = record {
   group = g;

@@ -1,5 +1,4 @@
-//! What each class has for the locks of the groups on its days, so that two classes are compared
-//! without a look at their minutes.
+//! What classes have for the locks of groups: two are compared without a look at their minutes.
 ghost use Rattle.std.specs.Prelude.{◌≡◌, ◌<◌, ◌↔◌, ℕ, [], IfOk, IsTrue, length, slice_index_or};
 ghost use Rattle.cs_cert.specs.declared.class.Class.{Class};
 ghost use Rattle.cs_claim.specs.GroupDays.{AreGroupDays, IsGroupDay, Leads, no_day};
@@ -25,8 +24,7 @@ pub struct GroupDay {
     pub first: u32,
 }
 
-/// What a class has for the lock of a group. `none` is the bound of groups that aren't listed,
-/// [`Backlog::none`].
+/// What a class has for a group's lock. `none`, [`Backlog::none`], is the bound of unlisted groups.
 fn group_day(plan: &Plan, class: &Class, group: usize, none: &Backlog) -> GroupDay
     requires { none.now ≡ [] }
     ensures { IsGroupDay (as_plan plan.now) class.now group result }

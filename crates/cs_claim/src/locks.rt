@@ -42,7 +42,6 @@ pub(crate) fn locks(job: Job, group: usize) -> bool
     takes(job.mode()) && is_of_group
 }
 
-/// The cron job with this number.
 pub(crate) fn cron_job(plan: &Plan, number: usize) -> Job
     requires { number < crons plan.now }
     ensures few { number < 320 }

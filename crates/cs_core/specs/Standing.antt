@@ -46,8 +46,7 @@ abbrev pub is_job : Option ℕ → ℕ → Bool
 is_job None j = false
 is_job (Some k) j = k == j
 
--- the jobs that a pass has which begins at minute t, where of anacron jobs a run of this one runs,
--- or of none
+-- the jobs of a pass that begins at minute t, where this anacron job, or none, runs
 abbrev pub owed_beside : Plan → List (Option ℕ) → Option ℕ → ℕ → List ℕ
 owed_beside p ss lone t = filter (λ j.
     p.owed j (get_or ss (j - p.crons) None) (t / 1440) && not (is_job lone j)) (by_delay p)

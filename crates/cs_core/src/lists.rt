@@ -4,7 +4,6 @@ ghost use Rattle.std.specs.List.{list_any};
 use arrayvec::ArrayVec;
 use cs_civil::Day;
 
-/// Whether the job is among these.
 pub(crate) fn has_job(jobs: &[u16], job: u16) -> bool
     ensures { result ≡ list_any (λ i. job == i) jobs.now }
 {

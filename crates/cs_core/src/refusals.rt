@@ -88,7 +88,6 @@ impl Core {
         None
     }
 
-    /// Whether the run waits.
     fn is_waiting(&self, run: Run) -> bool
         ensures { result ≡ list_any (same_run run) self.now.state.waiting }
     {

@@ -71,8 +71,7 @@ LineFails line fault =
     × ((indent text : List ℕ) × (line ≡ indent ++ text) × (list_all is_blank indent ≡ true)
     × StopsAt is_blank text × TextFails text fault)))
 
--- The first line with a fault: the lines before it have none. The command above the limit is a
--- fault after all others of its line.
+-- The first line with a fault. The command above the limit is a fault after all others of its line.
 pub record IsFirstFault (text : List ℕ) (number : ℕ) (fault : LineFault) : Type 0 where
   pub short : length text ≤ MAX_TABLE
   pub before : List (List ℕ)

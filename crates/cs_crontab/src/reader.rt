@@ -100,10 +100,9 @@ fn read_table(alloc: Global, bytes: &[u8]) -> Result<Crontab, TableFault>
     Ok(Crontab::new(draft.variables, draft.commands))
 }
 
-/// Reads a crontab (crontab(5)), or returns its first fault.
+/// Reads a crontab (crontab(5)), or returns its first fault. Memory may run out.
 ///
-/// In a line, its length and a zero byte come first, then the fields from left to right; too many
-/// commands come last. Memory may run out.
+/// In a line, length and a zero byte come first, then faults left to right, then too many commands.
 pub fn read_crontab(alloc: Global, bytes: &[u8]) -> Result<Crontab, TableFault>
     // The table that is read is written in the bytes.
     ensures table { IfOk result (IsCrontab bytes.now) }

@@ -36,14 +36,12 @@ impl<'w, O: io::Write> Log<'w, O> {
         self.faults = self.faults.saturating_add(lines);
     }
 
-    /// Writes the line.
     pub(crate) fn write(&mut self, line: Line) {
         if self.try_write(line).is_err() {
             self.lose(1);
         }
     }
 
-    /// Writes the lines.
     pub(crate) fn write_all(&mut self, lines: &[Line]) {
         for line in lines {
             self.write(*line);

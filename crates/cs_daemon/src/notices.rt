@@ -26,7 +26,6 @@ impl Notices {
         }
     }
 
-    /// The lines.
     pub(crate) fn lines(&self) -> &[Line] {
         self.lines.as_slice()
     }

@@ -100,7 +100,6 @@ fn stamp_at(stamps: &Stamps, job: usize) -> Option<Day> {
     }
 }
 
-/// A copy of the stamps.
 pub(crate) fn copy_stamps(stamps: &[Option<Day>]) -> Stamps {
     let mut copy = ArrayVec::new();
     for stamp in stamps {

@@ -129,7 +129,6 @@ fn take_back<T>(x: &mut T)
     ensures { x.new ≡ x.old }
 {}
 
-/// Runs the threads, and joins them.
 pub(crate) fn run_threads<
     'a,
     'w: 'a,

@@ -12,16 +12,13 @@ use arrayvec::ArrayVec;
 /// The most numbers of a part.
 const MOST: usize = 31;
 
-/// The months of a kind.
 const MONTHS: [u8; 12] = [1, 2, 3, 4, 5, 6, 7, 8, 9, 10, 11, 12];
 
-/// The days of the month.
 const DAYS: [u8; 31] = [
     1, 2, 3, 4, 5, 6, 7, 8, 9, 10, 11, 12, 13, 14, 15, 16, 17, 18, 19, 20, 21, 22, 23, 24, 25, 26,
     27, 28, 29, 30, 31,
 ];
 
-/// The weekdays.
 const WEEKDAYS: [u8; 7] = [0, 1, 2, 3, 4, 5, 6];
 
 /// Whether each value and the next rise.
@@ -31,7 +28,6 @@ fn rises(values: &[u8]) -> bool
     values.is_sorted_by(|one, next| *one < *next)
 }
 
-/// Whether each value is possible.
 fn are_possible(values: &[u8], possible: &[u8]) -> bool
     ensures { result ≡ list_all (λ value. has possible.now value) values.now }
 {

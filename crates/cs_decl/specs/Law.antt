@@ -1,5 +1,4 @@
--- Which fault of declarations is returned: the one with the smallest number, and of that number the
--- first place.
+-- Which fault of declarations is returned: the smallest number, and the first place of that.
 use Rattle.std.specs.Prelude.{◌≡◌, List, [], ◌∷◌, ◌++◌, ℕ, zero, suc, ◌<◌, ◌≤◌, ◌⊎◌, Bool, true, false, not, ◌&&◌, ◌==◌, Option, Some, None, map, length, nat_lt, bytes_eq, if◌then◌else◌}
 use Rattle.std.specs.Ordering.{int_eq}
 use Rattle.std.specs.List.{list_any}

@@ -80,7 +80,6 @@ pub(crate) fn first_undeclared_job<'a>(
     lines.iter().find(|line| !is_declared_job(entries, line))
 }
 
-/// The first `@reboot`.
 pub(crate) fn first_reboot(lines: &[Line]) -> Option<&Line>
     ensures { option_map (λ l. l.now) result ≡ find (λ line. is_reboot line.when) lines.now }
 {

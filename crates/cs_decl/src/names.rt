@@ -9,7 +9,6 @@ use cs_civil::Bytes;
 use indexmap::IndexSet;
 use std::alloc::{AllocError, Global};
 
-/// The names of the groups.
 fn names_of<'a>(alloc: Global, groups: &'a [GroupEntry]) -> Result<IndexSet<&'a [u8]>, AllocError>
     ensures { IfOk result
         (λ names. (name : List ℕ)

@@ -171,7 +171,6 @@ pub(crate) fn jobs_of(
     Ok(jobs)
 }
 
-/// The groups that are declared.
 pub(crate) fn groups_of(
     alloc: Global,
     entries: &[GroupEntry],

@@ -72,8 +72,7 @@ pub record IsBacklog (p : Plan) (c : ℕ → ℕ) (g : ℕ) (b : ℕ → ℕ) : 
   -- from minute to minute what arrives is added and the lock's holder takes off one; asked only
   -- where both minutes can be reached
   pub falls : (t : ℕ) → IsReached t → IsReached (t + 1) → (b t + arrives p g t) - 1 ≤ b (t + 1)
-  -- within the reach of each run that waits it is 0; past the last minute that can be reached
-  -- nothing is asked of it
+  -- within the reach of each run that waits it is 0, or no minute is left that can be reached
   pub clears : (j d : ℕ) → is_cron p j ≡ true → waits p j ≡ true → locks p g j ≡ true → IsReached d
       → p.due j d ≡ true → (z : ℕ) × (d < z) × (z ≤ d + c j) × (IsReached z → b z ≡ 0)
 
@@ -88,8 +87,7 @@ pub record HasWaiter (p : Plan) (g : ℕ) : Type 0 where
 abbrev pub IsBounded : Plan → (ℕ → ℕ) → (ℕ → ℕ → ℕ) → Type 0
 IsBounded p c b = (g : ℕ) → HasWaiter p g → IsBacklog p c g (b g)
 
--- the window of a running run: of a cron run from its due minute on, of an anacron run from the
--- catch-up hours of the day on which it started
+-- the window of a running run: from its due minute, or from the catch-up hours of its start's day
 abbrev pub window_of : Plan → Going → Run
 window_of p r = record {
   job = r.run.job;

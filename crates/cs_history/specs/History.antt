@@ -10,8 +10,7 @@ use Rattle.cs_history.specs.declared.event.Event.TheVariants.{Minute, Begin, Got
 use Rattle.cs_history.specs.declared.mode.Mode.{Mode}
 use Rattle.cs_history.specs.declared.mode.Mode.TheVariants.{Plain, Skip, Wait, Shared}
 
--- the minute at which a history starts, whether the daemon is up then, and the stamps of the
--- anacron jobs; nothing runs
+-- the minute at which a history starts, up or down, and the anacron stamps; nothing runs
 pub record Start : Type 0 where
   pub now : ℕ
   pub up : Bool
@@ -83,8 +82,7 @@ with_waiting Starts ws w = ws
 with_waiting Waits ws w = ws ++ w ∷ []
 with_waiting Skips ws w = ws
 
--- the runs that have started and not ended, in order of start: going down ends no run (cron(8)
--- starts its jobs and does not stop them)
+-- the runs that have started and not ended, in order of start; Down ends none, as in cron(8)
 abbrev pub running : Plan → History → List Going
 running p (From s) = []
 running p (h ▸ Begin j) =
@@ -130,8 +128,7 @@ abbrev pub pass_of : ℕ → List ℕ → Option Pass
 pass_of t [] = None
 pass_of t (j ∷ js) = Some (record { at = t; left = j ∷ js })
 
--- the jobs that a pass has which begins at minute t: those due that day of which no run is running,
--- by delay, then line
+-- the jobs of a pass that begins at minute t: due that day and not running, by delay, then line
 abbrev pub owed_at : Plan → List (Option ℕ) → List Going → ℕ → List ℕ
 owed_at p ss rs t = filter (λ j.
     p.owed j (get_or ss (j - p.crons) None) (t / 1440) && not (list_any (λ r. r.run.job == j) rs))
@@ -178,8 +175,7 @@ pub record MayGet (p : Plan) (h : History) (r : Run) : Type 0 where
   pub is_waiting : list_any (same_run r) (waiting p h) ≡ true
   pub free : is_free p (running p h) r.job ≡ true
 
--- the first job of the open pass, once its delay is over, in the catch-up hours, one at a time
--- (anacron(8) with -s)
+-- the open pass's first job, its delay over, in the catch-up hours, one at a time (anacron(8) -s)
 pub record MayCatch (p : Plan) (h : History) (j : ℕ) : Type 0 where
   pub up : is_up h ≡ true
   pub begun : ℕ

@@ -1,5 +1,4 @@
--- Names of runs: a job and the minute in which it was due, of an anacron job the minute in which
--- its run started.
+-- Names of runs: a job and the minute in which it was due, or an anacron job's run started.
 use Rattle.std.specs.Prelude.{◌≡◌, ℕ, ◌+◌, ◌<◌, ◌≤◌, ◌&&◌, true, false, not, List, [], ◌∷◌, ◌++◌, Option, Some, None}
 use Rattle.std.specs.List.{AllByRecursion}
 use Rattle.cs_history.specs.Lists.{EachPair, number_of}
@@ -25,8 +24,7 @@ pub record AreNamed (p : Plan) (s : State) : Type 0 where
   -- a run is named by a minute that was reached
   pub runs_past : AllByRecursion (λ r. r.run.at ≤ s.now) s.running
   pub waits_past : AllByRecursion (λ w. w.at ≤ s.now) s.waiting
-  -- cron jobs are pending and wait, anacron jobs of the plan are left to a pass, and no two runs of
-  -- anacron jobs run at once
+  -- cron jobs are pending and wait, anacron jobs are left to a pass, and at most one of these runs
   pub pending : AllByRecursion (λ j. is_cron p j ≡ true) s.pending
   pub waiting : AllByRecursion (λ w. is_cron p w.job ≡ true) s.waiting
   pub pass : AllByRecursion (λ j. (is_cron p j ≡ false) × (j < p.jobs)) (jobs_left s.pass)

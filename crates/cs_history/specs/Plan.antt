@@ -1,5 +1,4 @@
--- A plan, as far as histories and safety speak of it: the jobs of both tables, and what the
--- operator declared of them.
+-- A plan as histories and safety see it: the jobs of both tables, and the operator's declarations.
 use Rattle.std.specs.Prelude.{◌≡◌, ℕ, ◌%◌, ◌<◌, ◌≤◌, Bool, true, false, not, ◌&&◌, List, Option, Some, None, if◌then◌else◌, nat_lt, ◌==◌, filter, zero, suc, []}
 use Rattle.cs_civil.specs.Calendar.{first_minute, last_minute}
 use Rattle.cs_history.specs.Lists.{below, placed}

@@ -7,8 +7,7 @@ use std::marker::Model;
 /// The most stamps of a start, and jobs of an anacrontab.
 pub const MAX_STAMPS: usize = 64;
 
-/// The start of a history: the daemon is up or down at this minute, nothing runs, and the anacron
-/// jobs have these stamps.
+/// The start of a history: up or down at this minute, nothing running, and these anacron stamps.
 #[derive(Debug, Drop)]
 pub struct Start {
     minute: Minute,

@@ -24,7 +24,6 @@ pub enum Misread {
 /// The error for a value of another shape.
 pub const BAD_SHAPE: Misread = Misread::Fault(JsonFault::BadShape);
 
-/// Memory ran out.
 impl From<AllocError> for Misread {
     ghost from_gives = { λ _ e. e ≡ Memory };
 
@@ -33,7 +32,6 @@ impl From<AllocError> for Misread {
     }
 }
 
-/// Memory ran out.
 impl<T: Drop> From<AllocFailed<T>> for Misread {
     ghost from_gives = { λ _ e. e ≡ Memory };
 

@@ -11,8 +11,7 @@ use crate::reading::FromJson;
 use serde_json::{Map, Value};
 use std::alloc::Global;
 
-/// Returns the value of the member of that name. `BadShape` if the value is no object or has no
-/// such member.
+/// Returns the member of that name. `BadShape` if the value is no object or lacks that member.
 pub fn value_at<'v>(value: &'v Value, name: &str) -> Result<&'v Value, Misread>
     ensures { Gives (λ v. view v.now) result (or_bad_shape (get name.now (view value.now))) }
 {

@@ -22,7 +22,6 @@ pub trait ToJson {
     ghost no_float: { (x : Self) → has_float (spelled x) ≡ false };
 }
 
-/// A whole number.
 impl ToJson for u64 {
     ghost spelled = { λ n. number (unsigned n) };
 
@@ -33,7 +32,6 @@ impl ToJson for u64 {
     }
 }
 
-/// A whole number.
 impl ToJson for u32 {
     ghost spelled = { λ n. number (unsigned n) };
 
@@ -44,7 +42,6 @@ impl ToJson for u32 {
     }
 }
 
-/// A whole number.
 impl ToJson for u16 {
     ghost spelled = { λ n. number (unsigned n) };
 
@@ -55,7 +52,6 @@ impl ToJson for u16 {
     }
 }
 
-/// A whole number.
 impl ToJson for u8 {
     ghost spelled = { λ n. number (unsigned n) };
 
@@ -66,7 +62,6 @@ impl ToJson for u8 {
     }
 }
 
-/// `true` or `false`.
 impl ToJson for bool {
     ghost spelled = { λ b. boolean b };
 
@@ -77,7 +72,6 @@ impl ToJson for bool {
     }
 }
 
-/// A text.
 impl ToJson for String {
     ghost spelled = { λ s. string (string_bytes s) };
 

@@ -68,8 +68,7 @@ IsCertificate c text = (written : List ℕ) × (written ≡ compact_text (certif
     × (certificate_by written ≡ Ok c) × (length written < MAX_CERTIFICATE)
     × (text ≡ written ++ 10 ∷ [])
 
--- what `make` prints of a plan that was accepted with this certificate: the certificate, or that no
--- file can hold it
+-- what `make` prints for a plan accepted with this certificate: it, or that no file can hold it
 abbrev pub IsSafeMade : Content → Outcome → List ℕ → Type 0
 IsSafeMade c found text = ((found ≡ outcome.Safe) × IsCertificate c text)
     ⊎ ((found ≡ outcome.Unknown) × (text ≡ unknown_text LeafTooLong))

@@ -36,8 +36,7 @@ opened d s = record {
   core = record { plan = d; state = state_of (as_plan d) (From s) };
 }
 
--- the journal is a legal history of the plan, with its replies, and the core is in the state that
--- this history leaves
+-- the journal is a legal history of the plan, with its replies, that ends in the core's state
 abbrev pub IsKept : Keeping → Type 0
 IsKept k = IsJournal (plan_of k) k.base k.journal k.core.state
 
@@ -80,8 +79,7 @@ is_end (End r) = true
 is_end Down = false
 is_end (Up t) = false
 
--- Why an event was refused: the first refusal, or if there is none, out of memory. Only the core
--- refuses an end.
+-- Why an event was refused: the first refusal, else out of memory. Only the core refuses an end.
 pub record IsRefused (k : Keeping) (e : Event) (f : Refusal) : Type 0 where
   pub first : (refusal_in k e ≡ Some f) ⊎ ((refusal_in k e ≡ None) × (f ≡ OutOfMemory))
   pub end : is_end e ≡ true → refusal (plan_of k) k.core.state e ≡ Some f

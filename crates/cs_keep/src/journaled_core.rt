@@ -83,7 +83,6 @@ impl JournaledCore {
         self.total
     }
 
-    /// The event core.
     pub(crate) fn core(&self) -> &Core
         ensures value { result.now ≡ self.now.core }
         ensures kept { IsKept self.now }

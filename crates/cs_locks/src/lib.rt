@@ -1,5 +1,4 @@
-//! How many runs hold each group's lock or wait for it: whether a lock is free is found at a cost
-//! that doesn't grow with the runs.
+//! How many runs hold each group's lock or wait for it: the cost doesn't grow with the runs.
 #![tactic(auto)]
 
 mod hold;

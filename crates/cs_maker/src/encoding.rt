@@ -35,8 +35,7 @@ fn windows_begun(facts: &Facts, classing: &Classing, class: u16) -> u64 {
     begun
 }
 
-/// The fewest bytes that the entries of these stretches take in a text: each lists what begins on
-/// its last day.
+/// The fewest bytes of the entries of these stretches: each lists what begins on its last day.
 fn least_entries(facts: &Facts, classing: &Classing, in_use: &Stretches) -> u64 {
     let mut least: u64 = 0;
     for (classes, _) in in_use {

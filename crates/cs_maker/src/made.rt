@@ -7,8 +7,7 @@ use cs_history::Script;
 /// Why the maker finds neither a certificate nor a script that breaks the plan.
 #[derive(Clone, Copy, Debug, PartialEq, Eq)]
 pub enum Reason {
-    /// The days have more classes than a certificate can. The maker doesn't return this: it makes a
-    /// compact certificate.
+    /// The days have more classes than a certificate can. Not returned: a compact one is made.
     TooManyClasses,
     /// The certificate's text or a leaf is too long, and the maker made no compact one.
     LeafTooLong,

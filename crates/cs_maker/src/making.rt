@@ -16,8 +16,7 @@ use cs_story::{Breach, tell};
 use cs_stretch::Roles;
 use std::alloc::{AllocError, Global};
 
-/// A counterexample with jobs that wait as long as they can, if nothing bounds how long; or else
-/// this reason.
+/// A counterexample with jobs that wait as long as they can, if that is unbounded; or this reason.
 fn made_without_bounds(
     alloc: Global,
     subject: &Subject<'_>,

@@ -7,8 +7,7 @@ use cs_windows::Occupied;
 use std::alloc::{AllocError, Global};
 use std::collections::BTreeMap;
 
-/// Stretches by the numbers of their days, as profiles or classes, eldest first and rising, each
-/// with kinds of such days.
+/// Stretches by the numbers of their days (profiles or classes), eldest first, with kinds of them.
 pub(crate) type Stretches = BTreeMap<Vec<u16>, Chain>;
 
 /// The days of a stretch.

@@ -17,7 +17,6 @@ const FIRST_MINUTE: u64 = 1_440;
 /// 9999-12-31 23:59.
 const LAST_MINUTE: u64 = 4_223_371_679;
 
-/// Adds a number.
 fn push_number(alloc: Global, text: &mut Vec<u8>, number: u128) -> Result<(), AllocError>
     ensures { OnOk result (text.new.items ≡ text.old.items ++ decimal number) }
 {
@@ -166,7 +165,6 @@ fn push_window(
     text.extend_from_slice(&date_text(start_of(at, window)))
 }
 
-/// Adds two windows.
 #[tactic(auto, unfolding(crate::specs::Refused::both_text))]
 fn push_both(
     alloc: Global,
@@ -280,7 +278,6 @@ fn rule_text(fault: &CheckFault) -> &'static str
     }
 }
 
-/// Adds the place of a fault.
 fn push_place(
     alloc: Global,
     text: &mut Vec<u8>,

@@ -65,8 +65,7 @@ fn lowest_bit(word: u64) -> u16
     word.trailing_zeros() as u16
 }
 
-/// The first minute from this one on that is set, if there is one in the same word, else the last
-/// minute of the day in that word.
+/// The first minute from this one on that is set in the same word, else the word's last.
 fn near(words: &[u64; 23], minute: u16) -> u16
     requires { minute < 1440 }
     ensures from { minute ≤ result }

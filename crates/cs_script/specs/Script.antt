@@ -31,8 +31,7 @@ abbrev pub Denotes : {X Y : Type 0} → (X → Y) → Result Y Fault → Result 
 Denotes view read (Ok x) = read ≡ Ok (view x)
 Denotes view read (Err e) = Fails e read
 
--- the lines so far: the start's minute and whether it is up, the stamps by anacron job, and the
--- events with the numbers of their lines
+-- the lines so far: the start's minute and up or down, the stamps, and the events with line numbers
 pub record Draft : Type 0 where
   pub opening : Option (ℕ × Bool)
   pub stamps : List (Option ℕ)

@@ -22,7 +22,6 @@ fn taken_text(reply: Reply) -> &'static str
     }
 }
 
-/// Adds the text of a refusal.
 fn push_refusal(text: &mut Vec<u8>, refusal: Refusal) -> Result<(), AllocError>
     ensures { OnOk result (text.new.items ≡ text.old.items ++ refused_text refusal) }
 {

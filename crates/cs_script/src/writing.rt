@@ -106,7 +106,6 @@ fn push_event(
     }
 }
 
-/// Adds the lines of events.
 fn push_events(
     alloc: Global,
     text: &mut Vec<u8>,
@@ -146,7 +145,6 @@ fn push_stamp(text: &mut Vec<u8>, job: &Job, stamp: Option<Day>) -> Result<(), A
     text.extend_from_slice(b"\n")
 }
 
-/// Adds the lines of the stamps.
 #[tactic(auto, unfolding(crate::specs::ScriptText::stamp_lines))]
 fn push_stamps(text: &mut Vec<u8>, jobs: &[Job], stamps: &[Option<Day>]) -> Result<(), AllocError>
     ensures { OnOk result (text.new.items ≡ text.old.items ++ stamp_lines jobs.now stamps.now) }

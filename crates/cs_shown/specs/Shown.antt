@@ -17,8 +17,7 @@ use Rattle.cs_shown.specs.declared.shown.NotShown.TheVariants.{Illegal, Late, No
 abbrev pub history_of : Script → History
 history_of script = history script.start script.events
 
--- each event of the script may come when it comes, each run has ended within its declared time, and
--- something is broken
+-- each event of the script is legal, each run has ended in declared time, and something is broken
 pub record IsUnsafe (p : Plan) (script : Script) : Type 0 where
   pub legal : IsLegal p (history_of script)
   pub in_time : IsInTime p (history_of script)

@@ -57,7 +57,6 @@ fn shares(mode: Mode) -> bool
     }
 }
 
-/// Whether the group is exclusive.
 fn is_exclusive(plan: &Plan, group: Option<u8>) -> bool
     ensures { result ≡ exclusive_group (as_plan plan.now) group }
 {

@@ -13,7 +13,6 @@ use cs_decl::Plan;
 use cs_history::Run;
 use std::alloc::{AllocError, Global};
 
-/// Adds a number.
 fn push_number(alloc: Global, text: &mut Vec<u8>, number: u64) -> Result<(), AllocError>
     ensures { OnOk result (text.new.items ≡ text.old.items ++ decimal number) }
 {

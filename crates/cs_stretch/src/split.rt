@@ -1,5 +1,4 @@
-//! The one pass over all windows of a stretch: the weight of those without a lock at each minute,
-//! and the few that need another look.
+//! One pass over all windows of a stretch: the load without locks, and the few to look at again.
 ghost use Rattle.std.specs.Prelude.{◌≡◌, ◌++◌, IfOk, [], ◌∷◌, filter, if◌then◌else◌, map};
 ghost use Rattle.cs_stretch.specs.Split.{share_at, share_in};
 ghost use Rattle.cs_stretch.specs.Sums.{IsDay, IsSum, amount_in, has_group_or_catches};

@@ -46,8 +46,7 @@ at_days [] minute = 0
 at_days (day ∷ days) minute =
     if nat_lt minute MINUTES_OF_DAY then day minute else at_days days (minute - MINUTES_OF_DAY)
 
--- at each minute of the day before, its last one too: the bound and what arrives, less one, is
--- within the bound of the next minute
+-- at each minute of the day before: the bound plus the arrivals, less one, is within the next bound
 abbrev pub StepsHold : (ℕ → ℕ) → (ℕ → ℕ) → (ℕ → ℕ) → Type 0
 StepsHold before arrive day =
     (t : ℕ) → t < MINUTES_OF_DAY → before t + arrive t - 1 ≤ at_days (before ∷ day ∷ []) (t + 1)

@@ -105,8 +105,7 @@ impl Backlog {
     }
 }
 
-/// A walk over the pieces of a day: the index of the next piece, and the bound at the minute if no
-/// piece begins there.
+/// A walk over a day's pieces: the next one's index, and the bound if none begins at the minute.
 #[derive(Clone, Copy)]
 struct Walk {
     place: usize,

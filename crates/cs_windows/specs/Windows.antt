@@ -32,8 +32,7 @@ windows_on jobs [] = []
 windows_on jobs (day ∷ days) =
     filter reaches (windows_from jobs day (length days)) ++ windows_on jobs days
 
--- the window is one of the job at its place, begins on the day so many places before the last, and
--- reaches the last
+-- the window is of the job at its place, begins on that day before the last, and reaches the last
 pub record IsWindowOn {D : Type 0} (jobs : List (Job D)) (days : List D) (w : Window) : Type 0 where
   pub job : Job D
   pub of_job : slice_get jobs w.job ≡ Some job

@@ -1,7 +1,6 @@
 use crate::window::{Window, first_minute, reaches};
 use cs_schedule::{MINUTES_OF_BLOCK, MinuteSet};
 
-/// The minutes of a block.
 const BLOCK: u32 = MINUTES_OF_BLOCK as u32;
 
 /// A job of which a window may begin `day_back` days before the day looked at, and reach that day.

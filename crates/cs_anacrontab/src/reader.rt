@@ -143,11 +143,11 @@ fn read_table(alloc: Global, bytes: &[u8]) -> Result<Anacrontab, AnacronFault>
     Ok(Anacrontab::new(draft.variables, draft.jobs))
 }
 
-/// Reads an anacrontab (anacrontab(5)), or returns its first fault.
+/// Reads an anacrontab (anacrontab(5)), or returns its first fault. Memory may run out.
 ///
-/// In a line, its length, a zero byte and a final backslash come first, then its words from left to
-/// right, then [`TwiceNamed`](JobFault::TwiceNamed), then [`TooManyJobs`](JobFault::TooManyJobs).
-/// Memory may run out.
+/// The table's length comes first; in a line its length, a zero byte and a final backslash, then
+/// its words from left to right, then [`TwiceNamed`](JobFault::TwiceNamed), then
+/// [`TooManyJobs`](JobFault::TooManyJobs).
 pub fn read_anacrontab(alloc: Global, bytes: &[u8]) -> Result<Anacrontab, AnacronFault>
     // The table that is read is written in the bytes.
     ensures table { IfOk result (IsAnacrontab bytes.now) }

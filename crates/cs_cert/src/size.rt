@@ -26,7 +26,6 @@ fn brackets(items: usize) -> u64 {
     (items.max(1) as u64).saturating_add(1)
 }
 
-/// A list of these items.
 fn list<T: Listed>(items: &[T]) -> u64 {
     let mut text = brackets(items.len());
     for item in items {

@@ -13,7 +13,6 @@ use cs_civil::{DayKind, all_kinds};
 use cs_schedule::Schedule;
 use cs_windows::{MINUTES_OF_DAY, Occupied};
 
-/// The minutes of this many days.
 fn minutes_of(days: u8) -> u32
     ensures { result ≡ 1440 * days }
 {

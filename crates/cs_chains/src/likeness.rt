@@ -27,7 +27,6 @@ pub(crate) struct Likeness {
     pub(crate) when_not: bool,
 }
 
-/// Whether a command is due on days of this kind.
 pub(crate) fn is_due_day(line: &Line, kind: DayKind) -> bool
     ensures { result ≡ is_due_day line.now.when kind }
 {

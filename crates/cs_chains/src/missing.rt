@@ -13,7 +13,6 @@ use cs_cert::Claim;
 use indexmap::IndexSet;
 use std::alloc::{AllocError, Global};
 
-/// Whether the classes are one of the lists.
 fn is_listed(lists: &IndexSet<&[u32]>, classes: &[u32]) -> bool
     ensures { result ≡ is_among lists.now.keys classes.now }
 {

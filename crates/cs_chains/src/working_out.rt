@@ -48,7 +48,6 @@ fn classed_kinds(alloc: Global, claim: &Claim<'_>) -> Result<Vec<ClassedKind>, A
     Ok(kinds)
 }
 
-/// The first of the kinds that has the class.
 fn first_kind(kinds: &[ClassedKind], class: u32) -> Option<DayKind>
     ensures { result ≡ first_classed kinds.now class }
 {

@@ -49,7 +49,6 @@ fn all_settle(basis: &Basis<'_>, class: &Class) -> bool
     true
 }
 
-/// The day of the class with this number.
 fn class_day(alloc: Global, basis: &Basis<'_>, number: usize) -> Result<ClassDay, AllocError>
     requires basis { IsBasis basis.now }
     requires there { number < length (said basis.now.claim.now).classes }

@@ -17,7 +17,6 @@ use cs_refused::CheckFault;
 use cs_stretch::missing;
 use std::alloc::{AllocError, Global};
 
-/// The civil minute with this number.
 fn civil(number: u64) -> Minute
     requires { (first_minute ≤ number) × (number ≤ last_minute) }
     ensures { result ≡ number }

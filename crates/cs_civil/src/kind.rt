@@ -102,7 +102,7 @@ impl DayKind {
     }
 }
 
-/// Returns the kinds that the next day can have: one, after 28 February two, 29 February first.
+/// Returns the kinds that the next day can have: one, or after 28 February two, 29 February first.
 ///
 /// Each does occur: two successive days of the first 28 years have these kinds.
 #[tactic(auto, using(crate::proofs::Cycle::next_come))]

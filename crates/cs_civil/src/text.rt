@@ -70,7 +70,7 @@ pub fn read_day(text: &[u8]) -> Result<Day, CivilFault>
 
 /// Reads a minute, `YYYY-MM-DD HH:MM` from 00:00 to 23:59 (this profile).
 ///
-/// [`NotADate`](CivilFault::NotADate) and [`OutOfRange`](CivilFault::OutOfRange) as [`read_day`].
+/// [`NotADate`](CivilFault::NotADate) and [`OutOfRange`](CivilFault::OutOfRange) like [`read_day`].
 #[tactic(auto, using(crate::proofs::Texts::one_minute))]
 pub fn read_minute(text: &[u8]) -> Result<Minute, CivilFault>
     ensures ok { IfOk result

@@ -31,7 +31,6 @@ pub(crate) fn waits(mode: Mode) -> bool
     }
 }
 
-/// Whether the job takes the lock of the group.
 pub(crate) fn locks(job: Job, group: usize) -> bool
     ensures { result ≡ (takes job.mode && is_group group job.group) }
 {

@@ -199,7 +199,6 @@ impl Rules {
     }
 }
 
-/// Whether it is this job.
 fn is_job(lone: Option<u16>, job: u16) -> bool
     ensures { result ≡ is_job lone job }
 {

@@ -102,7 +102,8 @@ fn read_table(alloc: Global, bytes: &[u8]) -> Result<Crontab, TableFault>
 
 /// Reads a crontab (crontab(5)), or returns its first fault. Memory may run out.
 ///
-/// In a line, length and a zero byte come first, then faults left to right, then too many commands.
+/// The table's length comes first; in a line its length, a zero byte, then faults from left to
+/// right, then too many commands.
 pub fn read_crontab(alloc: Global, bytes: &[u8]) -> Result<Crontab, TableFault>
     // The table that is read is written in the bytes.
     ensures table { IfOk result (IsCrontab bytes.now) }

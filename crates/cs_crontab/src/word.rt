@@ -6,7 +6,6 @@ ghost use Rattle.cs_crontab.specs.Format.{only, all, yearly, monthly, weekly, da
 
 use cs_schedule::{Field, Numbers, Part, Schedule};
 
-/// A field with one number.
 fn only(part: Part, number: u8) -> Field
     requires low { first_of part ≤ number }
     requires high { number ≤ last_held part }

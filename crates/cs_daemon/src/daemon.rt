@@ -118,10 +118,10 @@ fn run_on<
 }
 
 /// Runs a checked plan until the clock stops or the daemon can't go on: each run by one of the
-/// runners, as many as the plan's capacity, each in its own thread. Events are logged.
+/// runners, as many as the plan's capacity, each in its own thread. What happens is logged.
 ///
 /// The clock is asked first. A keep is opened in its first minute, down, with the stamps of the
-/// store; each further minute of the clock is one tick of the keep. In the end the keep goes down,
+/// store; each further answer of the clock is one tick of the keep. In the end the keep goes down,
 /// the workers end, and unwritten stamps are tried once more.
 pub fn run_daemon<
     R: Threads + Wait + Sync,

@@ -11,8 +11,8 @@ use cs_history::{Event, Reply, Run};
 use cs_keep::{Keep, Seat, TickFault};
 use std::alloc::Global;
 
-/// The keep, the index in its journal from which starts are not taken yet, how many runs were late,
-/// and whether no more starts will come.
+/// The keep, the index in its journal from which starts are not taken yet, how many runs were found
+/// late, and whether no more starts will come.
 #[derive(Drop)]
 pub(crate) struct Dispatch<J: PlanLedger> {
     keep: Keep<J>,
@@ -165,7 +165,7 @@ impl<J: PlanLedger> Dispatch<J> {
         self.over = true;
     }
 
-    /// How many runs were late.
+    /// How many runs were found late.
     pub(crate) fn overruns(&self) -> u64 {
         self.overruns
     }

@@ -33,7 +33,7 @@ pub struct DaemonEnd {
     pub keep: Option<Kept>,
     /// How many runs couldn't be started.
     pub not_started: u64,
-    /// How many runs went on past their declared time.
+    /// How many runs were found past their declared time.
     pub overruns: u64,
     /// How often a stamp couldn't be read or written.
     pub stamp_faults: u64,

@@ -34,7 +34,6 @@ pub enum DayTree {
 }
 
 impl KindPart {
-    /// The number of this part of a kind.
     fn number_of(self, kind: DayKind) -> u8
         ensures { result ≡ number_of self kind }
     {
@@ -46,7 +45,6 @@ impl KindPart {
     }
 }
 
-/// Whether the number is one of the values.
 pub(crate) fn has(values: &[u8], number: u8) -> bool
     ensures { result ≡ has values.now number }
 {

@@ -76,7 +76,7 @@ impl Job {
     }
 
     /// Returns the longest time of a run in minutes, from 1 to [`MAX_MINUTES`](crate::MAX_MINUTES):
-    /// the run has ended before as many minutes after the minute of its start.
+    /// a run that starts in minute t has ended before minute t + max.
     pub fn max(self) -> u16
         ensures value { result ≡ self.max }
         ensures in_range { (1 ≤ self.max) × (self.max ≤ MAX_MINUTES) }

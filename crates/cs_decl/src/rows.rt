@@ -176,7 +176,6 @@ fn bad_times(entries: &Entries) -> Option<Found>
     None
 }
 
-/// The first fault of the table.
 #[tactic(auto, using(crate::proofs::Order::first_twice_declared, crate::proofs::Order::first_bad_number, crate::proofs::Order::first_bad_group, crate::proofs::Order::past_groups))]
 pub(crate) fn fault_of(alloc: Global, entries: &Entries) -> Result<Option<Found>, AllocError>
     ensures { IfOk result (λ f. f ≡ first_fault (faults_of entries.now)) }

@@ -6,8 +6,7 @@ use std::marker::Model;
 
 /// How often a device has failed, up to the greatest number of 64 bits.
 ///
-/// A device may report a failure only if its count rises. What it does on one failure more than
-/// fit, each device says.
+/// A device may report a failure only if its count rises. Each says what it does on one more.
 #[derive(Clone, Copy, Debug, PartialEq, Eq)]
 pub struct Failures {
     count: u64,

@@ -21,7 +21,6 @@ pub enum Reason {
 }
 
 impl Reason {
-    /// The reason in an error of the machine.
     pub(crate) fn of(error: &io::Error) -> Reason {
         match error.kind() {
             ErrorKind::NotFound => Reason::Absent,

@@ -34,14 +34,16 @@ pub enum Wanted {
 /// The result for a plan.
 #[derive(Clone, Copy, Debug, PartialEq, Eq)]
 pub enum Outcome {
+    /// The checker accepted a certificate.
     Safe,
+    /// A counterexample was found.
     Unsafe,
+    /// Neither was found.
     Unknown,
     /// Unknown, since memory ran out.
     NoMemory,
 }
 
-/// The outcome for a plan that is unknown for this reason.
 fn unknown_outcome(reason: Reason) -> Outcome
     ensures { result ≡ unknown_outcome reason }
 {
@@ -79,7 +81,6 @@ fn unsafe_text(
     Ok(text)
 }
 
-/// The outcome of a judged plan.
 fn outcome_of(judged: &Judged) -> Outcome
     ensures { result ≡ outcome_of judged.now }
 {

@@ -85,7 +85,6 @@ fn answer_of(reply: Reply) -> (Told, u16, u64)
 }
 
 impl Entry {
-    /// An event with its reply.
     pub(crate) fn new(event: Event, reply: Reply) -> Entry
         ensures { result ≡ (event, reply) }
     {

@@ -163,8 +163,8 @@ impl<L: Ledger> Keep<L> {
         self.journaled.core()
     }
 
-    /// Closes the keep: returns the journal without its book, with the checked plan, the very value
-    /// that it was opened with.
+    /// Closes the keep: returns its journal without its book, with `checked`, the very value passed
+    /// in.
     pub fn close(self, checked: Checked) -> Kept
         requires { plan_in checked ≡ self.core.plan }
         ensures checked { checked_in result ≡ checked }

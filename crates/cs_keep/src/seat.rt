@@ -5,7 +5,8 @@ ghost use Rattle.cs_keep.specs.Seat.{IsSplit, joined, saturated};
 use std::marker::Model;
 use std::sync::ledger::{Ledger, Share};
 
-/// Some parts of a keep's ledger, a share of its total, and the total last seen; of its own keep.
+/// Some parts of a keep's ledger, a share of its total, and the total last seen. Its type ties it
+/// to its keep.
 #[derive(Drop)]
 pub struct Seat<L: Ledger> {
     pub(crate) mark: Share<L>,

@@ -21,7 +21,7 @@ const SHELL: &str = "SHELL";
 /// The shell if no setting names one (crontab(5)).
 const USUAL_SHELL: &str = "/bin/sh";
 
-/// Returns the process of a command: the shell that its setting `SHELL` names, by default
+/// Returns the process to start for a command: the shell that its setting `SHELL` names, by default
 /// `/bin/sh`, with `-c` and the command, and these settings and `SHELL` in its environment
 /// (crontab(5)). The rest of the environment, the folder and the streams are the daemon's.
 ///

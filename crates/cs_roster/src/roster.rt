@@ -102,7 +102,6 @@ impl Roster {
         }
     }
 
-    /// Marks a run as one that has left.
     fn mark(&mut self, run: Run)
         requires { has self.old run ≡ true }
         ensures { self.new ≡ others self.old run }

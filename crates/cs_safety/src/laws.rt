@@ -7,8 +7,8 @@ ghost use Rattle.cs_history.specs.declared.run.Run.{Run};
 ghost use Rattle.cs_safety.specs.Example.{nightly, nightly_backlog, nightly_reach};
 
 /// Lemma. In every legal history in which each run ends within its declared time, each running run
-/// is in its window: that of a waiting run lasts the reach that bounds its backlog; that of a
-/// catch-up run is the catch-up window of its day.
+/// is in its window: that of a job that waits for its lock lasts the reach that bounds its backlog;
+/// that of a catch-up run is the catch-up window of its day.
 pub fn runs_stay_in_their_windows()
     ensures { (p : Plan) (c : ℕ → ℕ) (b : ℕ → ℕ → ℕ) (h : History) → IsPlan p → IsBounded p c b
         → IsLegal p h → IsInTime p h

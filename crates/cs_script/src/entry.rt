@@ -45,7 +45,6 @@ fn minute_at(moment: &[u8]) -> Result<Minute, ScriptFault>
     minute_of(moment).ok_or(ScriptFault::BadDate)
 }
 
-/// The minute of a start.
 fn start_minute(moment: &[u8]) -> Result<Minute, ScriptFault>
     ensures value { Gives (λ t. t) result
         (or_fault BadDate (from_on first_start (minute_of moment.now))) }
@@ -71,7 +70,6 @@ fn command(plan: &Plan, number: &[u8]) -> Result<u16, ScriptFault>
     job_on(plan, number).ok_or(ScriptFault::UnknownName)
 }
 
-/// The job of the anacrontab with that identifier.
 fn anacron_job(plan: &Plan, identifier: &[u8]) -> Result<u16, ScriptFault>
     ensures { Gives (λ j. j) result (or_fault UnknownName (job_named plan.now identifier.now)) }
 {

@@ -196,7 +196,6 @@ fn form_behind<'a>(verb: &[u8], text: &'a [u8]) -> Option<Form<'a>>
     None
 }
 
-/// The form of a line, if it has one.
 #[tactic(auto, unfolding(crate::specs::Reading::form_of))]
 pub(crate) fn form_of(line: &[u8]) -> Option<Form<'_>>
     ensures { option_map form_seen result ≡ form_of line.now }

@@ -37,7 +37,6 @@ pub(crate) fn is_cron(plan: &Plan, job: u16) -> bool
     usize::from(job) < plan.crontab().lines().len()
 }
 
-/// The identifier of a job of the anacrontab.
 pub(crate) fn identifier_of(plan: &Plan, job: u16) -> &[u8]
     requires behind { crons plan.now ≤ job }
     requires there { job - crons plan.now < length plan.now.anacrontab.lines }

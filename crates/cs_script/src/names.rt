@@ -44,7 +44,6 @@ pub(crate) fn place_of(plan: &Plan, identifier: &[u8]) -> Option<usize>
         .position(|line| line.identifier() == identifier)
 }
 
-/// The job with the identifier.
 #[tactic(auto, unfolding(crate::specs::Names::job_named))]
 pub(crate) fn job_named(plan: &Plan, identifier: &[u8]) -> Option<u16>
     ensures { result ≡ job_named plan.now identifier.now }

@@ -6,7 +6,6 @@ use cs_civil::Bytes;
 use cs_history::{Refusal, Reply};
 use std::alloc::{AllocError, Global};
 
-/// The text of a reply.
 fn taken_text(reply: Reply) -> &'static str
     ensures { result.now ≡ taken_text reply }
 {

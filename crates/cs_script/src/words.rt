@@ -28,7 +28,6 @@ fn has_no_space(text: &[u8]) -> bool
     text.iter().all(|byte| *byte != b' ')
 }
 
-/// Whether the text is one word.
 #[tactic(auto, unfolding(crate::specs::Reading::is_word))]
 pub(crate) fn is_word(text: &[u8]) -> bool
     ensures { result ≡ is_word text.now }

@@ -25,7 +25,6 @@ fn group(plan: &Plan, job: u16) -> Option<u8>
     }
 }
 
-/// The weight of a run of the job.
 pub(crate) fn weight(plan: &Plan, job: u16) -> u8
     ensures { result ≡ (as_plan plan.now).weight job }
 {

@@ -19,7 +19,6 @@ pub(crate) struct Role {
 }
 
 impl Role {
-    /// Whether it takes the lock of its group.
     pub(crate) fn takes_lock(&self) -> bool
         ensures { result ≡ takes self.now.mode }
     {
@@ -76,7 +75,6 @@ pub(crate) fn clash(one: Role, other: Role) -> bool
         && ((one.is_cron || other.is_cron) && !(one.takes_lock() && other.takes_lock()))
 }
 
-/// The role of the job of a window.
 pub(crate) fn role_of(roles: &[Role], window: &Window) -> Role
     ensures { result ≡ role_at roles.now window.now.job }
 {

@@ -39,7 +39,6 @@ impl Model for Roles {
     ghost invariant = { λ a. (a.groups ≤ 64) × AreGrouped a.jobs.items a.groups };
 }
 
-/// Whether this group of the plan is exclusive.
 #[tactic(auto, using(crate::proofs::PlanRoles::exclusive_some, crate::proofs::PlanRoles::exclusive_none))]
 fn is_exclusive(plan: &Plan, group: Option<u8>) -> bool
     ensures { result ≡ exclusive_group (as_plan plan.now) group }
@@ -53,7 +52,6 @@ fn is_exclusive(plan: &Plan, group: Option<u8>) -> bool
     }
 }
 
-/// The role of the job with this number.
 fn role_of(plan: &Plan, number: usize, job: Job) -> Role
     requires { slice_get plan.now.jobs number ≡ Some job }
     ensures { result ≡ role_of (as_plan plan.now) number }

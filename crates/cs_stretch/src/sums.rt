@@ -32,7 +32,6 @@ fn windows_of(
     Ok(found)
 }
 
-/// Whether the job of a window is of this group.
 fn is_of(roles: &[Role], group: usize, window: &Window) -> bool
     ensures { result ≡ is_of roles.now group window.now }
 {
@@ -42,7 +41,6 @@ fn is_of(roles: &[Role], group: usize, window: &Window) -> bool
     }
 }
 
-/// Whether one of the windows is of an exclusive group.
 fn any_exclusive(roles: &[Role], windows: &[Window]) -> bool
     ensures { result ≡ false
         → AllByRecursion (λ w. (role_at roles.now w.job).is_exclusive ≡ false) windows.now }
@@ -124,7 +122,6 @@ fn are_lone(roles: &[Role], takers: &[u16], windows: &[Window]) -> bool
     true
 }
 
-/// Whether one of the windows is of a skip job.
 fn any_skips(roles: &[Role], windows: &[Window]) -> bool
     ensures { result ≡ false
         → AllByRecursion (λ w. is_skip (role_at roles.now w.job).mode ≡ false) windows.now }

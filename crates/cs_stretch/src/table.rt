@@ -140,7 +140,6 @@ pub(crate) fn greatest(roles: &[Role], amount: Amount, windows: &[Window]) -> [u
     table
 }
 
-/// Adds a number at one place.
 pub(crate) fn raise_at(table: &mut [u32], place: usize, number: u8)
     requires long { length table.old ≡ 1441 }
     requires inside { place ≤ 1440 }

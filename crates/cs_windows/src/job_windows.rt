@@ -5,14 +5,13 @@ use crate::window::MINUTES_OF_DAY;
 use cs_civil::DayKind;
 use cs_schedule::{MinuteSet, Schedule};
 
-/// What a job occupies: the windows in which its runs may go on.
-///
-/// A window of a cron job begins at each minute at which its schedule is due (`crontab(5)`), and
-/// lasts `reach` minutes. The catch-up window of an anacron job (`anacron(8)`) begins at minute
-/// `from` of each day, and lasts `reach` minutes; there is none if `from` is 1,440 or more.
+/// What a job occupies: windows of `reach` minutes, in which its runs may go on.
 #[derive(Clone, Copy, Debug)]
 pub enum Occupied<'a> {
+    /// A cron job's begin at each minute at which the schedule is due (`crontab(5)`).
     Cron { schedule: &'a Schedule, reach: u16 },
+    /// An anacron job's catch-up window begins at minute `from` of each day (`anacron(8)`); there is
+    /// none if `from` is 1,440 or more.
     CatchUp { from: u16, reach: u16 },
 }
 

@@ -49,7 +49,6 @@ pub struct LeafAt<'a> {
 impl Entry {
     ghost use Rattle.cs_windows.specs.Entries.{names};
 
-    /// Whether this names the window.
     fn names(&self, window: &Window) -> bool
         ensures { result ≡ names self.now window.now }
     {

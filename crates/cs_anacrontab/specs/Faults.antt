@@ -34,7 +34,7 @@ PeriodFails word fault =
 abbrev pub IsMissing : List ℕ → JobFault → Type 0
 IsMissing text fault = (text ≡ []) × (fault ≡ faults.MissingField)
 
--- Behind the delay, the identifier is missing or is none, or the command is missing.
+-- After the delay, the identifier is missing or is none, or the command is missing.
 abbrev pub IdentifierFails : List ℕ → JobFault → Type 0
 IdentifierFails text fault =
     IsMissing text fault
@@ -42,7 +42,7 @@ IdentifierFails text fault =
     × ((¬ (IsIdentifier word) × (fault ≡ faults.BadIdentifier))
     ⊎ (IsIdentifier word × IsMissing rest fault)))
 
--- Behind the period, the delay is missing or is none, or what follows has the fault.
+-- After the period, the delay is missing or is none, or what follows has the fault.
 abbrev pub DelayFails : List ℕ → JobFault → Type 0
 DelayFails text fault =
     IsMissing text fault

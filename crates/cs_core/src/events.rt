@@ -132,7 +132,7 @@ impl Core {
         Ok(Reply::Waiting)
     }
 
-    /// The job's run is given up.
+    /// The job's run is skipped.
     fn begin_skipped(&mut self, job: u16) -> Reply
         requires may { refusal (as_plan self.old.plan) self.old.state (event.Begin job) ≡ None }
         requires skips { answer (as_plan self.old.plan) self.old.state.running job ≡ Skips }

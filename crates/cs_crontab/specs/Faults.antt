@@ -24,7 +24,7 @@ IsFieldFault part word fault =
     × (slice_split is_comma word ≡ before ++ (text ∷ behind)) × AreItems part before items
     × (item_of part text ≡ Err fault)
 
--- The fields before one are fine; there the text ends, or the next word has the fault. Behind the
+-- The fields before one are fine; there the text ends, or the next word has the fault. After the
 -- last field the text ends.
 abbrev pub FieldsFail : List Part → List ℕ → LineFault → Type 0
 FieldsFail [] text fault = (text ≡ []) × (fault ≡ faults.NoCommand)
@@ -40,7 +40,7 @@ FieldsFail (part ∷ parts) text fault =
 abbrev pub five_parts : List Part
 five_parts = Minute ∷ Hour ∷ Dom ∷ Month ∷ Dow ∷ []
 
--- Behind `@`, the word stands for nothing, or only blanks follow it.
+-- After `@`, the word stands for nothing, or only blanks follow it.
 abbrev pub WordFails : List ℕ → LineFault → Type 0
 WordFails text fault =
     (word behind : List ℕ) × (text ≡ word ++ behind) × (list_all is_solid word ≡ true)

@@ -151,7 +151,7 @@ beside_catch_up m = record {
 abbrev pub heavy : Mode → Plan
 heavy m = plan_of 2 (m ∷ m ∷ []) (at_of (0 ∷ 0 ∷ [])) 3 true (λ _. 10) 2
 
--- at each full hour a job of 20 minutes that waits, at minute 49 one that gives up
+-- at each full hour a job of 20 minutes that waits, at minute 49 a skip job
 abbrev pub skipping : Plan
 skipping = plan_of 2 (Wait ∷ Skip ∷ []) (λ j t. t % 60 == get_or (0 ∷ 49 ∷ []) j 0) 3 true
     (λ j. if j == 0 then 20 else 10) 1
@@ -181,7 +181,7 @@ abbrev pub all_begin : History
 all_begin = history (record { now = at 59; up = true; stamps = [] })
     (Minute (at 60) ∷ Begin 0 ∷ Begin 1 ∷ Begin 2 ∷ [])
 
--- a job that gives up finds the lock held by one that waits
+-- a skip job finds the lock held by one that waits
 abbrev pub held_lock : History
 held_lock = history (record { now = at 59; up = true; stamps = [] })
     (Minute (at 60) ∷ Begin 1 ∷ Begin 0 ∷ [])

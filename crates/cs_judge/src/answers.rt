@@ -38,7 +38,7 @@ pub enum Outcome {
     Safe,
     /// A counterexample was found.
     Unsafe,
-    /// Neither was found.
+    /// Neither was found, or no file can hold the certificate.
     Unknown,
     /// Unknown, since memory ran out.
     NoMemory,

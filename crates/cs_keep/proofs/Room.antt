@@ -68,7 +68,7 @@ not_full k e a b =
 first_is : (o : Option Refusal) (b : Bool) → o ≡ None → (or_full o b) ≡ (if b then Some HistoryFull else None)
 first_is o b e = ap (λ x. or_full x b) e
 
--- a refusal for want of room in the journal
+-- a refusal for lack of room in the journal
 pub refused_full : (k : Keeping) (e : Event) → refusal (plan_of k) k.core.state e ≡ None → length k.journal + length k.core.state.running ≤ MAX_ENTRIES → k.total + length k.core.state.running < 2 ^ 64
     → (MAX_ENTRIES < length k.journal + 1 + runs_after k e) ⊎ (2 ^ 64 - 1 < k.total + 1 + runs_after k e) → IsRefused k e HistoryFull
 refused_full k e n few counted h = record {

@@ -110,7 +110,7 @@ fn set(shell: &mut Command, name: &[u8], value: &[u8]) -> Option<()>
     Some(())
 }
 
-/// The shell that settings name, where it is UTF-8.
+/// The shell that settings name, if it is UTF-8.
 fn shell_of(env: &[(Bytes, Bytes)]) -> Option<&str>
     ensures { IfSome result (λ shell. value_of (with_shell env.now) shell_name ≡ Some shell.now) }
 {

@@ -42,7 +42,7 @@ overload_of p rs = overload p (weight_of p rs)
 abbrev pub break_among : Plan → List Going → Option Shown
 break_among p rs = option_or (first_clash p rs) (overload_of p rs)
 
--- a run that gives up, since its lock is held (flock(1), -n)
+-- a run that is skipped, since its lock is held (flock(1), -n)
 abbrev pub skip_of : Answer → ℕ → ℕ → Option Shown
 skip_of Starts j t = None
 skip_of Waits j t = None

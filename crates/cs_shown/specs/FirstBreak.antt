@@ -39,7 +39,7 @@ pub record IsOverload (p : Plan) (rs : List Going) (n : ℕ) : Type 0 where
   pub weight : n ≡ weight_of p rs
   pub more : p.capacity < n
 
--- the event begins job j at minute t, which finds its lock held and gives up; what runs then may
+-- the event begins job j at minute t, which finds its lock held and is skipped; what runs then may
 pub record IsSkip (p : Plan) (h : History) (e : Event) (j t : ℕ) : Type 0 where
   pub safe : IsSafeNow p (h ▸ e)
   pub begin : e ≡ Begin j

@@ -37,7 +37,7 @@ together_text d r q = both_text d r q ++ codes " run together"
 unfoldable pub load_text : Declared → ℕ → List ℕ
 load_text d n = codes "load " ++ (decimal n ++ (codes " of " ++ decimal d.capacity))
 
--- a run that gave up
+-- a run that was skipped
 unfoldable pub skip_text : Declared → Run → List ℕ
 skip_text d r = run_text d r ++ codes " is skipped"
 

@@ -42,7 +42,7 @@ impl Role {
         }
     }
 
-    /// Whether its run is skipped where the lock is held.
+    /// Whether its run is skipped if the lock is held.
     pub(crate) fn skips(&self) -> bool
         ensures { result ≡ is_skip self.now.mode }
     {

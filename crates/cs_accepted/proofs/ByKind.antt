@@ -40,7 +40,7 @@ module _ (p : Plan) (on : ℕ → Kind → ℕ → Bool) (a : Certificate) (due 
   same_step true x y z e = e refl
   same_step false x y z e = refl
 
-  -- what the checker computes from kinds is what the rules say of classes
+  -- what the checker computes from kinds is what the rules have for classes
   pub by_kinds : (ks : List Kind) → IsChain ks → windows_on (occupied p on (reach_in p a)) ks ≡ windows_of p a (map a.class_of ks)
   by_kinds [] chain = refl
   by_kinds (k ∷ ks) chain =

@@ -1,4 +1,4 @@
--- Each chain of up to four kinds stands on successive days of the first 28 years.
+-- Each chain of up to four kinds occurs on successive days of the first 28 years.
 use Rattle.std.proofs.Common.{◌≡◌, ℕ, zero, suc, ◌+◌, ◌-◌, ◌%◌, ◌≤◌, Bool, true, false, List, [], ◌∷◌, map, length, Contains, Option, Some, refl, sym, ap, ◌∙◌, subst, arith, inl, inr, ◌⊎◌}
 use Rattle.std.specs.Prelude.{unwrap_or, ⊤}
 use Rattle.std.specs.List.{find, range_with_len}

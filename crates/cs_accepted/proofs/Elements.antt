@@ -19,7 +19,7 @@ all_has P [] x a h = absurd h
 all_has P (y ∷ ys) x a (inl e) = subst P e a.0
 all_has P (y ∷ ys) x a (inr h) = all_has P ys x a.1 h
 
--- two different elements stand in one order or the other
+-- two different elements are in one order or the other
 pub pair_has : {X : Type 0} (R : X → X → Type 0) (xs : List X) (x y : X) → EachPair R xs → Has xs x → Has xs y → (x ≡ y → ⊥) → R x y ⊎ R y x
 pair_has R [] x y a h k n = absurd h
 pair_has R (z ∷ zs) x y a (inl e) (inl f) n = absurd (n (sym e ∙ f))

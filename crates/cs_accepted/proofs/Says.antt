@@ -1,4 +1,4 @@
--- An answer of nothing says that a rule holds; a test tells whether a fact holds.
+-- If nothing is found a rule holds; a test decides whether a fact holds.
 use Rattle.std.proofs.Common.{ℕ, ◌<◌, ◌≡◌, Bool, true, false, not, ◌&&◌, ◌||◌, cond, List, [], ◌∷◌, filter, find, option_map, Option, Some, None, refl, sym, subst, arith, inl, inr, ⊎_elim}
 use Rattle.std.specs.List.{AllByRecursion, list_any, list_all, range_with_len}
 use Rattle.std.proofs.lemmas.Bool.{and_parts, and_from, or_cases}

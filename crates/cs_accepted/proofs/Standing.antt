@@ -1,4 +1,4 @@
--- The windows of a stretch that hold a minute of its last day are those that hold this civil minute.
+-- The windows of a stretch at a minute of its last day are those that hold this civil minute.
 use Rattle.std.proofs.Common.{ℕ, ◌+◌, ◌-◌, ◌*◌, ◌/◌, ◌%◌, ◌<◌, ◌≤◌, ◌≡◌, max, min, Bool, true, false, map, refl, sym, ap, ◌∙◌, arith, ◌==◌, if◌then◌else◌}
 use Rattle.std.specs.List.{range_with_len}
 use Rattle.std.proofs.lemmas.Bool.{ltb-true, lt-ltb}
@@ -24,7 +24,7 @@ both_if : (b x y z w : Bool) → (b ≡ true → x ≡ z) → y ≡ w → (if b 
 both_if true x y z w e f = e refl
 both_if false x y z w e f = f
 
--- any days x, of which `on` tells what is due
+-- any days x, with what is due by `on`
 module _ {D : Type 0} (p : Plan) (c : ℕ → ℕ) (on : ℕ → D → ℕ → Bool) (x : ℕ → D)
     (tells : (j d m : ℕ) → is_cron p j ≡ true → m < 1440 → on j (x d) m ≡ p.due j (1440 * d + m)) where
   begins_is : (j d m : ℕ) → m < 1440 → begins_on p on j (x d) m ≡ opens p j (1440 * d + m)

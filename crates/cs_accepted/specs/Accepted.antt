@@ -1,4 +1,4 @@
--- What makes a certificate accepted: eight rules about the kinds of days and the stretches that successive days have.
+-- What makes a certificate accepted: eight rules about kinds of days and stretches of days.
 use Rattle.std.specs.Prelude.{◌≡◌, ℕ, ◌+◌, ◌-◌, ◌*◌, ◌/◌, ◌%◌, ◌<◌, ◌≤◌, Bool, true, false, not, ◌&&◌, ◌||◌, List, [], ◌∷◌, Option, Some, None, if◌then◌else◌, ◌==◌, filter, map, length, get_or, unwrap_or, Contains, ⊤}
 use Rattle.std.specs.List.{AllByRecursion, range_with_len}
 use Rattle.cs_civil.specs.Calendar.{Kind, IsKind, kind, kinds_after}
@@ -21,7 +21,8 @@ use Rattle.cs_windows.specs.Tree.{Tree, entries_at}
 abbrev pub reach_in : Plan → Certificate → ℕ → ℕ
 reach_in p a j = unwrap_or (a.reach j) (p.limit j)
 
--- whether a window of the job begins at a minute of such a day: where `on` tells that a cron job is due, and where the catch-up hours begin
+-- whether a window of the job begins at a minute of such a day: where a cron job is due by `on`,
+-- and where the catch-up hours begin
 abbrev pub begins_on : {D : Type 0} → Plan → (ℕ → D → ℕ → Bool) → ℕ → D → ℕ → Bool
 begins_on p on j day m = if is_cron p j then on j day m else (m == p.from)
 
@@ -30,7 +31,7 @@ abbrev pub occupied : {D : Type 0} → Plan → (ℕ → D → ℕ → Bool) →
 occupied p on c =
     map (λ j. record { begins = begins_on p on j; lasts = reach p c j }) (below p.jobs)
 
--- when a job is due on a day of a class, as the certificate says
+-- when a job is due on a day of a class, by the certificate
 abbrev pub due_in : Certificate → ℕ → ℕ → ℕ → Bool
 due_in a j class m = a.due class j m
 
@@ -80,7 +81,7 @@ arrivals p a g class m = total (λ j. if locks p g j then p.limit j else 0)
 abbrev pub nth : List ℕ → ℕ → ℕ
 nth s i = get_or s i 0
 
--- windows of these jobs may not hold one minute: they are of one exclusive group, one of them is cron's, and not both take its lock
+-- two jobs' windows may not meet: of one exclusive group, one is cron's, and not both take its lock
 abbrev pub clash : Plan → ℕ → ℕ → Bool
 clash p i j =
     rivals p i j && ((is_cron p i || is_cron p j) && not (takes_lock p i && takes_lock p j))
@@ -129,7 +130,7 @@ AreFree p ws = (m : ℕ) → m < 1440
 abbrev pub InEach : Certificate → ℕ → (Stretch → Type 0) → Type 0
 InEach a n P = AllByRecursion (λ s. IsUsed a n s.of → P s) a.stretches
 
--- The eight rules, for stretches of n days. `on` tells at which minutes of a day of a kind a cron job is due.
+-- The eight rules, for stretches of n days. `on` decides when cron jobs are due on a kind of day.
 pub record IsAccepted (p : Plan) (on : ℕ → Kind → ℕ → Bool) (a : Certificate) (n : ℕ) : Type 0 where
   -- due minutes: each kind's class has exactly those of the kind
   pub due : (k : Kind) → IsKind k → (j m : ℕ) → is_cron p j ≡ true → m < 1440
@@ -137,18 +138,19 @@ pub record IsAccepted (p : Plan) (on : ℕ → Kind → ℕ → Bool) (a : Certi
   -- stretches: each n successive kinds have the stretch of their classes
   pub listed : (ks : List Kind) → IsChain ks → length ks ≡ n
       → Contains (map (λ s. s.of) a.stretches) (map a.class_of ks)
-  -- backlog steps: in each stretch in use, from its last day but one to its last, for each group with a waiting job
+  -- backlog steps: in each stretch in use, from the last day but one, for each waiting job's group
   pub steps : (g : ℕ) → HasWaiter p g
       → InEach a n
       (λ s. StepsHold (a.bound (nth s.of (n - 2)) g) (arrivals p a g (nth s.of (n - 2)))
       (a.bound (nth s.of (n - 1)) g))
-  -- reaches: each waiting job has one, and within it the backlog of its group is zero after each due minute of the first day
+  -- reaches: each waiting job has one, and within it the backlog of its group is zero after each
+  -- due minute of the first day
   pub clears : (j g : ℕ) → is_cron p j ≡ true → waits p j ≡ true → locks p g j ≡ true
       → (r : ℕ) × (a.reach j ≡ Some r)
       × InEach a n
       (λ s. (m : ℕ) → m < 1440 → a.due (nth s.of 0) j m ≡ true
       → ClearsBy (map (λ class. a.bound class g) s.of) m r)
-  -- leaves: where windows are listed, at each minute of the last day the leaf there lists each window that holds it
+  -- leaves: where windows are listed, each minute's leaf on the last day lists all that hold it
   pub covered : InEach a n (IsCovered p a)
   -- collisions, capacity, skip jobs: on the last day
   pub apart : InEach a n (λ s. AreApart p (windows_of p a s.of))

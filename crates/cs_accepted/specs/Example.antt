@@ -1,4 +1,4 @@
--- A certificate for one job, due at each midnight, that waits for its lock and takes up to ten minutes.
+-- A certificate for one job, due at midnight, that waits for its lock and takes up to ten minutes.
 use Rattle.std.specs.Prelude.{ℕ, ◌-◌, Bool, [], ◌∷◌, Some, if◌then◌else◌, ◌==◌}
 use Rattle.cs_civil.specs.Calendar.{Kind}
 use Rattle.cs_accepted.specs.Certificate.{Certificate}

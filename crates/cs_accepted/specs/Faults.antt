@@ -1,4 +1,4 @@
--- The fault that a checker answers: the first of the eight rules that is broken, and of it the first place.
+-- The fault that a checker returns: the first of the eight rules broken, and its first place.
 use Rattle.std.specs.Prelude.{ℕ, zero, suc, ◌+◌, ◌-◌, ◌*◌, Bool, true, false, not, ◌&&◌, ◌||◌, List, [], ◌∷◌, Option, Some, None, if◌then◌else◌, nat_lt, nat_le, ◌==◌, filter, find, flat_map, map, length, unwrap_or, option_map}
 use Rattle.std.specs.List.{list_all, list_any, range_with_len}
 use Rattle.cs_civil.specs.Calendar.{Kind, kind, kinds_after}
@@ -36,7 +36,7 @@ abbrev pub first_of : {A B : Type 0} → (A → Option B) → List A → Option 
 first_of f [] = None
 first_of f (x ∷ xs) = or_else (f x) (first_of f xs)
 
--- the first element that stands badly with a later one, and the first such later one
+-- the first element that is bad with a later one, and the first such later one
 abbrev pub first_pair : {A : Type 0} → (A → A → Bool) → List A → Option (A × A)
 first_pair bad [] = None
 first_pair bad (x ∷ xs) = or_else (option_map (λ y. (x, y)) (find (bad x) xs)) (first_pair bad xs)
@@ -109,7 +109,7 @@ steps_at p a n s m g = nat_le ((a.bound (nth s.of (n - 2)) g m + arrivals p a g
     (nth s.of (n - 2)) m) - 1)
     (at_days (a.bound (nth s.of (n - 2)) g ∷ a.bound (nth s.of (n - 1)) g ∷ []) (m + 1))
 
--- the first minute of the eve, and the first group there, whose step fails: the bound of the next minute is too low
+-- the first minute of the eve, and the first group there, whose next bound is too low
 abbrev pub rise_in : Plan → Certificate → ℕ → Stretch → Option (ℕ × ℕ)
 rise_in p a n s = first_of
     (λ m. first_of (λ g. unless (not (has_waiter p g) || steps_at p a n s m g) (m, g))
@@ -127,7 +127,8 @@ clears_by bs due reach = list_any
     (λ m. (nat_lt due m && nat_le m (due + reach)) && (at_days bs m == 0))
     (range_with_len 0 (1440 * length bs))
 
--- whether the reach is listed, and long enough after each due minute of the first day of each stretch in use
+-- whether the reach is listed, and long enough after each due minute of the first day of each
+-- stretch in use
 abbrev pub reaches_far : Plan → Certificate → ℕ → ℕ → Option ℕ → Bool
 reaches_far p a n j None = false
 reaches_far p a n j (Some r) = list_all
@@ -142,7 +143,8 @@ reach_fault p a n = first_of
     (λ j. unless (not (waits p j) || reaches_far p a n j (a.reach j)) (ReachTooShort j))
     (below p.crons)
 
--- where windows are listed: the first minute of the day, and the first window that holds it, that isn't in the leaf there
+-- where windows are listed: the first minute of the day, and the first window that holds it, that
+-- isn't in the leaf there
 abbrev pub missing_in : Option Tree → List Window → Option (ℕ × Window)
 missing_in None ws = None
 missing_in (Some tree) ws = first_of
@@ -155,7 +157,8 @@ leaf_fault p a n = first_of
     (λ s. option_map (λ f. WindowMissing f.1 (minute_of a n s f.0))
     (missing_in s.tree (windows_of p a s.of))) (used_stretches a n)
 
--- the first minute of the day, the first group there, and the first two of its windows that may not hold one minute
+-- the first minute of the day, the first group there, and the first two of its windows that may not
+-- hold one minute
 abbrev pub collision_in : Plan → List Window → Option (ℕ × Window × Window)
 collision_in p ws = first_of
     (λ m. first_of

@@ -18,8 +18,8 @@ ghost use Rattle.cs_windows.specs.Windows.{windows_on};
 ghost use Rattle.cs_history.specs.Plan.{is_cron};
 ghost use Rattle.cs_accepted.specs.Faults.{first_fault, last_of, stretch_length};
 
-/// The windows of the stretch that ends on day d, and hold minute m of it, are those that hold the civil minute.
-/// The call does nothing.
+/// Lemma. The windows of the stretch that ends on day d that hold minute m of it are those that
+/// hold the civil minute.
 pub fn windows_are_exact()
     ensures all { (p : Plan) (on : ℕ → Kind → ℕ → Bool) (a : Certificate) (n d m first : ℕ)
         (r : Run) → IsPlan p → IsByKind p on → IsLength p on (reach_in p a) n
@@ -33,8 +33,8 @@ pub fn windows_are_exact()
         → Holds p (reach_in p a) (1440 * d + m) (run_at d w) }
 {}
 
-/// Where a certificate is accepted, each minute that a history may reach is calm, and the work of each group with a job
-/// that waits is bounded. The call does nothing.
+/// Lemma. If a certificate is accepted, each minute that a history may reach is calm, and the work
+/// of each group with a job that waits is bounded.
 pub fn accepted_is_calm()
     ensures calm { (p : Plan) (on : ℕ → Kind → ℕ → Bool) (a : Certificate) (n : ℕ) → IsPlan p
         → IsByKind p on → IsLength p on (reach_in p a) n → IsAccepted p on a n → (t : ℕ)
@@ -44,17 +44,16 @@ pub fn accepted_is_calm()
         → IsBounded p (reach_in p a) (bound_on a) }
 {}
 
-/// Where a certificate is accepted, every legal history in which each run ends within its declared time is safe: no two
-/// runs of an exclusive group run at once but such as both hold its lock shared, the weights are within the capacity, and
-/// no due minute of a skip job is skipped. The call does nothing.
+/// Lemma. If a certificate is accepted, every legal history in which each run ends within its
+/// declared time is safe: no two runs of an exclusive group run at once unless both hold its lock
+/// shared, the weights are within the capacity, and no due minute of a skip job is skipped.
 pub fn accepted_is_safe()
     ensures { (p : Plan) (on : ℕ → Kind → ℕ → Bool) (a : Certificate) (n : ℕ) (h : History)
         → IsPlan p → IsByKind p on → IsLength p on (reach_in p a) n → IsAccepted p on a n
         → IsLegal p h → IsInTime p h → IsSafe p h }
 {}
 
-/// No fault is found exactly where the certificate is accepted, and its stretches are as long as they have to be. The call
-/// does nothing.
+/// Lemma. A certificate is accepted exactly if no fault is found, and stretches are long enough.
 pub fn no_fault_is_accepted()
     ensures faults { (p : Plan) (on : ℕ → Kind → ℕ → Bool) (a : Certificate) (n : ℕ) → IsPlan p
         → 1 ≤ n → (first_fault p on a n ≡ None) ↔ IsAccepted p on a n }
@@ -62,8 +61,7 @@ pub fn no_fault_is_accepted()
         → IsLength p on c (stretch_length p on c) }
 {}
 
-/// Where each kind's class has the due minutes of that kind, the windows of successive kinds are those of their classes.
-/// The call does nothing.
+/// Lemma. If classes have their kinds' due minutes, successive kinds have their classes' windows.
 pub fn classes_have_the_windows_of_kinds()
     ensures { (p : Plan) (on : ℕ → Kind → ℕ → Bool) (a : Certificate) (ks : List Kind)
         → ((k : Kind) → IsKind k → (j m : ℕ) → is_cron p j ≡ true → m < 1440
@@ -71,15 +69,15 @@ pub fn classes_have_the_windows_of_kinds()
         → windows_on (occupied p on (reach_in p a)) ks ≡ windows_of p a (map a.class_of ks) }
 {}
 
-/// The day that the text of a fault names does end such days: each chain of up to four kinds comes within
-/// the first 28 years. The call does nothing.
+/// Lemma. The day in the text of a fault ends such days: each chain of up to four kinds occurs
+/// within the first 28 years.
 #[tactic(auto, using(crate::proofs::Coming::last_ends))]
 pub fn named_days_end_stretches()
     ensures { (a : Certificate) (n : ℕ) (s : List ℕ) → 1 ≤ n → n ≤ 4 → IsUsed a n s
         → EndsOn a n s (last_of a n s) }
 {}
 
-/// What is asked of a plan and a certificate can be met, here by a job that waits. The call does nothing.
+/// Lemma. A plan and a certificate can meet the premises, here with a job that waits.
 pub fn some_are_accepted()
     ensures plan { IsPlan nightly }
     ensures kinds { IsByKind nightly at_midnight }

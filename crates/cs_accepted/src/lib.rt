@@ -1,4 +1,4 @@
-//! What makes a certificate accepted, and why an accepted plan is calm at every minute and safe in every history.
+//! When a certificate is accepted, and why such a plan is calm at every minute and always safe.
 #![tactic(auto)]
 
 mod laws;

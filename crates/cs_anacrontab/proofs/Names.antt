@@ -47,7 +47,7 @@ distinct_part lines more distinct = λ i j d low high same.
     distinct i j d low (omega (arith, high, length-append lines more))
     (ap (λ (x : JobLine). x.identifier) (get_or_append_left lines more d i (omega (arith, low, high))) ∙ same ∙ sym (ap (λ (x : JobLine). x.identifier) (get_or_append_left lines more d j high)))
 
--- the job behind them is none of them
+-- the job after them is none of them
 pub distinct_last : (lines : List JobLine) (job : JobLine) (more : List JobLine) → AreDistinct (lines ++ job ∷ more) → All (λ before. before.identifier ≢ job.identifier) lines
 distinct_last lines job more distinct = λ k d below same.
     distinct k (length lines) d below (omega (arith, length-append lines (job ∷ more)))

@@ -12,7 +12,7 @@ no_such_date text n none le is =
     let h = has_number n in
     none (date_of n, record { year = year_bound n le; month = h.month; dom = h.dom }, is)
 
--- the hyphens tell nothing
+-- the hyphens make no difference
 hyphened : (d e : CivilDate) → date_digits d ≡ date_digits e → date_bytes d ≡ date_bytes e
 hyphened d e h = cc
 

@@ -171,7 +171,7 @@ lines_again n table others (line ∷ lines) (entry, rest, first, more, is) fits 
 abbrev Stands : Table → List ℕ → JobFault → Type 0
 Stands table line fault = LineFails line fault ⊎ (((fault ≡ faults.TwiceNamed) × IsTwiceNamed table line) ⊎ ((fault ≡ faults.TooManyJobs) × IsOneTooMany table line))
 
--- the lines before the fault, the line, and why it stands there
+-- the lines before the fault, the line, and why the fault is its
 record Stops (n : ℕ) (table : Table) (lines : List (List ℕ)) (number : ℕ) (fault : JobFault) : Type 0 where
   before : List (List ℕ)
   line : List ℕ
@@ -281,7 +281,7 @@ anacrontab_fails text number fault e = by_length (nat_lt MAX_TABLE (length text)
         let s = lines_fail 1 no_lines (lines_of text) number fault fits_nothing e in
         inr (record { short = ltb-false MAX_TABLE (length text) is; before = s.before; line = s.line; later = s.later; parts = s.parts; place = omega (arith, s.place); table = s.others; fine = s.fine; few = s.fits.few; distinct = s.fits.distinct; stands = s.stands })
 
--- ---- a fault that stands is found
+-- ---- a fault that there is is found
 
 added_stops : (number : ℕ) (table : Table) (line : List ℕ) (fault : JobFault) → Stands table line fault → added number table (line_of line) ≡ Err (number, fault)
 added_stops number table line fault (inl fails) = rw (line_fails_again line fault fails) refl

@@ -1,11 +1,11 @@
--- What an anacrontab says.
+-- The content of an anacrontab.
 use Rattle.std.specs.Prelude.{ℕ, List, [], ◌∷◌, length, All, AllPairs, ◌<◌, ◌≤◌, ◌≢◌}
 use Rattle.cs_crontab.specs.Crontab.{SettingLine}
 use Rattle.cs_anacrontab.specs.declared.period.Period.{Period}
 use Rattle.cs_anacrontab.specs.declared.period.Period.TheVariants.{Days, Monthly}
 use Rattle.cs_anacrontab.specs.declared.limits.TheConstants.{MAX_JOBS, MAX_PERIOD, MAX_DELAY}
 
--- what one line says
+-- the content of one line
 pub data Entry : Type 0 where
   Nothing : Entry
   Setting : (name value : List ℕ) → Entry
@@ -26,7 +26,7 @@ pub record Table : Type 0 where
 abbrev pub no_lines : Table
 no_lines = record { settings = []; lines = [] }
 
--- what a line with that number says, and then what the lines behind it say
+-- a table with the content of a line before it
 abbrev pub with_entry : ℕ → Entry → Table → Table
 with_entry number Nothing table = table
 with_entry number (Setting name value) table = record {
@@ -63,7 +63,7 @@ pub record IsPossible (job : JobLine) : Type 0 where
   pub period : IsPossiblePeriod job.period
   pub delay : job.delay ≤ MAX_DELAY
 
--- There are not too many jobs, each with a period and a delay in range, no two have one identifier, and settings and jobs each stand on a later line than those before them.
+-- There are not too many jobs, in range and with different identifiers, and all is in line order.
 pub record IsOrdered (table : Table) : Type 0 where
   pub few : length table.lines ≤ MAX_JOBS
   pub possible : All IsPossible table.lines

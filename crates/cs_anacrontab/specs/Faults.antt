@@ -14,7 +14,7 @@ use Rattle.cs_anacrontab.specs.declared.fault.AnacronFault.TheVariants.{At, OutO
 use Rattle.cs_anacrontab.specs.Anacrontab.{Job, JobLine, Table, AreDistinct}
 use Rattle.cs_anacrontab.specs.Grammar.{IsNumber, IsPeriod, IsIdentifier, IsContinued, Says, AreLines, IsAnacrontab}
 
--- the first word of a text, and what follows it behind blanks, if anything does
+-- the first word of a text, and what follows it after blanks, if anything does
 pub record HasNext (text word rest : List ℕ) : Type 0 where
   pub gap : List ℕ
   pub parts : text ≡ word ++ (gap ++ rest)
@@ -23,7 +23,7 @@ pub record HasNext (text word rest : List ℕ) : Type 0 where
   pub blank : list_all is_blank gap ≡ true
   pub stops : StopsAt is_blank rest
 
--- The word is no period: an unknown word behind `@`, or no number of days.
+-- The word is no period: an unknown word after `@`, or no number of days.
 abbrev pub PeriodFails : List ℕ → JobFault → Type 0
 PeriodFails word fault =
     ((period : Period) → IsPeriod word period → ⊥)
@@ -34,7 +34,7 @@ PeriodFails word fault =
 abbrev pub IsMissing : List ℕ → JobFault → Type 0
 IsMissing text fault = (text ≡ []) × (fault ≡ faults.MissingField)
 
--- Behind the delay, the identifier is missing or is none, or the command is missing.
+-- After the delay, the identifier is missing or is none, or the command is missing.
 abbrev pub IdentifierFails : List ℕ → JobFault → Type 0
 IdentifierFails text fault =
     IsMissing text fault
@@ -42,7 +42,7 @@ IdentifierFails text fault =
     × ((¬ (IsIdentifier word) × (fault ≡ faults.BadIdentifier))
     ⊎ (IsIdentifier word × IsMissing rest fault)))
 
--- Behind the period, the delay is missing or is none, or what follows has the fault.
+-- After the period, the delay is missing or is none, or what follows has the fault.
 abbrev pub DelayFails : List ℕ → JobFault → Type 0
 DelayFails text fault =
     IsMissing text fault
@@ -59,7 +59,8 @@ abbrev pub SettingFails : List ℕ → JobFault → Type 0
 SettingFails text fault =
     ((name value : List ℕ) → IsSetting text name value → ⊥) × (fault ≡ faults.BadSetting)
 
--- A text without leading blanks, and no comment, ends with a backslash; or, by its first byte, it is a setting or a job with the fault.
+-- A text without leading blanks, and no comment, ends with a backslash; or, by its first byte, it
+-- is a setting or a job with the fault.
 abbrev pub TextFails : List ℕ → JobFault → Type 0
 TextFails [] fault = ⊥
 TextFails (b ∷ bs) fault =
@@ -69,7 +70,7 @@ TextFails (b ∷ bs) fault =
     × (((begins_setting b ≡ true) × SettingFails (b ∷ bs) fault)
     ⊎ ((begins_setting b ≡ false) × JobFails (b ∷ bs) fault))))
 
--- The line is too long; or it holds a zero byte; or its text behind the blanks at its front has the fault.
+-- The line is too long, or holds a zero byte, or its text after leading blanks has the fault.
 abbrev pub LineFails : List ℕ → JobFault → Type 0
 LineFails line fault =
     ((MAX_LINE < length line) × (fault ≡ faults.TooLong))
@@ -86,15 +87,15 @@ IsTwiceNamed table line =
     × Says line (Job period delay identifier command) × Contains table.lines before
     × (before.identifier ≡ identifier)
 
--- a job with an identifier of its own behind as many as there may be
+-- a job with an identifier of its own after as many as there may be
 abbrev pub IsOneTooMany : Table → List ℕ → Type 0
 IsOneTooMany table line =
     (period : Period) × (delay : ℕ) × (identifier command : List ℕ)
     × Says line (Job period delay identifier command)
     × All (λ before. before.identifier ≢ identifier) table.lines × (length table.lines ≡ MAX_JOBS)
 
--- The first line with a fault: the lines before it have none. An identifier that stood before and a job above the limit, in this
--- order, are faults after all others of their line.
+-- The first line with a fault: the lines before it have none. An identifier that stood before and a
+-- job above the limit, in this order, are faults after all others of their line.
 pub record IsFirstFault (text : List ℕ) (number : ℕ) (fault : JobFault) : Type 0 where
   pub short : length text ≤ MAX_TABLE
   pub before : List (List ℕ)

@@ -31,7 +31,7 @@ pub record IsIdentifier (text : List ℕ) : Type 0 where
   pub no_dot : text ≢ codes "."
   pub no_dots : text ≢ codes ".."
 
--- a word without blanks, blanks behind it, and then the rest
+-- a word without blanks, blanks after it, and then the rest
 pub record HasWord (text word rest : List ℕ) : Type 0 where
   pub gap : List ℕ
   pub parts : text ≡ word ++ (gap ++ rest)
@@ -58,8 +58,8 @@ pub record IsJob (text : List ℕ) (period : Period) (delay : ℕ)
 abbrev pub IsContinued : List ℕ → Type 0
 IsContinued text = (front : List ℕ) × (text ≡ front ++ (92 ∷ []))
 
--- What a text without leading blanks says: nothing where it is empty or a comment.
--- A setting begins with a letter, `_` or a quote (this profile).
+-- A text without leading blanks: nothing if it is empty or a comment. A setting begins with a
+-- letter, `_` or a quote (this profile).
 abbrev pub TextSays : List ℕ → Entry → Type 0
 TextSays text Nothing = (text ≡ []) ⊎ ((comment : List ℕ) × (text ≡ 35 ∷ comment))
 TextSays text (Setting name value) =
@@ -67,7 +67,7 @@ TextSays text (Setting name value) =
 TextSays text (Job period delay identifier command) =
     ¬ (IsContinued text) × IsJob text period delay identifier command
 
--- what a line says: blanks at its front mean nothing
+-- the content of a line, whose leading blanks are ignored
 pub record Says (line : List ℕ) (entry : Entry) : Type 0 where
   pub short : length line ≤ MAX_LINE
   pub clean : list_any (λ b. nat_eq b 0) line ≡ false
@@ -77,7 +77,7 @@ pub record Says (line : List ℕ) (entry : Entry) : Type 0 where
   pub blank : list_all is_blank indent ≡ true
   pub says : TextSays text entry
 
--- what lines say, of which the first has this number
+-- the content of lines, of which the first has this number
 abbrev pub AreLines : ℕ → List (List ℕ) → Table → Type 0
 AreLines number [] table = table ≡ no_lines
 AreLines number (line ∷ lines) table = (entry : Entry) × (others : Table) × Says line entry

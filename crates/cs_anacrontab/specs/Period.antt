@@ -8,7 +8,7 @@ use Rattle.cs_anacrontab.specs.declared.period.Period.TheVariants.{Days, Monthly
 abbrev pub is_same_month : ℕ → ℕ → Bool
 is_same_month n k = (date_of n).year == (date_of k).year && (date_of n).month == (date_of k).month
 
--- The period since the stamp is over: so many days have passed, or with `@monthly` another month has begun.
+-- The period since the stamp is over: so many days have passed, or with `@monthly` the month.
 abbrev pub is_over : Period → ℕ → ℕ → Bool
 is_over (Days n) stamp today = nat_le (stamp + n) today
 is_over Monthly stamp today = not (is_same_month stamp today)

@@ -1,4 +1,4 @@
--- The faults of an anacrontab as they are printed.
+-- The faults of an anacrontab as printed.
 use Rattle.std.specs.Prelude.{ℕ, List, codes}
 use Rattle.cs_anacrontab.specs.declared.fault.JobFault.{JobFault}
 use Rattle.cs_anacrontab.specs.declared.fault.JobFault.TheVariants as faults

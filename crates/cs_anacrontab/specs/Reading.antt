@@ -33,7 +33,7 @@ number_of high word =
     else if nat_lt high (decimal word) then None
     else Some (decimal word)
 
--- what the word behind `@` stands for
+-- what the word after `@` stands for
 abbrev pub period_of_word : List ℕ → Option Period
 period_of_word word =
     if bytes_eq word (codes "daily") then Some (Days 1)
@@ -95,7 +95,7 @@ set (Some setting) = Ok (Setting setting.0 setting.1)
 abbrev pub is_continued : List ℕ → Bool
 is_continued text = ends_with nat_eq text (92 ∷ [])
 
--- what a line without its leading blanks says
+-- the content of a line without its leading blanks
 unfoldable pub entry_of : List ℕ → Result Entry JobFault
 entry_of [] = Ok Nothing
 entry_of (b ∷ bs) =

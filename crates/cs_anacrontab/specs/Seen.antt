@@ -1,4 +1,4 @@
--- What the code holds of a line, without where it lies in memory.
+-- A line as the code holds it, wherever it lies in memory.
 use Rattle.cs_anacrontab.specs.declared.line.Entry.{Entry as Held}
 use Rattle.cs_anacrontab.specs.declared.line.Entry.TheVariants as held
 use Rattle.cs_anacrontab.specs.Anacrontab.{Entry, Nothing, Setting, Job}

@@ -56,7 +56,8 @@ with_job number period delay identifier command table =
           } ∷ []);
     }
 
--- the table with what the next line says, if that has no fault: an identifier that stood before, and then a job above the limit, are one fault more
+-- the table with the content of the next line, or its fault: last come a repeated identifier, and
+-- then a job above the limit
 abbrev pub added : ℕ → Table → Result Entry JobFault → Result Table Fault
 added number table (Err fault) = Err (number, fault)
 added number table (Ok Nothing) = Ok table
@@ -67,7 +68,7 @@ added number table (Ok (Job period delay identifier command)) =
     then Ok (with_job number period delay identifier command table)
     else Err (number, TooManyJobs)
 
--- the table with the lines behind it, of which the first has this number
+-- the table with the lines after it, of which the first has this number
 unfoldable pub lines_from : ℕ → Table → List (List ℕ) → Result Table Fault
 lines_from number table [] = Ok table
 lines_from number table (line ∷ lines) = do

@@ -5,36 +5,38 @@ ghost use Rattle.cs_anacrontab.specs.declared.fault.AnacronFault.TheVariants.{Ou
 use std::alloc::{AllocError, AllocFailed};
 use thiserror::Error;
 
-/// What is wrong with a line of an anacrontab, or with its length. It is printed as its number and its name, `7 BadDelay`.
+/// What is wrong with a line or its length, printed as number and name: `7 BadDelay`.
 #[derive(Clone, Copy, Debug, PartialEq, Eq, Error)]
 #[error("{}", self.text())]
 pub enum JobFault {
-    /// The table or the line is longer than [`MAX_TABLE`](cs_crontab::MAX_TABLE) or [`MAX_LINE`](cs_crontab::MAX_LINE).
+    /// The table or the line exceeds [`MAX_TABLE`](cs_crontab::MAX_TABLE) or
+    /// [`MAX_LINE`](cs_crontab::MAX_LINE).
     TooLong,
     /// The line holds a zero byte.
     NulByte,
-    /// A line that begins as a setting is none.
+    /// The line begins like a setting but isn't one.
     BadSetting,
-    /// The word behind `@` is none of `daily`, `weekly` and `monthly`.
+    /// The word after `@` is none of `daily`, `weekly` and `monthly`.
     UnknownWord,
     /// The line ends where the delay, the identifier or the command should begin.
     MissingField,
-    /// The period is no number of days from 1 to [`MAX_PERIOD`](crate::MAX_PERIOD).
+    /// The period is not a number of days from 1 to [`MAX_PERIOD`](crate::MAX_PERIOD).
     BadPeriod,
-    /// The delay is no number of minutes from 0 to [`MAX_DELAY`](crate::MAX_DELAY).
+    /// The delay is not a number of minutes from 0 to [`MAX_DELAY`](crate::MAX_DELAY).
     BadDelay,
-    /// The identifier is longer than [`MAX_IDENTIFIER`](crate::MAX_IDENTIFIER), is not UTF-8, holds `/`, or is `.` or `..`.
+    /// The identifier exceeds [`MAX_IDENTIFIER`](crate::MAX_IDENTIFIER), isn't UTF-8, contains `/`,
+    /// or is `.` or `..`.
     BadIdentifier,
-    /// A line before it has the same identifier.
+    /// A line above has the same identifier.
     TwiceNamed,
-    /// A setting or a job ends with a backslash, by which anacrontab(5) would continue it on the next line.
+    /// The line ends with a backslash, with which anacrontab(5) would continue it on the next line.
     Continued,
-    /// The line's job is one more than [`MAX_JOBS`](crate::MAX_JOBS).
+    /// The job is one more than [`MAX_JOBS`](crate::MAX_JOBS).
     TooManyJobs,
 }
 
 impl JobFault {
-    /// Its number and its name, as it is printed.
+    /// Returns its number and name, as printed.
     pub fn text(self) -> &'static str
         ensures { result.now ≡ fault_text self }
     {
@@ -57,7 +59,7 @@ impl JobFault {
 /// Why an anacrontab could not be read.
 #[derive(Clone, Copy, Debug, PartialEq, Eq, Error)]
 pub enum AnacronFault {
-    /// The first line with a fault, counted from 1, and its fault. The table's own length has line 0.
+    /// The first line with a fault, from 1, or 0 if the table is too long; and the fault.
     #[error("line {line}: {fault}")]
     At { line: u32, fault: JobFault },
     /// Memory ran out.

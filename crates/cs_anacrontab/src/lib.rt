@@ -1,4 +1,4 @@
-//! Reading an anacrontab (anacrontab(5)), and when its jobs are due (anacron(8)).
+//! Reads an anacrontab (anacrontab(5)), and decides when its jobs are due (anacron(8)).
 #![tactic(auto)]
 
 mod fault;

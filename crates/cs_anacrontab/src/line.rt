@@ -12,7 +12,7 @@ use cs_crontab::MAX_LINE;
 use cs_crontab::setting::{begins_setting, read_setting};
 use cs_crontab::text::{digits, has_nul, skip_blanks, word};
 
-/// What a line says.
+/// The content of a line.
 pub(crate) enum Entry<'a> {
     /// Nothing: it is empty, blank or a comment.
     Nothing,
@@ -39,7 +39,7 @@ fn number(highest: u32, word: &[u8]) -> Option<u32>
     Some(value)
 }
 
-/// The period of so many days as the word says.
+/// The period of the days in the word.
 fn days(word: &[u8]) -> Option<Period>
     ensures { result ≡ days_of (number_of MAX_PERIOD word.now) }
 {
@@ -126,7 +126,7 @@ fn is_continued(text: &[u8]) -> bool
     text.ends_with(b"\\")
 }
 
-/// What a line without its leading blanks says.
+/// The content of a line without its leading blanks.
 #[tactic(auto, unfolding(crate::specs::Reading::entry_of))]
 fn read_entry(text: &[u8]) -> Result<Entry<'_>, JobFault>
     ensures { Gives entry_seen result (entry_of text.now) }
@@ -142,7 +142,7 @@ fn read_entry(text: &[u8]) -> Result<Entry<'_>, JobFault>
     }
 }
 
-/// What a line says.
+/// The content of a line.
 #[tactic(auto, unfolding(crate::specs::Reading::line_of))]
 pub(crate) fn read_line(line: &[u8]) -> Result<Entry<'_>, JobFault>
     ensures { Gives entry_seen result (line_of line.now) }

@@ -27,7 +27,7 @@ impl Model for DayCount {
 }
 
 impl DayCount {
-    /// That many days, if there is one at least and they are no more than [`MAX_PERIOD`](crate::MAX_PERIOD).
+    /// Returns the count, or `None` if it is 0 or above [`MAX_PERIOD`](crate::MAX_PERIOD).
     pub fn new(number: u32) -> Option<DayCount>
         ensures in_range { IsSome result ↔ ((1 ≤ number) × (number ≤ MAX_PERIOD)) }
         ensures value { IfSome result (λ count. count ≡ number) }
@@ -38,7 +38,7 @@ impl DayCount {
         Some(DayCount { days: number })
     }
 
-    /// How many days.
+    /// Returns the number of days.
     pub fn number(self) -> u32
         ensures value { result ≡ self }
         ensures in_range { (1 ≤ self) × (self ≤ MAX_PERIOD) }
@@ -47,16 +47,16 @@ impl DayCount {
     }
 }
 
-/// How often a job is done (anacrontab(5)).
+/// How often a job runs (anacrontab(5)).
 #[derive(Clone, Copy, Debug, PartialEq, Eq)]
 pub enum Period {
-    /// Each time that many days have passed. `@daily` is one day and `@weekly` seven (this profile).
+    /// After that many days: `@daily` is one day, `@weekly` seven (this profile).
     Days(DayCount),
-    /// Once in each month of the calendar: `@monthly` (this profile).
+    /// Once in each calendar month: `@monthly` (this profile).
     Monthly,
 }
 
-/// What the word behind `@` stands for.
+/// The period of the word after `@`.
 pub(crate) fn word_period(word: &[u8]) -> Option<Period>
     ensures { result ≡ period_of_word word.now }
 {
@@ -71,10 +71,10 @@ pub(crate) fn word_period(word: &[u8]) -> Option<Period>
     }
 }
 
-/// Whether a job with that period is due today, where the stamp is the day of its last run (anacron(8)).
+/// Checks whether a job is due today, its stamp being the day of its last run (anacron(8)).
 ///
-/// It is where it has no stamp, where its stamp is later than today (this profile), and where so many days have passed since its stamp,
-/// or with [`Monthly`](Period::Monthly) where its stamp is of another month or year.
+/// It is due without a stamp, with one later than today (this profile), and once the period has
+/// passed since its stamp: [`Monthly`](Period::Monthly) once the month or the year is another.
 pub fn is_due(period: Period, stamp: Option<Day>, today: Day) -> bool
     ensures { result ≡ is_due period stamp today }
 {

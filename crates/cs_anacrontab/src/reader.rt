@@ -18,7 +18,7 @@ use cs_crontab::{MAX_TABLE, Setting};
 use std::alloc::{AllocError, Global};
 use std::marker::Model;
 
-/// The lines that were read so far.
+/// The lines read so far.
 #[derive(Drop)]
 struct Draft {
     variables: Sequence<Setting>,
@@ -43,7 +43,6 @@ impl Draft {
         }
     }
 
-    /// Whether a job has that identifier.
     fn is_named(&self, identifier: &[u8]) -> bool
         ensures { result ≡ is_named identifier.now self.now.lines }
     {
@@ -85,7 +84,7 @@ impl Draft {
             .push(Job::new(number, period, delay, identifier, command))
     }
 
-    /// Adds what the line with that number says.
+    /// Adds the content of the line with that number.
     fn add(&mut self, alloc: Global, number: u32, line: &[u8]) -> Result<(), AnacronFault>
         ensures { Denotes (λ _. self.new) (added number self.old (line_of line.now)) result }
     {
@@ -144,16 +143,17 @@ fn read_table(alloc: Global, bytes: &[u8]) -> Result<Anacrontab, AnacronFault>
     Ok(Anacrontab::new(draft.variables, draft.jobs))
 }
 
-/// The anacrontab that the bytes denote (anacrontab(5)), or its first fault.
+/// Reads an anacrontab (anacrontab(5)), or returns its first fault. Memory may run out.
 ///
-/// In a line the length, a zero byte and a backslash at its end come first, then what is wrong from left to right,
-/// then [`TwiceNamed`](JobFault::TwiceNamed) and then [`TooManyJobs`](JobFault::TooManyJobs).
+/// The table's length comes first; in a line its length, a zero byte and a final backslash, then
+/// its words from left to right, then [`TwiceNamed`](JobFault::TwiceNamed), then
+/// [`TooManyJobs`](JobFault::TooManyJobs).
 pub fn read_anacrontab(alloc: Global, bytes: &[u8]) -> Result<Anacrontab, AnacronFault>
-    // What is read is written so.
+    // The table that is read is written in the bytes.
     ensures table { IfOk result (IsAnacrontab bytes.now) }
-    // A fault stands there, and is the first; nothing is said of want of memory.
+    // err: the first fault; `OutOfMemory` only if memory runs out
     ensures fault { IfErr result (IsFaultOf bytes.now) }
-    // The bytes mean nothing else, and what they mean is answered unless memory runs out.
+    // The bytes have no other meaning, and it is returned unless memory runs out.
     ensures only { (meaning : Meaning) → Means bytes.now meaning
         → Denotes (λ table. table) meaning result }
 {

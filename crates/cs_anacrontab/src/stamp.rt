@@ -5,7 +5,7 @@ ghost use Rattle.cs_anacrontab.specs.Stamp.{date_digits, stamp_text, HasDigits, 
 
 use cs_civil::{Day, Gregorian, day_text};
 
-/// What a stamp file holds: the date of the day as `YYYYMMDD`, and a newline (anacron(8)).
+/// Formats a stamp file: the date as `YYYYMMDD`, and a newline (anacron(8)).
 pub fn stamp_text(day: Day) -> [u8; 9]
     ensures { result ≡ stamp_text day }
 {
@@ -13,9 +13,9 @@ pub fn stamp_text(day: Day) -> [u8; 9]
     [y1, y2, y3, y4, m1, m2, d1, d2, b'\n']
 }
 
-/// The day of a stamp file's text, `YYYYMMDD` with or without a newline.
+/// Reads the day in a stamp file, `YYYYMMDD` with or without a newline (anacron(8)).
 ///
-/// `None` for any other text, and for a date that the Gregorian calendar does not have or that is before 1970-01-01.
+/// `None` for any other text, and for a date before 1970-01-01 or not in the Gregorian calendar.
 pub fn read_stamp(text: &[u8]) -> Option<Day>
     ensures possible { IsSome result ↔ ((n : ℕ) × (n ≤ last_day) × IsStampText text.now n) }
     ensures value { IfSome result (λ day. IsStampText text.now day) }
@@ -34,7 +34,7 @@ fn date_part(text: &[u8]) -> &[u8]
     }
 }
 
-/// The day of the date that `YYYYMMDD` writes.
+/// The day of a date `YYYYMMDD`.
 #[tactic(auto, using(crate::proofs::Stamps::no_such_date))]
 fn read_date(text: &[u8]) -> Option<Day>
     ensures value { IfSome result (λ n. (n ≤ last_day) × (text.now ≡ date_digits (date_of n))) }

@@ -70,35 +70,35 @@ impl Job {
         })
     }
 
-    /// The number of the line, counted from 1 over all lines of the table.
+    /// Returns the number of the line, counted from 1 over all lines of the table.
     pub fn number(&self) -> u32
         ensures { result ≡ self.now.number }
     {
         self.place
     }
 
-    /// How often it is done.
+    /// Returns how often it runs.
     pub fn period(&self) -> Period
         ensures { result ≡ self.now.period }
     {
         self.rhythm
     }
 
-    /// The minutes to wait before it is started, from 0 to [`MAX_DELAY`](crate::MAX_DELAY).
+    /// Returns the delay of its start in minutes, from 0 to [`MAX_DELAY`](crate::MAX_DELAY).
     pub fn delay(&self) -> u32
         ensures { result ≡ self.now.delay }
     {
         self.minutes
     }
 
-    /// The identifier, which names its stamp file. It is UTF-8.
+    /// Returns the identifier, which names its stamp file and is UTF-8.
     pub fn identifier(&self) -> &[u8]
         ensures { result.now ≡ self.now.identifier }
     {
         self.name.as_slice()
     }
 
-    /// The command, to the end of the line, trailing blanks included.
+    /// Returns the command, to the end of the line, trailing blanks included.
     pub fn command(&self) -> &[u8]
         ensures { result.now ≡ self.now.command }
     {
@@ -116,8 +116,8 @@ fn copy_jobs(alloc: Global, jobs: &[Job]) -> Result<Sequence<Job>, AllocError>
     Ok(copies)
 }
 
-/// What an anacrontab says: its settings, and at most [`MAX_JOBS`](crate::MAX_JOBS) jobs of different identifiers, each in order of
-/// their numbers.
+/// An anacrontab: its settings, and at most [`MAX_JOBS`](crate::MAX_JOBS) jobs with different
+/// identifiers, each in order of line.
 #[derive(Debug, Drop)]
 pub struct Anacrontab {
     variables: Sequence<Setting>,
@@ -137,7 +137,7 @@ impl Model for Anacrontab {
 impl Anacrontab {
     ghost use Rattle.cs_anacrontab.specs.Anacrontab.{IsOrdered, IsPossible, no_lines};
 
-    /// The anacrontab of an empty file.
+    /// Returns the anacrontab of an empty file.
     pub fn none(alloc: Global) -> Anacrontab
         ensures { result ≡ no_lines }
     {
@@ -157,7 +157,7 @@ impl Anacrontab {
         }
     }
 
-    /// The same anacrontab. The only error is want of memory.
+    /// Copies the anacrontab. The only error is out of memory.
     pub fn copy(&self, alloc: Global) -> Result<Anacrontab, AllocError>
         ensures { IfOk result (λ table. table ≡ self.now) }
     {
@@ -167,7 +167,7 @@ impl Anacrontab {
         })
     }
 
-    /// The settings, in order of their numbers.
+    /// Returns the settings, in order of line.
     pub fn settings(&self) -> &[Setting]
         ensures value { result.now ≡ self.now.settings }
         ensures rising { AllPairs (λ x y. x.number < y.number) self.now.settings }
@@ -175,7 +175,7 @@ impl Anacrontab {
         self.variables.as_slice()
     }
 
-    /// The jobs, in order of their numbers.
+    /// Returns the jobs, in order of line.
     pub fn lines(&self) -> &[Job]
         ensures value { result.now ≡ self.now.lines }
         ensures few { length self.now.lines ≤ MAX_JOBS }
@@ -186,7 +186,8 @@ impl Anacrontab {
         self.jobs.as_slice()
     }
 
-    /// The environment of the job on the line of that number, as [`env_of`](cs_crontab::env_of) of the table's settings.
+    /// Returns the environment of the job on that line, like [`env_of`](cs_crontab::env_of). The
+    /// only error is out of memory.
     pub fn env_of(&self, alloc: Global, line: u32) -> Result<Sequence<(Bytes, Bytes)>, AllocError>
         ensures names { IfOk result
             (λ env. map (λ v. v.0) env ≡ first_places (names_of (above line self.now.settings))) }

@@ -125,7 +125,7 @@ none_listed (d ∷ due) h = let none : length (d ∷ due) ≡ 0 = eqb-true (leng
 abbrev with_due : List GroupBacklog → List DueList → Result Class JsonFault
 with_due backlog due = Ok (record { due = due; backlog = backlog })
 
--- a class that says what is left over and no more
+-- a class with only what is left over
 abbrev pub carry_class_fits : Class → Bool
 carry_class_fits c = class_fits c && is_carries c && has_carries c
 

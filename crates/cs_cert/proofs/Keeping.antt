@@ -15,7 +15,7 @@ use Rattle.cs_cert.specs.Judged.{IsClaim}
 use Rattle.cs_cert.proofs.Splits.{inside_so}
 use Rattle.cs_cert.proofs.Both.{and_both}
 
--- no fault stands: each rule holds
+-- there is no fault: each rule holds
 pub record Rules (c : Content) : Type 0 where
   pub version : is_version c.version ≡ true
   pub shapes : shapes_fit c ≡ true

@@ -1,4 +1,4 @@
--- Whether splits lie inside their range, as a test and as a fact.
+-- Whether splits are inside their range, as a test and as a fact.
 use Rattle.std.proofs.Common.{◌≡◌, ℕ, Bool, true, ◌&&◌, nat_lt, refl, ◌↔◌}
 use Rattle.std.proofs.lemmas.Bool.{lt-ltb, ltb-true}
 use Rattle.std.specs.Prelude.{IsTrue}

@@ -67,7 +67,7 @@ pub minute_split : (d : Data) → is_some (get (minute_shape).leaf_name d) ≡ f
     → minute_tree_said d ≡ minute_split_said (member_as minute_tree_said (minute_shape).first_name d) (member_as minute_tree_said (minute_shape).second_name d) d
 minute_split d h = split_here minute_shape minute_refuses d h
 
--- ---- what is found lies deeper
+-- ---- what is found is deeper
 
 found_ordering : (o : Ordering) (a b : Option Data) (e : Data) (n : ℕ) → ((x : Data) → a ≡ Some x → depth x ≤ n) → ((x : Data) → b ≡ Some x → depth x ≤ n) → match_ordering o a b a ≡ Some e → depth e ≤ n
 found_ordering Less a b e n p q h = p e h

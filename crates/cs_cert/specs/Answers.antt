@@ -9,7 +9,7 @@ abbrev pub Tells : {X Y : Type 0} → (X → Y) → Result X CertFault → Resul
 Tells seen (Ok x) answer = answer ≡ Ok (seen x)
 Tells seen (Err fault) answer = answer ≡ Err fault
 
--- want of memory, or the answer's own fault
+-- out of memory, or the answer's own fault
 abbrev pub Fails : {Y : Type 0} → CertError → Result Y CertFault → Type 0
 Fails OutOfMemory answer = ⊤
 Fails (Fault fault) answer = answer ≡ Err fault

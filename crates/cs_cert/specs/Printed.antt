@@ -1,4 +1,4 @@
--- The faults of a certificate as they are printed.
+-- The faults of a certificate as printed.
 use Rattle.std.specs.Prelude.{ℕ, List, codes}
 use Rattle.cs_cert.specs.declared.fault.CertFault.{CertFault}
 use Rattle.cs_cert.specs.declared.fault.CertFault.TheVariants as faults

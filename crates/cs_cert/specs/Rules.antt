@@ -22,7 +22,7 @@ use Rattle.cs_cert.specs.Content.{Content, StretchTree}
 abbrev pub is_version : ℕ → Bool
 is_version version = version == 1 || (version == 2 || version == 3)
 
--- the most days of a stretch, which has two at least, so that version 3 has none: a window begins fewer days back
+-- the most days of a stretch, at least two, so that version 3 has none: windows begin fewer back
 abbrev pub most_days : ℕ → ℕ
 most_days version = if version == 1 then 2 else (if version == 2 then 4 else 0)
 
@@ -41,7 +41,7 @@ abbrev pub depth : Tree → ℕ
 depth (leaf entries) = 0
 depth (split at before after) = max (depth before) (depth after) + 1
 
--- over [lo, hi), each split lies inside its range
+-- over [lo, hi), each split is inside its range
 abbrev pub splits_inside : Tree → ℕ → ℕ → Bool
 splits_inside (leaf entries) lo hi = true
 splits_inside (split at before after) lo hi =
@@ -73,7 +73,7 @@ due_list_fits d = nat_lt d.job 320 && nat_lt 0 (length d.minutes) && rises d.min
 abbrev pub due_fits : List DueList → Bool
 due_fits due = each_next (λ a b. nat_lt a.job b.job) due && list_all due_list_fits due
 
--- from this minute on: the minutes rise strictly below 1,440, and the values are from 1 to 1,000,000
+-- from this minute on, minutes rise strictly below 1,440, and values are from 1 to 1,000,000
 abbrev pub is_backlog_from : ℕ → List Piece → Bool
 is_backlog_from least [] = true
 is_backlog_from least (p ∷ ps) =
@@ -93,11 +93,11 @@ class_fits c = due_fits c.due && backlog_fits c.backlog
 
 -- ---- what is carried over midnight
 
--- a bound that says nothing of the minutes after the first
+-- a bound without a piece after minute 0
 abbrev pub is_at_midnight : GroupBacklog → Bool
 is_at_midnight b = list_all (λ p. nat_eq p.minute 0) b.backlog
 
--- a class that says what is left over at midnight and no more
+-- a class with only what is left over at midnight
 abbrev pub is_carries : Class → Bool
 is_carries c = nat_eq (length c.due) 0 && list_all is_at_midnight c.backlog
 
@@ -130,7 +130,7 @@ has_days most s = nat_le 2 (length s.of) && nat_le (length s.of) most
 abbrev pub lengths_fit : Content → Bool
 lengths_fit c = list_all (has_days (most_days c.version)) c.stretches
 
--- a class of version 3 says what is left over at midnight and no more
+-- each class of version 3 has only what is left over at midnight
 abbrev pub classes_shaped : Content → Bool
 classes_shaped c = not (c.version == 3) || list_all is_carries c.classes
 
@@ -144,7 +144,7 @@ is_shallow s = nat_le (depth s.tree) 24
 abbrev pub trees_shallow : Content → Bool
 trees_shallow c = nat_le (day.depth c.kinds) 24 && list_all is_shallow c.stretches
 
--- each split of the day tree is possible, and each of a minute tree lies inside its range
+-- each split of the day tree is possible, and each of a minute tree is inside its range
 abbrev pub is_split_well : StretchTree → Bool
 is_split_well s = splits_inside s.tree 0 1_440
 
@@ -204,7 +204,7 @@ faults_of c =
     ∷ unless (leaves_short c) LeafTooLong
     ∷ []
 
--- the fault of the smallest number that stands
+-- the fault with the smallest number
 unfoldable pub fault_of : Content → Option CertFault
 fault_of c = first_fault (faults_of c)
 

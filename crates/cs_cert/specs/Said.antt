@@ -17,7 +17,7 @@ abbrev pub capped : ℕ → ℤ → ℕ
 capped top (pos n) = min n top
 capped top (negsuc n) = top
 
--- a whole number as it is held. The top is no number that a rule allows: so a number that isn't held breaks the rule as well
+-- a number as held: no rule allows the top, so one that isn't held breaks the rule as well
 abbrev pub held : ℕ → Data → Result ℕ JsonFault
 held top d = whole_number d >>= (λ z. Ok (capped top z))
 
@@ -31,7 +31,7 @@ abbrev pub piece_said : Data → Result Piece JsonFault
 piece_said d =
     pair_as (held 65535) (held 4294967295) d >>= (λ p. Ok (record { minute = p.0; value = p.1 }))
 
--- pieces that break the rules of a backlog are held as those of a group that no rule allows: so the list breaks its rule as well
+-- pieces that make no backlog are held for a group out of range: so the list breaks its rule too
 abbrev pub held_backlog : ℕ → List Piece → GroupBacklog
 held_backlog group pieces = if is_backlog_from 0 pieces
     then record { group = group; backlog = pieces } else record { group = 255; backlog = [] }

@@ -1,5 +1,5 @@
--- What the JSON of a tree says, or BadShape. An object with a member of one name is a leaf, any other a split, whose halves
--- stand under two names.
+-- The value of a tree in JSON, or BadShape. An object with a member of one name is a leaf, any
+-- other a split, whose halves are under two names.
 use Rattle.std.specs.Prelude.{ℕ, List, [], ◌∷◌, bytes_eq, Option, Some, None, is_some, option_and_then, Result, Ok, Err, codes, if◌then◌else◌}
 use Rattle.std.specs.Ordering.{nat_cmp, match_ordering}
 use Rattle.std.specs.Cmp.Lexicographic.{slice_cmp}
@@ -15,8 +15,8 @@ use Rattle.cs_daytree.specs.Tree as day
 use Rattle.cs_windows.specs.Tree as minute
 use Rattle.cs_cert.specs.Said.{entry_said, held}
 
--- how a kind of tree stands in JSON: the name of a leaf's member, those of a split's halves, what a leaf says, and what a split
--- says, given what its halves say
+-- the form of a kind of tree in JSON: the name of a leaf's member, those of a split's halves, the
+-- value of a leaf, and the value of a split, given those of its halves
 pub record TreeShape (T : Type 0) : Type 0 where
   pub leaf_name : List ℕ
   pub first_name : List ℕ

@@ -1,4 +1,4 @@
--- The JSON of a certificate as it is written: members in alphabetical order, lists in the order held.
+-- The JSON of a certificate as written: members in alphabetical order, lists as they are.
 use Rattle.std.specs.Prelude.{ℕ, List, map, codes, if◌then◌else◌, ◌==◌}
 use Rattle.serde_json.specs.Data.{Data, number, unsigned, string, array, item, no_items, object, member, no_members}
 use Rattle.serde_json.specs.View.{items_of}
@@ -100,7 +100,7 @@ second_version_data c =
     (member (codes "stretches") (list_data stretch_data c.stretches)
     (member (codes "version") (number_data c.version) no_members)))))
 
--- version 3 has none, and its classes say what is left over at midnight
+-- version 3 has none, and its classes hold only what is left over at midnight
 abbrev pub third_version_data : Content → Data
 third_version_data c =
     object (member (codes "classes") (list_data carry_class_data c.classes)

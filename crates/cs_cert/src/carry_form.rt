@@ -64,7 +64,7 @@ fn read_each_class(alloc: Global, list: &Vec<Value>) -> Result<Vec<Class>, Misre
     Ok(found)
 }
 
-/// The classes of version 3. `BadShape` where they have another shape; `Memory` where memory ran out.
+/// The classes of version 3. `BadShape` if they have another shape; `Memory` if memory runs out.
 pub(crate) fn read_carry_classes(alloc: Global, value: &Value) -> Result<Sequence<Class>, Misread>
     ensures { Gives (λ s. s) result (list_as carry_class_said (view value.now)) }
 {
@@ -105,7 +105,7 @@ fn write_each_class(alloc: Global, classes: &[Class]) -> Result<Vec<Value>, Allo
     Ok(written)
 }
 
-/// The classes of version 3, as they are written. The only error is want of memory.
+/// Writes the classes of version 3. The only error is out of memory.
 pub(crate) fn write_carry_classes(alloc: Global, classes: &[Class]) -> Result<Value, AllocError>
     ensures { IfOk result (λ v. view v ≡ list_data carry_class_data classes.now) }
 {

@@ -4,10 +4,10 @@ ghost use Rattle.cs_cert.specs.Rules.{fault_of};
 
 use crate::parts::Parts;
 
-/// A certificate, of version 1, 2 or 3. Every value keeps every rule of its version.
+/// A certificate of version 1, 2 or 3. Every value keeps every rule of its version.
 ///
-/// One of version 3 says which kinds of days are alike, what is left over at midnight and the reaches; the rest is worked out
-/// from a plan where it is judged.
+/// Version 3 claims only which kinds of days are alike, what is left over at midnight, and the
+/// reaches; the checker works out the rest from the plan.
 #[derive(Debug, Drop)]
 pub struct Certificate {
     pub(crate) parts: Parts,

@@ -1,4 +1,4 @@
-//! What a checker judges, lent: what a certificate says, or what it stands for.
+//! What a checker judges, borrowed: the parts of a certificate, or what it stands for.
 ghost use Rattle.std.specs.Prelude.{map};
 ghost use Rattle.cs_daytree.specs.Tree.{tree_of};
 ghost use Rattle.cs_cert.specs.Content.{stretch_of};

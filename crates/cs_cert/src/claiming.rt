@@ -1,4 +1,4 @@
-//! Making what is judged, and reading its parts.
+//! Making a claim, and reading its parts.
 ghost use Rattle.std.specs.Prelude.{◌≡◌, ◌<◌, length, map, true};
 ghost use Rattle.std.specs.List.{list_all};
 ghost use Rattle.cs_cert.specs.Certificate.{class_of, content};
@@ -17,7 +17,7 @@ use cs_daytree::DayTree;
 use cs_windows::JobReach;
 
 impl Certificate {
-    /// What the certificate says, as it is judged.
+    /// Borrows the certificate's own parts as a claim.
     #[tactic(auto, using(crate::proofs::Keeping::claims))]
     pub fn claim(&self) -> Claim<'_>
         ensures { said result ≡ content self.now }
@@ -32,7 +32,7 @@ impl Certificate {
         }
     }
 
-    /// What is judged where these classes and stretches stand for those of the certificate.
+    /// Borrows the certificate's parts with other classes and stretches as a claim.
     #[tactic(auto, using(crate::proofs::Keeping::claims))]
     pub fn claim_of<'a>(&'a self, classes: &'a [Class], stretches: &'a [Stretch]) -> Claim<'a>
         requires count { length classes.now ≡ length (content self.now).classes }
@@ -56,14 +56,14 @@ impl Certificate {
 }
 
 impl<'a> Claim<'a> {
-    /// The version of the certificate.
+    /// Returns the version of the certificate.
     pub fn version(&self) -> u8
         ensures { result ≡ (said self.now).version }
     {
         self.version
     }
 
-    /// The classes of days, named by their place from 0.
+    /// Returns the classes of days, numbered from 0.
     pub fn classes(&self) -> &'a [Class]
         ensures value { result.now ≡ (said self.now).classes }
         ensures kept { IsClaim (said self.now) }
@@ -71,7 +71,7 @@ impl<'a> Claim<'a> {
         self.classes
     }
 
-    /// The class of a kind of day.
+    /// Returns the class of a kind of day.
     pub fn class_of(&self, kind: DayKind) -> u32
         ensures value { result ≡ class_of (said self.now) kind }
         ensures there { result < length (said self.now).classes }
@@ -79,14 +79,14 @@ impl<'a> Claim<'a> {
         self.kinds.class_of(kind)
     }
 
-    /// The class of each kind of day.
+    /// Returns the class of each kind of day.
     pub fn kinds(&self) -> &'a DayTree
         ensures { tree_of result.now ≡ (said self.now).kinds }
     {
         self.kinds
     }
 
-    /// The stretches.
+    /// Returns the stretches.
     pub fn stretches(&self) -> &'a [Stretch]
         ensures value { map stretch_of result.now ≡ (said self.now).stretches }
         ensures kept { IsClaim (said self.now) }
@@ -94,7 +94,7 @@ impl<'a> Claim<'a> {
         self.stretches
     }
 
-    /// The reaches, jobs strictly rising.
+    /// Returns the reaches, jobs strictly rising.
     pub fn reach(&self) -> &'a [JobReach]
         ensures value { result.now ≡ (said self.now).reach }
         ensures kept { IsClaim (said self.now) }

@@ -14,25 +14,32 @@ use cs_windows::MINUTES_OF_DAY;
 /// The minutes of a day at which a cron job is due.
 #[derive(Debug, Drop)]
 pub struct DueList {
+    /// The job's number, below 320.
     pub job: u16,
+    /// The minutes of the day, rising, at least one.
     pub minutes: Sequence<u16>,
 }
 
-/// A bound for each minute of a day on the minutes of runs that wait for the lock of a group or hold it.
+/// A bound for each minute of a day on the minutes of runs that wait for a group's lock or hold it.
 #[derive(Debug, Drop)]
 pub struct GroupBacklog {
+    /// The group's number, below 64.
     pub group: u8,
+    /// The bound.
     pub backlog: Backlog,
 }
 
-/// What a certificate says of all days of one class: when each job is due, and the backlog of each group.
+/// What a certificate says of all days of one class: when each job is due, and the backlog of each
+/// group.
 ///
-/// A job without a list is due at no minute, and a group without a backlog has the bound 0 everywhere. In version 3 there are
-/// no lists, and each backlog is one piece at minute 0, what is left over of the days before: when jobs are due and what the
-/// bounds are after midnight is worked out from the plan, and not told here.
+/// A job without a list is never due, and a group without a backlog has the bound 0 everywhere. In
+/// version 3 there are no lists, and each backlog is one piece at minute 0: what is left over of
+/// the days before. Due minutes and later bounds are then worked out from the plan.
 #[derive(Debug, Drop)]
 pub struct Class {
+    /// The due minutes, jobs rising.
     pub due: Sequence<DueList>,
+    /// The backlogs, groups rising.
     pub backlog: Sequence<GroupBacklog>,
 }
 
@@ -49,7 +56,7 @@ fn are_of_day(minutes: &[u16]) -> bool
 }
 
 impl DueList {
-    /// Whether the job can be one, and its minutes rise within the day, one at least.
+    /// Whether the job's number is in range, and its minutes rise within the day, at least one.
     fn fits(&self) -> bool
         ensures { result ≡ due_list_fits self.now }
     {
@@ -85,7 +92,7 @@ fn is_start(piece: &Piece) -> bool
 }
 
 impl GroupBacklog {
-    /// Whether it says nothing of the minutes after the first.
+    /// Whether it has no piece after minute 0.
     fn is_at_midnight(&self) -> bool
         ensures { result ≡ is_at_midnight self.now }
     {
@@ -99,7 +106,7 @@ impl GroupBacklog {
         !self.backlog.pieces().is_empty()
     }
 
-    /// Whether the group can be one. Its pieces make a backlog as they are.
+    /// Whether the group's number is in range. Its pieces always make a backlog.
     #[tactic(auto, using(crate::proofs::Backlogs::backlog_so))]
     fn fits(&self) -> bool
         ensures { result ≡ group_backlog_fits self.now }
@@ -145,7 +152,7 @@ fn bound_among(backlog: &[GroupBacklog], group: u8, minute: u16) -> u32
 }
 
 impl Class {
-    /// Whether a job is due at a minute of a day of this class, as it is listed here: not at any in version 3.
+    /// Checks whether a job is listed as due at a minute of days of this class: never in version 3.
     pub fn is_due(&self, job: u16, minute: u16) -> bool
         ensures { result ≡ is_due_in self.now job minute }
     {
@@ -153,15 +160,15 @@ impl Class {
             && has(list.minutes.as_slice(), minute))
     }
 
-    /// The backlog bound of a group at a minute of a day of this class, as it is listed here: 0 where the group isn't. In
-    /// version 3 it counts at minute 0 alone.
+    /// Returns the listed bound of a group at a minute of a day of this class: 0 if it has none. In
+    /// version 3 only minute 0 has a meaning.
     pub fn bound(&self, group: u8, minute: u16) -> u32
         ensures { result ≡ bound_in self.now group minute }
     {
         bound_among(self.backlog.as_slice(), group, minute)
     }
 
-    /// Whether it says what is left over at midnight and no more, as a class of version 3 does.
+    /// Whether it has only what is left over at midnight, as a class of version 3.
     pub(crate) fn is_carries(&self) -> bool
         ensures { result ≡ is_carries self.now }
     {
@@ -175,7 +182,7 @@ impl Class {
         have_carries(self.backlog.as_slice())
     }
 
-    /// Whether jobs and groups rise, each can be one, and each due list fits.
+    /// Whether jobs and groups rise and are in range, and each due list fits.
     pub(crate) fn fits(&self) -> bool
         ensures { result ≡ class_fits self.now }
     {

@@ -46,7 +46,6 @@ fn read_leaf(alloc: Global, value: &Value) -> Result<DayTree, Misread>
     Ok(DayTree::Leaf(member(alloc, value, "class")?))
 }
 
-/// The split of these parts.
 fn split(
     alloc: Global,
     part: KindPart,
@@ -97,7 +96,6 @@ fn read_half(alloc: Global, value: &Value, name: &str) -> Result<DayTree, Misrea
     read_tree(alloc, value_at(value, name)?)
 }
 
-/// The JSON of a split of these parts.
 fn split_value(
     alloc: Global,
     part: KindPart,

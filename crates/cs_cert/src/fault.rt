@@ -5,30 +5,30 @@ ghost use Rattle.cs_cert.specs.declared.fault.CertError.TheVariants.{OutOfMemory
 use std::alloc::{AllocError, AllocFailed};
 use thiserror::Error;
 
-/// What is wrong with a certificate. It is printed as its number and its name, `5 TooDeep`.
+/// What is wrong with a certificate, printed as number and name: `5 TooDeep`.
 ///
-/// Where several faults stand, the one with the smallest number is answered.
+/// Of several faults, the one with the smallest number is returned.
 #[derive(Clone, Copy, Debug, PartialEq, Eq, Error)]
 #[error("{}", self.text())]
 pub enum CertFault {
     /// The text is longer than [`MAX_CERTIFICATE`](crate::MAX_CERTIFICATE).
     TooLong,
-    /// The text is no JSON, as `serde_json` reads it.
+    /// The text is not JSON, as `serde_json` reads it.
     NotJson,
     /// The version is a whole number other than 1, 2 and 3.
     BadVersion,
-    /// A member is unknown, absent or of another type, a number isn't whole, or a list is of another length; a certificate of
-    /// version 3 has a stretch, or a class that says more than what is left over at midnight.
+    /// A member is unknown, absent or of another type, a number isn't whole, or a list is of
+    /// another length; or version 3 has a stretch, or more than what is left over at midnight.
     BadShape,
     /// A tree is deeper than [`MAX_DEPTH`](crate::MAX_DEPTH).
     TooDeep,
-    /// A split's values are impossible there, or its minute lies outside its range.
+    /// A split's values are impossible there, or its minute is outside its range.
     BadSplit,
-    /// A class is named that isn't there, or the stretches do not rise.
+    /// A class has no such number, or the stretches don't rise.
     BadClass,
-    /// A list does not rise, or one of its numbers is out of range.
+    /// A list doesn't rise, or one of its numbers is out of range.
     BadEntry,
-    /// There are more classes than [`MAX_CLASSES`](crate::MAX_CLASSES), in version 3 than
+    /// There are more classes than [`MAX_CLASSES`](crate::MAX_CLASSES), or in version 3 than
     /// [`MAX_KIND_CLASSES`](crate::MAX_KIND_CLASSES).
     TooManyClasses,
     /// A leaf has more entries than [`MAX_ENTRIES`](crate::MAX_ENTRIES).
@@ -36,7 +36,7 @@ pub enum CertFault {
 }
 
 impl CertFault {
-    /// Its number and its name, as it is printed.
+    /// Returns its number and name, as printed.
     pub fn text(self) -> &'static str
         ensures { result.now ≡ fault_text self }
     {
@@ -58,7 +58,7 @@ impl CertFault {
 /// Why a certificate could not be read.
 #[derive(Clone, Copy, Debug, PartialEq, Eq, Error)]
 pub enum CertError {
-    /// What was read is at fault.
+    /// The text or the parts have this fault.
     #[error("{0}")]
     Fault(CertFault),
     /// Memory ran out.

@@ -113,9 +113,8 @@ fn parts_in(alloc: Global, value: &Value) -> Result<Parts, CertError>
     }
 }
 
-/// The certificate that a text denotes.
-///
-/// Where it denotes none, the fault of the smallest number over the whole text is answered; `OutOfMemory` only where memory ran out.
+/// Reads a certificate, or returns the fault with the smallest number in the whole text;
+/// `OutOfMemory` only if memory runs out.
 #[tactic(auto, unfolding(crate::specs::Denoted::certificate_by))]
 pub fn read_certificate(alloc: Global, bytes: &[u8]) -> Result<Certificate, CertError>
     ensures { Gives content result (certificate_by bytes.now) }
@@ -131,7 +130,7 @@ pub fn read_certificate(alloc: Global, bytes: &[u8]) -> Result<Certificate, Cert
     }
 }
 
-/// The JSON of a certificate of version 3, of that of its parts.
+/// The JSON of a certificate of version 3, from that of its parts.
 fn third_value(
     alloc: Global,
     classes: Value,
@@ -157,7 +156,7 @@ fn carried_value(alloc: Global, parts: &Parts) -> Result<Value, AllocError>
     third_value(alloc, classes, kinds, reach, parts.version)
 }
 
-/// The JSON of a certificate of version 1, of that of its parts.
+/// The JSON of a certificate of version 1, from that of its parts.
 fn first_value(
     alloc: Global,
     classes: Value,
@@ -175,7 +174,7 @@ fn first_value(
     json!(in alloc; {"classes": classes, "kinds": kinds, "pairs": stretches, "reach": reach, "version": version})
 }
 
-/// The JSON of a certificate of version 2, of that of its parts.
+/// The JSON of a certificate of version 2, from that of its parts.
 fn second_value(
     alloc: Global,
     classes: Value,
@@ -219,7 +218,8 @@ fn to_value(alloc: Global, certificate: &Certificate) -> Result<Value, AllocErro
     }
 }
 
-/// The text of a certificate: compact, with members in alphabetical order and lists in the order held. The only error is want of memory.
+/// Writes a certificate: compact JSON, members in alphabetical order, lists as they are. The only
+/// error is out of memory.
 ///
 /// A text of at most 16,777,216 bytes is read back as the same certificate.
 pub fn write_certificate(alloc: Global, certificate: &Certificate) -> Result<Vec<u8>, AllocError>

@@ -1,4 +1,4 @@
-//! What stands in the JSON text of a certificate, and lists of it.
+//! Values in the JSON text of a certificate, and lists of them.
 
 ghost use Rattle.std.specs.Prelude.{◌≡◌, IfOk, List, map, Result, ℕ, [], ◌∷◌};
 ghost use Rattle.serde_json.specs.Data.{Data, array, item, no_items};
@@ -14,10 +14,10 @@ use cs_json::{BAD_SHAPE, Misread, value_at};
 use serde_json::Value;
 use std::alloc::{AllocError, Global};
 
-/// What has a form in the JSON text of a certificate.
+/// A value in the JSON text of a certificate.
 ///
-/// Whole numbers are held in the type that their rules need. One that the type doesn't hold is held as its greatest value, which no
-/// rule allows: so it is at fault as the number itself would be.
+/// A whole number is held in the type that its rules need; one beyond that type as its greatest
+/// value, which no rule allows: so it has the fault that the number itself would have.
 pub(crate) trait Form: Drop {
     /// What a clause sees of a value of this type.
     ghost Seen: { Type 0 };
@@ -25,17 +25,17 @@ pub(crate) trait Form: Drop {
     /// How a clause sees it.
     ghost seen: { Self → Seen };
 
-    /// What a JSON value says, or `BadShape`.
+    /// The value of a JSON value, or `BadShape`.
     ghost said: { Data → Result Seen JsonFault };
 
     /// The JSON value that is written.
     ghost written: { Seen → Data };
 
-    /// What the JSON value says. `BadShape` where it has another shape; `Memory` where memory ran out.
+    /// Reads the JSON value. `BadShape` if it has another shape; `Memory` if memory runs out.
     fn read(alloc: Global, value: &Value) -> Result<Self, Misread>
         ensures { Gives seen result (said (view value.now)) };
 
-    /// The JSON value that says it. The only error is want of memory.
+    /// Writes the JSON value. The only error is out of memory.
     fn write(&self, alloc: Global) -> Result<Value, AllocError>
         ensures { IfOk result (λ v. view v ≡ written (seen self.now)) };
 }
@@ -89,7 +89,7 @@ pub(crate) fn write_each<T: Form>(alloc: Global, list: &[T]) -> Result<Vec<Value
     Ok(found)
 }
 
-/// A member of an object, that has to be there. `BadShape` where it isn't or has another shape; `Memory` where memory ran out.
+/// A required member of an object. `BadShape` if absent or misshapen; `Memory` if memory runs out.
 pub(crate) fn member<T: Form>(alloc: Global, value: &Value, name: &str) -> Result<T, Misread>
     ensures { Gives T.seen result (member_as T.said name.now (view value.now)) }
 {

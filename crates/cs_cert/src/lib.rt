@@ -1,4 +1,4 @@
-//! Certificates: what is claimed of each kind of day, its JSON text, and the rules that a certificate keeps by itself.
+//! Certificates: their claims for each kind of day, their JSON text, and their rules for any plan.
 #![tactic(auto)]
 
 mod carry_form;

@@ -1,4 +1,4 @@
-/// The greatest length of a certificate's text, in bytes.
+/// The most bytes of a certificate's text.
 pub const MAX_CERTIFICATE: usize = 16_777_216;
 
 /// The most classes of a certificate of version 1 or 2.
@@ -10,7 +10,7 @@ pub const MAX_KIND_CLASSES: usize = 2_562;
 /// The greatest depth of a day tree and of a minute tree: a leaf has depth 0.
 pub const MAX_DEPTH: u8 = 24;
 
-/// The most entries of a minute tree's leaf.
+/// The most entries of a leaf of a minute tree.
 pub const MAX_ENTRIES: usize = 4_096;
 
 /// Job numbers are below this one: 256 commands of a crontab, and 64 jobs of an anacrontab.

@@ -60,7 +60,7 @@ impl Form for Piece {
     }
 }
 
-/// The pieces of a group. Those that make no backlog are held as none of a group that can't be: the greatest `u8`.
+/// The pieces of a group. Those that make no backlog become none, of a group out of range: 255.
 pub(crate) fn held_backlog(alloc: Global, group: u8, pieces: Sequence<Piece>) -> GroupBacklog
     ensures { result ≡ held_backlog group pieces }
 {

@@ -18,11 +18,12 @@ use cs_daytree::DayTree;
 use cs_windows::JobReach;
 
 impl Certificate {
-    /// The certificate of these parts. It takes no memory.
+    /// Makes a certificate, without allocating.
     ///
-    /// Where rules are broken the fault of the smallest number is answered, from 3 on: `BadVersion` where the version is none of 1, 2
-    /// and 3, `BadShape` where a stretch has a number of days that the version does not allow (version 3 has no stretch) or a
-    /// class of version 3 says more than what is left over at midnight, and the others as [`CertFault`] says.
+    /// Of several faults the one with the smallest number is returned, from 3 on: `BadVersion` for
+    /// another version than 1, 2 and 3, `BadShape` for a stretch of a length that the version
+    /// doesn't allow (version 3 has no stretch) or a class of version 3 with more than what is left
+    /// over at midnight, and the others as [`CertFault`] says.
     pub fn new(
         version: u8,
         classes: Sequence<Class>,
@@ -47,7 +48,7 @@ impl Certificate {
         })
     }
 
-    /// The certificate of these parts, or the fault of the smallest number.
+    /// The certificate of these parts, or the fault with the smallest number.
     pub(crate) fn of_parts(parts: Parts) -> Result<Certificate, CertFault>
         ensures { Tells content result (judged (content_of parts)) }
     {
@@ -65,7 +66,7 @@ impl Certificate {
         &self.parts
     }
 
-    /// The version: 1 for stretches of two days, 2 for two to four, 3 for none.
+    /// Returns the version: 1 for stretches of two days, 2 for two to four, 3 for none.
     pub fn version(&self) -> u8
         ensures value { result ≡ (content self.now).version }
         ensures kept { Keeps (content self.now) }
@@ -73,7 +74,7 @@ impl Certificate {
         self.parts().version
     }
 
-    /// The classes of days, 1 to 512 (in version 3 to 2,562), named by their place from 0.
+    /// Returns the classes of days, numbered from 0: 1 to 512, in version 3 up to 2,562.
     pub fn classes(&self) -> &[Class]
         ensures value { result.now ≡ (content self.now).classes }
         ensures kept { Keeps (content self.now) }
@@ -81,7 +82,7 @@ impl Certificate {
         self.parts().classes.as_slice()
     }
 
-    /// The class of each kind of day. It is one of those in [`classes`](Certificate::classes).
+    /// Returns the class of each kind of day: one of [`classes`](Certificate::classes).
     pub fn kinds(&self) -> &DayTree
         ensures value { tree_of result.now ≡ (content self.now).kinds }
         ensures kept { Keeps (content self.now) }
@@ -89,7 +90,7 @@ impl Certificate {
         &self.parts().kinds
     }
 
-    /// The class of a kind of day.
+    /// Returns the class of a kind of day.
     pub fn class_of(&self, kind: DayKind) -> u32
         ensures value { result ≡ class_of (content self.now) kind }
         ensures there { result < length (content self.now).classes }
@@ -97,7 +98,7 @@ impl Certificate {
         self.parts().kinds.class_of(kind)
     }
 
-    /// The stretches, strictly rising: by length, then in order of the classes. Version 3 has none.
+    /// Returns the stretches, strictly rising by length, then by their classes. Version 3 has none.
     pub fn stretches(&self) -> &[Stretch]
         ensures value { map stretch_of result.now ≡ (content self.now).stretches }
         ensures kept { Keeps (content self.now) }
@@ -105,7 +106,7 @@ impl Certificate {
         self.parts().stretches.as_slice()
     }
 
-    /// The reaches, jobs strictly rising.
+    /// Returns the reaches, jobs strictly rising.
     pub fn reach(&self) -> &[JobReach]
         ensures value { result.now ≡ (content self.now).reach }
         ensures kept { Keeps (content self.now) }

@@ -1,4 +1,4 @@
-//! What a minute tree of a certificate keeps.
+//! The rules of a certificate's minute trees.
 
 ghost use Rattle.std.specs.Prelude.{◌≡◌, nat_le};
 ghost use Rattle.std.specs.List.{list_all};
@@ -8,7 +8,7 @@ ghost use Rattle.cs_cert.specs.Rules.{depth, entries_fit, entry_fits, is_short, 
 use crate::limits::{MAX_ENTRIES, MAX_JOBS};
 use cs_windows::{Entry, MINUTES_OF_DAY, MinuteTree};
 
-/// Whether the depth is at most the limit: a leaf has depth 0, a split one more than its deeper half.
+/// Whether the depth is at most the limit: 0 for a leaf, else one more than the deeper half.
 pub(crate) fn is_no_deeper_than(tree: &MinuteTree, limit: u8) -> bool
     ensures { result ≡ nat_le (depth (tree_of tree.now)) limit }
 {
@@ -36,7 +36,7 @@ fn entries_fit(entries: &[Entry], days: u8) -> bool
     entries.iter().all(|entry| entry_fits(entry, days))
 }
 
-/// Whether each entry names a job, a day less than so many days back, and a minute of that day.
+/// Whether each entry has a job and a minute in range, and starts less than `days` days before.
 pub(crate) fn has_entries(tree: &MinuteTree, days: u8) -> bool
     ensures { result ≡ leaves_pass (entries_fit days) (tree_of tree.now) }
 {

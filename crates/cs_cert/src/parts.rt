@@ -16,7 +16,7 @@ use cs_civil::Sequence;
 use cs_daytree::DayTree;
 use cs_windows::JobReach;
 
-/// The parts of a certificate, whether they keep its rules or not.
+/// The parts of a certificate, by its rules or not.
 #[derive(Debug, Drop)]
 pub(crate) struct Parts {
     pub(crate) version: u8,
@@ -26,7 +26,6 @@ pub(crate) struct Parts {
     pub(crate) reach: Sequence<JobReach>,
 }
 
-/// The most days of a stretch.
 fn most_days(version: u8) -> u8
     ensures { result ≡ most_days version }
 {
@@ -44,7 +43,6 @@ fn most_reach(version: u8) -> u16
     if version == 1 { 1_440 } else { 4_320 }
 }
 
-/// The most classes.
 fn most_classes(version: u8) -> usize
     ensures { result ≡ most_classes version }
 {
@@ -135,7 +133,7 @@ impl Parts {
         have_short_leaves(self.stretches.as_slice())
     }
 
-    /// The fault of the smallest number that stands, from 3 on.
+    /// The fault with the smallest number, from 3 on.
     #[tactic(auto, unfolding(crate::specs::Rules::fault_of))]
     pub(crate) fn fault(&self) -> Option<CertFault>
         ensures { result ≡ fault_of (content_of self.now) }

@@ -1,4 +1,4 @@
-//! How long the text of a certificate is, without making it.
+//! The length of a certificate's text, without making it.
 use crate::certificate::Certificate;
 use crate::class::{Class, DueList, GroupBacklog};
 use crate::stretch::Stretch;
@@ -8,7 +8,7 @@ use cs_windows::{Entry, JobReach, MinuteTree};
 
 /// What is listed in the text of a certificate.
 trait Listed {
-    /// How many bytes its text has.
+    /// The bytes of its text.
     fn text(&self) -> u64;
 }
 
@@ -21,12 +21,11 @@ fn total(lengths: &[u64]) -> u64 {
     total
 }
 
-/// The brackets around a list of so many items, and the commas between them.
+/// The brackets around a list of this length, and the commas between its items.
 fn brackets(items: usize) -> u64 {
     (items.max(1) as u64).saturating_add(1)
 }
 
-/// A list of these items.
 fn list<T: Listed>(items: &[T]) -> u64 {
     let mut text = brackets(items.len());
     for item in items {
@@ -35,7 +34,7 @@ fn list<T: Listed>(items: &[T]) -> u64 {
     text
 }
 
-/// The digits of a number. No number of a certificate has more than 7.
+/// The digits of a number, which in a certificate are at most 7.
 fn digits(number: u32) -> u64 {
     match number {
         0..=9 => 1,
@@ -180,8 +179,8 @@ fn day_tree(tree: &DayTree) -> u64 {
     }
 }
 
-/// How many bytes the text of a certificate has, or at least so many: whoever makes the text holds the length of that against
-/// [`MAX_CERTIFICATE`](crate::MAX_CERTIFICATE).
+/// Returns the length of a certificate's text in bytes, or less: whoever makes the text compares
+/// its length with [`MAX_CERTIFICATE`](crate::MAX_CERTIFICATE).
 pub fn least_text(certificate: &Certificate) -> u64 {
     let (names, classes, stretches) = match certificate.version() {
         1 => (

@@ -115,7 +115,7 @@ row_is d class sets times row due are long each = record {
       each j below ∙ likeness_same (is_in (slice_index_or sets j [])) (is_due_in class j) (is_in (slice_index_or times j [])) (is_due_minute (command_of d j).when) (λ m k. due.each j m below k) (λ m k. are.each j m lt k);
 }
 
--- what a class's row says of a job: the line of the job is that at its place
+-- a class's row for a job: the line of the job is that at its place
 pub row_says : (d : Declared) (c : Content) (k : Kind) (j n : ℕ) (rows : List (List Likeness)) (row : List Likeness) (line : CommandLine) (lines : List CommandLine) → AreLikenesses d c rows → row ≡ get_or rows n row → n ≡ class_of c k → n < length c.classes → lines ≡ d.crontab.lines → j < length lines → line ≡ get_or lines j line → likeness_on (likeness_at row j) (is_due_day line.when k) ≡ job_alike d c k j
 row_says d c k j n rows row line lines are own at there whole lt is =
     let class = class_at c.classes n in

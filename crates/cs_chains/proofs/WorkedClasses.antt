@@ -14,7 +14,7 @@ use Rattle.cs_history.specs.Lists.{below}
 use Rattle.cs_chains.specs.WorkedOut.{classed_kind, first_classed}
 use Rattle.cs_chains.proofs.Collected.{of_answers}
 
--- the first of these kinds that has the class, with their classes beside them
+-- the first of these kinds that has the class, by their classes
 first_of_these : (c : Content) (class : ℕ) (kinds : List Kind) → first_classed (map (classed_kind c) kinds) class ≡ find (λ kind. class_of c kind == class) kinds
 first_of_these c class [] = refl
 first_of_these c class (kind ∷ kinds) = by (class_of c kind == class) refl (first_of_these c class kinds)

@@ -28,8 +28,8 @@ is_due_minute Reboot minute = false
 abbrev pub has_just : (ℕ → Bool) → (ℕ → Bool) → Bool
 has_just due test = list_all (λ m. same_bool (due m) (test m)) day_minutes
 
--- what a class is to a job, by the due minutes that it has for the job and those of the days on which the job is due: whether it
--- has just these, and whether it has none
+-- what a class is to a job, by the due minutes that it has for the job and those of the days on
+-- which the job is due: whether it has just these, and whether it has none
 abbrev pub likeness_by : (ℕ → Bool) → (ℕ → Bool) → Likeness
 likeness_by due times =
     record { when_due = has_just due times; when_not = has_just due (λ m. false) }
@@ -41,7 +41,7 @@ likeness_of when job class = likeness_by (is_due_in class job) (is_due_minute wh
 abbrev pub likeness_on : Likeness → Bool → Bool
 likeness_on likeness due = if due then likeness.when_due else likeness.when_not
 
--- that at the place of a job: nothing is known of what stands past the last
+-- that at the place of a job; nothing is known past the last
 abbrev pub likeness_at : List Likeness → ℕ → Likeness
 likeness_at row n = slice_index_or row n (record { when_due = false; when_not = false })
 

@@ -11,7 +11,7 @@ use cs_cert::Stretch;
 use indexmap::{IndexMap, IndexSet};
 use std::alloc::{AllocError, Global};
 
-/// Chains by their classes, the first of those that have the same.
+/// Chains by their classes: the first with those classes.
 pub(crate) type ByClasses<'a> = IndexMap<&'a [u32], &'a ClassedChain>;
 
 /// A chain that has these classes, if there is one.
@@ -37,7 +37,7 @@ fn add<'a>(chains: &mut ByClasses<'a>, chain: &'a ClassedChain) -> Result<(), Al
     Ok(())
 }
 
-/// These chains by their classes. The only error is want of memory.
+/// These chains by their classes. The only error is out of memory.
 pub(crate) fn by_classes(
     alloc: Global,
     chains: &[ClassedChain],
@@ -51,7 +51,7 @@ pub(crate) fn by_classes(
     Ok(by)
 }
 
-/// The lists of classes that the stretches have. The only error is want of memory.
+/// The lists of classes that the stretches have. The only error is out of memory.
 pub(crate) fn class_lists(
     alloc: Global,
     stretches: &[Stretch],

@@ -10,7 +10,7 @@ use std::alloc::{AllocError, Global};
 /// The kinds of successive days, at most four, eldest first.
 pub type Chain = ArrayVec<DayKind, 4>;
 
-/// The same kinds.
+/// A copy of the kinds.
 pub(crate) fn copy_of(chain: &Chain) -> Chain
     ensures { result.items ≡ chain.now.items }
 {
@@ -21,7 +21,7 @@ pub(crate) fn copy_of(chain: &Chain) -> Chain
     copy
 }
 
-/// The same kinds, and one more.
+/// The kinds, and one more.
 fn longer(chain: &Chain, kind: DayKind) -> Chain
     requires { length chain.now.items < 4 }
     ensures { result.items ≡ chain.now.items ++ kind ∷ [] }
@@ -31,7 +31,7 @@ fn longer(chain: &Chain, kind: DayKind) -> Chain
     longer
 }
 
-/// Adds the chains of these kinds, then this one, and so many more.
+/// Adds the chains of these kinds, then this one, and as many more.
 fn add_chains(
     chains: &mut Vec<Chain>,
     begun: &Chain,
@@ -55,8 +55,9 @@ fn add_chains(
     Ok(())
 }
 
-/// All that so many successive days can be, in the order of [`all_kinds`]: each kind, followed by each that can come next,
-/// and so on. After 28 February come 29 February and 1 March. The only error is want of memory.
+/// Returns all chains of this many days, in the order of [`all_kinds`]: each kind, followed by each
+/// that can come next, and so on. After 28 February come 29 February and 1 March. The only error is
+/// out of memory.
 pub fn chains(alloc: Global, days: u8) -> Result<Vec<Chain>, AllocError>
     requires { (1 ≤ days) × (days ≤ 4) }
     ensures { IfOk result (λ listed. map kinds_of listed.items ≡ chains days) }

@@ -16,7 +16,6 @@ pub(crate) struct ClassedChain {
     pub(crate) classes: ArrayVec<u32, 4>,
 }
 
-/// The classes of these kinds.
 pub(crate) fn classes_of(claim: &Claim<'_>, chain: &Chain) -> ArrayVec<u32, 4>
     ensures { result.items ≡ map (class_of (said claim.now)) chain.now.items }
 {
@@ -27,7 +26,7 @@ pub(crate) fn classes_of(claim: &Claim<'_>, chain: &Chain) -> ArrayVec<u32, 4>
     classes
 }
 
-/// All chains of so many days with their classes.
+/// All chains of this many days with their classes.
 pub(crate) fn classed_chains(
     alloc: Global,
     claim: &Claim<'_>,

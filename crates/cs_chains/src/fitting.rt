@@ -1,4 +1,4 @@
-//! How many days the windows of a plan's jobs can reach over.
+//! How many days the windows of a plan's jobs span.
 ghost use Rattle.std.specs.Prelude.{◌≡◌, ◌+◌, ◌*◌, ◌≤◌, ℕ, Bool, ◌==◌, map, nat_le};
 ghost use Rattle.std.specs.List.{list_all};
 ghost use Rattle.cs_accepted.specs.Accepted.{occupied};
@@ -13,7 +13,6 @@ use cs_civil::{DayKind, all_kinds};
 use cs_schedule::Schedule;
 use cs_windows::{MINUTES_OF_DAY, Occupied};
 
-/// The minutes of so many days.
 fn minutes_of(days: u8) -> u32
     ensures { result ≡ 1440 * days }
 {
@@ -27,7 +26,7 @@ fn ends_by(minute: u16, reach: u16, end: u32) -> bool
     u32::from(minute) + u32::from(reach) <= end
 }
 
-/// Whether each window that begins on a day of this kind ends within so many days.
+/// Whether each window that begins on a day of this kind ends within this many days.
 fn cron_ends_on(schedule: &Schedule, reach: u16, days: u8, kind: DayKind) -> bool
     ensures { result ≡ ends_on (record { begins = is_due schedule.now; lasts = reach }) days kind }
 {
@@ -38,8 +37,8 @@ fn cron_ends_on(schedule: &Schedule, reach: u16, days: u8, kind: DayKind) -> boo
         .all(|minute| ends_by(minute, reach, end))
 }
 
-/// Whether the windows of a cron job end within so many days. Only those that last longer than the days before the last
-/// and a minute have to be looked for, kind by kind.
+/// Whether the windows of a cron job end within this many days. Kind by kind, only those that last
+/// longer than the days before the last and a minute are looked for.
 fn cron_fits(schedule: &Schedule, reach: u16, days: u8) -> bool
     requires { 1 ≤ days }
     ensures { result ≡ job_fits days (record { begins = is_due schedule.now; lasts = reach }) }
@@ -50,7 +49,7 @@ fn cron_fits(schedule: &Schedule, reach: u16, days: u8) -> bool
     all_kinds().all(|kind| cron_ends_on(schedule, reach, days, kind))
 }
 
-/// Whether the catch-up window that begins at this minute of each day ends within so many days.
+/// Whether the catch-up window that begins at this minute of each day ends within this many days.
 fn catch_up_fits(from: u16, reach: u16, days: u8) -> bool
     ensures { result
         ≡ job_fits days (record { begins = λ kind minute. minute == from; lasts = reach }) }
@@ -61,7 +60,7 @@ fn catch_up_fits(from: u16, reach: u16, days: u8) -> bool
     ends_by(from, reach, minutes_of(days))
 }
 
-/// Whether the windows of a job end within so many days.
+/// Whether the windows of a job end within this many days.
 fn fits(job: &Occupied, days: u8) -> bool
     requires { 1 ≤ days }
     ensures { result ≡ job_fits days (job_of job.now) }
@@ -72,7 +71,7 @@ fn fits(job: &Occupied, days: u8) -> bool
     }
 }
 
-/// Whether the windows of all jobs end within so many days.
+/// Whether the windows of all jobs end within this many days.
 fn all_fit(jobs: &[Occupied], days: u8) -> bool
     requires { 1 ≤ days }
     ensures { result ≡ list_all (job_fits days) (map job_of jobs.now) }
@@ -85,8 +84,9 @@ fn all_fit(jobs: &[Occupied], days: u8) -> bool
     true
 }
 
-/// The length of the stretches by which a plan whose jobs occupy these windows is checked: 2, 3 or 4 days, the fewest that
-/// no window outlasts, counted from the start of the day on which it begins. Where one outlasts four days, 4.
+/// Returns how many days the stretches need by which a plan with these windows is checked: 2, 3 or
+/// 4, the fewest that no window outlasts, counted from the start of the day on which it begins. If
+/// one outlasts four days, 4.
 pub fn stretch_length(jobs: &[Occupied]) -> u8
     ensures range { (2 ≤ result) × (result ≤ 4) }
     ensures value { (p : Plan) (on : ℕ → Kind → ℕ → Bool) (c : ℕ → ℕ)

@@ -12,10 +12,9 @@ use arrayvec::ArrayVec;
 use cs_cert::Claim;
 use cs_civil::{Day, kind_of};
 
-/// In so many days, 28 years, all chains of days have come.
+/// All chains of days occur within this many days, 28 years.
 const SEARCHED: u32 = 10_227;
 
-/// The class of a day.
 fn class_on(claim: &Claim<'_>, day: u32) -> u32
     requires { day ≤ 100000 }
     ensures { result ≡ class_of (said claim.now) (kind day) }
@@ -26,7 +25,7 @@ fn class_on(claim: &Claim<'_>, day: u32) -> u32
     }
 }
 
-/// The classes of so many successive days.
+/// The classes of this many successive days.
 fn classes_from(claim: &Claim<'_>, first: u32, days: u8) -> ArrayVec<u32, 4>
     requires few { days ≤ 4 }
     requires near { first ≤ 50000 }
@@ -39,7 +38,7 @@ fn classes_from(claim: &Claim<'_>, first: u32, days: u8) -> ArrayVec<u32, 4>
     classes
 }
 
-/// Whether so many successive days have these classes.
+/// Whether this many successive days have these classes.
 #[tactic(auto, using(crate::proofs::Searched::slices_same))]
 fn have_classes(claim: &Claim<'_>, first: u32, days: u8, classes: &[u32]) -> bool
     requires few { days ≤ 4 }
@@ -49,8 +48,8 @@ fn have_classes(claim: &Claim<'_>, first: u32, days: u8, classes: &[u32]) -> boo
     classes_from(claim, first, days).as_slice() == classes
 }
 
-/// The first day, counted from 1970-01-01 as 0, that ends so many days of these classes: of the days from that number on,
-/// of which as many are looked at as 28 years have. Where none does, the number of days.
+/// Returns the first day, counted from 1970-01-01 as 0, that ends `days` days of these classes:
+/// from day number `days` on, within 28 years. If there is none, `days`.
 pub fn last_day(claim: &Claim<'_>, classes: &[u32], days: u8) -> u32
     requires { (1 ≤ days) × (days ≤ 4) }
     ensures value { result ≡ last_of (as_certificate (said claim.now)) days classes.now }

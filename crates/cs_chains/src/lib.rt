@@ -1,4 +1,4 @@
-//! The stretches of days that a certificate has to speak of, and the first two rules that it is accepted by.
+//! The stretches of days that a certificate needs, and the first two rules by which it is accepted.
 #![tactic(auto)]
 
 mod by_classes;

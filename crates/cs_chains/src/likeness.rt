@@ -15,7 +15,7 @@ use rayon::prelude::*;
 use std::alloc::{AllocError, Global};
 use std::thread::Threads;
 
-/// How few rows are worth a thread of their own.
+/// The fewest rows that are worth a thread.
 const LEAST_ROWS: usize = 8;
 
 /// What a class is to a cron job.
@@ -23,11 +23,10 @@ const LEAST_ROWS: usize = 8;
 pub(crate) struct Likeness {
     /// Whether the class has the job's due minutes of the days on which the job is due.
     pub(crate) when_due: bool,
-    /// Whether it has none for the job, as on the other days.
+    /// Whether the class has no due minutes for the job, as on the other days.
     pub(crate) when_not: bool,
 }
 
-/// Whether a command is due on days of this kind.
 pub(crate) fn is_due_day(line: &Line, kind: DayKind) -> bool
     ensures { result ≡ is_due_day line.now.when kind }
 {
@@ -47,7 +46,7 @@ fn times_of(line: &Line) -> MinuteSet
     }
 }
 
-/// The minutes at which each cron job is due on each day on which it is due, by number. The only error is want of memory.
+/// The due minutes of each cron job on a day on which it is due. The only error is out of memory.
 fn times_of_jobs(alloc: Global, plan: &Plan) -> Result<Vec<MinuteSet>, AllocError>
     ensures { IfOk result (λ times. AreTimes plan.now times.items) }
 {
@@ -58,8 +57,8 @@ fn times_of_jobs(alloc: Global, plan: &Plan) -> Result<Vec<MinuteSet>, AllocErro
     Ok(times)
 }
 
-/// What a class is to a cron job, by the due minutes that it has for the job, those of the days on which the job is due, and
-/// none.
+/// What a class is to a cron job, by the due minutes that it has for the job, those of the days on
+/// which the job is due, and none.
 fn likeness_of(minutes: &MinuteSet, times: &MinuteSet, none: &MinuteSet) -> Likeness
     requires { none.now ≡ [] }
     ensures { result ≡ likeness_by (has minutes.now) (has times.now) }
@@ -87,7 +86,7 @@ fn row_of(
     Ok(row)
 }
 
-/// What each class is to each cron job: a row for each class, by number. The only error is want of memory.
+/// What each class is to each cron job, a row for each class. The only error is out of memory.
 pub(crate) fn likenesses(
     alloc: Global,
     plan: &Plan,
@@ -103,7 +102,7 @@ pub(crate) fn likenesses(
     Ok(rows)
 }
 
-/// The same by several threads.
+/// Like `likenesses`, with several threads.
 pub(crate) fn likenesses_parallel<R: Threads + Sync>(
     rt: &R,
     alloc: Global,

@@ -1,4 +1,4 @@
-//! The first of the stretches that successive days have that a certificate lacks.
+//! The first stretch of successive days that a certificate lacks.
 ghost use Rattle.std.specs.Prelude.{◌≡◌, ◌≤◌, IfOk, option_map};
 ghost use Rattle.cs_accepted.specs.Faults.{stretch_fault};
 ghost use Rattle.cs_cert.specs.Claim.{said};
@@ -13,15 +13,14 @@ use cs_cert::Claim;
 use indexmap::IndexSet;
 use std::alloc::{AllocError, Global};
 
-/// Whether the classes are one of the lists.
 fn is_listed(lists: &IndexSet<&[u32]>, classes: &[u32]) -> bool
     ensures { result ≡ is_among lists.now.keys classes.now }
 {
     lists.contains(classes)
 }
 
-/// The first kinds of so many successive days, in the order of [`chains`](crate::chains), whose classes no stretch of the
-/// certificate has. The only error is want of memory.
+/// Returns the first kinds of this many successive days, in the order of [`chains`](crate::chains),
+/// whose classes no stretch of the certificate has. The only error is out of memory.
 pub fn first_missing(
     alloc: Global,
     claim: &Claim<'_>,

@@ -15,7 +15,7 @@ use cs_decl::Plan;
 use std::alloc::{AllocError, Global};
 use std::thread::Threads;
 
-/// Whether a class has the due minutes of a cron job on days of this kind, by what it is to the job.
+/// Whether a class has a cron job's due minutes on days of this kind, by what it is to the job.
 fn is_job_alike(likeness: Likeness, line: &Line, kind: DayKind) -> bool
     ensures { result ≡ likeness_on likeness (is_due_day line.now.when kind) }
 {
@@ -42,8 +42,8 @@ fn is_alike(plan: &Plan, claim: &Claim<'_>, rows: &[Sequence<Likeness>], kind: D
     true
 }
 
-/// The first kind of day, in the order of [`all_kinds`], whose class has not the due minutes of each cron job, by the rows of
-/// the classes.
+/// The first kind of day, in the order of [`all_kinds`], whose class doesn't have the due minutes
+/// of each cron job, by the rows of the classes.
 fn first_by_rows(plan: &Plan, claim: &Claim<'_>, rows: &[Sequence<Likeness>]) -> Option<DayKind>
     requires { AreLikenesses plan.now (said claim.now) rows.now }
     ensures { option_map ClassNotDue result
@@ -57,8 +57,9 @@ fn first_by_rows(plan: &Plan, claim: &Claim<'_>, rows: &[Sequence<Likeness>]) ->
     None
 }
 
-/// The first kind of day, in the order of [`all_kinds`], whose class has not exactly the due minutes that the plan's cron
-/// jobs have on such days (`crontab(5)`). The only error is want of memory.
+/// Returns the first kind of day, in the order of [`all_kinds`], whose class doesn't have exactly
+/// the due minutes of the plan's cron jobs on such days (`crontab(5)`). The only error is out of
+/// memory.
 pub fn first_unlike(
     alloc: Global,
     plan: &Plan,
@@ -72,7 +73,7 @@ pub fn first_unlike(
     Ok(first_by_rows(plan, claim, rows.as_slice()))
 }
 
-/// The same, where several threads look at the classes.
+/// Like [`first_unlike`], with several threads.
 pub fn first_unlike_parallel<R: Threads + Sync>(
     rt: &R,
     alloc: Global,

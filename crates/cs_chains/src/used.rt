@@ -1,4 +1,4 @@
-//! Which of a certificate's stretches successive days have, and which one that they have is missing.
+//! The stretches of a certificate that successive days have, and one that they have and it lacks.
 ghost use Rattle.std.specs.Prelude.{◌≡◌, ◌≤◌, All, IfNone, IfOk, IfSome, List, Some, false, map, slice_get};
 ghost use Rattle.std.specs.List.{list_any};
 ghost use Rattle.cs_accepted.specs.Faults.{used_stretches};
@@ -15,12 +15,13 @@ use crate::classed::classed_chains;
 use cs_cert::{Claim, Stretch};
 use std::alloc::{AllocError, Global};
 
-/// A stretch of a certificate that successive days have, its place among the stretches, and kinds of such days.
+/// A stretch of a certificate that successive days have.
 #[derive(Debug, Drop)]
 pub struct UsedStretch<'a> {
+    /// The stretch.
     pub stretch: &'a Stretch,
 
-    /// The place in [`Claim::stretches`](cs_cert::Claim::stretches).
+    /// Its index in [`Claim::stretches`](cs_cert::Claim::stretches).
     pub number: usize,
 
     /// Kinds of successive days that have its classes.
@@ -47,7 +48,8 @@ fn used_by<'a>(
     })
 }
 
-/// The stretches of so many days that successive days have, in the certificate's order. The only error is want of memory.
+/// Returns the stretches of this many days that successive days have, in the certificate's order.
+/// The only error is out of memory.
 pub fn used_stretches<'a>(
     alloc: Global,
     claim: &Claim<'a>,

@@ -23,7 +23,9 @@ use std::thread::Threads;
 /// The classes and the stretches that a certificate of version 3 stands for.
 #[derive(Debug, Drop)]
 pub struct WorkedOut {
+    /// The classes, by number.
     pub classes: Vec<Class>,
+    /// The stretches.
     pub stretches: Vec<Stretch>,
 }
 
@@ -46,7 +48,6 @@ fn classed_kinds(alloc: Global, claim: &Claim<'_>) -> Result<Vec<ClassedKind>, A
     Ok(kinds)
 }
 
-/// The first of the kinds that has the class.
 fn first_kind(kinds: &[ClassedKind], class: u32) -> Option<DayKind>
     ensures { result ≡ first_classed kinds.now class }
 {
@@ -86,7 +87,7 @@ fn classes_of_kinds(alloc: Global, plan: &Plan, claim: &Claim<'_>) -> Result<Vec
     Ok(worked)
 }
 
-/// The same by several threads.
+/// Like `classes_of_kinds`, with several threads.
 fn classes_of_kinds_parallel<R: Threads + Sync>(
     rt: &R,
     alloc: Global,
@@ -111,7 +112,7 @@ fn classes_of_kinds_parallel<R: Threads + Sync>(
         .collect::<Result<Vec<Class>, AllocError>>(rt, alloc)?
 }
 
-/// The lists of classes that the chains have, each once, where it comes first.
+/// The different lists of classes that the chains have, in order of their first place.
 fn distinct_lists(alloc: Global, chains: &[ClassedChain]) -> Result<IndexSet<&[u32]>, AllocError>
     ensures { IfOk result (λ lists.
         map (λ list. list.now) lists.keys ≡ distinct (map classes_in chains.now)) }
@@ -175,8 +176,8 @@ fn worked_out(
     Ok(WorkedOut { classes, stretches })
 }
 
-/// What a certificate of version 3 stands for under a plan, or nothing for the other versions, which say it themselves, by one
-/// thread. The only error is want of memory.
+/// Works out what a certificate of version 3 stands for under a plan, with one thread; nothing for
+/// other versions, which list it. The only error is out of memory.
 pub fn work_out(
     alloc: Global,
     plan: &Plan,
@@ -192,7 +193,7 @@ pub fn work_out(
     Ok(Some(worked_out(alloc, plan, &claim, classes)?))
 }
 
-/// The same by as many threads as the machine has processors.
+/// Like [`work_out`], with as many threads as the machine has processors.
 pub fn work_out_parallel<R: Threads + Sync>(
     rt: &R,
     alloc: Global,
@@ -209,7 +210,7 @@ pub fn work_out_parallel<R: Threads + Sync>(
     Ok(Some(worked_out(alloc, plan, &claim, classes)?))
 }
 
-/// What is judged of a certificate under a plan, given what was worked out of it.
+/// Returns the claim of a certificate under a plan, with what was worked out of it.
 pub fn claim_by<'a>(
     plan: &Plan,
     certificate: &'a Certificate,

@@ -1,4 +1,5 @@
--- Where the first two rules hold, each stretch in use is good and each waiting job has a reach, no fault is found.
+-- Where the first two rules hold, each stretch in use is good and each waiting job has a reach, no
+-- fault is found.
 use Rattle.std.proofs.Common.{◌≡◌, ℕ, ◌-◌, ◌<◌, ◌≤◌, Bool, true, false, cond, List, [], ◌∷◌, filter, map, Option, None, All, refl, ap, subst, arith}
 use Rattle.std.specs.Prelude.{unwrap_or}
 use Rattle.std.specs.List.{AllByRecursion}

@@ -17,7 +17,7 @@ use Rattle.cs_accepted.proofs.Stretches.{map_twice}
 use Rattle.cs_accepted.proofs.Points.{tells_clears}
 use Rattle.cs_check.specs.Stretches.{ClearsOn, clears_on}
 
--- a test is what tells the same
+-- a test is what decides the same
 pub tells_is : (x y : Bool) (P : Type 0) → (x ≡ true → P) × (P → x ≡ true) → Tells y P → x ≡ y
 tells_is true true P s t = refl
 tells_is true false P s t = absurd (let e = t.1 (s.0 refl) in cc)
@@ -45,7 +45,7 @@ module _ (p : Plan) (plan : IsPlan p) (c : Content) (s : Stretch) (j r : ℕ) (s
       (λ m. tells_if ((as_certificate c).due (nth s.of 0) j m) (clears_by (map (λ class. (as_certificate c).bound class (unwrap_or (p.group j) 0)) s.of) m r) (ClearsBy (map (λ class. (as_certificate c).bound class (unwrap_or (p.group j) 0)) s.of) m r)
       (tells_clears p plan (λ _ _ _. false) (as_certificate c) 1 (omega arith) (map (λ class. (as_certificate c).bound class (unwrap_or (p.group j) 0)) s.of) m r))
 
-  -- what the classes of the stretch tell is the test
+  -- what the classes of the stretch decide is the test
   pub clears_is : (x : Bool) (classes : List Class) → classes ≡ map (class_at c.classes) s.of → (IsTrue x ↔ Clears p classes j r) → x ≡ clears_on p (as_certificate c) j r s
   clears_is x classes e is =
       tells_is x (clears_on p (as_certificate c) j r s) (ClearsOn p (as_certificate c) s j r)

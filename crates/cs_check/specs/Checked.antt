@@ -23,8 +23,9 @@ plan_in c = c.plan
 abbrev pub certificate_in : Checked → Content
 certificate_in c = content c.certificate
 
--- every legal history in which each run ends within its declared time is safe: no two runs of an exclusive group run at once, two
--- that both hold its lock shared excepted, the capacity is never exceeded, and no due minute of a skip job is skipped
+-- every legal history in which each run ends within its declared time is safe: no two runs of an
+-- exclusive group run at once, two that both hold its lock shared excepted, the capacity is never
+-- exceeded, and no due minute of a skip job is skipped
 abbrev pub IsHeadline : Plan → Type 0
 IsHeadline p = (h : History) → IsLegal p h → IsInTime p h → IsSafe p h
 
@@ -37,7 +38,7 @@ StayInWindows p c = (h : History) → IsLegal p h → IsInTime p h
 abbrev pub IsCalmThroughout : Plan → (ℕ → ℕ) → Type 0
 IsCalmThroughout p c = (t : ℕ) → IsReached t → IsCalm p c t
 
--- want of memory, or the fault
+-- out of memory, or the fault
 abbrev pub Tells : Option Fault → CheckError → Type 0
 Tells o (errors.Fault f) = o ≡ Some (told f)
 Tells o errors.OutOfMemory = ⊤

@@ -66,7 +66,8 @@ BoundsFollow p a n s = (g : ℕ) → g < p.groups → has_waiter p g ≡ true
     → StepsHold (a.bound (nth s.of (n - 2)) g) (arrivals p a g (nth s.of (n - 2)))
     (a.bound (nth s.of (n - 1)) g)
 
--- after each due minute of the job on the first day of the stretch the bound of its group is zero within the reach
+-- after each due minute of the job on the first day of the stretch the bound of its group is zero
+-- within the reach
 abbrev pub ClearsOn : Plan → Certificate → Stretch → ℕ → ℕ → Type 0
 ClearsOn p a s j reach = (m : ℕ) → m < 1440 → a.due (nth s.of 0) j m ≡ true
     → ClearsBy (map (λ class. a.bound class (unwrap_or (p.group j) 0)) s.of) m reach
@@ -83,7 +84,7 @@ pub record IsGood (p : Plan) (a : Certificate) (n : ℕ) (s : Stretch) : Type 0 
 abbrev pub IsGoodIn : Case → UsedStretch → Type 0
 IsGoodIn k u = IsGood (plan_of k) (claim_of k) k.days (seen_of k u)
 
--- the kinds are those of days that have the classes of the stretch, and its tree's splits lie inside their ranges
+-- the kinds are of days of the stretch's classes, and its tree's splits are inside their ranges
 pub record IsInUse (c : Content) (n : ℕ) (u : UsedStretch) : Type 0 where
   pub kinds : HaveClasses c n u.stretch.now.of u.kinds.items
   pub splits : SplitsInside (tree_of u.stretch.now.tree) 0 1440

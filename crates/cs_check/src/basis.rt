@@ -19,7 +19,6 @@ pub(crate) struct Basis<'a> {
     pub(crate) none: &'a Backlog,
 }
 
-/// The class with this number.
 pub(crate) fn class_of_number<'a>(claim: &'a Claim<'a>, number: usize) -> &'a Class
     requires { number < length (said claim.now).classes }
     ensures { result.now ≡ class_at (said claim.now).classes number }

@@ -16,24 +16,24 @@ use cs_wait::Backlog;
 use cs_windows::{Occupied, Window, windows_on};
 use std::alloc::{AllocError, Global};
 
-/// A plan and a certificate whose classes have the due minutes of their kinds, with what each stretch needs of them.
+/// What each stretch needs of a plan and a certificate whose classes have their kinds' due minutes.
 #[derive(Drop)]
 pub(crate) struct Case<'a> {
     pub(crate) plan: &'a Plan,
     pub(crate) claim: &'a Claim<'a>,
-    /// How many days a stretch has.
+    /// The days of a stretch.
     pub(crate) days: u8,
     /// What each job occupies, by number.
     pub(crate) occupied: Vec<Occupied<'a>>,
     pub(crate) roles: Roles,
-    /// What each day of each class has, by the number of the class.
+    /// The day of each class, by the number of the class.
     pub(crate) class_days: Vec<ClassDay>,
     /// The bound of groups that have none.
     pub(crate) none: &'a Backlog,
 }
 
 impl<'a> Case<'a> {
-    /// How many days a stretch has: 2 to 4.
+    /// The days of a stretch: 2 to 4.
     #[tactic(auto, using(crate::proofs::Using::days_range))]
     pub(crate) fn days(&self) -> usize
         requires { IsCase self.now }
@@ -79,7 +79,7 @@ impl<'a> Case<'a> {
         classes
     }
 
-    /// What is known of the day at this place of a stretch in use.
+    /// The day at this place of a stretch in use.
     pub(crate) fn day_on(&self, used: &UsedStretch<'_>, place: usize) -> &ClassDay
         requires case { IsCase self.now }
         requires in_use { IsInUse (said self.now.claim.now) self.now.days used.now }
@@ -91,7 +91,7 @@ impl<'a> Case<'a> {
         &self.class_days.as_slice()[number as usize]
     }
 
-    /// Whether the leaves of a stretch in use list all these windows, where the version of the certificate lists windows.
+    /// Whether the leaves of a stretch in use list these windows, if the version lists windows.
     pub(crate) fn covers(&self, used: &UsedStretch<'_>, windows: &[Window]) -> bool
         requires { IsInUse (said self.now.claim.now) self.now.days used.now }
         ensures { IsTrue result → ListsAll (seen_of self.now used.now).tree windows.now }
@@ -102,7 +102,7 @@ impl<'a> Case<'a> {
         used.stretch.tree.covers(windows)
     }
 
-    /// The windows of a stretch in use, in order of start. The only error is want of memory.
+    /// The windows of a stretch in use, in order of start. The only error is out of memory.
     pub(crate) fn windows(
         &self,
         alloc: Global,

@@ -1,4 +1,4 @@
-//! The checker, by one thread and by several.
+//! The checker, with one thread and with several.
 ghost use Rattle.std.specs.Prelude.{◌≡◌, [], IfErr, IfOk, IsTrue, None, OnOk};
 ghost use Rattle.cs_cert.specs.Certificate.{content};
 ghost use Rattle.cs_cert.specs.Claim.{said};
@@ -22,7 +22,7 @@ use cs_wait::Backlog;
 use std::alloc::Global;
 use std::thread::Threads;
 
-/// All numbers of a plan and a certificate are in range. The call does nothing.
+/// Lemma. All numbers of a plan and a certificate are in range.
 fn look_at(plan: &Plan, certificate: &Certificate)
     ensures { IsFit plan.now (content certificate.now) }
 {
@@ -31,7 +31,7 @@ fn look_at(plan: &Plan, certificate: &Certificate)
     let _reach = claim.reach();
 }
 
-/// Nothing where each stretch is good, else the first fault.
+/// Nothing if each stretch is good, else the first fault.
 fn answer(
     alloc: Global,
     case: &Case<'_>,
@@ -55,7 +55,7 @@ fn answer(
     }
 }
 
-/// Nothing where no rule is broken by what is claimed, else the first fault, by one thread.
+/// Nothing if the claim breaks no rule, else the first fault, with one thread.
 fn judge_claim(
     alloc: Global,
     plan: &Plan,
@@ -74,7 +74,7 @@ fn judge_claim(
     answer(alloc, &case, stretches.as_slice(), good)
 }
 
-/// The same by several threads.
+/// Like `judge_claim`, with several threads.
 fn judge_claim_parallel<R: Threads + Sync>(
     rt: &R,
     alloc: Global,
@@ -94,7 +94,7 @@ fn judge_claim_parallel<R: Threads + Sync>(
     answer(alloc, &case, stretches.as_slice(), good)
 }
 
-/// Nothing where no rule is broken by what the certificate stands for, else the first fault, by one thread.
+/// Nothing if what the certificate stands for breaks no rule, else the first fault; one thread.
 fn judge(
     alloc: Global,
     plan: &Plan,
@@ -109,7 +109,7 @@ fn judge(
     judge_claim(alloc, plan, &claim_by(plan, certificate, &worked), none)
 }
 
-/// The same by several threads.
+/// Like `judge`, with several threads.
 fn judge_parallel<R: Threads + Sync>(
     rt: &R,
     alloc: Global,
@@ -125,13 +125,15 @@ fn judge_parallel<R: Threads + Sync>(
     judge_claim_parallel(rt, alloc, plan, &claim_by(plan, certificate, &worked), none)
 }
 
-/// Accepts a plan with a certificate exactly where the eight rules of this profile hold, for stretches
-/// of as few days as the windows allow, and answers the first fault otherwise: of the smallest number,
-/// then the first place of that rule. The other error is want of memory.
+/// Accepts a plan with a certificate if and only if the eight rules of this profile hold, with
+/// stretches of as few days as the windows allow.
 ///
-/// What is accepted is safe: every legal history in which each run ends within its declared time never has two runs of an
-/// exclusive group running at once (two that both hold the lock shared excepted), never exceeds the declared capacity,
-/// and never skips a due minute of a skip job. Who made the certificate doesn't matter.
+/// err: the first fault, of the rule with the smallest number and at its first place; `OutOfMemory`
+/// only if memory runs out.
+///
+/// An accepted plan is safe: no legal history in which each run ends within its declared time has
+/// two runs of an exclusive group at once (unless both hold its lock shared), exceeds the declared
+/// capacity, or skips a due minute of a skip job. Who made the certificate doesn't matter.
 #[tactic(auto, using(crate::proofs::Headline::headline, crate::proofs::Headline::calm_throughout, crate::proofs::Headline::stays, crate::proofs::Headline::accepted, crate::proofs::Headline::broken, crate::proofs::Headline::length_of))]
 pub fn check(alloc: Global, plan: &Plan, certificate: Certificate) -> Result<Checked, CheckError>
     ensures value { IfOk result (λ checked.
@@ -155,7 +157,7 @@ pub fn check(alloc: Global, plan: &Plan, certificate: Certificate) -> Result<Che
     Ok(Checked { plan, certificate })
 }
 
-/// The same answer as [`check`] for every plan and certificate, by as many threads as the machine has processors.
+/// Like [`check`], with as many threads as the machine has processors. The answer is the same.
 #[tactic(auto, using(crate::proofs::Headline::headline, crate::proofs::Headline::calm_throughout, crate::proofs::Headline::stays, crate::proofs::Headline::accepted, crate::proofs::Headline::broken, crate::proofs::Headline::length_of))]
 pub fn check_parallel<R: Threads + Sync>(
     rt: &R,

@@ -1,4 +1,4 @@
-//! What the days of a class have, worked out once for all stretches.
+//! The days of each class, worked out once for all stretches.
 ghost use Rattle.std.specs.Prelude.{◌<◌, IfOk, IsTrue, length};
 ghost use Rattle.cs_cert.specs.Claim.{said};
 ghost use Rattle.cs_check.specs.ClassDays.{AreClassDays, IsBasis, IsClassDay, Settle, Settles};
@@ -11,16 +11,16 @@ use rayon::prelude::*;
 use std::alloc::{AllocError, Global};
 use std::thread::Threads;
 
-/// What each day of a class has.
+/// A day of a class.
 #[derive(Debug, Drop)]
 pub(crate) struct ClassDay {
-    /// What it says of the lock of each group.
+    /// The lock of each group.
     pub(crate) groups: Vec<GroupDay>,
     /// Whether each job that waits and has a reach has had its lock on the day itself.
     pub(crate) settles: bool,
 }
 
-/// Whether the job, if it waits and has a reach, has had its lock within the reach on the day itself.
+/// Whether the job, if it waits and has a reach, has had its lock within the reach on that day.
 fn settles(basis: &Basis<'_>, class: &Class, number: usize) -> bool
     requires basis { IsBasis basis.now }
     requires cron { number < crons basis.now.plan.now }
@@ -36,7 +36,7 @@ fn settles(basis: &Basis<'_>, class: &Class, number: usize) -> bool
     }
 }
 
-/// The same of each job.
+/// Like `settles`, for all jobs.
 fn all_settle(basis: &Basis<'_>, class: &Class) -> bool
     requires { IsBasis basis.now }
     ensures { IsTrue result → Settle basis.now.plan.now (said basis.now.claim.now) class.now }
@@ -49,7 +49,6 @@ fn all_settle(basis: &Basis<'_>, class: &Class) -> bool
     true
 }
 
-/// What each day of the class with this number has.
 fn class_day(alloc: Global, basis: &Basis<'_>, number: usize) -> Result<ClassDay, AllocError>
     requires basis { IsBasis basis.now }
     requires there { number < length (said basis.now.claim.now).classes }
@@ -62,7 +61,7 @@ fn class_day(alloc: Global, basis: &Basis<'_>, number: usize) -> Result<ClassDay
     })
 }
 
-/// What each day of each class has, by the number of the class. The only error is want of memory.
+/// The day of each class, by the number of the class. The only error is out of memory.
 pub(crate) fn class_days(alloc: Global, basis: &Basis<'_>) -> Result<Vec<ClassDay>, AllocError>
     requires { IsBasis basis.now }
     ensures { IfOk result (λ days.
@@ -75,7 +74,7 @@ pub(crate) fn class_days(alloc: Global, basis: &Basis<'_>) -> Result<Vec<ClassDa
     Ok(days)
 }
 
-/// The same by several threads.
+/// Like `class_days`, with several threads.
 pub(crate) fn class_days_parallel<R: Threads + Sync>(
     rt: &R,
     alloc: Global,

@@ -1,10 +1,10 @@
 use cs_refused::CheckFault;
 use std::alloc::AllocError;
 
-/// Why nothing was accepted.
+/// Why no plan was accepted.
 #[derive(Debug, Drop)]
 pub enum CheckError {
-    /// The certificate is refused.
+    /// The certificate is refused for this fault.
     Fault(CheckFault),
     /// Memory ran out.
     OutOfMemory,

@@ -17,7 +17,6 @@ use cs_refused::CheckFault;
 use cs_stretch::missing;
 use std::alloc::{AllocError, Global};
 
-/// The civil minute with this number.
 fn civil(number: u64) -> Minute
     requires { (first_minute ≤ number) × (number ≤ last_minute) }
     ensures { result ≡ number }
@@ -28,7 +27,7 @@ fn civil(number: u64) -> Minute
     }
 }
 
-/// The civil minute at a minute of the day, on the first day that ends such days.
+/// The civil minute at a minute of the day, on the first day that ends a stretch of such days.
 fn minute_on(case: &Case<'_>, used: &UsedStretch<'_>, minute: u16) -> u64
     requires { IsCase case.now }
     ensures value { result
@@ -40,7 +39,8 @@ fn minute_on(case: &Case<'_>, used: &UsedStretch<'_>, minute: u16) -> u64
     1_440 * u64::from(last) + u64::from(minute)
 }
 
-/// The first minute of the last day but one, and the first group there, whose bound doesn't follow what arrives.
+/// The first minute of the last day but one, and the first group there, whose bound doesn't follow
+/// the arrivals.
 fn rise(
     alloc: Global,
     case: &Case<'_>,
@@ -108,7 +108,7 @@ fn collision(
     }
 }
 
-/// The first minute of the last day at which the windows weigh too much.
+/// The first minute of the last day at which the windows exceed the capacity.
 fn overload(
     alloc: Global,
     case: &Case<'_>,
@@ -150,7 +150,7 @@ fn blocked(
     }
 }
 
-/// The first fault of a stretch by one rule. One that passes the rule's quick test has none, and the finder doesn't look at it.
+/// The first fault of a stretch by one rule: none, without the finder, if it passes the quick test.
 fn fault_by(
     alloc: Global,
     case: &Case<'_>,

@@ -1,4 +1,4 @@
-//! A quick test of one stretch in use, by all the rules that are looked at stretch by stretch.
+//! A quick test of one stretch in use, by all rules that are checked stretch by stretch.
 ghost use Rattle.std.specs.Prelude.{◌≡◌, ◌<◌, IfOk, IsTrue, map};
 ghost use Rattle.cs_cert.specs.Claim.{said};
 ghost use Rattle.cs_check.specs.Stretches.{AllClearIn, BoundsFollow, ClearsIn, IsCase, IsGoodIn, IsInUse, claim_of, classes_in, clears_in, plan_of, seen_of};
@@ -10,7 +10,7 @@ use cs_chains::UsedStretch;
 use cs_claim::{clears, is_steady_over, waits};
 use std::alloc::{AllocError, Global};
 
-/// Whether the bounds of the groups follow what arrives, from the last day but one to the last.
+/// Whether the bounds of the groups follow the arrivals, from the last day but one to the last.
 pub(crate) fn steps_hold(case: &Case<'_>, used: &UsedStretch<'_>) -> bool
     requires case { IsCase case.now }
     requires in_use { IsInUse (said case.now.claim.now) case.now.days used.now }
@@ -23,7 +23,8 @@ pub(crate) fn steps_hold(case: &Case<'_>, used: &UsedStretch<'_>) -> bool
     is_steady_over(eve.groups.as_slice(), last.groups.as_slice())
 }
 
-/// Whether the bound of the job's group is zero within this reach after each of its due minutes on the first day.
+/// Whether the bound of the job's group is zero within this reach after each of its due minutes on
+/// the first day.
 pub(crate) fn clears_on<'a>(
     case: &Case<'a>,
     used: &UsedStretch<'_>,
@@ -78,7 +79,7 @@ fn all_reaches_hold(case: &Case<'_>, used: &UsedStretch<'_>) -> bool
     true
 }
 
-/// The same. No job is looked at where all have had their locks on the first day itself.
+/// Like `all_reaches_hold`, but quick if all jobs have had their locks on the first day.
 fn reaches_hold(case: &Case<'_>, used: &UsedStretch<'_>) -> bool
     requires case { IsCase case.now }
     requires in_use { IsInUse (said case.now.claim.now) case.now.days used.now }
@@ -91,8 +92,8 @@ fn reaches_hold(case: &Case<'_>, used: &UsedStretch<'_>) -> bool
     all_reaches_hold(case, used)
 }
 
-/// Whether a stretch in use is good by all the rules that are looked at stretch by stretch. Where it answers false, the finders
-/// tell whether something is wrong. The only error is want of memory.
+/// Whether a stretch in use is good by all rules that are checked stretch by stretch. If not, the
+/// finders decide whether it has a fault. The only error is out of memory.
 pub(crate) fn is_good(
     alloc: Global,
     case: &Case<'_>,

@@ -13,8 +13,8 @@ use cs_chains::UsedStretch;
 use cs_claim::waits;
 use cs_refused::CheckFault;
 
-/// Whether this reach, which a job that waits has, is far enough on a stretch in use. The job isn't looked at where all that wait
-/// have had their locks on the first day itself.
+/// Whether this reach of a job that waits is long enough on a stretch in use. That is not worked
+/// out if all that wait have had their locks on the first day.
 fn is_far_on(case: &Case<'_>, used: &UsedStretch<'_>, number: usize, reach: u16) -> bool
     requires case { IsCase case.now }
     requires in_use { IsInUse (said case.now.claim.now) case.now.days used.now }
@@ -31,7 +31,7 @@ fn is_far_on(case: &Case<'_>, used: &UsedStretch<'_>, number: usize, reach: u16)
     clears_on(case, used, &classes[..case.days()], number, reach)
 }
 
-/// Whether this reach, which a job that waits has, is far enough on each of these stretches.
+/// Whether this reach of a job that waits is long enough on each of these stretches.
 fn is_far_on_all(case: &Case<'_>, stretches: &[UsedStretch<'_>], number: usize, reach: u16) -> bool
     requires case { IsCase case.now }
     requires in_use { All (IsInUse (said case.now.claim.now) case.now.days) stretches.now }
@@ -49,7 +49,7 @@ fn is_far_on_all(case: &Case<'_>, stretches: &[UsedStretch<'_>], number: usize, 
     true
 }
 
-/// Whether a job, if it waits, has a reach that is far enough.
+/// Whether a job, if it waits, has a reach that is long enough.
 fn is_far(case: &Case<'_>, stretches: &[UsedStretch<'_>], number: usize) -> bool
     requires case { IsCase case.now }
     requires in_use { All (IsInUse (said case.now.claim.now) case.now.days) stretches.now }
@@ -66,7 +66,7 @@ fn is_far(case: &Case<'_>, stretches: &[UsedStretch<'_>], number: usize) -> bool
     }
 }
 
-/// The first job that waits and has no reach, or one that isn't far enough.
+/// The first job that waits and has no reach, or one that is too short.
 pub(crate) fn first_late(case: &Case<'_>, stretches: &[UsedStretch<'_>]) -> Option<CheckFault>
     requires case { IsCase case.now }
     requires in_use { All (IsInUse (said case.now.claim.now) case.now.days) stretches.now }

@@ -1,4 +1,4 @@
-//! The checker: whether a certificate shows that a plan is safe, whatever happens.
+//! The checker: decides whether a certificate proves that a plan is safe.
 #![tactic(auto)]
 
 mod basis;

@@ -12,7 +12,7 @@ use cs_chains::UsedStretch;
 use cs_refused::CheckFault;
 use std::alloc::{AllocError, Global};
 
-/// The first fault by the rules on windows and locks: leaves, collisions, capacity, skip jobs.
+/// The first fault by the rules of windows and locks: leaves, collisions, capacity, skip jobs.
 #[tactic(auto, unfolding(crate::specs::Stretches::fault_by_windows))]
 fn first_by_windows(
     alloc: Global,
@@ -37,7 +37,7 @@ fn first_by_windows(
     first_by(alloc, case, Rule::SkipJobs, stretches)
 }
 
-/// The first fault by the rules that come after the first two, in their order.
+/// The first fault by the rules after the first two, in their order.
 #[tactic(auto, unfolding(crate::specs::Stretches::later_fault))]
 pub(crate) fn later_fault(
     alloc: Global,

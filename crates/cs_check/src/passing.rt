@@ -12,7 +12,7 @@ use cs_chains::UsedStretch;
 use cs_stretch::Quiet;
 use std::alloc::{AllocError, Global};
 
-/// By which of the rules on windows a quick test finds a stretch in use in order.
+/// The rules on windows of which a quick test finds that a stretch in use keeps them.
 fn quiet_on(alloc: Global, case: &Case<'_>, used: &UsedStretch<'_>) -> Result<Quiet, AllocError>
     requires case { IsCase case.now }
     requires in_use { IsInUse (said case.now.claim.now) case.now.days used.now }
@@ -37,8 +37,8 @@ fn lists_all(alloc: Global, case: &Case<'_>, used: &UsedStretch<'_>) -> Result<b
     Ok(case.covers(used, windows.as_slice()))
 }
 
-/// Whether a stretch in use passes a quick test by this rule, and so has no fault by it. Where it doesn't, the rule's finder
-/// tells whether something is wrong. The only error is want of memory.
+/// Whether a stretch in use passes a quick test of this rule, and so keeps it. If not, the rule's
+/// finder decides whether it has a fault. The only error is out of memory.
 pub(crate) fn passes(
     alloc: Global,
     case: &Case<'_>,

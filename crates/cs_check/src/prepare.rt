@@ -1,4 +1,4 @@
-//! What is looked at before the stretches: due minutes, and which stretches there have to be.
+//! What is checked before the stretches: due minutes, and which stretches are required.
 ghost use Rattle.std.specs.Prelude.{◌≡◌, [], IfErr, IfOk, option_map};
 ghost use Rattle.cs_accepted.specs.Faults.{ClassNotDue, due_fault};
 ghost use Rattle.cs_cert.specs.Claim.{said};
@@ -27,7 +27,8 @@ use cs_wait::Backlog;
 use std::alloc::{AllocError, Global};
 use std::thread::Threads;
 
-/// The basis of a plan and a certificate, or the fault of the first kind of day whose class has other due minutes: `unlike`.
+/// The basis of a plan and a certificate, or the fault of `unlike`, the first kind of day whose
+/// class has other due minutes.
 fn basis_by<'a>(
     alloc: Global,
     plan: &'a Plan,
@@ -54,7 +55,8 @@ fn basis_by<'a>(
     })
 }
 
-/// The basis of a plan and a certificate, or the fault of the first kind of day whose class has other due minutes, by one thread.
+/// The basis of a plan and a certificate, or the fault of the first kind of day whose class has
+/// other due minutes, with one thread.
 pub(crate) fn basis_of<'a>(
     alloc: Global,
     plan: &'a Plan,
@@ -69,7 +71,7 @@ pub(crate) fn basis_of<'a>(
     basis_by(alloc, plan, claim, none, unlike)
 }
 
-/// The same by several threads.
+/// Like `basis_of`, with several threads.
 pub(crate) fn basis_of_parallel<'a, R: Threads + Sync>(
     rt: &R,
     alloc: Global,
@@ -85,7 +87,7 @@ pub(crate) fn basis_of_parallel<'a, R: Threads + Sync>(
     basis_by(alloc, plan, claim, none, unlike)
 }
 
-/// The case that has this basis, with what each day of each class has. The only error is want of memory.
+/// The case with this basis and the day of each class. The only error is out of memory.
 pub(crate) fn case_of<'a>(
     alloc: Global,
     basis: Basis<'a>,
@@ -106,7 +108,7 @@ pub(crate) fn case_of<'a>(
     })
 }
 
-/// The stretches in use, or the fault of the first kinds of successive days whose stretch is missing.
+/// The stretches in use, or the fault of the first successive kinds whose stretch is missing.
 pub(crate) fn stretches_of<'a>(
     alloc: Global,
     case: &Case<'a>,

@@ -10,21 +10,21 @@ use cs_cert::Certificate;
 use cs_decl::Plan;
 
 impl Checked {
-    /// The plan.
+    /// Returns the plan.
     pub fn plan(&self) -> &Plan
         ensures { result.now ≡ plan_in self.now }
     {
         &self.plan
     }
 
-    /// The certificate.
+    /// Returns the certificate.
     pub fn certificate(&self) -> &Certificate
         ensures { content result.now ≡ certificate_in self.now }
     {
         &self.certificate
     }
 
-    /// What was accepted is safe, whatever happens. The call does nothing; who holds a checked plan may cite what it ensures.
+    /// Lemma. An accepted plan is safe, whatever happens.
     pub fn is_safe(&self)
         ensures rules { IsAcceptedWith (plan_in self.now) (certificate_in self.now) }
         ensures calm { IsCalmThroughout (as_plan (plan_in self.now))
@@ -32,7 +32,7 @@ impl Checked {
         ensures windows { StayInWindows (as_plan (plan_in self.now))
             (reach_for (plan_in self.now) (certificate_in self.now)) }
         ensures headline { IsHeadline (as_plan (plan_in self.now)) }
-        // No more runs run at once than the capacity, since each weighs something.
+        // At most as many runs as the capacity run at once, since each weighs at least 1.
         ensures few { AreFew (as_plan (plan_in self.now)) }
     {
         let _jobs = self.plan.jobs();

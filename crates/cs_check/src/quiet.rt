@@ -37,7 +37,7 @@ pub(crate) fn have_reaches(case: &Case<'_>) -> bool
     true
 }
 
-/// Whether each stretch in use is good, by one thread. The only error is want of memory.
+/// Whether each stretch in use is good, with one thread. The only error is out of memory.
 pub(crate) fn are_good(
     alloc: Global,
     case: &Case<'_>,
@@ -55,7 +55,7 @@ pub(crate) fn are_good(
     Ok(true)
 }
 
-/// The same by several threads. A stretch for which memory runs out is taken as not good.
+/// Like `are_good`, with several threads. A stretch for which memory runs out is not good.
 pub(crate) fn are_good_parallel<R: Threads + Sync>(
     rt: &R,
     alloc: Global,

@@ -1,4 +1,4 @@
-/// The rules that are looked at stretch by stretch.
+/// The rules that are checked stretch by stretch.
 #[derive(Clone, Copy, Debug)]
 pub(crate) enum Rule {
     /// Backlog steps.

@@ -35,7 +35,7 @@ pub record Kind : Type 0 where
 abbrev pub kind : ℕ → Kind
 kind n = record { month = (date_of n).month; dom = (date_of n).dom; dow = weekday_of n }
 
--- the days that a month has in a leap year, the longest that it is
+-- the days of a month in a leap year
 abbrev pub longest : ℕ → ℕ
 longest m = days_in_month (pos 2000) m
 
@@ -56,8 +56,8 @@ abbrev pub kinds_after : Kind → List Kind
 kinds_after k = map (λ (p : ℕ × ℕ). record { month = p.0; dom = p.1; dow = (k.dow + 1) % 7 })
     (days_after k.month k.dom)
 
--- the second kind follows the first within so many days: one of the days 1 to n, where 1 is 1970-01-02,
--- has the first kind, and the day after it the second
+-- the second kind follows the first within so many days: one of the days 1 to n, where 1 is
+-- 1970-01-02, has the first kind, and the next day the second
 abbrev pub ComesWithin : ℕ → Kind → Kind → Type 0
 ComesWithin n before after =
     (eve : ℕ) × (1 ≤ eve) × (eve ≤ n) × (kind eve ≡ before) × (kind (eve + 1) ≡ after)

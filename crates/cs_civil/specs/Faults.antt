@@ -1,4 +1,4 @@
--- The faults as they are printed.
+-- The faults as printed.
 use Rattle.std.specs.Prelude.{ℕ, List, codes}
 use Rattle.cs_civil.specs.declared.fault.CivilFault.{CivilFault}
 use Rattle.cs_civil.specs.declared.fault.CivilFault.TheVariants.{NotADate, OutOfRange}

@@ -8,7 +8,7 @@ const LAST_DAY: u64 = 2_932_896;
 
 /// A day of the Gregorian calendar.
 ///
-/// Counted in days since 1970-01-01, which is 0, to 2,932,896, which is 9999-12-31.
+/// Counted in days since 1970-01-01: from 0 to 2,932,896, which is 9999-12-31.
 #[derive(Clone, Copy, Debug, PartialEq, Eq, PartialOrd, Ord, Hash)]
 pub struct Day {
     days: u64,
@@ -28,7 +28,7 @@ impl Model for Day {
 }
 
 impl Day {
-    /// The day that many days after 1970-01-01, if it is not after 9999-12-31.
+    /// Returns the day that many days after 1970-01-01, or `None` after 9999-12-31.
     pub fn new(number: u64) -> Option<Day>
         ensures in_range { IsSome result ↔ (number ≤ last_day) }
         ensures value { IfSome result (λ day. day ≡ number) }
@@ -39,7 +39,7 @@ impl Day {
         Some(Day { days: number })
     }
 
-    /// The days since 1970-01-01.
+    /// Returns the days since 1970-01-01.
     pub fn number(self) -> u64
         ensures value { result ≡ self }
         ensures in_range { result ≤ last_day }

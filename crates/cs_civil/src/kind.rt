@@ -8,10 +8,10 @@ use arrayvec::ArrayVec;
 use jiff_core::civil::{Date, days_in_month};
 use std::marker::Model;
 
-/// A year with 29 February, whose days are those that a kind can have.
+/// A leap year: its days are those that a kind can have.
 const LEAP_YEAR: i16 = 2000;
 
-/// What a schedule of crontab(5) sees of a day: its month, its day of the month and its weekday.
+/// What a schedule sees of a day (crontab(5)): its month, its day of the month and its weekday.
 ///
 /// There are 2,562 of them: each of the 366 days of a leap year on each of seven weekdays.
 #[derive(Clone, Copy, Debug, PartialEq, Eq, PartialOrd, Ord, Hash)]
@@ -35,8 +35,8 @@ impl Model for DayKind {
 }
 
 impl DayKind {
-    /// The kind with this month (1 to 12), day of the month (1 to 31) and weekday (0 to 6, Sunday
-    /// is 0), if some day has it.
+    /// Returns the kind with this month (1 to 12), day of the month (1 to 31) and weekday (0 to 6,
+    /// Sunday is 0), or `None` if no day has it.
     pub fn new(month: u8, dom: u8, dow: u8) -> Option<DayKind>
         ensures possible { IsSome result ↔ IsKind (record { month = month; dom = dom; dow = dow }) }
         ensures value { IfSome result (λ k. k ≡ record { month = month; dom = dom; dow = dow }) }
@@ -54,7 +54,7 @@ impl DayKind {
         })
     }
 
-    /// The month, from 1 to 12, as the field `month` of crontab(5).
+    /// Returns the month, from 1 to 12, as in crontab(5).
     pub fn month(self) -> u8
         ensures value { result ≡ self.month }
         ensures kind { IsKind self }
@@ -62,7 +62,7 @@ impl DayKind {
         self.month_number
     }
 
-    /// The day of the month, from 1 to 31, as the field `day of month` of crontab(5).
+    /// Returns the day of the month, from 1 to 31, as in crontab(5).
     pub fn dom(self) -> u8
         ensures value { result ≡ self.dom }
         ensures kind { IsKind self }
@@ -70,8 +70,7 @@ impl DayKind {
         self.day_number
     }
 
-    /// The day of the week, from 0 for Sunday to 6, as the field `day of week` of crontab(5),
-    /// which also has 7 for Sunday.
+    /// Returns the weekday, from 0 for Sunday to 6; crontab(5) also has 7 for Sunday.
     pub fn dow(self) -> u8
         ensures value { result ≡ self.dow }
         ensures kind { IsKind self }
@@ -79,7 +78,7 @@ impl DayKind {
         self.weekday
     }
 
-    /// The kind after this one in the order of [`all_kinds`](crate::all_kinds), if it is not the last.
+    /// The next kind in the order of [`all_kinds`](crate::all_kinds), if this isn't the last.
     #[tactic(auto, using(crate::proofs::Places::next_weekday, crate::proofs::Places::next_day, crate::proofs::Places::next_first, crate::proofs::Places::no_next))]
     pub(crate) fn following(self) -> Option<DayKind>
         ensures { kinds_from (Some self) ≡ self ∷ kinds_from result }
@@ -103,10 +102,9 @@ impl DayKind {
     }
 }
 
-/// The kinds that the next day can have: two after 28 February, 29 February before 1 March, else one.
+/// Returns the kinds that the next day can have: one, or after 28 February two, 29 February first.
 ///
-/// Each of them does come: a day of the kind and the next day with the other are both among the
-/// first 28 years.
+/// Each does occur: two successive days of the first 28 years have these kinds.
 #[tactic(auto, using(crate::proofs::Cycle::next_come))]
 pub fn next_kinds(kind: DayKind) -> ArrayVec<DayKind, 2>
     ensures value { result.items ≡ kinds_after kind }
@@ -141,7 +139,7 @@ pub fn next_kinds(kind: DayKind) -> ArrayVec<DayKind, 2>
     next
 }
 
-/// The place of a kind in [`all_kinds`](crate::all_kinds), from 0 to 2,561.
+/// Returns the index of a kind in [`all_kinds`](crate::all_kinds), from 0 to 2,561.
 #[tactic(auto, using(crate::proofs::Places::place_is))]
 pub fn kind_number(kind: DayKind) -> u16
     ensures value { result ≡ place kind }
@@ -172,7 +170,7 @@ impl Default for DayKind {
     }
 }
 
-/// The kind of a day: the month, day of the month and weekday of its Gregorian date.
+/// Returns the kind of a day: the month, day of the month and weekday of its Gregorian date.
 #[tactic(auto, using(crate::proofs::Dates::kind_is, crate::proofs::Following::kind_followed))]
 pub fn kind_of(day: Day) -> DayKind
     ensures value { result ≡ kind day }

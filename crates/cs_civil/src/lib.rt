@@ -1,4 +1,4 @@
-//! Civil minutes, days and kinds of days, and the list that the crates above hold things in.
+//! Civil minutes, days and kinds of days, and the sequence type that the other crates use.
 #![tactic(auto)]
 
 mod date;

@@ -4,7 +4,6 @@ ghost use Rattle.cs_civil.specs.Calendar.{first_minute, last_minute, last_day};
 use crate::Day;
 use std::marker::Model;
 
-/// The minutes of a day.
 pub(crate) const MINUTES_OF_DAY: u64 = 1_440;
 
 /// 1970-01-02 00:00.
@@ -13,8 +12,7 @@ const FIRST_MINUTE: u64 = 1_440;
 /// 9999-12-31 23:59.
 const LAST_MINUTE: u64 = 4_223_371_679;
 
-/// A minute as the clocks of the crontab's machine show it, which stand at one offset from UTC all
-/// year (this profile).
+/// A minute on the clock of the crontab's machine, at one offset from UTC all year (this profile).
 ///
 /// Counted in minutes since 1970-01-01 00:00 at the offset: from 1,440, which is 1970-01-02 00:00,
 /// to 4,223,371,679, which is 9999-12-31 23:59.
@@ -37,8 +35,8 @@ impl Model for Minute {
 }
 
 impl Minute {
-    /// The minute that many minutes after 1970-01-01 00:00 at the offset, if it is from 1970-01-02
-    /// 00:00 to 9999-12-31 23:59.
+    /// Returns the minute that many minutes after 1970-01-01 00:00 at the offset, or `None` before
+    /// 1970-01-02 00:00 and after 9999-12-31 23:59.
     pub fn new(number: u64) -> Option<Minute>
         ensures in_range { IsSome result ↔ ((first_minute ≤ number) × (number ≤ last_minute)) }
         ensures value { IfSome result (λ minute. minute ≡ number) }
@@ -49,7 +47,7 @@ impl Minute {
         Some(Minute { minutes: number })
     }
 
-    /// The minutes since 1970-01-01 00:00 at the offset.
+    /// Returns the minutes since 1970-01-01 00:00 at the offset.
     pub fn number(self) -> u64
         ensures value { result ≡ self }
         ensures in_range { (first_minute ≤ result) × (result ≤ last_minute) }
@@ -57,7 +55,7 @@ impl Minute {
         self.minutes
     }
 
-    /// The day that the minute lies in.
+    /// Returns the day that holds the minute.
     pub fn day(self) -> Day
         ensures value { result ≡ self / 1_440 }
         ensures in_range { (1 ≤ result) × (result ≤ last_day) }
@@ -65,7 +63,7 @@ impl Minute {
         Day::new(self.minutes / MINUTES_OF_DAY).unwrap()
     }
 
-    /// The whole minutes since that day began, from 0 to 1,439.
+    /// Returns the minute of the day, from 0 to 1,439.
     pub fn minute_of_day(self) -> u16
         ensures value { result ≡ self % 1_440 }
         ensures in_range { result < 1_440 }

@@ -7,7 +7,7 @@ use crate::DayKind;
 use std::iter::FusedIterator;
 use std::marker::Model;
 
-/// The iterator of [`all_kinds`], which contracts see as the list of the kinds that are left.
+/// The iterator of [`all_kinds`], which contracts see as the list of the kinds left.
 #[derive(Debug, Drop)]
 pub struct Kinds {
     coming: Option<DayKind>,
@@ -39,7 +39,7 @@ impl Iterator for Kinds {
 
 impl FusedIterator for Kinds {}
 
-/// All 2,562 kinds, by month, then day of the month, then weekday from Sunday.
+/// Returns all 2,562 kinds, by month, then day of the month, then weekday from Sunday.
 #[tactic(auto, using(crate::proofs::Places::all_from_first, crate::proofs::Places::count_kinds))]
 pub fn all_kinds() -> Kinds
     ensures value { result ≡ all_kinds }

@@ -5,7 +5,7 @@ ghost use Rattle.std.specs.Cmp.Lexicographic.{pointwise, lists_per, lists_equiv}
 use std::alloc::{AllocError, Global};
 use std::marker::Model;
 
-/// Items in order. Two sequences of the same items are one value, wherever they lie in memory.
+/// Items in order. Two sequences with the same items are equal, wherever they lie in memory.
 #[derive(Debug, Drop)]
 pub struct Sequence<T> {
     items: Vec<T>,
@@ -19,11 +19,11 @@ impl<T> Model for Sequence<T> {
     ghost view = { λ a. a.items.items };
 }
 
-/// A text that need not be UTF-8, as the name or the command of a crontab's line.
+/// A text that need not be UTF-8, such as a name or a command in a crontab.
 pub type Bytes = Sequence<u8>;
 
 impl<T> Sequence<T> {
-    /// No items yet, which takes no memory. The allocator is kept for [`push`](Sequence::push).
+    /// Returns an empty sequence, without allocating; [`push`](Sequence::push) uses the allocator.
     pub fn new(alloc: Global) -> Sequence<T>
         ensures { result ≡ [] }
     {
@@ -32,14 +32,14 @@ impl<T> Sequence<T> {
         }
     }
 
-    /// The items of a vector, which takes no memory.
+    /// Wraps a vector, without allocating.
     pub fn from_vec(items: Vec<T>) -> Sequence<T>
         ensures { result ≡ items.items }
     {
         Sequence { items }
     }
 
-    /// The items as a vector, which takes no memory.
+    /// Unwraps the vector, without allocating.
     pub fn into_vec(self) -> Vec<T>
         ensures { result.items ≡ self }
     {
@@ -47,7 +47,7 @@ impl<T> Sequence<T> {
         items
     }
 
-    /// A copy of the items. The only error is want of memory.
+    /// Copies the items. The only error is out of memory.
     pub fn from_slice(alloc: Global, items: &[T]) -> Result<Sequence<T>, AllocError>
     where
         T: Copy,
@@ -58,21 +58,21 @@ impl<T> Sequence<T> {
         })
     }
 
-    /// How many items there are.
+    /// Returns the number of items.
     pub fn len(&self) -> usize
         ensures { result ≡ length self.now }
     {
         self.items.len()
     }
 
-    /// Whether there is none.
+    /// Checks whether there are no items.
     pub fn is_empty(&self) -> bool
         ensures { IsTrue result ↔ (self.now ≡ []) }
     {
         self.items.is_empty()
     }
 
-    /// All items.
+    /// Borrows all items.
     pub fn as_slice(&self) -> &[T]
         ensures { result.now ≡ self.now }
     {
@@ -81,7 +81,7 @@ impl<T> Sequence<T> {
 }
 
 impl<T: Drop> Sequence<T> {
-    /// Adds an item at the end. The only error is want of memory, which drops the item.
+    /// Adds an item at the end. The only error is out of memory, which drops the item.
     pub fn push(&mut self, item: T) -> Result<(), AllocError>
         ensures ok { OnOk result (self.new ≡ self.old ++ item ∷ []) }
         ensures err { OnErr result (self.new ≡ self.old) }

@@ -9,13 +9,11 @@ use crate::digits::{read_two, write_two};
 use crate::minute::MINUTES_OF_DAY;
 use crate::{CivilFault, Day, Minute};
 
-/// The civil minute that holds a moment.
+/// Returns the civil minute of a moment, in seconds since 1970-01-01 00:00 UTC.
 ///
-/// The moment is in seconds since 1970-01-01 00:00 UTC, and the offset in minutes that the clocks
-/// are ahead of UTC.
-/// Part of a minute is dropped, before 1970 too, where it is rounded down.
-/// [`OutOfRange`](CivilFault::OutOfRange) before 1970-01-02 00:00 and after 9999-12-31 23:59 at
-/// the offset (this profile).
+/// The offset is the minutes by which the clock is ahead of UTC. Seconds are rounded down, before
+/// 1970 too. [`OutOfRange`](CivilFault::OutOfRange) before 1970-01-02 00:00 and after 9999-12-31
+/// 23:59 at the offset (this profile).
 pub fn minute_at(unix_seconds: i64, offset: i16) -> Result<Minute, CivilFault>
     ensures in_range { IsOk result
         ↔ IsBetween (pos first_minute) (pos last_minute)
@@ -27,7 +25,7 @@ pub fn minute_at(unix_seconds: i64, offset: i16) -> Result<Minute, CivilFault>
     minute_from(minutes_at(unix_seconds, offset)).ok_or(CivilFault::OutOfRange)
 }
 
-/// The text `YYYY-MM-DD HH:MM` of a minute, by a clock of 24 hours (this profile).
+/// Formats a minute as `YYYY-MM-DD HH:MM`, on a 24-hour clock (this profile).
 pub fn date_text(minute: Minute) -> [u8; 16]
     ensures { result ≡ minute_text minute }
 {
@@ -41,18 +39,17 @@ pub fn date_text(minute: Minute) -> [u8; 16]
     ]
 }
 
-/// The text `YYYY-MM-DD` of a day, by its Gregorian date.
+/// Formats a day as `YYYY-MM-DD`, its Gregorian date.
 pub fn day_text(day: Day) -> [u8; 10]
     ensures { result ≡ day_text day }
 {
     Gregorian::of_day(day).bytes()
 }
 
-/// The day that the text `YYYY-MM-DD` names (this profile).
+/// Reads a day, `YYYY-MM-DD` (this profile).
 ///
-/// [`NotADate`](CivilFault::NotADate) for any other text and for a date that the Gregorian
-/// calendar doesn't have,
-/// years from 0000 on; [`OutOfRange`](CivilFault::OutOfRange) for a date before 1970-01-02.
+/// [`NotADate`](CivilFault::NotADate) for any other text and for a date not in the Gregorian
+/// calendar of the years 0000 to 9999; [`OutOfRange`](CivilFault::OutOfRange) before 1970-01-02.
 #[tactic(auto, using(crate::proofs::Texts::no_day, crate::proofs::Texts::one_day))]
 pub fn read_day(text: &[u8]) -> Result<Day, CivilFault>
     ensures ok { IfOk result (λ day. (1 ≤ day) × (day ≤ last_day) × (text.now ≡ day_text day)) }
@@ -71,12 +68,9 @@ pub fn read_day(text: &[u8]) -> Result<Day, CivilFault>
     }
 }
 
-/// The minute that the text `YYYY-MM-DD HH:MM` names, by a clock of 24 hours, from 00:00 to 23:59
-/// (this profile).
+/// Reads a minute, `YYYY-MM-DD HH:MM` from 00:00 to 23:59 (this profile).
 ///
-/// [`NotADate`](CivilFault::NotADate) for any other text and for a date that the Gregorian
-/// calendar doesn't have,
-/// years from 0000 on; [`OutOfRange`](CivilFault::OutOfRange) for a date before 1970-01-02.
+/// [`NotADate`](CivilFault::NotADate) and [`OutOfRange`](CivilFault::OutOfRange) like [`read_day`].
 #[tactic(auto, using(crate::proofs::Texts::one_minute))]
 pub fn read_minute(text: &[u8]) -> Result<Minute, CivilFault>
     ensures ok { IfOk result
@@ -98,7 +92,7 @@ pub fn read_minute(text: &[u8]) -> Result<Minute, CivilFault>
     }
 }
 
-/// That minute of a date, if it is not before 1970-01-02.
+/// The minute at that time of a date, if it is not before 1970-01-02.
 #[tactic(auto, using(crate::proofs::Texts::no_minute, crate::proofs::Texts::the_minute))]
 fn later_minute(date: Gregorian, clock: u16) -> Option<Minute>
     requires { clock ≤ 1_439 }
@@ -132,7 +126,7 @@ fn read_date_and_clock(text: &[u8]) -> Option<(Gregorian, u16)>
     ))
 }
 
-/// The whole minutes since 1970-01-01 00:00 there, rounded down.
+/// The whole minutes since 1970-01-01 00:00 at the offset, rounded down.
 fn minutes_at(unix_seconds: i64, offset: i16) -> i64
     ensures { result ≡ int_div_euclid (unix_seconds +ℤ pos 60 *ℤ offset) (pos 60) }
 {

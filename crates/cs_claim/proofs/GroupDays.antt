@@ -1,4 +1,4 @@
--- What classes say of the locks of groups, compared with how their bounds follow what arrives.
+-- What classes have for the locks of groups, compared with how their bounds follow the arrivals.
 use Rattle.std.proofs.Common.{◌≡◌, ℕ, ◌+◌, ◌<◌, ◌++◌, ◌∷◌, [], List, Bool, true, false, length, slice_index_or, refl, sym, subst, arith, inl, inr}
 use Rattle.std.proofs.lemmas.Bool.{cases_lt}
 use Rattle.std.proofs.lemmas.List.{get_or_push, get_or_append_left}

@@ -41,7 +41,7 @@ eqb-sym a b = step (nat_eq a b) refl
     step true e = e ∙ sym (eq-eqb b a (sym (eqb-true a b e)))
     step false e = e ∙ sym (false_from_ne_true (nat_eq b a) (λ h. both_ways (nat_eq a b) e (eq-eqb a b (sym (eqb-true b a h)))))
 
--- within a list it does not matter what stands past it
+-- within a list it does not matter what is past it
 pub within : {X : Type 0} (xs : List X) (i : ℕ) (d e : X) → i < length xs → slice_index_or xs i d ≡ slice_index_or xs i e
 within [] i d e lt = absurd (omega (arith, lt))
 within (x ∷ xs) zero d e lt = refl

@@ -3,7 +3,7 @@ use Rattle.std.proofs.Common.{◌≡◌, ℕ, ◌+◌, ◌-◌, ◌<◌, ◌≤�
 use Rattle.std.proofs.lemmas.Bool.{lt-ltb, cases_lt}
 use Rattle.cs_wait.specs.Bounds.{StepsHold, StepsHoldWithin, at_days}
 
--- on the first of two days its own bound stands
+-- on the first of two days the bound is its own
 at_first : (before day : ℕ → ℕ) (t : ℕ) → t < 1440 → at_days (before ∷ day ∷ []) t ≡ before t
 at_first before day t lt = rw (lt-ltb t 1440 lt) refl
 

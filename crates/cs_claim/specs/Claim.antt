@@ -6,7 +6,7 @@ use Rattle.cs_cert.specs.Certificate as cert
 use Rattle.cs_windows.specs.Reach.{reach_of}
 use Rattle.cs_accepted.specs.Certificate.{Certificate, Stretch}
 
--- what stands past the last class: nothing is due, and nothing waits
+-- the class past the last: nothing is due, and nothing waits
 abbrev pub no_class : Class
 no_class = record { due = []; backlog = [] }
 

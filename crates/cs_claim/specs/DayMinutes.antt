@@ -12,7 +12,7 @@ AreRisingFrom least (m ∷ ms) = (least ≤ m) × (m < 1440) × AreRisingFrom (m
 abbrev pub AreRising : List ℕ → Type 0
 AreRising ms = AreRisingFrom 0 ms
 
--- a set for each of so many jobs, by number: the minutes of the day at which the job is due on the days of a class
+-- a set for each of so many jobs, by number: its due minutes on the days of a class
 pub record AreDueSets (class : Class) (jobs : ℕ) (sets : List (List ℕ)) : Type 0 where
   pub long : length sets ≡ jobs
   pub each : (j m : ℕ) → j < jobs → m < 1440

@@ -26,7 +26,7 @@ due_on d j kind minute = is_due_on (command_of d j).when kind minute
 abbrev pub reach_by : Declared → List JobReach → ℕ → ℕ
 reach_by d rs j = unwrap_or (reach_of rs j) ((as_plan d).limit j)
 
--- whether a window of the job begins at a minute of such a day: a cron job's where it is due, a catch-up window where the hours begin
+-- whether a window begins at a minute of such a day: where a cron job is due, or the hours begin
 abbrev pub begins_on : Declared → ℕ → Kind → ℕ → Bool
 begins_on d j kind minute =
     if is_cron (as_plan d) j then due_on d j kind minute else (minute == d.hours.from)

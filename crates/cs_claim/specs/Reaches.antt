@@ -1,4 +1,4 @@
--- Whether what waits for the lock of a group has had it within a reach.
+-- Whether all that waits for the lock of a group has had it within a reach.
 use Rattle.std.specs.Prelude.{◌≡◌, ℕ, ◌<◌, true, List, map, unwrap_or}
 use Rattle.cs_cert.specs.declared.class.Class.{Class}
 use Rattle.cs_cert.specs.Certificate.{bound_in, is_due_in}

@@ -1,5 +1,6 @@
--- What a certificate stands for. Versions 1 and 2 say all. Version 3 says which kinds of days are alike, what is left over at
--- midnight and the reaches; when jobs are due, the bounds of each day and the stretches are worked out from the plan.
+-- What a certificate stands for. Versions 1 and 2 list all. Version 3 has which kinds of days are
+-- alike, what is left over at midnight and the reaches; due minutes, the bounds of each day and the
+-- stretches are worked out from the plan.
 use Rattle.std.specs.Prelude.{ℕ, List, [], ◌∷◌, ◌++◌, Option, Some, None, if◌then◌else◌, ◌==◌, filter, find, flat_map, fold, length, map}
 use Rattle.std.specs.List.{list_any}
 use Rattle.cs_civil.specs.Calendar.{Kind}
@@ -38,7 +39,7 @@ due_of d (Some kind) =
 abbrev pub unbounded : Declared → Option Kind → Class
 unbounded d kind = record { due = due_of d kind; backlog = [] }
 
--- the bound of a group on such a day: it begins with what is left over from the days before, and follows what arrives
+-- the bound of a group on such a day: what is left over from before, and then by the arrivals
 abbrev pub bound_of : Declared → Class → ℕ → ℕ → GroupBacklog
 bound_of d day carry g = record {
   group = g;
@@ -49,7 +50,7 @@ bound_of d day carry g = record {
 abbrev pub waited_groups : Declared → List ℕ
 waited_groups d = filter (has_waiter (as_plan d)) (below (as_plan d).groups)
 
--- a class that says what is left over at midnight, on days of a kind
+-- a class with what is left over at midnight, on days of a kind
 abbrev pub worked_class : Declared → Option Kind → Class → Class
 worked_class d kind class = record {
   due = due_of d kind;

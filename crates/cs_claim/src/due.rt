@@ -56,7 +56,7 @@ fn minutes_among(due: &[DueList], job: u16) -> MinuteSet
     minutes
 }
 
-/// The minutes of the day at which a job is due on the days of a class, each once, rising.
+/// The due minutes of a job on the days of a class, each once, rising.
 pub(crate) fn due_in_order(class: &Class, job: u16) -> MinuteSet
     ensures due { (m : ℕ) → m < 1440 → has result m ≡ is_due_in class.now job m }
     ensures rising { AreRising result }
@@ -64,14 +64,14 @@ pub(crate) fn due_in_order(class: &Class, job: u16) -> MinuteSet
     minutes_among(class.due.as_slice(), job)
 }
 
-/// The minutes of the day at which a job is due on the days of a class.
+/// Returns the due minutes of a job on the days of a class.
 pub fn due_minutes(class: &Class, job: u16) -> MinuteSet
     ensures { (m : ℕ) → m < 1440 → has result m ≡ is_due_in class.now job m }
 {
     due_in_order(class, job)
 }
 
-/// Sets without a minute, one for each of so many jobs.
+/// An empty set for each of this many jobs.
 fn empty_sets(alloc: Global, jobs: usize) -> Result<Vec<MinuteSet>, AllocError>
     ensures long { IfOk result (λ sets. length sets.items ≡ jobs) }
     ensures each { IfOk result (λ sets. (j : ℕ) → j < jobs → slice_index_or sets.items j [] ≡ []) }
@@ -108,8 +108,8 @@ fn add_to_jobs(sets: &mut [MinuteSet], due: &[DueList])
     }
 }
 
-/// The minutes of the day at which each of so many jobs is due on the days of a class, by the job's number. The only error
-/// is want of memory.
+/// Returns the due minutes of each of this many jobs on the days of a class, by the job's number.
+/// The only error is out of memory.
 pub fn due_sets(alloc: Global, class: &Class, jobs: usize) -> Result<Vec<MinuteSet>, AllocError>
     ensures { IfOk result (λ sets. AreDueSets class.now jobs sets.items) }
 {

@@ -1,4 +1,4 @@
-//! What each class says of the locks of the groups on its days, so that two classes are compared with no look at their minutes.
+//! What classes have for the locks of groups: two are compared without a look at their minutes.
 ghost use Rattle.std.specs.Prelude.{◌≡◌, ◌<◌, ◌↔◌, ℕ, [], IfOk, IsTrue, length, slice_index_or};
 ghost use Rattle.cs_cert.specs.declared.class.Class.{Class};
 ghost use Rattle.cs_claim.specs.GroupDays.{AreGroupDays, IsGroupDay, Leads, no_day};
@@ -13,18 +13,18 @@ use cs_decl::Plan;
 use cs_wait::{Backlog, MINUTES_OF_DAY, steps_within};
 use std::alloc::{AllocError, Global};
 
-/// What a class says of the lock of one group on its days.
+/// What a class has for the lock of one group on its days.
 #[derive(Clone, Copy, Debug, PartialEq, Eq)]
 pub struct GroupDay {
-    /// Whether the bound follows what arrives at each step within the day: true where no job waits for the lock.
+    /// Whether the bound follows the arrivals at each step within the day: true if no job waits.
     pub follows: bool,
-    /// The bound in the last minute of the day and what arrives in it, in minutes of runs: 0 where no job waits.
+    /// The bound in the last minute plus the arrivals in it, in minutes of runs: 0 if no job waits.
     pub left: u64,
     /// The bound in the first minute of the day, in minutes of runs.
     pub first: u32,
 }
 
-/// What a class says of the lock of a group. `none` is the bound of groups that aren't listed, [`Backlog::none`].
+/// What a class has for a group's lock. `none`, [`Backlog::none`], is the bound of unlisted groups.
 fn group_day(plan: &Plan, class: &Class, group: usize, none: &Backlog) -> GroupDay
     requires { none.now ≡ [] }
     ensures { IsGroupDay (as_plan plan.now) class.now group result }
@@ -46,7 +46,8 @@ fn group_day(plan: &Plan, class: &Class, group: usize, none: &Backlog) -> GroupD
     }
 }
 
-/// What a class says of the lock of each group of the plan, by number. The only error is want of memory.
+/// Returns what a class has for the lock of each group of the plan, by number. The only error is
+/// out of memory.
 pub fn group_days(alloc: Global, plan: &Plan, class: &Class) -> Result<Vec<GroupDay>, AllocError>
     ensures { IfOk result (λ days. AreGroupDays (as_plan plan.now) class.now days.items) }
 {
@@ -58,14 +59,14 @@ pub fn group_days(alloc: Global, plan: &Plan, class: &Class) -> Result<Vec<Group
     Ok(days)
 }
 
-/// Whether the bound of a group follows what arrives within the eve and at the step over midnight.
+/// Whether the bound of a group follows the arrivals within the eve and at the step over midnight.
 fn leads(eve: &GroupDay, day: &GroupDay) -> bool
     ensures { IsTrue result ↔ Leads eve.now day.now }
 {
     eve.follows && eve.left <= u64::from(day.first) + 1
 }
 
-/// Whether the same holds of each group.
+/// Like `leads`, for each group.
 fn each_leads(eve: &[GroupDay], day: &[GroupDay]) -> bool
     ensures { IsTrue result ↔ ((g : ℕ) → g < length eve.now → g < length day.now
         → Leads (slice_index_or eve.now g no_day) (slice_index_or day.now g no_day)) }
@@ -78,9 +79,9 @@ fn each_leads(eve: &[GroupDay], day: &[GroupDay]) -> bool
     true
 }
 
-/// Whether the bounds of each group with a job that waits follow what arrives, at each step from a minute of a day of the
-/// first class to the next minute, the last being the step over midnight to a day of the second class. Both slices are
-/// what [`group_days`] answered for one plan.
+/// Checks whether the bounds of each group with a job that waits follow the arrivals, at each step
+/// of a day of the first class, the last to midnight of a day of the second. Both slices are from
+/// [`group_days`] for one plan.
 pub fn is_steady_over(eve: &[GroupDay], day: &[GroupDay]) -> bool
     ensures { (p : TheoryPlan) (e d : Class) → AreGroupDays p e eve.now → AreGroupDays p d day.now
         → (IsTrue result ↔ IsSteady p e d) }

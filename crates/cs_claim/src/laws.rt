@@ -5,8 +5,8 @@ ghost use Rattle.cs_claim.specs.Claim.{as_certificate};
 ghost use Rattle.cs_claim.specs.WorkedOut.{claimed, days_for};
 ghost use Rattle.cs_decl.specs.Plan.{Declared, as_plan};
 
-/// The stretches that a certificate of version 3 stands for are those that successive days have, and no others, and none of their
-/// leaves leaves out a window: no fault of stretches and none of leaves is found in it. The call does nothing.
+/// Lemma. The stretches that a certificate of version 3 stands for are those that successive days
+/// have, and list all windows: no fault of stretches or leaves is found in it.
 pub fn stretches_of_version_3()
     ensures complete { (d : Declared) (c : Content) → c.version ≡ 3
         → stretch_fault (as_certificate (claimed d c)) (days_for d c) ≡ None }

@@ -1,5 +1,4 @@
-//! What a certificate claims of a plan's jobs: when they are due, what they occupy, and how long
-//! those wait that wait for a lock.
+//! What a certificate claims of a plan's jobs: due minutes, windows, and waits for a lock.
 #![tactic(auto)]
 
 mod due;

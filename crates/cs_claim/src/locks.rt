@@ -31,7 +31,6 @@ pub(crate) fn waits(mode: Mode) -> bool
     }
 }
 
-/// Whether the job takes the lock of the group.
 pub(crate) fn locks(job: Job, group: usize) -> bool
     ensures { result ≡ (takes job.mode && is_group group job.group) }
 {
@@ -42,7 +41,6 @@ pub(crate) fn locks(job: Job, group: usize) -> bool
     takes(job.mode()) && is_of_group
 }
 
-/// The cron job with this number.
 pub(crate) fn cron_job(plan: &Plan, number: usize) -> Job
     requires { number < crons plan.now }
     ensures few { number < 320 }

@@ -12,7 +12,7 @@ use cs_schedule::Schedule;
 use cs_windows::Occupied;
 use std::alloc::{AllocError, Global};
 
-/// How long a window of this cron job lasts.
+/// The length of a window of this cron job.
 fn cron_reach(reaches: &[JobReach], number: usize, job: Job) -> u16
     ensures { result ≡ cron_reach reaches.now number job }
 {
@@ -24,7 +24,7 @@ fn cron_reach(reaches: &[JobReach], number: usize, job: Job) -> u16
     }
 }
 
-/// The schedule of the job with this number, where it is of the crontab.
+/// The schedule of the job with this number, if it is of the crontab.
 fn schedule_of(plan: &Plan, number: usize) -> Option<&Schedule>
     ensures cron { IfSome result (λ schedule. IsSchedule plan.now number schedule.now) }
     ensures other { result ≡ None → crons plan.now ≤ number }
@@ -52,9 +52,10 @@ fn occupied_by<'a>(plan: &'a Plan, reaches: &[JobReach], number: usize, job: Job
     }
 }
 
-/// What the jobs of a plan occupy, by number. The windows of a cron job last its declared time, those of one that waits the
-/// reach that is listed for it, its declared time where there is none. The catch-up window of an anacron job lasts from
-/// the start of the catch-up hours to the end of a run that starts in their last minute. The only error is want of memory.
+/// Returns what the jobs of a plan occupy, by number. A cron job's windows last its declared time,
+/// or if it waits its reach, if one is listed. An anacron job's catch-up window lasts from the
+/// start of the catch-up hours to the end of a run that starts in their last minute. The only error
+/// is out of memory.
 pub fn occupied<'a>(
     alloc: Global,
     plan: &'a Plan,

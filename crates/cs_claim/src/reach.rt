@@ -14,7 +14,7 @@ use cs_decl::Plan;
 use cs_schedule::MinuteSet;
 use cs_wait::{Backlog, clears_by};
 
-/// Whether a cron job waits for the lock of its group.
+/// Checks whether a cron job waits for the lock of its group.
 pub fn waits(plan: &Plan, number: usize) -> bool
     requires { number < crons plan.now }
     ensures { result ≡ waits (as_plan plan.now) number }
@@ -22,7 +22,7 @@ pub fn waits(plan: &Plan, number: usize) -> bool
     locks::waits(cron_job(plan, number).mode())
 }
 
-/// The group of a cron job, the first where it has none.
+/// The group of a cron job, or the first if it has none.
 fn group_of(plan: &Plan, number: usize) -> usize
     requires { number < crons plan.now }
     ensures value { result ≡ unwrap_or ((as_plan plan.now).group number) 0 }
@@ -49,7 +49,7 @@ fn bounds_of<'a>(days: &[&'a Class], group: usize, none: &'a Backlog) -> [&'a Ba
     bounds
 }
 
-/// Whether the bound is zero within the reach of each of the minutes.
+/// Whether the bound is zero within the reach of each minute.
 fn clears_each(bounds: &[&Backlog], minutes: &MinuteSet, reach: u16) -> bool
     ensures { IsTrue result
         ↔ All (λ m. ClearsBy (map (λ b. at b.now) bounds.now) m reach) minutes.now }
@@ -62,9 +62,10 @@ fn clears_each(bounds: &[&Backlog], minutes: &MinuteSet, reach: u16) -> bool
     true
 }
 
-/// Whether after each due minute of a cron job on the first of successive days the bound of its group is zero at some minute
-/// within the reach, so that all that waited has had the lock by then. No minute past the last day is looked at. `none` is
-/// the bound of groups that aren't listed, [`Backlog::none`].
+/// Checks whether after each due minute of a cron job on the first of successive days the bound of
+/// its group is zero at some minute within the reach, so that all that waited has had the lock by
+/// then. Minutes past the last day are ignored. `none` is the bound of groups that aren't listed,
+/// [`Backlog::none`].
 pub fn clears<'a>(
     plan: &Plan,
     number: usize,

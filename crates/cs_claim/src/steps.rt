@@ -1,4 +1,5 @@
-//! What arrives for the locks of the groups, and the first step from one day to the next at which a bound doesn't follow it.
+//! Arrivals for the locks of the groups, and the first step from one day to the next at which a
+//! bound doesn't follow them.
 ghost use Rattle.std.specs.Prelude.{◌≡◌, ◌≤◌, ◌<◌, ◌+◌, ◌*◌, ◌^◌, ℕ, [], IfOk, if◌then◌else◌, length, slice_index};
 ghost use Rattle.cs_cert.specs.Certificate.{pieces_of};
 ghost use Rattle.cs_cert.specs.declared.class.Class.{Class};
@@ -16,7 +17,7 @@ use cs_schedule::MinuteSet;
 use cs_wait::{Arrivals, Backlog, MINUTES_OF_DAY, step_ok};
 use std::alloc::{AllocError, Global};
 
-/// A job arrives at each of these minutes.
+/// Adds a job at each of these minutes.
 fn add_job(arrivals: &mut Arrivals, minutes: &MinuteSet, max: u16)
     requires rising { AreRising minutes.now }
     requires long { length arrivals.old ≡ 1440 }
@@ -31,7 +32,7 @@ fn add_job(arrivals: &mut Arrivals, minutes: &MinuteSet, max: u16)
     }
 }
 
-/// A job that is due on a day of a class arrives where it takes the lock of the group.
+/// Adds a job that is due on a day of a class, if it takes the lock of the group.
 fn add_locker(arrivals: &mut Arrivals, plan: &Plan, class: &Class, group: usize, number: usize)
     requires cron { number < crons plan.now }
     requires long { length arrivals.old ≡ 1440 }
@@ -48,7 +49,7 @@ fn add_locker(arrivals: &mut Arrivals, plan: &Plan, class: &Class, group: usize,
     }
 }
 
-/// What the lock takers of a group that are due on a day of a class bring.
+/// The arrivals for a group's lock on a day of a class.
 pub(crate) fn arrivals_in(plan: &Plan, class: &Class, group: usize) -> Arrivals
     ensures long { length result ≡ 1440 }
     ensures each { (m : ℕ) → m < 1440
@@ -61,7 +62,7 @@ pub(crate) fn arrivals_in(plan: &Plan, class: &Class, group: usize) -> Arrivals
     arrivals
 }
 
-/// The first bound that is listed for a group, and the other where none is.
+/// The first bound listed for a group, or the other if there is none.
 fn backlog_among<'a>(backlog: &'a [GroupBacklog], group: usize, none: &'a Backlog) -> &'a Backlog
     requires { none.now ≡ [] }
     ensures { result.now ≡ pieces_of backlog.now group }
@@ -74,7 +75,7 @@ fn backlog_among<'a>(backlog: &'a [GroupBacklog], group: usize, none: &'a Backlo
     none
 }
 
-/// The bound of a group on the days of a class, and nothing where the group isn't listed.
+/// The bound of a group on the days of a class, or `none` if the group isn't listed.
 pub(crate) fn backlog_of<'a>(class: &'a Class, group: usize, none: &'a Backlog) -> &'a Backlog
     requires { none.now ≡ [] }
     ensures { result.now ≡ pieces_of class.now.backlog group }
@@ -82,7 +83,7 @@ pub(crate) fn backlog_of<'a>(class: &'a Class, group: usize, none: &'a Backlog) 
     backlog_among(class.backlog.as_slice(), group, none)
 }
 
-/// What arrives for a group on the eve, and its bounds on the eve and on the day after.
+/// The arrivals for a group on the eve, and its bounds on the eve and on the next day.
 #[derive(Drop)]
 pub(crate) struct Work<'a> {
     arrivals: Arrivals,
@@ -90,7 +91,7 @@ pub(crate) struct Work<'a> {
     day: &'a Backlog,
 }
 
-/// What is known of a group: nothing where no job waits for its lock.
+/// What is known of a group: nothing if no job waits for its lock.
 fn work_of<'a>(
     plan: &Plan,
     eve: &'a Class,
@@ -129,7 +130,7 @@ fn works<'a>(
     Ok(works)
 }
 
-/// The group and the minute, where its bound doesn't follow what arrives at that minute of the eve.
+/// The minute and the group, if its bound doesn't follow the arrivals at that minute of the eve.
 fn rise_of(work: &Option<Work<'_>>, minute: u16, group: usize) -> Option<(u16, usize)>
     requires { minute < MINUTES_OF_DAY }
     ensures { (p : TheoryPlan) (eve day : Class) → IsWork p eve day group work.now
@@ -147,7 +148,7 @@ fn rise_of(work: &Option<Work<'_>>, minute: u16, group: usize) -> Option<(u16, u
     }
 }
 
-/// The first group whose bound doesn't follow what arrives at a minute of the eve.
+/// The first group whose bound doesn't follow the arrivals at a minute of the eve.
 fn rise_at(works: &[Option<Work<'_>>], minute: u16) -> Option<(u16, usize)>
     requires { minute < MINUTES_OF_DAY }
     ensures { (p : TheoryPlan) (eve day : Class) → AreWorks p eve day works.now
@@ -161,8 +162,9 @@ fn rise_at(works: &[Option<Work<'_>>], minute: u16) -> Option<(u16, usize)>
     None
 }
 
-/// The first minute of a day of the first class, and the first group there, whose bound doesn't follow what arrives in the
-/// step to the next minute, which may lie on a day of the second class. The only error is want of memory.
+/// Returns the first minute of a day of the first class, and the first group there, whose bound
+/// doesn't follow the arrivals in the step to the next minute, which may be on a day of the second
+/// class. The only error is out of memory.
 pub fn first_rise(
     alloc: Global,
     plan: &Plan,

@@ -1,4 +1,4 @@
-//! What a class that says what is left over at midnight stands for on days of a kind.
+//! What a class of version 3 stands for on days of a kind.
 ghost use Rattle.std.specs.Prelude.{◌≡◌, ◌≤◌, ◌<◌, ◌++◌, [], Some, IfOk, OnOk, filter, map};
 ghost use Rattle.cs_cert.specs.Certificate.{bound_in};
 ghost use Rattle.cs_claim.specs.Planned.{is_due_on};
@@ -64,7 +64,7 @@ fn due_on(alloc: Global, plan: &Plan, kind: DayKind) -> Result<Sequence<DueList>
     Ok(due)
 }
 
-/// Such a day, with no bounds: nothing is due where there is no kind.
+/// Such a day, without bounds: nothing is due without a kind.
 fn unbounded(alloc: Global, plan: &Plan, kind: Option<DayKind>) -> Result<Class, AllocError>
     ensures { IfOk result (λ day. day ≡ unbounded plan.now kind) }
 {
@@ -78,7 +78,7 @@ fn unbounded(alloc: Global, plan: &Plan, kind: Option<DayKind>) -> Result<Class,
     })
 }
 
-/// The bound that a class gives for a group at minute 0.
+/// The bound of a class for a group at minute 0.
 fn left_over(class: &Class, group: usize, none: &Backlog) -> u32
     requires { none.now ≡ [] }
     ensures value { result ≡ bound_in class.now group 0 }
@@ -89,7 +89,7 @@ fn left_over(class: &Class, group: usize, none: &Backlog) -> u32
     backlog.at(0)
 }
 
-/// The bound of a group on such a day: it begins with what is left over, and follows what arrives.
+/// The bound of a group on such a day: it begins with what is left over, and follows the arrivals.
 fn bound_on(
     alloc: Global,
     plan: &Plan,
@@ -109,7 +109,7 @@ fn bound_on(
     })
 }
 
-/// The bound of each group with a job that waits, by what the class says of minute 0.
+/// The bound of each group with a job that waits, from that of the class at minute 0.
 fn bounds_on(
     alloc: Global,
     plan: &Plan,
@@ -131,10 +131,10 @@ fn bounds_on(
     Ok(bounds)
 }
 
-/// The class that stands for one that says what is left over at midnight, on days of a kind: when each cron job is due on
-/// them (`crontab(5)`), and for each group with a job that waits the bound that begins with what is left over and follows
-/// what arrives, up to [`MAX_BACKLOG`](cs_wait::MAX_BACKLOG). Where there is no kind, nothing is due. The only error is want
-/// of memory.
+/// Returns what a class of version 3 stands for on days of a kind: the due minutes of each cron job
+/// (`crontab(5)`), and for each group with a job that waits the bound that begins with what is left
+/// over and follows the arrivals, up to [`MAX_BACKLOG`](cs_wait::MAX_BACKLOG). Without a kind
+/// nothing is due. The only error is out of memory.
 pub fn worked_class(
     alloc: Global,
     plan: &Plan,

@@ -31,7 +31,7 @@ in_time_some p t r xs since found = by_since p t r xs ∙ ap (is_short p t r) (s
 pub in_time_none : (p : Plan) (t : ℕ) (r : Run) (xs : List Going) → None ≡ since_in r xs → is_in_time p t r xs ≡ true
 in_time_none p t r xs found = by_since p t r xs ∙ ap (is_short p t r) (sym found)
 
--- the minute is before its end, told by what has gone by
+-- the minute is before its end, by the minutes since
 pub less_either : (t since limit : ℕ) → t < since → nat_lt t (since + limit) ≡ true
 less_either t since limit early = lt-ltb t (since + limit) (omega (arith, early))
 

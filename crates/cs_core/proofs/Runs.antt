@@ -58,7 +58,7 @@ same_all : (r : Run) (xs : List Going) → AllByRecursion (λ x. same_run r x.ru
 same_all r [] a = refl
 same_all r (x ∷ xs) a = ap (λ (b : Bool). cond (not b) (x ∷ others xs r) (others xs r)) a.0 ∙ ap (λ (ys : List Going). x ∷ ys) (same_all r xs a.1)
 
--- where a name stands once, so many more pass as that run does
+-- where a name occurs once, the count is greater by that run's
 pub one_less : (t : Run → Bool) (r : Run) (xs : List Going) → number_of (λ x. same_run r x.run) xs ≤ 1 → has xs r ≡ true → number_of (λ x. t x.run) xs ≡ number_of (λ x. t x.run) (others xs r) + one (t r)
 one_less t r [] once there = absurd (both_ways false refl there)
 one_less t r (x ∷ xs) once there = by (same_run r x.run) refl (one_less t r xs)

@@ -17,7 +17,9 @@ is_before r q = nat_lt r.job q.job || ((r.job == q.job) && nat_lt r.at q.at)
 abbrev pub by_name : List Run → List Run
 by_name rs = fold (λ list r. placed is_before r list) [] rs
 
--- what may come at best, by kind, then job, then minute: the next minute, the jobs that are pending, the runs that wait, the jobs left to the pass, the runs that run, a going down, and a coming up now, which stands for all later ones
+-- what may come at best, by kind, then job, then minute: the next minute, the jobs that are
+-- pending, the runs that wait, the jobs left to the pass, the runs that run, a going down, and a
+-- coming up now, which stands for all later ones
 abbrev pub candidates : State → List Event
 candidates s =
     Minute (s.now + 1)

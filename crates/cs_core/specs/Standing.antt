@@ -46,7 +46,7 @@ abbrev pub is_job : Option ℕ → ℕ → Bool
 is_job None j = false
 is_job (Some k) j = k == j
 
--- the jobs that a pass has which begins at minute t, where of anacron jobs a run of this one runs, or of none
+-- the jobs of a pass that begins at minute t, where this anacron job, or none, runs
 abbrev pub owed_beside : Plan → List (Option ℕ) → Option ℕ → ℕ → List ℕ
 owed_beside p ss lone t = filter (λ j.
     p.owed j (get_or ss (j - p.crons) None) (t / 1440) && not (is_job lone j)) (by_delay p)
@@ -56,7 +56,7 @@ pub record IsLone (p : Plan) (runs : List Going) (lone : Option ℕ) : Type 0 wh
   pub any : list_any (λ r. not (is_cron p r.run.job)) runs ≡ is_some lone
   pub which : (j : ℕ) → is_cron p j ≡ false → list_any (λ r. r.run.job == j) runs ≡ is_job lone j
 
--- what a core keeps beside its state, so that no event goes through the runs
+-- what a core keeps besides its state, so that no event looks at every run
 pub record IsKept (p : Plan) (s : State) (held wanted : Counts) (job : Option ℕ) : Type 0 where
   -- runs have names of their own
   pub named : AreNamed p s

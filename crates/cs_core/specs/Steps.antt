@@ -25,17 +25,17 @@ needs_memory p s (End r) = false
 needs_memory p s Down = false
 needs_memory p s (Up t) = false
 
--- what a call does that takes an event which is not refused: all of it, or for want of memory nothing
+-- the effect of a call that takes an event not refused: all of it, or nothing if memory runs out
 abbrev pub Takes : Plan → State → Event → Result Reply Refusal → State → Type 0
 Takes p s e (Ok r) n = (r ≡ reply p s e) × (n ≡ after p s e)
 Takes p s e (Err f) n = (f ≡ OutOfMemory) × (n ≡ s)
 
--- the same, where want of memory is the only error
+-- the same, if out of memory is the only error
 abbrev pub TakesRun : {E : Type 0} → Plan → State → Event → Result Reply E → State → Type 0
 TakesRun p s e (Ok r) n = (r ≡ reply p s e) × (n ≡ after p s e)
 TakesRun p s e (Err f) n = n ≡ s
 
--- whether the Begin of a job comes to a start
+-- whether the Begin of a job starts a run
 abbrev pub is_start : Answer → Bool
 is_start Starts = true
 is_start Waits = false

@@ -13,8 +13,9 @@ use cs_roster::Roster;
 use std::alloc::{AllocError, Global};
 
 impl Core {
-    /// The events that may come next: first Minute, then Begin, Got, Catch and End, those of one kind by job, then minute, then
-    /// Down or Up. `Up` with the present minute stands for coming up in any later one too. The only error is want of memory.
+    /// Returns the events that may come next: Minute, then Begin, Got, Catch and End, each by job,
+    /// then minute, then Down or Up. `Up` with the present minute is listed for every later one
+    /// too. The only error is out of memory.
     pub fn choices(&self, alloc: Global) -> Result<Sequence<Event>, AllocError>
         ensures { IfOk result (λ events. events ≡ choices (as_plan self.now.plan) self.now.state) }
     {
@@ -28,7 +29,7 @@ impl Core {
         Ok(events)
     }
 
-    /// What may come at best.
+    /// All events that may come next, and more.
     fn candidates(&self, alloc: Global) -> Result<Sequence<Event>, AllocError>
         ensures { IfOk result (λ events. events ≡ candidates self.now.state) }
     {
@@ -94,14 +95,14 @@ fn names(alloc: Global, runs: &Roster) -> Result<Vec<Run>, AllocError>
     Ok(listed)
 }
 
-/// Whether the one run comes before the other by job, then minute.
+/// Whether a run comes before another, by job, then minute.
 fn is_before(one: Run, other: Run) -> bool
     ensures { result ≡ is_before one other }
 {
     one.job < other.job || (one.job == other.job && one.at < other.at)
 }
 
-/// The place right before the first run that this one comes before.
+/// The index of the first run that this one comes before.
 fn place(runs: &[Run], run: Run) -> usize
     ensures bound { result ≤ length runs.now }
     ensures place { insert runs.now result run ≡ placed is_before run runs.now }

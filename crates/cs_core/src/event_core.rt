@@ -21,8 +21,8 @@ use cs_roster::Roster;
 use std::alloc::{AllocError, Global};
 use std::marker::Model;
 
-/// A plan and the state that the events of a history have left: the minute, up or down, the jobs that are pending, the runs
-/// that wait and that run, the stamps and the open pass.
+/// A plan, and the state after the events of a history: the minute, up or down, the pending jobs,
+/// the waiting and running runs, the stamps and the open pass.
 #[derive(Debug, Drop)]
 pub struct Core {
     pub(crate) rules: Rules,
@@ -31,11 +31,11 @@ pub struct Core {
     pub(crate) due: ArrayVec<u16, 256>,
     pub(crate) waiting: Roster,
     pub(crate) running: Roster,
-    /// How many of those that run have each lock.
+    /// How many running runs hold each lock.
     pub(crate) held: LockTable,
-    /// How many of those that wait want each lock.
+    /// How many waiting runs want each lock.
     pub(crate) wanted: LockTable,
-    /// The anacron job of which a run runs: there is one at most.
+    /// The anacron job that runs, of which there is at most one.
     pub(crate) lone: Option<u16>,
     pub(crate) stamps: ArrayVec<Option<Day>, 64>,
     pub(crate) begun: Minute,
@@ -62,8 +62,8 @@ impl Model for Core {
 }
 
 impl Core {
-    /// A core in the state of a start: nothing runs, waits or is pending, and no pass is open. The core keeps a copy of the
-    /// plan. The only error is want of memory.
+    /// Opens a core at a start: nothing runs, waits or is pending, and no pass is open. It copies
+    /// the plan. The only error is out of memory.
     pub fn open(alloc: Global, plan: &Plan, start: Start) -> Result<Core, AllocError>
         requires { first_start ≤ start.now }
         ensures plan { IfOk result (λ core. core.plan ≡ plan.now) }
@@ -87,7 +87,7 @@ impl Core {
         })
     }
 
-    /// What [`step`](Core::step) would refuse the event with, want of memory aside.
+    /// Checks the event: err is the refusal of [`step`](Core::step), unless that is `OutOfMemory`.
     pub fn test(&self, event: &Event) -> Result<(), Refusal>
         ensures { MatchResult result
             (λ _. refusal (as_plan self.now.plan) self.now.state event.now ≡ None)
@@ -99,42 +99,44 @@ impl Core {
         }
     }
 
-    /// Takes an event. Of every history that the core stands for it is the next one where it is legal; else the refusal that
-    /// comes first is answered. A refused event changes nothing, and `OutOfMemory`, which comes last, neither.
+    /// Takes an event if it may come next in every history with this state.
+    ///
+    /// err: the first refusal; `OutOfMemory`, which comes last, only if memory runs out. A refused
+    /// event changes nothing.
     pub fn step(&mut self, event: Event) -> Result<Reply, Refusal>
         ensures steps { Steps (as_plan self.old.plan) self.old.state event result self.new.state }
         ensures history { (h : History) → self.old.state ≡ state_of (as_plan self.old.plan) h
             → Follows (as_plan self.old.plan) h event result self.new.state }
         ensures plan { self.new.plan ≡ self.old.plan }
-        // Minute, End, Down and Up take no memory, nor does a Begin that comes to a skip.
+        // Minute, End, Down, Up and a Begin that is skipped take no memory.
         ensures memory { IfErr result (λ f. f ≡ OutOfMemory
             → needs_memory (as_plan self.old.plan) self.old.state event ≡ true) }
     {
         self.take_unless_refused(event)
     }
 
-    /// The present civil minute.
+    /// Returns the present civil minute.
     pub fn now(&self) -> Minute
         ensures { result ≡ self.now.state.now }
     {
         self.minute
     }
 
-    /// Whether the daemon is up.
+    /// Checks whether the daemon is up.
     pub fn is_up(&self) -> bool
         ensures { result ≡ self.now.state.up }
     {
         self.up
     }
 
-    /// The jobs that are due now and have not begun, by number.
+    /// Returns the jobs that are due now and have not begun, by number.
     pub fn pending(&self) -> &[u16]
         ensures { result.now ≡ self.now.state.pending }
     {
         self.due.as_slice()
     }
 
-    /// The runs that wait for a lock, in order of Begin, each with the minute of its Begin.
+    /// Returns the runs that wait for a lock, in order of Begin, each with the minute of its Begin.
     pub fn waiting(&self) -> &Roster
         ensures value { names result.now ≡ self.now.state.waiting }
         ensures count { length result.now ≡ length self.now.state.waiting }
@@ -143,14 +145,14 @@ impl Core {
         &self.waiting
     }
 
-    /// The runs that run, in order of start.
+    /// Returns the runs that run, in order of start.
     pub fn running(&self) -> &Roster
         ensures { result.now ≡ self.now.state.running }
     {
         &self.running
     }
 
-    /// How many runs run after the event, where it is accepted.
+    /// Returns how many runs run after the event, if it is accepted.
     pub fn runs_after(&self, event: &Event) -> usize
         ensures { result ≡ length (after (as_plan self.now.plan) self.now.state event.now).running }
     {
@@ -205,14 +207,14 @@ impl Core {
         }
     }
 
-    /// The stamps, by anacron job.
+    /// Returns the stamps, by anacron job.
     pub fn stamps(&self) -> &[Option<Day>]
         ensures { result.now ≡ self.now.state.stamps }
     {
         self.stamps.as_slice()
     }
 
-    /// The minute at which the open pass began, if one is open.
+    /// Returns the minute at which the open pass began, if one is open.
     pub fn pass(&self) -> Option<Minute>
         ensures { result ≡ option_map (λ o. o.at) self.now.state.pass }
     {
@@ -223,14 +225,14 @@ impl Core {
         }
     }
 
-    /// The jobs that the open pass has still to start, the next one first. None where no pass is open.
+    /// Returns the jobs that the open pass has yet to start, in order; none if no pass is open.
     pub fn left(&self) -> &[u16]
         ensures { result.now ≡ jobs_left self.now.state.pass }
     {
         self.left.as_slice()
     }
 
-    /// The plan.
+    /// Returns the plan.
     pub fn plan(&self) -> &Plan
         ensures { result.now ≡ self.now.plan }
     {

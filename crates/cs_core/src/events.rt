@@ -23,7 +23,7 @@ use cs_roster::Roster;
 use std::alloc::AllocError;
 
 impl Core {
-    /// Takes the event, or answers the refusal that comes first.
+    /// Takes the event, or returns the first refusal.
     pub(crate) fn take_unless_refused(&mut self, event: Event) -> Result<Reply, Refusal>
         ensures steps { Steps (as_plan self.old.plan) self.old.state event result self.new.state }
         ensures plan { self.new.plan ≡ self.old.plan }
@@ -132,7 +132,7 @@ impl Core {
         Ok(Reply::Waiting)
     }
 
-    /// The job's run is given up.
+    /// The job's run is skipped.
     fn begin_skipped(&mut self, job: u16) -> Reply
         requires may { refusal (as_plan self.old.plan) self.old.state (event.Begin job) ≡ None }
         requires skips { answer (as_plan self.old.plan) self.old.state.running job ≡ Skips }
@@ -204,7 +204,7 @@ impl Core {
         take_run(&self.rules, &mut self.running, &mut self.held, run);
     }
 
-    /// Beside, the stamp of the run's job is the day on which the run started.
+    /// Ends an anacron job's run; the job's stamp becomes the day on which the run started.
     fn end_anacron(&mut self, run: Run)
         requires may { refusal (as_plan self.old.plan) self.old.state (event.End run) ≡ None }
         requires anacron { is_cron (as_plan self.old.plan) run.job ≡ false }
@@ -287,8 +287,8 @@ fn open_pass(
     }
 }
 
-/// Adds a run to those that run, or wait, and counts what it has to do with a lock. The only error is want of memory, and
-/// then nothing changes.
+/// Adds a run to those that run, or wait, and counts it at its lock. The only error is out of
+/// memory, which changes nothing.
 fn add_run(
     rules: &Rules,
     runs: &mut Roster,
@@ -307,7 +307,7 @@ fn add_run(
     Ok(())
 }
 
-/// Takes a run from those that run, or wait, and counts it no longer.
+/// Removes a run from those that run, or wait, and from the count of its lock.
 fn take_run(rules: &Rules, runs: &mut Roster, locks: &mut LockTable, run: Run)
     requires there { has runs.old run ≡ true }
     requires once { number_of (λ x. same_run run x.run) runs.old ≤ 1 }

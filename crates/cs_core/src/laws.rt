@@ -7,19 +7,18 @@ ghost use Rattle.cs_history.specs.Step.{State, refusal, state_of};
 ghost use Rattle.cs_history.specs.declared.event.Event.{Event};
 ghost use Rattle.cs_history.specs.declared.run.Run.{Run};
 
-/// The choices are exactly the events that may come next, coming up now standing for every coming up, and runs of one kind
-/// stand in order. The call does nothing.
+/// Lemma. The choices are exactly the events that may come next, one Up for all, and are in order.
 pub fn choices_are_legal_events()
 
     // each choice may come next
     ensures choice { (p : Plan) (h : History) (e : Event) → Contains (choices p (state_of p h)) e
         → May p h e }
 
-    // and what may come next is a choice, or one stands for it
+    // and what may come next is a choice, or an Up like one
     ensures legal { (p : Plan) (h : History) (e : Event) → IsLegal p h → May p h e
         → Contains (choices p (state_of p h)) (choice_for (state_of p h) e) }
 
-    // the same of any state
+    // so it is in any state
     ensures refused { (p : Plan) (s : State) (e : Event) → Contains (choices p s) e
         → refusal p s e ≡ None }
     ensures listed { (p : Plan) (s : State) (e : Event) → IsCivil s.now → refusal p s e ≡ None

@@ -1,4 +1,4 @@
-//! The event core: it takes the events of a history one by one, says which may come next, and keeps the state that they leave.
+//! The event core: takes the events of a history, lists those that may come next, keeps the state.
 #![tactic(auto)]
 
 mod choices;

@@ -4,7 +4,6 @@ ghost use Rattle.std.specs.List.{list_any};
 use arrayvec::ArrayVec;
 use cs_civil::Day;
 
-/// Whether the job is among these.
 pub(crate) fn has_job(jobs: &[u16], job: u16) -> bool
     ensures { result ≡ list_any (λ i. job == i) jobs.now }
 {
@@ -18,7 +17,7 @@ pub(crate) fn take_job(pending: &mut ArrayVec<u16, 256>, job: u16)
     pending.retain(|other| !(job == *other));
 }
 
-/// The stamp at a place of the list, None behind its end.
+/// The stamp at a place of the list, None after its end.
 pub(crate) fn stamp_at(stamps: &[Option<Day>], place: usize) -> Option<Day>
     ensures { result ≡ get_or stamps.now place None }
 {

@@ -12,7 +12,7 @@ use cs_civil::Minute;
 use cs_history::{Event, Refusal, Run};
 
 impl Core {
-    /// The refusal that comes first, want of memory aside.
+    /// The first refusal, except `OutOfMemory`.
     pub(crate) fn refusal(&self, event: &Event) -> Option<Refusal>
         ensures { result ≡ refusal (as_plan self.now.plan) self.now.state event.now }
     {
@@ -88,7 +88,6 @@ impl Core {
         None
     }
 
-    /// Whether the run waits.
     fn is_waiting(&self, run: Run) -> bool
         ensures { result ≡ list_any (same_run run) self.now.state.waiting }
     {

@@ -38,7 +38,7 @@ impl Model for Rules {
     ghost invariant = { λ r. r.order.items ≡ by_delay (as_plan r.plan) };
 }
 
-/// What a run of a job of this mode has to do with the lock of this group.
+/// What a run in this mode does with the lock of this group.
 fn hold_in(mode: Mode, group: u8) -> Hold
     ensures { result ≡ hold_in (takes mode) (shares_in mode) (Some group) }
 {
@@ -67,7 +67,7 @@ impl Rules {
         &self.plan
     }
 
-    /// How many of the jobs are cron jobs, which come first.
+    /// How many jobs are cron jobs; they come first.
     pub(crate) fn crons(&self) -> u16
         ensures value { result ≡ crons self.now }
         ensures few { result ≤ MAX_COMMANDS }
@@ -110,7 +110,7 @@ impl Rules {
         }
     }
 
-    /// What a run of the job has to do with the lock of its group.
+    /// What a run of the job does with the lock of its group.
     pub(crate) fn hold(&self, job: u16) -> Hold
         ensures { result ≡ hold_of (as_plan self.now) job }
     {
@@ -135,7 +135,7 @@ impl Rules {
         }
     }
 
-    /// Writes the cron jobs that are due at a minute into a list, in place of what it held.
+    /// Replaces a list by the cron jobs that are due at a minute.
     pub(crate) fn list_due(&self, minute: Minute, pending: &mut ArrayVec<u16, 256>)
         ensures { pending.new.items ≡ due_at (as_plan self.now) minute }
     {
@@ -159,7 +159,7 @@ impl Rules {
         }
     }
 
-    /// The minutes that an anacron job waits from the start of a pass on.
+    /// The minutes that an anacron job waits after the start of a pass.
     pub(crate) fn delay(&self, job: u16) -> u32
         ensures { result ≡ (as_plan self.now).delay job }
     {
@@ -177,8 +177,8 @@ impl Rules {
         }
     }
 
-    /// Writes the jobs that a pass has which begins at a minute into an empty list: none of which a run
-    /// runs, and of anacron jobs one runs at most.
+    /// Writes the jobs of a pass that begins at a minute into an empty list. A job that runs, at
+    /// most one of the anacron jobs, isn't one of them.
     pub(crate) fn list_owed(
         &self,
         minute: Minute,
@@ -199,7 +199,6 @@ impl Rules {
     }
 }
 
-/// Whether it is this job.
 fn is_job(lone: Option<u16>, job: u16) -> bool
     ensures { result ≡ is_job lone job }
 {
@@ -209,7 +208,7 @@ fn is_job(lone: Option<u16>, job: u16) -> bool
     }
 }
 
-/// The minutes that an anacron job waits from the start of a pass on.
+/// The minutes that an anacron job waits after the start of a pass.
 fn delay(plan: &Plan, job: u16) -> u32
     ensures { result ≡ (as_plan plan.now).delay job }
 {
@@ -220,7 +219,7 @@ fn delay(plan: &Plan, job: u16) -> u32
     }
 }
 
-/// The place of the first job of a later delay.
+/// The index of the first job with a longer delay.
 fn place(plan: &Plan, order: &[u16], job: u16) -> usize
     ensures bound { result ≤ length order.now }
     ensures place { insert order.now result job

@@ -78,7 +78,7 @@ fields_first s text command (word, gap, rest, is, solid, blank, stop, (texts, it
     let f = list_first texts items some are in
     (f.0, f.1 ++ (gap ++ rest), is ∙ ap (λ (l : List ℕ). l ++ (gap ++ rest)) (joined ∙ f.2), f.3)
 
--- ---- a command behind its fields or its word
+-- ---- a command after its fields or its word
 
 commanded_takes : (when : When) (command : List ℕ) (x : Entry) → commanded when command ≡ Ok x → (command ≢ []) × (Command when command ≡ x)
 commanded_takes when command x e =

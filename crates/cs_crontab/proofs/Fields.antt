@@ -1,4 +1,4 @@
--- Lists of items: what is read is written so, what is written so is read, and its numbers lie in the field's range.
+-- Lists of items: what is read is written so, what is written so is read, and numbers are in range.
 use Rattle.std.proofs.Common.{◌≡◌, ◌≢◌, ℕ, ◌≤◌, Bool, true, false, cond, not, nat_eq, nat_le, ◌&&◌, List, [], ◌∷◌, ◌++◌, Result, Ok, All, refl, sym, ap, subst, ◌∙◌, arith, inl, inr}
 use Rattle.std.specs.List.{list_all, list_any, slice_split, onto_first, join_with_byte, range_with_len}
 use Rattle.std.proofs.lemmas.Bool.{eqb-true, ne_eqb, leb-true, not-true, or_cases}

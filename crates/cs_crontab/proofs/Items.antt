@@ -133,7 +133,7 @@ step_stops text n (inr (digits, is, are, value, positive)) = rw is refl
 
 -- ---- items
 
--- `z` and a step, behind `a-`
+-- `z` and a step, after `a-`
 end_takes : (part : Part) (a : ℕ) (text : List ℕ) (ns : List ℕ) → end_at part a text ≡ Ok (ns, []) → (y step : List ℕ) × (z n : ℕ) × (text ≡ y ++ step) × IsNumber part y z × (a ≤ z) × IsStep step n × (ns ≡ numbers_where (is_every a z n))
 unfolding end_at
 end_takes part a text ns e =
@@ -153,7 +153,7 @@ unfolding end_at
 end_again part a y step z n number ordered stepped =
     rw (number_again part y step z number (step_stops step n stepped), le-ltb z a ordered, step_again step n stepped) refl
 
--- what stands behind a number of an item: nothing, or `-`
+-- what follows a number of an item: nothing, or `-`
 abbrev Tail : Part → ℕ → List ℕ → List ℕ → Type 0
 Tail part a text ns =
     ((text ≡ []) × (ns ≡ numbers_where (is_every a a 1))) ⊎

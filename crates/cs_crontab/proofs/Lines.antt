@@ -4,7 +4,7 @@ use Rattle.std.specs.List.{onto_first}
 use Rattle.std.proofs.lemmas.Bool.{false_from_ne_true}
 use Rattle.cs_crontab.specs.Text.{lines_of}
 
--- where no newline stands, all is one line
+-- a text without newlines is one line
 pub one_line : (xs : List ℕ) → xs ≢ [] → ((k : ℕ) → k < length xs → nat_eq (get_or xs k 0) 10 ≡ true → ⊥) → lines_of xs ≡ xs ∷ []
 unfolding lines_of
 one_line [] some none = absurd (some refl)

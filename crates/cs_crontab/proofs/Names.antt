@@ -15,7 +15,7 @@ use Rattle.cs_schedule.specs.Part.{first_of, last_of}
 use Rattle.cs_crontab.specs.Text.{is_digit}
 use Rattle.cs_crontab.specs.Format.{names_of, place_of}
 
--- a letter, in upper or lower case, or a byte behind the letters
+-- a letter, in upper or lower case, or a byte after the letters
 abbrev pub is_letter : ℕ → Bool
 is_letter b = nat_le 97 (to_ascii_lowercase b)
 
@@ -64,7 +64,7 @@ name_length part text place found =
     let same : str_to_ascii_lowercase known ≡ str_to_ascii_lowercase text = (bytes_eq-Decides (str_to_ascii_lowercase known) (str_to_ascii_lowercase text)).0 at.1 in
     sym (length-map text to_ascii_lowercase) ∙ ap (length {A = ℕ}) (sym same) ∙ length-map known to_ascii_lowercase ∙ three
 
--- the last name of a field stands at most for its last number
+-- the last name of a field is for no number above its last
 pub names_end : (part : Part) (text : List ℕ) (place : ℕ) → place_of part text ≡ Some place → first_of part + place ≤ last_of part
 unfolding place_of
 names_end part text place found =

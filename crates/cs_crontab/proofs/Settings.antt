@@ -91,7 +91,7 @@ name_again before n rest (inr (q, quote, is, are)) stop =
     ap (λ (l : List ℕ). name_at (l ++ rest)) is ∙ ap (λ (l : List ℕ). name_at (q ∷ l)) (append_assoc n (q ∷ []) rest)
     ∙ rw (quote, quoted_again q n rest are.0, some_to n are.1) refl
 
--- ---- the blanks behind a value
+-- ---- the blanks after a value
 
 all_blank_trimmed : (gap : List ℕ) → list_all is_blank gap ≡ true → trimmed gap ≡ []
 unfolding trimmed

@@ -145,7 +145,7 @@ abbrev Stands : Table → ℕ → List ℕ → LineFault → Type 0
 Stands table number line fault =
     LineFails line fault ⊎ ((fault ≡ faults.TooManyJobs) × (length table.lines ≡ MAX_COMMANDS) × ((when : When) × (command : List ℕ) × Says line (Command when command)))
 
--- the lines before the fault, the line, and why it stands there
+-- the lines before the fault, the line, and why the fault is its
 record Stops (n : ℕ) (table : Table) (lines : List (List ℕ)) (number : ℕ) (fault : LineFault) : Type 0 where
   before : List (List ℕ)
   line : List ℕ
@@ -238,7 +238,7 @@ crontab_fails text number fault e = by_length (nat_lt MAX_TABLE (length text)) r
         let s = lines_fail 1 no_lines (lines_of text) number fault (omega arith) e in
         inr (record { short = ltb-false MAX_TABLE (length text) is; before = s.before; line = s.line; later = s.later; parts = s.parts; place = omega (arith, s.place); table = s.others; fine = s.fine; few = s.few; stands = s.stands })
 
--- ---- a fault that stands is found
+-- ---- a fault that there is is found
 
 added_stops : (number : ℕ) (table : Table) (line : List ℕ) (fault : LineFault) → Stands table number line fault → added number table (line_of line) ≡ Err (number, fault)
 added_stops number table line fault (inl fails) = rw (line_fails_again line fault fails) refl

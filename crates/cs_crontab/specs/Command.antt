@@ -20,7 +20,7 @@ abbrev pub input_of : List (List ℕ) → Option (List ℕ)
 input_of [] = None
 input_of (line ∷ lines) = Some (join_with_byte 10 (line ∷ lines))
 
--- The command and the lines of its input give the text again, where each `%` in them is escaped and `%` stands between them.
+-- The text is the command and the input's lines, `%` between them and each `%` in them escaped.
 abbrev pub AreParts : List ℕ → List ℕ × Option (List ℕ) → Type 0
 AreParts text parts = (lines : List (List ℕ))
     × (text ≡ join_with_byte 37 (map escaped (parts.0 ∷ lines))) × ArePlain (parts.0 ∷ lines)
@@ -35,7 +35,7 @@ pieces_of (b ∷ c ∷ cs) =
     else if b == 92 && c == 37 then onto_first 37 (pieces_of cs)
     else onto_first b (pieces_of (c ∷ cs))
 
--- the pieces behind a `%`, or behind none
+-- the pieces after a `%`, or after none
 abbrev pub pieces_behind : Option (List ℕ) → List (List ℕ)
 pieces_behind None = []
 pieces_behind (Some text) = pieces_of text

@@ -1,9 +1,9 @@
--- What a crontab says.
+-- The content of a crontab.
 use Rattle.std.specs.Prelude.{ℕ, List, [], ◌∷◌, length, AllPairs, ◌<◌, ◌≤◌}
 use Rattle.cs_crontab.specs.declared.table.When.{When}
 use Rattle.cs_crontab.specs.declared.limits.TheConstants.{MAX_COMMANDS}
 
--- what one line says
+-- the content of one line
 pub data Entry : Type 0 where
   Nothing : Entry
   Setting : (name value : List ℕ) → Entry
@@ -28,7 +28,7 @@ pub record Table : Type 0 where
 abbrev pub no_lines : Table
 no_lines = record { settings = []; lines = [] }
 
--- what a line with that number says, and then what the lines behind it say
+-- a table with the content of a line before it
 abbrev pub with_entry : ℕ → Entry → Table → Table
 with_entry number Nothing table = table
 with_entry number (Setting name value) table = record {
@@ -44,7 +44,7 @@ with_entry number (Command when command) table = record {
   lines = record { number = number; when = when; command = command } ∷ table.lines;
 }
 
--- There are not too many commands, and settings and commands each stand on a later line than those before them.
+-- There are not too many commands; settings and commands are in order of line, each on its own.
 pub record IsOrdered (table : Table) : Type 0 where
   pub few : length table.lines ≤ MAX_COMMANDS
   pub rising : AllPairs (λ x y. x.number < y.number) table.lines

@@ -24,7 +24,8 @@ IsFieldFault part word fault =
     × (slice_split is_comma word ≡ before ++ (text ∷ behind)) × AreItems part before items
     × (item_of part text ≡ Err fault)
 
--- The fields before one are fine; there the text ends, or the next word has the fault. Behind the last field the text ends.
+-- The fields before one are fine; there the text ends, or the next word has the fault. After the
+-- last field the text ends.
 abbrev pub FieldsFail : List Part → List ℕ → LineFault → Type 0
 FieldsFail [] text fault = (text ≡ []) × (fault ≡ faults.NoCommand)
 FieldsFail (part ∷ parts) text fault =
@@ -39,7 +40,7 @@ FieldsFail (part ∷ parts) text fault =
 abbrev pub five_parts : List Part
 five_parts = Minute ∷ Hour ∷ Dom ∷ Month ∷ Dow ∷ []
 
--- Behind `@`, the word stands for nothing, or only blanks follow it.
+-- After `@`, the word stands for nothing, or only blanks follow it.
 abbrev pub WordFails : List ℕ → LineFault → Type 0
 WordFails text fault =
     (word behind : List ℕ) × (text ≡ word ++ behind) × (list_all is_solid word ≡ true)
@@ -52,7 +53,7 @@ abbrev pub SettingFails : List ℕ → LineFault → Type 0
 SettingFails text fault =
     (fault ≡ faults.BadSetting) × ((name value : List ℕ) → IsSetting text name value → ⊥)
 
--- A text without leading blanks is, by its first byte, a comment without fault, a word, a setting or fields.
+-- By its first byte a text without leading blanks is a good comment, a word, a setting or fields.
 abbrev pub TextFails : List ℕ → LineFault → Type 0
 TextFails [] fault = ⊥
 TextFails (b ∷ bs) fault =
@@ -60,7 +61,7 @@ TextFails (b ∷ bs) fault =
     ⊎ (((begins_setting b ≡ true) × SettingFails (b ∷ bs) fault)
     ⊎ ((b ≢ 35) × (b ≢ 64) × (begins_setting b ≡ false) × FieldsFail five_parts (b ∷ bs) fault))
 
--- The line is too long; or it holds a zero byte; or its text behind the blanks at its front has the fault.
+-- The line is too long, or holds a zero byte, or its text after leading blanks has the fault.
 abbrev pub LineFails : List ℕ → LineFault → Type 0
 LineFails line fault =
     ((MAX_LINE < length line) × (fault ≡ faults.TooLong))
@@ -70,7 +71,7 @@ LineFails line fault =
     × ((indent text : List ℕ) × (line ≡ indent ++ text) × (list_all is_blank indent ≡ true)
     × StopsAt is_blank text × TextFails text fault)))
 
--- The first line with a fault: the lines before it have none. The command above the limit is a fault after all others of its line.
+-- The first line with a fault. The command above the limit is a fault after all others of its line.
 pub record IsFirstFault (text : List ℕ) (number : ℕ) (fault : LineFault) : Type 0 where
   pub short : length text ≤ MAX_TABLE
   pub before : List (List ℕ)

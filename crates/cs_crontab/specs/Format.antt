@@ -78,7 +78,7 @@ abbrev pub hourly : Times
 hourly =
     record { minute = only 0; hour = all Hour; dom = all Dom; month = all Month; dow = all Dow }
 
--- what the word behind `@` stands for, `@reboot` aside
+-- what the word after `@` stands for, `@reboot` aside
 abbrev pub times_of_word : List ℕ → Option Times
 times_of_word word =
     if bytes_eq word (codes "yearly") || bytes_eq word (codes "annually") then Some yearly

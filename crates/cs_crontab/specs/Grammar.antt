@@ -21,7 +21,7 @@ pub record IsDigits (part : Part) (text : List ℕ) (n : ℕ) : Type 0 where
   pub low : first_of part ≤ n
   pub high : n ≤ last_of part
 
--- three letters that are the name of a number of the field: the first name is that of its first number
+-- three letters that name a number of the field: the first name is that of its first number
 abbrev pub IsName : Part → List ℕ → ℕ → Type 0
 IsName part text n = (place : ℕ) × (length text ≡ 3) × (place_of part text ≡ Some place)
     × (n ≡ first_of part + place)
@@ -68,7 +68,7 @@ IsField part text field =
     × AreItems part texts items
     × (field ≡ record { star = begins_with 42 text; numbers = counted part (all_of items) })
 
--- The fields are written in text, each with blanks behind it, and then the command.
+-- The fields are written in text, each with blanks after it, and then the command.
 abbrev pub AreFields : List (Part × Choice) → List ℕ → List ℕ → Type 0
 AreFields [] text command = text ≡ command
 AreFields (f ∷ fs) text command =
@@ -95,15 +95,15 @@ IsWordLine text when command =
     (word gap : List ℕ) × (text ≡ 64 ∷ (word ++ (gap ++ command))) × Are is_solid word
     × Are is_blank gap × StopsAt is_blank command × IsWordFor word when
 
--- What a text without leading blanks says: nothing where it is empty or a comment.
--- A setting begins with a letter, `_` or a quote (this profile).
+-- A text without leading blanks: nothing if it is empty or a comment. A setting begins with a
+-- letter, `_` or a quote (this profile).
 abbrev pub TextSays : List ℕ → Entry → Type 0
 TextSays text Nothing = (text ≡ []) ⊎ ((comment : List ℕ) × (text ≡ 35 ∷ comment))
 TextSays text (Setting name value) = (begins_as_setting text ≡ true) × IsSetting text name value
 TextSays text (Command when command) =
     (AreTimes text when command ⊎ IsWordLine text when command) × (command ≢ [])
 
--- what a line says: blanks at its front mean nothing
+-- the content of a line, whose leading blanks are ignored
 pub record Says (line : List ℕ) (entry : Entry) : Type 0 where
   pub short : length line ≤ MAX_LINE
   pub clean : list_any (λ b. nat_eq b 0) line ≡ false
@@ -113,7 +113,7 @@ pub record Says (line : List ℕ) (entry : Entry) : Type 0 where
   pub blank : list_all is_blank indent ≡ true
   pub says : TextSays text entry
 
--- what lines say, of which the first has this number
+-- the content of lines, of which the first has this number
 abbrev pub AreLines : ℕ → List (List ℕ) → Table → Type 0
 AreLines number [] table = table ≡ no_lines
 AreLines number (line ∷ lines) table = (entry : Entry) × (others : Table) × Says line entry

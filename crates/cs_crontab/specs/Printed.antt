@@ -1,4 +1,4 @@
--- The faults of a crontab as they are printed.
+-- The faults of a crontab as printed.
 use Rattle.std.specs.Prelude.{ℕ, List, codes}
 use Rattle.cs_crontab.specs.declared.fault.LineFault.{LineFault}
 use Rattle.cs_crontab.specs.declared.fault.LineFault.TheVariants as faults

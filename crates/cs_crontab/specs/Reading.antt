@@ -64,13 +64,13 @@ every a z step = do
   n ← step
   Ok (numbers_where (is_every a z n.0), n.1)
 
--- `z` or `z/n`, behind `a-`
+-- `z` or `z/n`, after `a-`
 unfoldable pub end_at : Part → ℕ → List ℕ → Result (List ℕ × List ℕ) LineFault
 end_at part a text = do
   z ← number_at part text
   if nat_lt z.0 a then Err faults.Reversed else every a z.0 (step_at z.1)
 
--- `-z`, `-z/n` or nothing, behind `a`
+-- `-z`, `-z/n` or nothing, after `a`
 unfoldable pub range_at : Part → ℕ → List ℕ → Result (List ℕ × List ℕ) LineFault
 range_at part a [] = every a a (Ok (1, []))
 range_at part a (b ∷ bs) =
@@ -112,7 +112,7 @@ list_of part word = do
   items ← items_of part (slice_split is_comma word)
   Ok (all_of items)
 
--- the items behind a comma, or behind no comma
+-- the items after a comma, or after no comma
 abbrev pub items_behind : Option (List ℕ) → List (List ℕ)
 items_behind None = []
 items_behind (Some text) = slice_split is_comma text
@@ -130,7 +130,7 @@ field_at part text =
       field ← field_of part (front is_solid text)
       Ok (field, after is_blank (after is_solid text))
 
--- the five fields, and the text behind them
+-- the five fields, and the text after them
 unfoldable pub schedule_at : List ℕ → Result (Times × List ℕ) LineFault
 schedule_at text = do
   minute ← field_at Minute text
@@ -144,7 +144,7 @@ abbrev pub timed : Option Times → Result When LineFault
 timed None = Err faults.UnknownWord
 timed (Some schedule) = Ok (At schedule)
 
--- what the word behind `@` stands for
+-- what the word after `@` stands for
 unfoldable pub when_of : List ℕ → Result When LineFault
 when_of word =
     if bytes_eq word (codes "reboot") then Ok Reboot
@@ -155,7 +155,7 @@ abbrev pub commanded : When → List ℕ → Result Entry LineFault
 commanded when command =
     if is_nothing command then Err faults.NoCommand else Ok (Command when command)
 
--- what a line says behind its `@`
+-- the content of a line after its `@`
 unfoldable pub word_line : List ℕ → Result Entry LineFault
 word_line text = do
   when ← when_of (front is_solid text)
@@ -165,7 +165,7 @@ abbrev pub set : Option (List ℕ × List ℕ) → Result Entry LineFault
 set None = Err faults.BadSetting
 set (Some found) = Ok (Setting found.0 found.1)
 
--- what a line without its leading blanks says
+-- the content of a line without its leading blanks
 unfoldable pub entry_of : List ℕ → Result Entry LineFault
 entry_of [] = Ok Nothing
 entry_of (b ∷ bs) =

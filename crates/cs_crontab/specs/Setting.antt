@@ -6,11 +6,11 @@ use Rattle.cs_crontab.specs.Text.{is_blank, Are, StopsAt}
 abbrev pub is_quote : ℕ → Bool
 is_quote b = b == 34 || b == 39
 
--- a byte of a name that stands in no quotes
+-- a byte of a name without quotes
 abbrev pub is_name_byte : ℕ → Bool
 is_name_byte b = not (is_blank b) && not (b == 61)
 
--- the name as it is, which begins with no quote, or the name in quotes, which does not hold that quote
+-- the name, which begins with no quote, or the name in quotes, which doesn't hold that quote
 abbrev pub IsName : List ℕ → List ℕ → Type 0
 IsName text name =
     ((text ≡ name) × Are is_name_byte name × StopsAt is_quote name)
@@ -22,7 +22,8 @@ abbrev pub EndsSolid : List ℕ → Type 0
 EndsSolid text = (text ≡ [])
     ⊎ ((front : List ℕ) × (last : ℕ) × (text ≡ front ++ (last ∷ [])) × (is_blank last ≡ false))
 
--- the value without the blanks behind it, which begins with no quote, or the value in quotes, which does not hold that quote
+-- the value without the blanks after it, which begins with no quote, or the value in quotes, which
+-- does not hold that quote
 abbrev pub IsValue : List ℕ → List ℕ → Type 0
 IsValue text value =
     ((gap : List ℕ) × (text ≡ value ++ gap) × (list_all is_blank gap ≡ true)

@@ -27,7 +27,7 @@ abbrev pub ◌>>=◌ : {A B : Type 0} → Result A Fault → (A → Result B Fau
 (Ok x) >>= f = f x
 (Err e) >>= f = Err e
 
--- the table with what the next line says, if that has no fault: a command above the limit is one fault more
+-- the table with the content of the next line, or its fault, or that of a command above the limit
 abbrev pub added : ℕ → Table → Result Entry LineFault → Result Table Fault
 added number table (Err fault) = Err (number, fault)
 added number table (Ok Nothing) = Ok table
@@ -45,7 +45,7 @@ added number table (Ok (Command when command)) =
     })
     else Err (number, TooManyJobs)
 
--- the table with the lines behind it, of which the first has this number
+-- the table with the lines after it, of which the first has this number
 unfoldable pub lines_from : ℕ → Table → List (List ℕ) → Result Table Fault
 lines_from number table [] = Ok table
 lines_from number table (line ∷ lines) = do

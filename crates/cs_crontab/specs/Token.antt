@@ -1,4 +1,4 @@
--- What the code sees at the front of a command, without where it lies in memory.
+-- The front of a command as the code sees it, wherever it lies in memory.
 use Rattle.std.specs.Prelude.{ℕ, ◌<◌, List, [], ◌∷◌, length}
 use Rattle.std.specs.List.{onto_first}
 use Rattle.cs_crontab.specs.declared.command.Token.{Token}

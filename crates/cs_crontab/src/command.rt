@@ -7,13 +7,13 @@ ghost use Rattle.cs_crontab.specs.Command.{AreParts, pieces_of, pieces_behind, p
 use cs_civil::{Bytes, Sequence};
 use std::alloc::{AllocError, Global};
 
-/// What stands at the front of a text.
+/// What a text begins with.
 enum Token<'a> {
-    /// Nothing: the text ends.
+    /// Nothing: it is empty.
     End,
-    /// A `%` that no backslash escapes, and then this text.
+    /// A `%` without a backslash, and the rest.
     Mark(&'a [u8]),
-    /// A byte, which is `%` where `\%` stands, and then this text.
+    /// A byte, `%` for `\%`, and the rest.
     Byte(u8, &'a [u8]),
 }
 
@@ -30,7 +30,7 @@ fn first_token(text: &[u8]) -> Token<'_>
     }
 }
 
-/// The text up to the first `%` that no backslash escapes, and what follows that `%`.
+/// The text up to the first `%` without a backslash, and the rest after that `%`.
 fn piece(alloc: Global, text: &[u8]) -> Result<(Vec<u8>, Option<&[u8]>), AllocError>
     ensures pieces { IfOk result
         (λ x. pieces_of text.now ≡ x.0.items ∷ pieces_behind (option_map (λ r. r.now) x.1)) }
@@ -75,10 +75,11 @@ fn read_parts(alloc: Global, command: &[u8]) -> Result<(Bytes, Option<Bytes>), A
     Ok((Sequence::from_vec(first), input))
 }
 
-/// The command to run, and its standard input, if there is one (crontab(5)).
+/// Returns the command to run and its standard input, if it has one (crontab(5)).
 ///
-/// The first `%` that no backslash escapes ends the command; what follows it is the input, in which each further one is a newline.
-/// `\%` is `%`, any other backslash stays, and nothing is added at the end of the input (this profile). The only error is want of memory.
+/// The first `%` without a backslash ends the command; the input follows, in which each further one
+/// is a newline. `\%` is `%`, any other backslash is kept, and no newline is added to the input
+/// (this profile). The only error is out of memory.
 pub fn command_parts(alloc: Global, command: &[u8]) -> Result<(Bytes, Option<Bytes>), AllocError>
     // The parts give the command again.
     ensures parts { IfOk result (AreParts command.now) }

@@ -6,10 +6,10 @@ use cs_civil::{Bytes, Sequence};
 use indexmap::IndexMap;
 use std::alloc::{AllocError, Global};
 
-/// Settings by name, each name once: in the place of its first, with the value of its last.
+/// Settings by name, each once: in the place of its first setting, with the value of its last.
 type Variables<'a> = IndexMap<&'a [u8], &'a [u8]>;
 
-/// The settings above the line of that number, by name.
+/// The settings above that line, by name.
 fn by_name<'a>(
     alloc: Global,
     settings: &'a [Setting],
@@ -40,10 +40,10 @@ fn copied(alloc: Global, variables: &Variables<'_>) -> Result<Vec<(Bytes, Bytes)
     Ok(copies)
 }
 
-/// The environment that settings give to the line of that number: the names of the settings above it with their values (crontab(5)).
+/// Returns the environment of the line with that number: the settings above it (crontab(5)).
 ///
-/// Each name comes once, in order of its first place, with the value of its last setting above the line.
-/// The only error is want of memory.
+/// Each name comes once, in the place of its first setting, with the value of its last. The only
+/// error is out of memory.
 pub fn env_of(
     alloc: Global,
     settings: &[Setting],
@@ -58,7 +58,7 @@ pub fn env_of(
 }
 
 impl Crontab {
-    /// The environment of the command on the line of that number, as [`env_of`] of the table's settings.
+    /// Returns the environment of the command on that line, like [`env_of`].
     pub fn env_of(&self, alloc: Global, line: u32) -> Result<Sequence<(Bytes, Bytes)>, AllocError>
         ensures names { IfOk result
             (λ env. map (λ v. v.0) env ≡ first_places (names_of (above line self.now.settings))) }

@@ -5,38 +5,39 @@ ghost use Rattle.cs_crontab.specs.declared.fault.TableFault.TheVariants.{OutOfMe
 use std::alloc::{AllocError, AllocFailed};
 use thiserror::Error;
 
-/// What is wrong with a line of a crontab, or with its length. It is printed as its number and its name, `8 Reversed`.
+/// What is wrong with a line or its length, printed as number and name: `8 Reversed`.
 #[derive(Clone, Copy, Debug, PartialEq, Eq, Error)]
 #[error("{}", self.text())]
 pub enum LineFault {
-    /// The table or the line is longer than [`MAX_TABLE`](crate::MAX_TABLE) or [`MAX_LINE`](crate::MAX_LINE).
+    /// The table or the line exceeds [`MAX_TABLE`](crate::MAX_TABLE) or
+    /// [`MAX_LINE`](crate::MAX_LINE).
     TooLong,
     /// The line holds a zero byte.
     NulByte,
-    /// A line that begins as a setting is none.
+    /// The line begins like a setting but isn't one.
     BadSetting,
-    /// The word behind `@` is unknown.
+    /// The word after `@` is unknown.
     UnknownWord,
     /// The line ends where a field should begin.
     MissingField,
-    /// Something else stands where a number, or the end of the field, should.
+    /// There is neither a number nor the end of the field where one is required.
     BadNumber,
-    /// The number is not one of the field.
+    /// The number is out of the field's range.
     OutOfField,
     /// The first number of a range is greater than its last.
     Reversed,
-    /// The step is no number, or is 0.
+    /// The step is not a number, or is 0.
     BadStep,
-    /// A step stands behind a single number.
+    /// A step follows a single number.
     StepOnNumber,
-    /// Nothing stands where the command should.
+    /// The line has no command.
     NoCommand,
-    /// The line's command is one more than [`MAX_COMMANDS`](crate::MAX_COMMANDS).
+    /// The command is one more than [`MAX_COMMANDS`](crate::MAX_COMMANDS).
     TooManyJobs,
 }
 
 impl LineFault {
-    /// Its number and its name, as it is printed.
+    /// Returns its number and name, as printed.
     pub fn text(self) -> &'static str
         ensures { result.now ≡ fault_text self }
     {
@@ -60,7 +61,7 @@ impl LineFault {
 /// Why a crontab could not be read.
 #[derive(Clone, Copy, Debug, PartialEq, Eq, Error)]
 pub enum TableFault {
-    /// The first line with a fault, counted from 1, and its fault. The table's own length has line 0.
+    /// The first line with a fault, from 1, or 0 if the table is too long; and the fault.
     #[error("line {line}: {fault}")]
     At { line: u32, fault: LineFault },
     /// Memory ran out.

@@ -61,7 +61,7 @@ fn step(text: &[u8]) -> Result<(u32, &[u8]), LineFault>
     }
 }
 
-/// Each n-th number from the first to the last, by the step at the front of the text.
+/// Every n-th number from the first to the last, by the step at the front of the text.
 fn every(first: u8, last: u8, text: &[u8]) -> Result<(Numbers, &[u8]), LineFault>
     ensures { Gives (λ x. (x.0, x.1.now)) result (every first last (step_at text.now)) }
 {
@@ -105,7 +105,7 @@ fn item(part: Part, text: &[u8]) -> Result<(Numbers, &[u8]), LineFault>
     }
 }
 
-/// The text in front of the first comma, and what follows the comma.
+/// The text before the first comma, and what follows the comma.
 fn first_item(text: &[u8]) -> (&[u8], Option<&[u8]>)
     ensures items { slice_split is_comma text.now
         ≡ result.0.now ∷ items_behind (option_map (λ x. x.now) result.1) }
@@ -129,7 +129,7 @@ fn whole_item(part: Part, text: &[u8]) -> Result<Numbers, LineFault>
     Ok(numbers)
 }
 
-/// The numbers of the items that commas part.
+/// The numbers of items separated by commas.
 fn list(part: Part, word: &[u8]) -> Result<Numbers, LineFault>
     ensures { result ≡ list_of part word.now }
 {
@@ -160,7 +160,7 @@ fn field(part: Part, word: &[u8]) -> Result<Field, LineFault>
     Ok(Field::new(star, numbers))
 }
 
-/// The field that the next word is, and the text from the word after it on.
+/// The field in the next word, and the text from the word after it on.
 #[tactic(auto, unfolding(crate::specs::Reading::field_at))]
 pub(crate) fn next_field(part: Part, text: &[u8]) -> Result<(Field, &[u8]), LineFault>
     ensures gives { Gives (λ x. (x.0, x.1.now)) result (field_at part text.now) }

@@ -13,17 +13,17 @@ use crate::text::{has_nul, skip_blanks, word};
 use crate::word::word_schedule;
 use cs_schedule::{Part, Schedule};
 
-/// What a line says.
+/// The content of a line.
 pub(crate) enum Entry<'a> {
     /// Nothing: it is empty, blank or a comment.
     Nothing,
     /// A name and its value.
     Setting(&'a [u8], &'a [u8]),
-    /// A command, and when it is started.
+    /// A command, and when it starts.
     Command(When, &'a [u8]),
 }
 
-/// The five fields, and the text behind them.
+/// The five fields, and the text after them.
 #[tactic(auto, unfolding(crate::specs::Reading::schedule_at))]
 fn schedule(text: &[u8]) -> Result<(Schedule, &[u8]), LineFault>
     ensures { Gives (λ x. (x.0, x.1.now)) result (schedule_at text.now) }
@@ -36,7 +36,7 @@ fn schedule(text: &[u8]) -> Result<(Schedule, &[u8]), LineFault>
     Ok((Schedule::new(minute, hour, dom, month, dow), text))
 }
 
-/// What the word behind `@` stands for.
+/// What the word after `@` stands for.
 #[tactic(auto, unfolding(crate::specs::Reading::when_of))]
 fn word_time(word: &[u8]) -> Result<When, LineFault>
     ensures { result ≡ when_of word.now }
@@ -59,7 +59,7 @@ fn commanded(when: When, command: &[u8]) -> Result<Entry<'_>, LineFault>
     Ok(Entry::Command(when, command))
 }
 
-/// What a line says behind its `@`.
+/// The content of a line after its `@`.
 #[tactic(auto, unfolding(crate::specs::Reading::word_line))]
 fn word_line(text: &[u8]) -> Result<Entry<'_>, LineFault>
     ensures { Gives entry_seen result (word_line text.now) }
@@ -69,7 +69,7 @@ fn word_line(text: &[u8]) -> Result<Entry<'_>, LineFault>
     commanded(when, skip_blanks(rest))
 }
 
-/// What a line without its leading blanks says.
+/// The content of a line without its leading blanks.
 #[tactic(auto, unfolding(crate::specs::Reading::entry_of))]
 fn read_entry(text: &[u8]) -> Result<Entry<'_>, LineFault>
     ensures { Gives entry_seen result (entry_of text.now) }
@@ -88,7 +88,7 @@ fn read_entry(text: &[u8]) -> Result<Entry<'_>, LineFault>
     }
 }
 
-/// What a line says.
+/// The content of a line.
 #[tactic(auto, unfolding(crate::specs::Reading::line_of))]
 pub(crate) fn read_line(line: &[u8]) -> Result<Entry<'_>, LineFault>
     ensures { Gives entry_seen result (line_of line.now) }

@@ -16,7 +16,7 @@ use cs_civil::{Bytes, Sequence};
 use std::alloc::Global;
 use std::marker::Model;
 
-/// The lines that were read so far.
+/// The lines read so far.
 #[derive(Drop)]
 struct Draft {
     variables: Sequence<Setting>,
@@ -41,7 +41,7 @@ impl Draft {
         }
     }
 
-    /// Adds what the line with that number says.
+    /// Adds the content of the line with that number.
     fn add(&mut self, alloc: Global, number: u32, line: &[u8]) -> Result<(), TableFault>
         ensures { Denotes (λ _. self.new) (added number self.old (line_of line.now)) result }
     {
@@ -100,16 +100,16 @@ fn read_table(alloc: Global, bytes: &[u8]) -> Result<Crontab, TableFault>
     Ok(Crontab::new(draft.variables, draft.commands))
 }
 
-/// The crontab that the bytes denote (crontab(5)), or its first fault.
+/// Reads a crontab (crontab(5)), or returns its first fault. Memory may run out.
 ///
-/// Faults come in the order of [`LineFault`]'s numbers where they are of the table's or a line's length and of a zero byte,
-/// then from left to right in the line; that of too many commands comes after all others of its line.
+/// The table's length comes first; in a line its length, a zero byte, then faults from left to
+/// right, then too many commands.
 pub fn read_crontab(alloc: Global, bytes: &[u8]) -> Result<Crontab, TableFault>
-    // What is read is written so.
+    // The table that is read is written in the bytes.
     ensures table { IfOk result (IsCrontab bytes.now) }
-    // A fault stands there, and is the first; nothing is said of want of memory.
+    // err: the first fault; `OutOfMemory` only if memory runs out
     ensures fault { IfErr result (IsFaultOf bytes.now) }
-    // The bytes mean nothing else, and what they mean is answered unless memory runs out.
+    // The bytes have no other meaning, and it is returned unless memory runs out.
     ensures only { (meaning : Meaning) → Means bytes.now meaning
         → Denotes (λ table. table) meaning result }
 {

@@ -1,4 +1,4 @@
-//! Settings, as crontabs and anacrontabs have them.
+//! Settings of crontabs and anacrontabs.
 ghost use Rattle.std.specs.Prelude.{◌≡◌, ℕ, List, IfSome, IsNone};
 ghost use Rattle.std.specs.Option.{option_map};
 ghost use Rattle.cs_crontab.specs.Text.{front, after};
@@ -21,7 +21,8 @@ fn is_name_byte(byte: u8) -> bool
     !is_blank(byte) && byte != b'='
 }
 
-/// Whether a line that begins with this byte behind its blanks is a setting: a letter, `_` or a quote (this profile).
+/// Checks whether a line whose first byte after blanks is this one is a setting: a letter, `_` or a
+/// quote (this profile).
 pub fn begins_setting(byte: u8) -> bool
     ensures { result ≡ begins_setting byte }
 {
@@ -32,7 +33,7 @@ pub fn begins_setting(byte: u8) -> bool
         || byte == b'\''
 }
 
-/// The text in front of the next quote of that kind, and what follows the quote.
+/// The text before the next such quote, and what follows the quote.
 fn quoted(quote: u8, text: &[u8]) -> Option<(&[u8], &[u8])>
     ensures { option_map (λ x. (x.0.now, x.1.now)) result ≡ quoted_at quote text.now }
 {
@@ -97,9 +98,10 @@ fn setting(text: &[u8]) -> Option<(&[u8], &[u8])>
     Some((name, value(skip_blanks(behind))?))
 }
 
-/// The name and the value of a setting, `name = value`, or `None` where the text is none (crontab(5)).
+/// Reads a setting, `name = value`, or returns `None` if the text isn't one (crontab(5)).
 ///
-/// Either may stand in quotes, and blanks round `=` and behind the value mean nothing. The text has no leading blanks.
+/// Either may be in quotes; blanks around `=` and after the value are ignored. The text has no
+/// leading blanks.
 pub fn read_setting(text: &[u8]) -> Option<(&[u8], &[u8])>
     ensures written { IfSome result (λ x. IsSetting text.now x.0.now x.1.now) }
     ensures none { IsNone result → (name value : List ℕ) → IsSetting text.now name value → ⊥ }

@@ -6,7 +6,7 @@ use cs_schedule::Schedule;
 use std::alloc::{AllocError, Global};
 use std::marker::Model;
 
-/// When a command is started.
+/// When a command starts.
 #[derive(Debug, Drop)]
 pub enum When {
     /// At the minutes that match five time and date fields.
@@ -53,7 +53,7 @@ impl Line {
         }
     }
 
-    /// The number of the line, counted from 1 over all lines of the table.
+    /// Returns the number of the line, counted from 1 over all lines of the table.
     pub fn number(&self) -> u32
         ensures { result ≡ self.now.number }
     {
@@ -70,14 +70,14 @@ impl Line {
         })
     }
 
-    /// When its command is started.
+    /// Returns when its command starts.
     pub fn when(&self) -> &When
         ensures { result.now ≡ self.now.when }
     {
         &self.time
     }
 
-    /// The command, to the end of the line, trailing blanks included.
+    /// Returns the command, to the end of the line, trailing blanks included.
     pub fn command(&self) -> &[u8]
         ensures { result.now ≡ self.now.command }
     {
@@ -102,7 +102,7 @@ impl Model for Setting {
 }
 
 impl Setting {
-    /// The setting with that name and value on the line of that number.
+    /// Returns the setting on that line, counted from 1.
     pub fn new(number: u32, name: Bytes, value: Bytes) -> Setting
         ensures { result ≡ record { number = number; name = name; value = value } }
     {
@@ -113,14 +113,14 @@ impl Setting {
         }
     }
 
-    /// The number of the line, counted from 1 over all lines of the table.
+    /// Returns the number of the line, counted from 1 over all lines of the table.
     pub fn number(&self) -> u32
         ensures { result ≡ self.now.number }
     {
         self.line
     }
 
-    /// The same setting. The only error is want of memory.
+    /// Copies the setting. The only error is out of memory.
     pub fn copy(&self, alloc: Global) -> Result<Setting, AllocError>
         ensures { IfOk result (λ setting. setting ≡ self.now) }
     {
@@ -131,14 +131,14 @@ impl Setting {
         })
     }
 
-    /// The name, without its quotes.
+    /// Returns the name, without its quotes.
     pub fn name(&self) -> &[u8]
         ensures { result.now ≡ self.now.name }
     {
         self.key.as_slice()
     }
 
-    /// The value, without its quotes.
+    /// Returns the value, without its quotes.
     pub fn value(&self) -> &[u8]
         ensures { result.now ≡ self.now.value }
     {
@@ -146,7 +146,7 @@ impl Setting {
     }
 }
 
-/// The same settings. The only error is want of memory.
+/// Copies settings. The only error is out of memory.
 pub fn copy_settings(alloc: Global, settings: &[Setting]) -> Result<Sequence<Setting>, AllocError>
     ensures { IfOk result (λ copies. copies ≡ settings.now) }
 {
@@ -167,7 +167,7 @@ fn copy_lines(alloc: Global, lines: &[Line]) -> Result<Sequence<Line>, AllocErro
     Ok(copies)
 }
 
-/// What a crontab says: its settings, and at most [`MAX_COMMANDS`](crate::MAX_COMMANDS) command lines, each in order of their numbers.
+/// A crontab: its settings, and at most [`MAX_COMMANDS`](crate::MAX_COMMANDS) commands, by line.
 #[derive(Debug, Drop)]
 pub struct Crontab {
     variables: Sequence<Setting>,
@@ -197,7 +197,7 @@ impl Crontab {
         }
     }
 
-    /// The same crontab. The only error is want of memory.
+    /// Copies the crontab. The only error is out of memory.
     pub fn copy(&self, alloc: Global) -> Result<Crontab, AllocError>
         ensures { IfOk result (λ table. table ≡ self.now) }
     {
@@ -207,7 +207,7 @@ impl Crontab {
         })
     }
 
-    /// The settings, in order of their numbers.
+    /// Returns the settings, in order of line.
     pub fn settings(&self) -> &[Setting]
         ensures value { result.now ≡ self.now.settings }
         ensures rising { AllPairs (λ x y. x.number < y.number) self.now.settings }
@@ -215,7 +215,7 @@ impl Crontab {
         self.variables.as_slice()
     }
 
-    /// The command lines, in order of their numbers.
+    /// Returns the command lines, in order of line.
     pub fn lines(&self) -> &[Line]
         ensures value { result.now ≡ self.now.lines }
         ensures few { length self.now.lines ≤ MAX_COMMANDS }

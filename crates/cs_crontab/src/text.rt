@@ -1,4 +1,4 @@
-//! Lines, words and numbers of a table's text, as crontabs and anacrontabs have them.
+//! Lines, words and numbers of crontabs and anacrontabs.
 ghost use Rattle.std.specs.Prelude.{◌≡◌, ◌==◌, ◌≢◌, [], ◌∷◌, ◌<◌, ◌+◌, length, min, IfSome, IfNone};
 ghost use Rattle.std.specs.List.{list_all, list_any};
 ghost use Rattle.cs_crontab.specs.Text.{is_blank, is_solid, is_digit, front, after, lines_of, decimal};
@@ -6,7 +6,7 @@ ghost use Rattle.cs_crontab.specs.SettingReading.{trimmed};
 
 use memchr::memchr;
 
-/// Whether the byte is a space or a tab.
+/// Checks whether the byte is a space or a tab.
 pub fn is_blank(byte: u8) -> bool
     ensures { result ≡ is_blank byte }
 {
@@ -19,14 +19,14 @@ fn is_digit(byte: u8) -> bool
     b'0' <= byte && byte <= b'9'
 }
 
-/// Whether the line holds a zero byte.
+/// Checks whether the line holds a zero byte.
 pub fn has_nul(line: &[u8]) -> bool
     ensures { result ≡ list_any (λ b. b == 0) line.now }
 {
     line.iter().any(|byte| *byte == 0)
 }
 
-/// The text without the blanks at its front.
+/// Returns the text without the blanks at its front.
 #[tactic(auto, unfolding(crate::specs::Text::after))]
 pub fn skip_blanks(text: &[u8]) -> &[u8]
     ensures { result.now ≡ after is_blank text.now }
@@ -41,14 +41,14 @@ pub fn skip_blanks(text: &[u8]) -> &[u8]
     rest
 }
 
-/// Whether all bytes are blanks.
+/// Checks whether all bytes are blanks.
 pub fn are_blank(text: &[u8]) -> bool
     ensures { result ≡ list_all is_blank text.now }
 {
     text.iter().all(|byte| is_blank(*byte))
 }
 
-/// The text without the blanks at its end.
+/// Returns the text without the blanks at its end.
 pub fn trim_end(text: &[u8]) -> &[u8]
     ensures { result.now ≡ trimmed text.now }
 {
@@ -62,7 +62,7 @@ pub fn trim_end(text: &[u8]) -> &[u8]
     rest
 }
 
-/// The word at the front, and what follows it.
+/// Returns the word at the front, and what follows it.
 pub fn word(text: &[u8]) -> (&[u8], &[u8])
     ensures word { result.0.now ≡ front is_solid text.now }
     ensures rest { result.1.now ≡ after is_solid text.now }
@@ -74,7 +74,7 @@ pub fn word(text: &[u8]) -> (&[u8], &[u8])
     text.split_at(len)
 }
 
-/// The number that the digits at the front stand for, or 1,000,000 where it is larger, and what follows them.
+/// Returns the number in the digits at the front, at most 1,000,000, and what follows them.
 pub fn digits(text: &[u8]) -> (u32, &[u8])
     ensures value { result.0 ≡ min 1_000_000 (decimal (front is_digit text.now)) }
     ensures rest { result.1.now ≡ after is_digit text.now }
@@ -89,7 +89,7 @@ pub fn digits(text: &[u8]) -> (u32, &[u8])
     (value, &text[len..])
 }
 
-/// The first line, and what follows its newline.
+/// Returns the first line, and what follows its newline.
 pub fn first_line(text: &[u8]) -> (&[u8], &[u8])
     requires { text.now ≢ [] }
     ensures line { lines_of text.now ≡ result.0.now ∷ lines_of result.1.now }

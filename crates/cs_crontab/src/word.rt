@@ -6,7 +6,6 @@ ghost use Rattle.cs_crontab.specs.Format.{only, all, yearly, monthly, weekly, da
 
 use cs_schedule::{Field, Numbers, Part, Schedule};
 
-/// A field with one number.
 fn only(part: Part, number: u8) -> Field
     requires low { first_of part ≤ number }
     requires high { number ≤ last_held part }
@@ -52,7 +51,7 @@ fn hourly() -> Schedule
     )
 }
 
-/// What the word behind `@` stands for, `@reboot` aside (crontab(5)).
+/// The schedule of the word after `@`, except `@reboot` (crontab(5)).
 pub(crate) fn word_schedule(word: &[u8]) -> Option<Schedule>
     ensures { result ≡ times_of_word word.now }
 {

@@ -1,4 +1,4 @@
-//! The thread of the clock, which makes every event but the ends of runs.
+//! The clock's thread, which makes all events except the ends of runs.
 ghost use Rattle.std.specs.Prelude.{◌≡◌, ◌+◌, ◌<◌, ◌≤◌, ◌^◌, IfErr, IfSome, IsOk, OnOk, Some};
 ghost use Rattle.cs_daemon.specs.Causes.{IsFromTick};
 ghost use Rattle.cs_daemon.specs.declared.end.Cause.TheVariants.{Stopped, ClockFailed};
@@ -18,7 +18,7 @@ use cs_keep::{Seat, TickFault};
 use std::io;
 use std::sync::Wait;
 
-/// What the clock's thread hands back.
+/// What the clock's thread returns.
 #[derive(Drop)]
 pub(crate) struct ClockEnd<J: PlanLedger> {
     pub(crate) cause: Cause,
@@ -27,8 +27,8 @@ pub(crate) struct ClockEnd<J: PlanLedger> {
 }
 
 impl<'w, J: PlanLedger, R: Wait, G, O: io::Write> Shared<'w, J, R, G, O> {
-    /// Goes by the clock from its first minute to the end, goes down, and lets the workers end. With
-    /// no first minute it makes no event.
+    /// Follows the clock from its first minute to the end, goes down, and lets the workers end.
+    /// Without a first minute it makes no event.
     pub(crate) fn lead<C: Clock, S: StampStore>(
         &self,
         clock: &mut C,
@@ -59,7 +59,7 @@ impl<'w, J: PlanLedger, R: Wait, G, O: io::Write> Shared<'w, J, R, G, O> {
         ClockEnd { cause, seat }
     }
 
-    /// Goes on to each minute that the clock answers, until there is a cause to end.
+    /// Goes on to each minute of the clock, until there is a cause to end.
     fn keep_time<C: Clock, S: StampStore>(
         &self,
         clock: &mut C,
@@ -97,7 +97,7 @@ impl<'w, J: PlanLedger, R: Wait, G, O: io::Write> Shared<'w, J, R, G, O> {
         unreachable!()
     }
 
-    /// Goes on to the minute under the lock, then logs what there is to tell and writes new stamps.
+    /// Goes on to the minute under the lock, then logs notices and writes new stamps.
     fn go_on<S: StampStore>(
         &self,
         store: &mut S,
@@ -132,7 +132,7 @@ impl<'w, J: PlanLedger, R: Wait, G, O: io::Write> Shared<'w, J, R, G, O> {
         cause_to_end(ticked, minute)
     }
 
-    /// Logs an outage, and what the tick has to tell.
+    /// Logs an outage, and the tick's notices.
     fn tell(&self, notices: &Notices, last: Minute, minute: Minute) {
         let mut log = self.log.lock(self.rt);
         if minute.number() > last.number() + 1 {
@@ -143,7 +143,7 @@ impl<'w, J: PlanLedger, R: Wait, G, O: io::Write> Shared<'w, J, R, G, O> {
     }
 }
 
-/// Whether the daemon ends behind a tick to the minute, and why.
+/// Whether the daemon ends after a tick to the minute, and why.
 fn cause_to_end(ticked: Result<(), TickFault>, minute: Minute) -> Result<(), Cause>
     ensures ticked { OnOk result (IsOk ticked) }
     ensures cause { IfErr result IsFromTick }

@@ -32,7 +32,7 @@ fn no_shares(workers: usize) -> ArrayVec<u64, 65>
     shares
 }
 
-/// The end of a daemon that has opened no keep.
+/// The end of a daemon that opened no keep.
 pub(crate) fn no_keep(cause: Cause, workers: usize, stamp_faults: u64, log_faults: u64) -> DaemonEnd
     requires { workers ≤ 64 }
     ensures cause { result.cause ≡ cause }
@@ -54,7 +54,7 @@ pub(crate) fn no_keep(cause: Cause, workers: usize, stamp_faults: u64, log_fault
     }
 }
 
-/// Closes a keep by the seat that has every part.
+/// Closes a keep with the seat that has every part.
 fn close<J: PlanLedger>(keep: Keep<J>, seat: Seat<J>, checked: Checked) -> Kept
     requires plan { plan_in checked ≡ keep.core.plan }
     requires parts { seat.parts ≡ J.parts }
@@ -70,7 +70,7 @@ fn close<J: PlanLedger>(keep: Keep<J>, seat: Seat<J>, checked: Checked) -> Kept
     kept
 }
 
-/// What is left when the threads have ended.
+/// What the threads leave at their end.
 #[derive(Drop)]
 pub(crate) struct Left<J: PlanLedger> {
     keep: Keep<J>,
@@ -81,7 +81,7 @@ pub(crate) struct Left<J: PlanLedger> {
 }
 
 impl<J: PlanLedger> Left<J> {
-    /// Tries once more to write each stamp that the store doesn't hold, and takes the counts.
+    /// Tries once more to write each stamp that the store lacks, and takes the counts.
     pub(crate) fn behind<S: StampStore, O: io::Write>(
         plan: &Plan,
         dispatch: Dispatch<J>,
@@ -107,7 +107,7 @@ impl<J: PlanLedger> Left<J> {
         }
     }
 
-    /// Closes the keep by the seat that has every part.
+    /// Closes the keep with the seat that has every part.
     pub(crate) fn close(self, checked: Checked, gathered: Gathered<J>) -> DaemonEnd
         requires plan { plan_in checked ≡ J.plan }
         requires parts { gathered.seat.parts ≡ J.parts }

@@ -117,13 +117,12 @@ fn run_on<
     left.close(checked, gathered)
 }
 
-/// Runs a checked plan by the clock until it stops or can't go on: each run by one of the runners,
-/// of which there are as many as the plan's capacity, each in a thread of its own. What happens is
-/// logged.
+/// Runs a checked plan until the clock stops or the daemon can't go on: each run by one of the
+/// runners, as many as the plan's capacity, each in its own thread. What happens is logged.
 ///
-/// The clock is asked first. A keep is opened in its first minute, down, with the stamps that the
-/// store holds; each answer of the clock is then one tick of the keep. In the end the keep goes
-/// down, the workers end, and stamps that are not written are tried once more.
+/// The clock is asked first. A keep is opened in its first minute, down, with the stamps of the
+/// store; each further answer of the clock is one tick of the keep. In the end the keep goes down,
+/// the workers end, and unwritten stamps are tried once more.
 pub fn run_daemon<
     R: Threads + Wait + Sync,
     C: Clock,
@@ -146,13 +145,13 @@ pub fn run_daemon<
     // No event of any thread is missing or made up.
     ensures sum { sum result.shares.items ≡ result.total }
     ensures none { result.keep ≡ None → result.total ≡ 0 }
-    // The keep is of the very value that was handed in, and its journal is a legal history of that
-    // plan and leaves the core's state.
+    // The keep is of the very value passed in, and its journal is a legal history of that plan that
+    // ends in the core's state.
     ensures checked { IfSome result.keep (λ kept. checked_in kept ≡ checked) }
     ensures kept { IfSome result.keep (λ kept. IsKept (keeping_in kept)) }
     ensures total { IfSome result.keep (λ kept. (keeping_in kept).total ≡ result.total) }
     ensures stopped { result.cause ≡ Stopped → C.last clock.new ≡ Some Stop }
-    // The clock's thread made an event at least for each minute that was above all before, but one.
+    // The clock's thread made at least one event for each minute later than all before, except one.
     ensures rises { result.cause ≡ Stopped
         → C.risen clock.new ≤ C.risen clock.old + slice_index_or result.shares.items 0 0 + 1 }
     ensures failed { result.cause ≡ ClockFailed → C.failures clock.old < C.failures clock.new }

@@ -1,4 +1,4 @@
-//! What lies under the lock: the keep, and the starts in its journal that workers take.
+//! What the lock guards: the keep, and the starts in its journal that workers take.
 ghost use Rattle.std.specs.Prelude.{◌≡◌, ◌+◌, ◌<◌, ◌≤◌, ◌^◌, OnOk};
 
 use crate::lines::Line;
@@ -11,8 +11,8 @@ use cs_history::{Event, Reply, Run};
 use cs_keep::{Keep, Seat, TickFault};
 use std::alloc::Global;
 
-/// The keep, the place in its journal from which starts are still to be taken, how many runs were
-/// found late, and whether no more starts will come.
+/// The keep, the index in its journal from which starts are not taken yet, how many runs were found
+/// late, and whether no more starts will come.
 #[derive(Drop)]
 pub(crate) struct Dispatch<J: PlanLedger> {
     keep: Keep<J>,
@@ -22,16 +22,16 @@ pub(crate) struct Dispatch<J: PlanLedger> {
     ghost plan: { keep.core.plan ≡ J.plan },
 }
 
-/// What a tick leaves to be done outside the lock.
+/// What a tick leaves to do outside the lock.
 #[derive(Drop)]
 pub(crate) struct Round {
     /// Why the tick ended early, if it did.
     pub(crate) ticked: Result<(), TickFault>,
     /// Whether a worker has a run to start.
     pub(crate) has_start: bool,
-    /// What is to be logged.
+    /// What to log.
     pub(crate) notices: Notices,
-    /// The stamps behind the tick.
+    /// The stamps after the tick.
     pub(crate) stamps: Stamps,
 }
 
@@ -69,7 +69,7 @@ impl<J: PlanLedger> Dispatch<J> {
         None
     }
 
-    /// Makes the event; a refusal is passed over.
+    /// Makes the event, and ignores a refusal.
     pub(crate) fn make(&mut self, seat: &mut Seat<J>, event: Event)
         ensures grows { seat.old.share ≤ seat.new.share }
         ensures parts { seat.new.parts ≡ seat.old.parts }
@@ -77,8 +77,7 @@ impl<J: PlanLedger> Dispatch<J> {
         let _ = self.keep.step(seat, event);
     }
 
-    /// Goes on to the minute, notes what is to be told of it, and begins the journal anew where it
-    /// may.
+    /// Goes on to the minute, notes what to log, and starts a new journal if it may.
     pub(crate) fn round(
         &mut self,
         alloc: Global,
@@ -114,13 +113,13 @@ impl<J: PlanLedger> Dispatch<J> {
         self.keep.tick(seat, last, minute)
     }
 
-    /// Whether a run started, by the entries from a place on.
+    /// Whether a run started, by the entries from an index on.
     fn has_start(&self, from: usize) -> bool {
         let mut entries = self.keep.journal().iter().skip(from);
         entries.any(|entry| matches!(entry.reply(), Reply::Started(_)))
     }
 
-    /// Which runs wait or are left out, by the entries from a place on. `last` is the minute there.
+    /// Notes which runs wait or are skipped, by the entries from an index on, of minute `last`.
     fn note_replies(&self, notices: &mut Notices, from: usize, last: Minute) {
         let mut at = last.number();
         for entry in self.keep.journal().iter().skip(from) {
@@ -134,7 +133,7 @@ impl<J: PlanLedger> Dispatch<J> {
         }
     }
 
-    /// Which runs that run are late at the minute, and were not at the last one.
+    /// Notes which running runs are late at the minute, and were not at the last one.
     fn note_overruns(&mut self, notices: &mut Notices, last: Minute, minute: Minute) {
         let core = self.keep.core();
         for going in core.running().iter() {
@@ -146,14 +145,14 @@ impl<J: PlanLedger> Dispatch<J> {
         }
     }
 
-    /// Begins the journal anew where it may, so that it doesn't fill up. Then each start was taken.
+    /// Starts a new journal if it may, so that it doesn't fill up. Then each start was taken.
     fn cut(&mut self) {
         if self.keep.cut() {
             self.next = 0;
         }
     }
 
-    /// How the seat's share stands to the total.
+    /// Shows that the seat's share is a number of 64 bits.
     pub(crate) fn audit(&mut self, seat: &mut Seat<J>)
         ensures seat { seat.new ≡ seat.old }
         ensures fits { seat.old.share < 2 ^ 64 }
@@ -161,7 +160,7 @@ impl<J: PlanLedger> Dispatch<J> {
         self.keep.audit(seat)
     }
 
-    /// From here on no start comes, but those that stand may be taken.
+    /// Lets no more starts come; those that there are may be taken.
     pub(crate) fn close(&mut self) {
         self.over = true;
     }
@@ -185,7 +184,7 @@ impl<J: PlanLedger> Dispatch<J> {
     }
 }
 
-/// The minute at which a run of this job is late, where it started at that one.
+/// The minute from which on a run of this job is late, if it started in that one.
 fn deadline(core: &Core, job: u16, since: u64) -> u64 {
     match core.plan().jobs().get(usize::from(job)) {
         Some(job) => since.saturating_add(u64::from(job.max())),

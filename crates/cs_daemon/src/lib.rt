@@ -1,4 +1,4 @@
-//! The daemon: runs a checked plan on a clock, by threads and devices round a keep.
+//! The daemon: runs a checked plan by a clock, with threads and devices around a keep.
 #![tactic(auto)]
 
 mod clock_thread;

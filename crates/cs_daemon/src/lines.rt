@@ -13,15 +13,15 @@ pub(crate) enum Line {
     Started(Run),
     /// The run waits for its group's lock.
     Waiting(Run),
-    /// The run is left out, since its group's lock was held.
+    /// The run is skipped, since its group's lock was held.
     Skipped(Run),
     /// The run has passed its declared time.
     Overrun(Run),
-    /// The run has ended so.
+    /// The run has ended, with this outcome.
     Ended(Run, Outcome),
-    /// The clock moved on from the one minute to the other, by more than one.
+    /// The clock moved from the first minute to the second, which is not the next.
     Outage(Minute, Minute),
-    /// The stamp of this anacron job, by its place among them, couldn't be read.
+    /// The stamp of this anacron job, by its index, couldn't be read.
     StampNotRead(usize),
     /// The stamp of this anacron job couldn't be written.
     StampNotWritten(usize),

@@ -5,7 +5,7 @@ use cs_decl::Plan;
 use std::alloc::Global;
 use std::io;
 
-/// A log of a plan's runs. Each line is made in memory first and then written by one write; one
+/// A log of a plan's runs. Each line is made in memory first and then written by one write; a line
 /// that can't be made or written is lost, and counted.
 #[derive(Drop)]
 pub(crate) struct Log<'w, O> {
@@ -31,19 +31,17 @@ impl<'w, O: io::Write> Log<'w, O> {
         self.faults
     }
 
-    /// Counts so many lines as lost.
+    /// Counts this many lines as lost.
     pub(crate) fn lose(&mut self, lines: u64) {
         self.faults = self.faults.saturating_add(lines);
     }
 
-    /// Writes the line.
     pub(crate) fn write(&mut self, line: Line) {
         if self.try_write(line).is_err() {
             self.lose(1);
         }
     }
 
-    /// Writes the lines.
     pub(crate) fn write_all(&mut self, lines: &[Line]) {
         for line in lines {
             self.write(*line);

@@ -1,9 +1,9 @@
-//! What a tick has to tell beside the runs that it started.
+//! What a tick logs besides the runs that it started.
 
 use crate::lines::Line;
 use std::alloc::Global;
 
-/// Lines to be logged, and how many there was no memory for.
+/// Lines to log, and how many were lost because memory ran out.
 #[derive(Drop)]
 pub(crate) struct Notices {
     lines: Vec<Line>,
@@ -19,19 +19,18 @@ impl Notices {
         }
     }
 
-    /// Adds one, or counts it as lost.
+    /// Adds a line, or counts it as lost.
     pub(crate) fn add(&mut self, line: Line) {
         if self.lines.push(line).is_err() {
             self.lost = self.lost.saturating_add(1);
         }
     }
 
-    /// Those that there was memory for.
     pub(crate) fn lines(&self) -> &[Line] {
         self.lines.as_slice()
     }
 
-    /// How many there was no memory for.
+    /// How many lines were lost.
     pub(crate) fn lost(&self) -> u64 {
         self.lost
     }

@@ -12,7 +12,7 @@ use std::io;
 use std::sync::{Condvar, Mutex, Wait};
 
 /// The plan, the gate, and two locks: one for the keep, with a bell for the workers that wait for a
-/// start, and one for the log. A thread holds one of them at a time.
+/// start, and one for the log. A thread holds at most one of them.
 pub(crate) struct Shared<'w, J: PlanLedger, R, G, O> {
     pub(crate) rt: &'w R,
     pub(crate) alloc: Global,
@@ -40,7 +40,7 @@ impl<'w, J: PlanLedger, R: Wait, G, O: io::Write> Shared<'w, J, R, G, O> {
         None
     }
 
-    /// Makes the event under the lock; a refusal is passed over.
+    /// Makes the event under the lock, and ignores a refusal.
     pub(crate) fn make(&self, seat: &mut Seat<J>, event: Event)
         ensures grows { seat.old.share ≤ seat.new.share }
         ensures parts { seat.new.parts ≡ seat.old.parts }
@@ -62,7 +62,7 @@ impl<'w, J: PlanLedger, R: Wait, G, O: io::Write> Shared<'w, J, R, G, O> {
         self.dispatch.lock(self.rt).audit(seat);
     }
 
-    /// What lay under the locks.
+    /// What the locks guarded.
     pub(crate) fn into_parts(self) -> (Dispatch<J>, Log<'w, O>) {
         let Shared {
             rt: _,

@@ -1,4 +1,4 @@
-//! The stamps of anacron jobs, and what their store holds of them.
+//! The stamps of anacron jobs, and those that their store holds.
 ghost use Rattle.std.specs.Prelude.{◌≡◌, ◌+◌, ◌≤◌};
 
 use arrayvec::ArrayVec;
@@ -9,7 +9,7 @@ use cs_device::{Stamp, StampStore};
 /// A stamp for each anacron job, in the order of the plan.
 pub(crate) type Stamps = ArrayVec<Option<Day>, 64>;
 
-/// The anacron jobs whose stamp couldn't be read or written, by their places in the plan.
+/// The anacron jobs whose stamp couldn't be read or written, by index.
 pub(crate) type Failed = ArrayVec<usize, 64>;
 
 /// The stamps that the store holds, as far as is known, and how often it failed.
@@ -20,7 +20,7 @@ pub(crate) struct Stored {
 }
 
 impl Stored {
-    /// Reads the stamp of each job. One that can't be read counts as none.
+    /// Reads the stamp of each job. One that can't be read is none.
     pub(crate) fn read<S: StampStore>(plan: &Plan, store: &mut S) -> (Stored, Failed)
         ensures { result.0.faults + S.failures store.old ≤ S.failures store.new }
     {
@@ -47,7 +47,7 @@ impl Stored {
         copy_stamps(self.stamps.as_slice())
     }
 
-    /// Writes each stamp that the store doesn't hold yet.
+    /// Writes each stamp that the store lacks.
     pub(crate) fn write<S: StampStore>(
         &mut self,
         plan: &Plan,
@@ -86,7 +86,7 @@ impl Stored {
     }
 }
 
-/// Adds the item where there is a place.
+/// Adds the item if there is room.
 fn add<T: Default + Drop>(items: &mut ArrayVec<T, 64>, item: T) {
     if !items.is_full() {
         items.push(item);
@@ -100,7 +100,6 @@ fn stamp_at(stamps: &Stamps, job: usize) -> Option<Day> {
     }
 }
 
-/// The same stamps.
 pub(crate) fn copy_stamps(stamps: &[Option<Day>]) -> Stamps {
     let mut copy = ArrayVec::new();
     for stamp in stamps {

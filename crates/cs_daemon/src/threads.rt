@@ -18,7 +18,7 @@ use std::sync::Wait;
 use std::thread::{Scope, Threads};
 use std::{io, thread};
 
-/// What the threads so far handed back. The seat holds all of their parts.
+/// What the threads so far returned. The seat holds all of their parts.
 #[derive(Drop)]
 pub(crate) struct Gathered<J: PlanLedger> {
     pub(crate) cause: Cause,
@@ -58,8 +58,8 @@ impl<J: PlanLedger> Gathered<J> {
     }
 }
 
-/// Starts a thread for the first runner, goes on with the rest, and joins it. With no runner left
-/// this thread goes by the clock. Where a thread can't be made the clock isn't asked.
+/// Starts a thread for the first runner, goes on with the rest, and joins it. Without runners left
+/// this thread follows the clock. If a thread can't be made the clock isn't asked.
 fn with_workers<
     's,
     'a: 's,
@@ -124,12 +124,11 @@ fn with_workers<
     }
 }
 
-// Does nothing, but this use of a returned reference ties it to the parameter that lent it.
+// This use of a returned reference, which does nothing, ties it to the parameter that lent it.
 fn take_back<T>(x: &mut T)
     ensures { x.new ≡ x.old }
 {}
 
-/// Runs the threads, and joins them.
 pub(crate) fn run_threads<
     'a,
     'w: 'a,

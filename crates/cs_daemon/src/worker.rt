@@ -13,7 +13,7 @@ use std::alloc::{AllocError, Global};
 use std::io;
 use std::sync::Wait;
 
-/// What a worker hands back.
+/// What a worker returns.
 #[derive(Drop)]
 pub(crate) struct WorkerEnd<J: PlanLedger> {
     pub(crate) seat: Seat<J>,
@@ -23,7 +23,7 @@ pub(crate) struct WorkerEnd<J: PlanLedger> {
 }
 
 impl<'w, J: PlanLedger, R: Wait, G: Gate, O: io::Write> Shared<'w, J, R, G, O> {
-    /// Runs jobs until all is over.
+    /// Runs jobs until no start will come.
     pub(crate) fn work<W: Runner>(&self, runner: &mut W, seat: Seat<J>) -> WorkerEnd<J>
         requires { seat.parts ≡ 1 }
     {
@@ -58,7 +58,7 @@ impl<'w, J: PlanLedger, R: Wait, G: Gate, O: io::Write> Shared<'w, J, R, G, O> {
     }
 }
 
-/// Runs the command of a job, with its input and its settings. The only error is want of memory.
+/// Runs the command of a job, with its input and its settings. The only error is out of memory.
 fn run_command<W: Runner>(
     alloc: Global,
     plan: &Plan,

@@ -1,4 +1,4 @@
-//! Trees over the kinds of days: each kind of day has one class.
+//! Trees that give each kind of day a class.
 #![tactic(auto)]
 
 mod possible;

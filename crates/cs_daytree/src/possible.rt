@@ -1,4 +1,4 @@
-//! Which numbers of each part of a kind the splits above leave.
+//! The numbers of each part of a kind that are possible below some splits.
 
 ghost use Rattle.std.specs.Prelude.{◌≡◌, ◌≤◌, length};
 ghost use Rattle.std.specs.List.{list_all};
@@ -9,19 +9,16 @@ ghost use Rattle.cs_daytree.specs.Rising.{rises};
 use crate::tree::{DayTree, KindPart, has};
 use arrayvec::ArrayVec;
 
-/// The most numbers that a part has.
+/// The most numbers of a part.
 const MOST: usize = 31;
 
-/// The months of a kind.
 const MONTHS: [u8; 12] = [1, 2, 3, 4, 5, 6, 7, 8, 9, 10, 11, 12];
 
-/// The days of the month.
 const DAYS: [u8; 31] = [
     1, 2, 3, 4, 5, 6, 7, 8, 9, 10, 11, 12, 13, 14, 15, 16, 17, 18, 19, 20, 21, 22, 23, 24, 25, 26,
     27, 28, 29, 30, 31,
 ];
 
-/// The weekdays.
 const WEEKDAYS: [u8; 7] = [0, 1, 2, 3, 4, 5, 6];
 
 /// Whether each value and the next rise.
@@ -31,14 +28,13 @@ fn rises(values: &[u8]) -> bool
     values.is_sorted_by(|one, next| *one < *next)
 }
 
-/// Whether each value is possible.
 fn are_possible(values: &[u8], possible: &[u8]) -> bool
     ensures { result ≡ list_all (λ value. has possible.now value) values.now }
 {
     values.iter().all(|value| has(possible, *value))
 }
 
-/// Whether the values rise strictly, there is one at least, and they are possible, but not all that are.
+/// Whether the values rise strictly and are some of the possible numbers, at least one but not all.
 fn is_part_of(values: &[u8], possible: &[u8]) -> bool
     ensures { result ≡ is_part_of values.now possible.now }
 {
@@ -48,7 +44,7 @@ fn is_part_of(values: &[u8], possible: &[u8]) -> bool
         && values.len() < possible.len()
 }
 
-/// Those numbers that are values, or those that are none.
+/// The numbers that are among the values, or those that aren't.
 #[tactic(auto, unfolding(crate::specs::Possible::kept))]
 fn kept(numbers: &[u8], values: &[u8], inside: bool) -> ArrayVec<u8, MOST>
     requires { length numbers.now ≤ MOST }
@@ -64,15 +60,16 @@ fn kept(numbers: &[u8], values: &[u8], inside: bool) -> ArrayVec<u8, MOST>
 }
 
 impl DayTree {
-    /// Whether each split is possible: its values rise strictly, there is one at least, and each is a number that the splits
-    /// above leave for its part, but not all of them. Above the first, months 1 to 12, days 1 to 31 and weekdays 0 to 6 are left.
+    /// Checks whether each split is possible: its values rise strictly, and are some of the numbers
+    /// that the splits above leave for its part, at least one but not all. Above the first, months
+    /// 1 to 12, days 1 to 31 and weekdays 0 to 6 are left.
     pub fn splits_fit(&self) -> bool
         ensures { result ≡ splits_fit all_numbers (tree_of self.now) }
     {
         self.fits(&MONTHS, &DAYS, &WEEKDAYS)
     }
 
-    /// The same below splits that leave these numbers.
+    /// Like `splits_fit`, below splits that leave these numbers.
     #[tactic(auto, unfolding(crate::specs::Possible::splits_fit))]
     fn fits(&self, months: &[u8], days: &[u8], weekdays: &[u8]) -> bool
         requires months { length months.now ≤ MOST }

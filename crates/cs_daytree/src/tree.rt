@@ -3,7 +3,7 @@ ghost use Rattle.cs_daytree.specs.Tree.{class_in, depth, greatest_class, has, nu
 
 use cs_civil::{DayKind, Sequence};
 
-/// What a split looks at: one of the three parts of a day's kind.
+/// The part of a day's kind that a split looks at.
 #[derive(Clone, Copy, Debug, PartialEq, Eq, Hash)]
 pub enum KindPart {
     /// The month, from 1 to 12.
@@ -16,12 +16,12 @@ pub enum KindPart {
 
 /// A class for each kind of day.
 ///
-/// A split looks at one part of the kind, and `inside` decides for the kinds with one of its values there, `outside`
-/// for the others. It is possible where its values rise strictly, there is one at least, and each is a number that the splits above leave for that
-/// part, but not all of them. Trees with other splits can be made; see the calls for what they mean there.
+/// A split looks at one part of the kind: `inside` decides the kinds whose number is among its
+/// values, `outside` the others. Other splits than [`splits_fit`](DayTree::splits_fit) accepts are
+/// possible; each method says what they mean.
 #[derive(Debug, Drop)]
 pub enum DayTree {
-    /// The one class of all kinds.
+    /// The class of all kinds.
     Leaf(u32),
 
     /// Two halves.
@@ -34,7 +34,6 @@ pub enum DayTree {
 }
 
 impl KindPart {
-    /// The number that a kind has there.
     fn number_of(self, kind: DayKind) -> u8
         ensures { result ≡ number_of self kind }
     {
@@ -46,7 +45,6 @@ impl KindPart {
     }
 }
 
-/// Whether the number is one of the values.
 pub(crate) fn has(values: &[u8], number: u8) -> bool
     ensures { result ≡ has values.now number }
 {
@@ -54,8 +52,7 @@ pub(crate) fn has(values: &[u8], number: u8) -> bool
 }
 
 impl DayTree {
-    /// The class of a kind: at each split the half decides that the kind's number belongs to. A tree with impossible splits
-    /// is followed in the same way.
+    /// Returns the class of a kind, by its half at each split, impossible splits included.
     pub fn class_of(&self, kind: DayKind) -> u32
         ensures value { result ≡ class_in (tree_of self.now) kind }
         ensures within { result ≤ greatest_class (tree_of self.now) }
@@ -77,7 +74,7 @@ impl DayTree {
         }
     }
 
-    /// The greatest class number of a leaf.
+    /// Returns the greatest class number of a leaf.
     pub fn greatest_class(&self) -> u32
         ensures { result ≡ greatest_class (tree_of self.now) }
     {
@@ -92,7 +89,8 @@ impl DayTree {
         }
     }
 
-    /// Whether the depth is at most the limit: a leaf has depth 0, a split one more than its deeper half.
+    /// Checks whether the depth is at most the limit: 0 for a leaf, else one more than the deeper
+    /// half.
     pub fn is_no_deeper_than(&self, limit: u8) -> bool
         ensures { result ≡ nat_le (depth (tree_of self.now)) limit }
     {

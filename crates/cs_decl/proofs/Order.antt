@@ -1,4 +1,4 @@
--- The first fault of lists, one behind the other.
+-- The first fault of lists, one after the other.
 use Rattle.std.proofs.Common.{◌≡◌, List, [], ◌∷◌, ◌++◌, false, Option, Some, None, refl, ◌∙◌}
 use Rattle.cs_decl.specs.declared.entries.Entries.{Entries}
 use Rattle.cs_decl.specs.Faults.{Fault, is_bad_offset, twice_declared, bad_numbers, bad_groups, bad_times, faults_of, first_fault}

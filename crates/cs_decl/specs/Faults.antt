@@ -12,17 +12,17 @@ use Rattle.cs_decl.specs.declared.entries.GroupEntry.{GroupEntry}
 use Rattle.cs_decl.specs.declared.entries.CronEntry.{CronEntry}
 use Rattle.cs_decl.specs.declared.entries.Entries.{Entries}
 
--- a fault, and where it stands, if it has a place
+-- a fault, and its place if it has one
 abbrev pub Fault : Type 0
 Fault = DeclFault × Option Place
 
--- ---- what stands where
+-- ---- tests of one item
 
 -- a whole number from one to another
 abbrev pub is_within : ℕ → ℕ → ℤ → Bool
 is_within low high z = int_le (pos low) z && int_le z (pos high)
 
--- the first that is among those before it; `before` stand before it, i of them
+-- the first that is among those before it, which are `before` and i of the list
 abbrev pub first_again : {A : Type 0} → (A → A → Bool) → List A → ℕ → List A → Option ℕ
 first_again same before i [] = None
 first_again same before i (x ∷ xs) =
@@ -119,7 +119,7 @@ abbrev pub faults_of : Entries → List (Option Fault)
 faults_of d = where_true faults.BadShape (is_bad_offset d.offset)
     ∷ (twice_declared d ++ (bad_numbers d ++ (bad_groups d ++ bad_times d)))
 
--- the first that stands
+-- the first fault that there is
 abbrev pub first_fault : List (Option Fault) → Option Fault
 first_fault [] = None
 first_fault (Some f ∷ fs) = Some f

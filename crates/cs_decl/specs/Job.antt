@@ -4,7 +4,7 @@ use Rattle.cs_history.specs.declared.mode.Mode.{Mode}
 use Rattle.cs_history.specs.Plan.{takes}
 use Rattle.cs_decl.specs.declared.limits.TheConstants.{MAX_MINUTES, MAX_WEIGHT}
 
--- the place of its line in its table, the most minutes of a run, the weight of a run, the place of its group, and how it treats the group's lock
+-- its line's place in the table, a run's most minutes and weight, its group's place, and its mode
 pub record DeclaredJob : Type 0 where
   pub place : ℕ
   pub max : ℕ

@@ -28,7 +28,7 @@ is_of_line number e = int_eq e.line (pos number)
 abbrev pub is_of_job : List ℕ → AnacronEntry → Bool
 is_of_job identifier e = bytes_eq e.identifier identifier
 
--- no command stands on the entry's line, and no job has the entry's identifier
+-- the entry's line has no command, and the entry's identifier no job
 abbrev pub has_no_line : List CommandLine → CronEntry → Bool
 has_no_line lines e = not (list_any (λ line. is_of_line line.number e) lines)
 

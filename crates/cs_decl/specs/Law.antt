@@ -1,4 +1,4 @@
--- Which fault of declarations is answered: of those that stand, the one of the smallest number, and of one number the first place.
+-- Which fault of declarations is returned: the smallest number, and the first place of that.
 use Rattle.std.specs.Prelude.{◌≡◌, List, [], ◌∷◌, ◌++◌, ℕ, zero, suc, ◌<◌, ◌≤◌, ◌⊎◌, Bool, true, false, not, ◌&&◌, ◌==◌, Option, Some, None, map, length, nat_lt, bytes_eq, if◌then◌else◌}
 use Rattle.std.specs.Ordering.{int_eq}
 use Rattle.std.specs.List.{list_any}
@@ -51,7 +51,7 @@ place_index _ = 0
 abbrev pub index : Fault → ℕ
 index f = place_index f.1
 
--- the fault of a row stands at a place
+-- the fault of a row is at a place
 abbrev pub stands_at : Entries → ℕ → ℕ → Bool
 stands_at d k i =
     if k == 0 then is_bad_offset d.offset
@@ -72,7 +72,7 @@ stands_at d k i =
     else if k == 15 then is_bad_pass d.pass
     else false
 
--- the fault stands
+-- the fault exists
 abbrev pub stands : Entries → Fault → Bool
 stands d f = stands_at d (row f) (index f)
 
@@ -80,6 +80,6 @@ stands d f = stands_at d (row f) (index f)
 abbrev pub IsNoLater : Fault → Fault → Type 0
 IsNoLater f g = (row f < row g) ⊎ ((row f ≡ row g) × (index f ≤ index g))
 
--- f stands, and no fault that stands comes before it
+-- f exists, and no fault comes before it
 abbrev pub IsFirst : Entries → Fault → Type 0
 IsFirst d f = (stands d f ≡ true) × ((g : Fault) → stands d g ≡ true → IsNoLater f g)

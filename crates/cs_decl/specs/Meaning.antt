@@ -28,7 +28,7 @@ abbrev pub ◌>>=◌ : {A B : Type 0} → Result A Fault → (A → Result B Fau
 (Ok x) >>= f = f x
 (Err e) >>= f = Err e
 
--- want of memory, or the fault of JSON among those of declarations
+-- out of memory, or the fault of JSON among those of declarations
 abbrev pub error_of : Misread → DeclError
 error_of Memory = OutOfMemory
 error_of (Misreading json.NotJson) = At faults.NotJson None
@@ -48,13 +48,13 @@ abbrev pub unless : {A : Type 0} → A → Option Fault → Result A Fault
 unless d None = Ok d
 unless d (Some f) = Err f
 
--- what the bytes declare: their JSON value has the shape, and no fault of the table stands
+-- what the bytes declare: their JSON value has the shape, and the table finds no fault
 unfoldable pub declared_by : List ℕ → Result Entries Fault
 declared_by bytes = do
   json ← with_fault (or_fault json.NotJson (json_of bytes))
   d ← with_fault (entries_of json)
   unless d (first_fault (faults_of d))
 
--- No fault of the table stands.
+-- The table finds no fault.
 abbrev pub IsValid : Entries → Type 0
 IsValid d = first_fault (faults_of d) ≡ None

@@ -1,4 +1,4 @@
--- What a set of names tells of a group.
+-- A group in a set of names.
 use Rattle.std.specs.Prelude.{List, ℕ, Option, None, Some, Bool, false, not, bytes_eq}
 use Rattle.std.specs.Borrow.{Bor}
 use Rattle.std.specs.List.{list_any}

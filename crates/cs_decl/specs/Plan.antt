@@ -30,8 +30,8 @@ pub record CatchUpHours : Type 0 where
 abbrev pub ArePossible : CatchUpHours → Type 0
 ArePossible hours = (hours.from < hours.to) × (hours.to ≤ MINUTES_OF_DAY)
 
--- The jobs are those of the crontab and then those of the anacrontab, each in order of line. The pass minute is one of the day, the
--- offset counts minutes to the east of UTC.
+-- The jobs are those of the crontab and then those of the anacrontab, each in order of line. The
+-- pass minute is one of the day, the offset counts minutes to the east of UTC.
 pub record Declared : Type 0 where
   pub crontab : Crontab
   pub anacrontab : Anacrontab
@@ -78,7 +78,7 @@ pub record IsWhole (d : Declared) : Type 0 where
 
 -- ---- what a history knows of a plan
 
--- what stands where there is no job, no line and no group
+-- the value for no job, no line and no group
 abbrev pub no_job : DeclaredJob
 no_job = record { place = 0; max = 1; weight = 1; group = None; mode = Plain }
 
@@ -98,7 +98,7 @@ job_at d j = slice_index_or d.jobs j no_job
 abbrev pub command_of : Declared → ℕ → CommandLine
 command_of d j = slice_index_or d.crontab.lines j no_command
 
--- the line of an anacron job: those of the anacrontab come behind those of the crontab
+-- the line of an anacron job: those of the anacrontab come after those of the crontab
 abbrev pub line_of : Declared → ℕ → JobLine
 line_of d j = slice_index_or d.anacrontab.lines (j - crons d) no_line
 

@@ -1,4 +1,4 @@
--- The faults of declarations as they are printed.
+-- The faults of declarations as printed.
 use Rattle.std.specs.Prelude.{ℕ, ◌+◌, List, [], ◌++◌, Option, Some, None, codes, decimal}
 use Rattle.cs_decl.specs.declared.fault.DeclFault.{DeclFault}
 use Rattle.cs_decl.specs.declared.fault.DeclFault.TheVariants as faults

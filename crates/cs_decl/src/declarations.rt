@@ -14,8 +14,8 @@ use serde_json::Value;
 use std::alloc::{AllocError, Global};
 use std::marker::Model;
 
-/// What an operator declares: of each job the longest time that a run takes, its weight, its group and how it treats the group's lock;
-/// the groups, the capacity, the catch-up hours, the pass minute and the offset.
+/// What an operator declares: for each job its longest time, weight, group and mode; the groups,
+/// the capacity, the catch-up hours, the pass minute and the offset.
 #[derive(Debug, Drop)]
 pub struct Declarations {
     entries: Entries,
@@ -78,9 +78,10 @@ fn entries_in(alloc: Global, value: &Value) -> Result<Entries, DeclError>
     }
 }
 
-/// What the bytes declare, or the fault of the smallest number that stands: of one number the first among the groups, then the
-/// cron entries, then the anacron entries, each in order. Whether the lines and identifiers are there is seen by
-/// [`join`](crate::join).
+/// Reads declarations, or returns their fault with the smallest number: among several with that
+/// number the first of the groups, then of the cron entries, then of the anacron entries.
+///
+/// [`join`](crate::join) checks that the lines and identifiers exist. Memory may run out.
 #[tactic(auto, unfolding(crate::specs::Meaning::declared_by))]
 pub fn read_declarations(alloc: Global, bytes: &[u8]) -> Result<Declarations, DeclError>
     ensures { Answers (λ d. d) (declared_by bytes.now) result }

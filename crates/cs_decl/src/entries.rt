@@ -28,7 +28,7 @@ pub struct AnacronEntry {
     pub(crate) has_mode: bool,
 }
 
-/// What has the shape of declarations: whole numbers, of any size.
+/// Declarations by their shape alone: whole numbers of any size.
 #[derive(Debug, Drop)]
 pub struct Entries {
     pub(crate) capacity: i128,

@@ -6,21 +6,21 @@ use cs_civil::Bytes;
 use std::alloc::{AllocError, AllocFailed, Global};
 use thiserror::Error;
 
-/// What is wrong with declarations, or with a plan. It is printed as its number and its name, `6 BadMax`.
+/// What is wrong with declarations or a plan, printed as number and name: `6 BadMax`.
 #[derive(Clone, Copy, Debug, PartialEq, Eq, Error)]
 #[error("{}", self.text())]
 pub enum DeclFault {
-    /// The bytes are no JSON text.
+    /// The bytes are not JSON.
     NotJson,
-    /// A member has another type, is absent or unknown, a number is not whole, or the offset is out of its range.
+    /// A member is absent, unknown or of another type, a number not whole, or the offset too great.
     BadShape,
-    /// No command stands on the line, or no job has the identifier.
+    /// The line has no command, or no job has the identifier.
     NoSuchLine,
     /// A job has no entry.
     Undeclared,
-    /// A group, a line or an identifier is declared a second time.
+    /// A group, a line or an identifier is declared again.
     TwiceDeclared,
-    /// The longest time of a run is not from 1 to [`MAX_MINUTES`](crate::MAX_MINUTES) minutes.
+    /// The longest time is not from 1 to [`MAX_MINUTES`](crate::MAX_MINUTES) minutes.
     BadMax,
     /// The weight is not from 1 to [`MAX_WEIGHT`](crate::MAX_WEIGHT).
     BadWeight,
@@ -32,18 +32,18 @@ pub enum DeclFault {
     UnknownGroup,
     /// The group is one more than [`MAX_GROUPS`](crate::MAX_GROUPS).
     TooManyGroups,
-    /// The catch-up hours are no minutes of one day, the first before the last.
+    /// The catch-up hours are not two minutes of a day in order, the last up to 1,440.
     BadHours,
     /// An anacron job has a mode.
     ModeOnAnacron,
-    /// The crontab holds an `@reboot` line.
+    /// The crontab has an `@reboot` line.
     RebootLine,
     /// The pass minute is not from 0 to 1,439.
     BadPassMinute,
 }
 
 impl DeclFault {
-    /// Its number and its name, as it is printed.
+    /// Returns its number and name, as printed.
     pub fn text(self) -> &'static str
         ensures { result.now ≡ fault_text self }
     {
@@ -67,7 +67,7 @@ impl DeclFault {
     }
 }
 
-/// Where a fault stands. An entry is named by its place in its list, counted from 0.
+/// Where a fault is. Entries are counted from 0.
 #[derive(Debug, PartialEq, Eq, Drop)]
 pub enum Place {
     /// An entry of `groups`.
@@ -76,14 +76,15 @@ pub enum Place {
     Cron(usize),
     /// An entry of `anacron`.
     Anacron(usize),
-    /// A command line of the crontab, by its number.
+    /// A command of the crontab, by its line number.
     Line(u32),
     /// A job of the anacrontab, by its identifier.
     Job(Bytes),
 }
 
 impl Place {
-    /// Where the fault stands, as it is printed behind the fault: ` at cron 2`, where entries are counted from 1. The only error is want of memory.
+    /// Formats the place as printed after a fault: ` at cron 2`, with entries counted from 1. The
+    /// only error is out of memory.
     pub fn text(&self, alloc: Global) -> Result<Bytes, AllocError>
         ensures { IfOk result (λ text. text ≡ place_text self.now) }
     {
@@ -105,7 +106,7 @@ impl Place {
 /// Why there are no declarations, or no plan.
 #[derive(Debug, PartialEq, Eq, Drop, Error)]
 pub enum DeclError {
-    /// The fault, and where it stands, if it has a place.
+    /// The fault, and its place if it has one.
     #[error("{fault}")]
     At {
         fault: DeclFault,
@@ -117,7 +118,7 @@ pub enum DeclError {
 }
 
 impl DeclError {
-    /// The fault and its place, as they are printed: `6 BadMax at cron 2`. The only error is want of memory.
+    /// Formats the fault and its place: `6 BadMax at cron 2`. The only error is out of memory.
     pub fn text(&self, alloc: Global) -> Result<Bytes, AllocError>
         ensures { IfOk result (λ text. text ≡ error_text self.now) }
     {

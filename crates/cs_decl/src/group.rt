@@ -29,7 +29,7 @@ impl Group {
         }
     }
 
-    /// The same group. The only error is want of memory.
+    /// Copies the group. The only error is out of memory.
     pub(crate) fn copy(&self, alloc: Global) -> Result<Group, AllocError>
         ensures { IfOk result (λ group. group ≡ self.now) }
     {
@@ -39,14 +39,14 @@ impl Group {
         })
     }
 
-    /// Its name, which no other group of its plan has. It is UTF-8.
+    /// Returns its name, which is UTF-8 and unlike that of any other group of its plan.
     pub fn name(&self) -> &[u8]
         ensures { result.now ≡ self.now.name }
     {
         self.title.as_slice()
     }
 
-    /// Whether no two runs of its jobs may go on at once, except two that share its lock.
+    /// Checks whether no two runs of its jobs may overlap, unless both share its lock.
     pub fn is_exclusive(&self) -> bool
         ensures { result ≡ self.now.exclusive }
     {

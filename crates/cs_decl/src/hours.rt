@@ -3,7 +3,8 @@ ghost use Rattle.cs_decl.specs.declared.limits.TheConstants.{MINUTES_OF_DAY};
 
 use std::marker::Model;
 
-/// The catch-up hours: the minutes of the day from one on and below another, in which an anacron job may be started.
+/// The catch-up hours: the minutes of a day, from one up to but without another, in which an
+/// anacron job may start.
 #[derive(Clone, Copy, Debug, PartialEq, Eq)]
 pub struct Hours {
     from: u16,
@@ -32,7 +33,7 @@ impl Hours {
         Hours { from, to }
     }
 
-    /// The first minute of the day in which a job may be started, from 0.
+    /// Returns the first minute of the day, from 0, at which a job may start.
     pub fn from(self) -> u16
         ensures value { result ≡ self.from }
         ensures in_range { (self.from < self.to) × (self.to ≤ MINUTES_OF_DAY) }
@@ -40,7 +41,7 @@ impl Hours {
         self.from
     }
 
-    /// The first minute behind, up to 1,440 for the end of the day.
+    /// Returns the end: the minute of the day, up to 1,440, from which on no job may start.
     pub fn to(self) -> u16
         ensures value { result ≡ self.to }
         ensures in_range { (self.from < self.to) × (self.to ≤ MINUTES_OF_DAY) }

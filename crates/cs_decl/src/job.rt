@@ -5,7 +5,7 @@ ghost use Rattle.cs_history.specs.Plan.{takes};
 use cs_history::Mode;
 use std::marker::Model;
 
-/// What is declared of a job of the tables.
+/// The declaration of a job.
 #[derive(Clone, Copy, Debug, PartialEq, Eq)]
 pub struct Job {
     place: usize,
@@ -68,15 +68,15 @@ impl Job {
         }
     }
 
-    /// The place of its line among the command lines of the crontab, or among the job lines of the anacrontab, counted from 0.
+    /// Returns its index, from 0, among the commands of the crontab or the jobs of the anacrontab.
     pub fn place(self) -> usize
         ensures { result ≡ self.place }
     {
         self.place
     }
 
-    /// The longest time that a run of it takes, in minutes from 1 to [`MAX_MINUTES`](crate::MAX_MINUTES): a run that starts in one
-    /// minute has ended before so many minutes later.
+    /// Returns the longest time of a run in minutes, from 1 to [`MAX_MINUTES`](crate::MAX_MINUTES):
+    /// a run that starts in minute t has ended before minute t + max.
     pub fn max(self) -> u16
         ensures value { result ≡ self.max }
         ensures in_range { (1 ≤ self.max) × (self.max ≤ MAX_MINUTES) }
@@ -84,7 +84,7 @@ impl Job {
         self.max
     }
 
-    /// What a run of it weighs, from 1 to [`MAX_WEIGHT`](crate::MAX_WEIGHT).
+    /// Returns the weight of a run, from 1 to [`MAX_WEIGHT`](crate::MAX_WEIGHT).
     pub fn weight(self) -> u8
         ensures value { result ≡ self.weight }
         ensures in_range { (1 ≤ self.weight) × (self.weight ≤ MAX_WEIGHT) }
@@ -92,7 +92,7 @@ impl Job {
         self.weight
     }
 
-    /// The place of its group among the plan's, counted from 0, if it belongs to one.
+    /// Returns the index of its group in the plan, from 0, if it has one.
     pub fn group(self) -> Option<u8>
         ensures value { result ≡ self.group }
         ensures lock { takes self.mode ≡ true → IsSome self.group }
@@ -100,7 +100,7 @@ impl Job {
         self.group
     }
 
-    /// How it treats the lock of its group. A job that takes the lock belongs to one.
+    /// Returns how it treats the lock of its group. A job that takes the lock has a group.
     pub fn mode(self) -> Mode
         ensures { result ≡ self.mode }
     {

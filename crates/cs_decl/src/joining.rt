@@ -133,11 +133,12 @@ fn plan_of(
     ))
 }
 
-/// The plan of the tables and of what is declared of their jobs, or the fault of the smallest number that stands.
+/// Joins tables and declarations to a plan, or returns the fault with the smallest number.
 ///
-/// [`NoSuchLine`](DeclFault::NoSuchLine) comes where an entry has no command or no job, the cron entries first, each in order;
-/// [`Undeclared`](DeclFault::Undeclared) where a job has no entry, in the order of the jobs; and
-/// [`RebootLine`](DeclFault::RebootLine) where the crontab has an `@reboot`, declared or not, in order of line.
+/// [`NoSuchLine`](DeclFault::NoSuchLine) if an entry has no command or job, cron entries first,
+/// each in order; [`Undeclared`](DeclFault::Undeclared) if a job has no entry, in the order of
+/// jobs; [`RebootLine`](DeclFault::RebootLine) if the crontab has an `@reboot`, declared or not, in
+/// order of line. Memory may run out.
 #[tactic(auto, unfolding(crate::specs::Join::joined))]
 pub fn join(
     alloc: Global,

@@ -1,4 +1,4 @@
-//! What the operator declares of the jobs of a crontab and an anacrontab, and the plan that all of it makes.
+//! Declarations of the jobs of a crontab and an anacrontab, and the plan that they make together.
 #![tactic(auto)]
 
 mod declarations;

@@ -1,7 +1,7 @@
-/// How many minutes a day has.
+/// The minutes of a day.
 pub const MINUTES_OF_DAY: u16 = 1_440;
 
-/// The longest time that may be declared of a job, in minutes: three days (this profile).
+/// The longest time that a job may declare, in minutes: three days (this profile).
 pub const MAX_MINUTES: u16 = 4_320;
 
 /// The greatest weight of a job (this profile).
@@ -13,5 +13,5 @@ pub const MAX_CAPACITY: u8 = 64;
 /// The most groups of a plan (this profile).
 pub const MAX_GROUPS: usize = 64;
 
-/// The greatest offset from UTC, in minutes, to the east and to the west (this profile).
+/// The greatest offset from UTC in minutes, either way (this profile).
 pub const MAX_OFFSET: u16 = 1_439;

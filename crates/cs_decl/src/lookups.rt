@@ -1,4 +1,4 @@
-//! Which lines have an entry, and which entries a line.
+//! Lines without an entry, and entries without a line.
 ghost use Rattle.std.specs.Prelude.{◌≡◌, option_map, position};
 ghost use Rattle.std.specs.List.{find, list_any};
 ghost use Rattle.cs_decl.specs.Join.{is_of_line, is_of_job, has_no_line, has_no_job, is_reboot, is_undeclared, is_undeclared_job};
@@ -48,15 +48,15 @@ fn is_declared_job(entries: &[AnacronEntry], line: &JobLine) -> bool
         .any(|entry| entry.identifier.as_slice() == line.identifier())
 }
 
-/// The place of the first cron entry without a command. As no two entries have one line, no more of them are looked at than there
-/// are commands, and one.
+/// The index of the first cron entry without a command. As no two entries have the same line, at
+/// most one entry more than there are commands is looked at.
 pub(crate) fn lineless(entries: &[CronEntry], lines: &[Line]) -> Option<usize>
     ensures { result ≡ position (has_no_line lines.now) entries.now }
 {
     entries.iter().position(|entry| !has_line(lines, entry))
 }
 
-/// The place of the first anacron entry without a job.
+/// The index of the first anacron entry without a job.
 pub(crate) fn jobless(entries: &[AnacronEntry], lines: &[JobLine]) -> Option<usize>
     ensures { result ≡ position (has_no_job lines.now) entries.now }
 {
@@ -80,7 +80,6 @@ pub(crate) fn first_undeclared_job<'a>(
     lines.iter().find(|line| !is_declared_job(entries, line))
 }
 
-/// The first `@reboot`.
 pub(crate) fn first_reboot(lines: &[Line]) -> Option<&Line>
     ensures { option_map (λ l. l.now) result ≡ find (λ line. is_reboot line.when) lines.now }
 {

@@ -9,7 +9,6 @@ use cs_civil::Bytes;
 use indexmap::IndexSet;
 use std::alloc::{AllocError, Global};
 
-/// The names of the groups.
 fn names_of<'a>(alloc: Global, groups: &'a [GroupEntry]) -> Result<IndexSet<&'a [u8]>, AllocError>
     ensures { IfOk result
         (λ names. (name : List ℕ)
@@ -47,7 +46,7 @@ fn unnamed_anacron(names: &IndexSet<&[u8]>, anacron: &[AnacronEntry]) -> Option<
         .position(|entry| is_unnamed(names, &entry.group))
 }
 
-/// The place of the first cron entry whose group isn't declared.
+/// The index of the first cron entry whose group isn't declared.
 pub(crate) fn unlisted_cron(alloc: Global, entries: &Entries) -> Result<Option<usize>, AllocError>
     ensures { IfOk result
         (λ o. o ≡ position (λ e. is_unlisted entries.now.groups e.group) entries.now.cron) }
@@ -56,7 +55,7 @@ pub(crate) fn unlisted_cron(alloc: Global, entries: &Entries) -> Result<Option<u
     Ok(unnamed_cron(&names, entries.cron.as_slice()))
 }
 
-/// The place of the first anacron entry whose group isn't declared.
+/// The index of the first anacron entry whose group isn't declared.
 pub(crate) fn unlisted_anacron(
     alloc: Global,
     entries: &Entries,

@@ -74,12 +74,13 @@ fn plain_plan(
 }
 
 impl Plan {
-    /// The plan of the tables where nothing is declared but the longest time of every run, in minutes: each job weighs 1, belongs to no
-    /// group and takes no lock; the capacity is the greatest, catch-up may start at all hours, there is no pass minute, and the clock
-    /// shows UTC.
+    /// Returns the plan of the tables with default declarations and one longest time in minutes for
+    /// all jobs: weight 1, no group, the greatest capacity, catch-up at all hours, no pass minute,
+    /// UTC.
     ///
-    /// [`BadMax`](DeclFault::BadMax) comes where the time is not from 1 to [`MAX_MINUTES`](crate::MAX_MINUTES), and then
-    /// [`RebootLine`](DeclFault::RebootLine) where the crontab has an `@reboot`, with the first such line.
+    /// [`BadMax`](DeclFault::BadMax) if the time is not from 1 to
+    /// [`MAX_MINUTES`](crate::MAX_MINUTES); else [`RebootLine`](DeclFault::RebootLine) with the
+    /// first `@reboot`. Memory may run out.
     #[tactic(auto, unfolding(crate::specs::Plain::plain_of))]
     pub fn plain(
         alloc: Global,

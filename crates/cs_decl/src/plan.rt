@@ -11,10 +11,10 @@ use cs_crontab::Crontab;
 use std::alloc::{AllocError, Global};
 use std::marker::Model;
 
-/// A crontab and an anacrontab, with what the operator declares of their jobs.
+/// A crontab and an anacrontab with the declarations of their jobs.
 ///
-/// Jobs are numbered from 0: first the commands of the crontab, then the jobs of the anacrontab, each in order of line. No command is
-/// an `@reboot`.
+/// Jobs are numbered from 0: first the commands of the crontab, then the jobs of the anacrontab,
+/// each in order of line. No command is an `@reboot`.
 #[derive(Debug, Drop)]
 pub struct Plan {
     crontab: Crontab,
@@ -113,7 +113,7 @@ impl Plan {
         }
     }
 
-    /// The same plan. The only error is want of memory.
+    /// Copies the plan. The only error is out of memory.
     pub fn copy(&self, alloc: Global) -> Result<Plan, AllocError>
         ensures { IfOk result (λ plan. plan ≡ self.now) }
     {
@@ -129,7 +129,7 @@ impl Plan {
         })
     }
 
-    /// The crontab. None of its commands is an `@reboot`.
+    /// Returns the crontab, which has no `@reboot`.
     pub fn crontab(&self) -> &Crontab
         ensures value { result.now ≡ self.now.crontab }
         ensures timed { All IsTimed self.now.crontab.lines }
@@ -137,14 +137,14 @@ impl Plan {
         &self.crontab
     }
 
-    /// The anacrontab.
+    /// Returns the anacrontab.
     pub fn anacrontab(&self) -> &Anacrontab
         ensures { result.now ≡ self.now.anacrontab }
     {
         &self.anacrontab
     }
 
-    /// How many of its jobs are those of the crontab, which come first.
+    /// Returns the number of jobs of the crontab, which are the first.
     pub fn crons(&self) -> usize
         ensures value { result ≡ crons self.now }
         ensures within { crons self.now ≤ length self.now.jobs }
@@ -152,22 +152,22 @@ impl Plan {
         self.crontab.lines().len()
     }
 
-    /// What is declared of the jobs, by number: at most 320 of them.
+    /// Returns the declarations of the jobs, by number: at most 320.
     pub fn jobs(&self) -> &[Job]
         ensures value { result.now ≡ self.now.jobs }
-        // Each line has its job, each number is in its range, and each group is there.
+        // each line has its job, each number is in range, and each group exists
         ensures whole { IsWhole self.now }
-        // So it is a plan of which histories speak.
+        // so it is a plan as histories have it
         ensures resolved { IsPlan (as_plan self.now) }
         ensures few { length self.now.jobs ≤ 320 }
         ensures limits { (j : ℕ) → (as_plan self.now).limit j ≤ MAX_MINUTES }
-        // An anacron job that ran today isn't due today.
+        // an anacron job that ran today isn't due today
         ensures stamped { (j day : ℕ) → (as_plan self.now).owed j (Some day) day ≡ false }
     {
         self.jobs.as_slice()
     }
 
-    /// The groups, in the order of the declarations.
+    /// Returns the groups, in the order of the declarations.
     pub fn groups(&self) -> &[Group]
         ensures value { result.now ≡ self.now.groups }
         ensures few { length self.now.groups ≤ MAX_GROUPS }
@@ -175,7 +175,8 @@ impl Plan {
         self.groups.as_slice()
     }
 
-    /// The most that running jobs may weigh together, from 1 to [`MAX_CAPACITY`](crate::MAX_CAPACITY).
+    /// Returns the most that running jobs may weigh together, from 1 to
+    /// [`MAX_CAPACITY`](crate::MAX_CAPACITY).
     pub fn capacity(&self) -> u8
         ensures value { result ≡ self.now.capacity }
         ensures in_range { (1 ≤ self.now.capacity) × (self.now.capacity ≤ MAX_CAPACITY) }
@@ -183,14 +184,14 @@ impl Plan {
         self.capacity
     }
 
-    /// The catch-up hours.
+    /// Returns the catch-up hours.
     pub fn hours(&self) -> Hours
         ensures { result ≡ self.now.hours }
     {
         self.hours
     }
 
-    /// The minute of each day, below 1,440, at which a catch-up pass begins, if one is declared.
+    /// Returns the minute of each day, below 1,440, at which a catch-up pass begins, if declared.
     pub fn pass(&self) -> Option<u16>
         ensures value { result ≡ self.now.pass }
         ensures in_range { IfSome self.now.pass (λ m. m < MINUTES_OF_DAY) }
@@ -198,7 +199,8 @@ impl Plan {
         self.pass
     }
 
-    /// By how many minutes the operator's clock is to the east of UTC, at most [`MAX_OFFSET`](crate::MAX_OFFSET) either way.
+    /// Returns the minutes by which the operator's clock is ahead of UTC, at most
+    /// [`MAX_OFFSET`](crate::MAX_OFFSET) either way.
     pub fn offset(&self) -> i16
         ensures value { result ≡ self.now.offset }
         ensures in_range { unsigned_abs self.now.offset ≤ MAX_OFFSET }

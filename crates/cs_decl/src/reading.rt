@@ -47,7 +47,7 @@ fn list_member<T: FromJson>(
     Ok(Sequence::from_vec(items))
 }
 
-/// The weight, 1 where there is none.
+/// The weight, by default 1.
 fn weight_member(alloc: Global, value: &Value) -> Result<i128, Misread>
     ensures { Gives (λ w. w) result
         (member_or_default whole_number (pos 1) (codes "weight") (view value.now)) }

@@ -1,4 +1,4 @@
-//! The table of faults, row by row.
+//! The table of faults, row after row.
 ghost use Rattle.std.specs.Prelude.{◌≡◌, IfOk, Some, position, map, option_map, bytes_eq};
 ghost use Rattle.std.specs.List.{list_any};
 ghost use Rattle.cs_decl.specs.Faults.{is_within, is_bad_offset, is_bad_max, is_bad_weight, needs_group, is_unlisted, are_bad_hours, is_bad_pass, first_fault, twice_declared, bad_numbers, bad_groups, bad_times, faults_of};
@@ -13,7 +13,7 @@ use crate::twice::{twice_group, twice_identifier, twice_line};
 use cs_history::Mode;
 use std::alloc::{AllocError, Global};
 
-/// A fault, and where it stands, if it has a place.
+/// A fault, and its place if it has one.
 pub(crate) type Found = (DeclFault, Option<Place>);
 
 fn is_within(low: u16, high: u16, number: i128) -> bool
@@ -176,7 +176,6 @@ fn bad_times(entries: &Entries) -> Option<Found>
     None
 }
 
-/// The first fault of the table.
 #[tactic(auto, using(crate::proofs::Order::first_twice_declared, crate::proofs::Order::first_bad_number, crate::proofs::Order::first_bad_group, crate::proofs::Order::past_groups))]
 pub(crate) fn fault_of(alloc: Global, entries: &Entries) -> Result<Option<Found>, AllocError>
     ensures { IfOk result (λ f. f ≡ first_fault (faults_of entries.now)) }

@@ -15,7 +15,7 @@ use cs_crontab::Line;
 use cs_history::Mode;
 use std::alloc::{AllocError, Global};
 
-/// A whole number that is known to be small, as the unsigned one that it is.
+/// A whole number known to be small, as an unsigned one.
 pub(crate) fn small(number: i128) -> u16
     requires { unsigned_abs number < 2 ^ 16 }
     ensures { result ≡ unsigned_abs number }
@@ -171,7 +171,6 @@ pub(crate) fn jobs_of(
     Ok(jobs)
 }
 
-/// The groups that are declared.
 pub(crate) fn groups_of(
     alloc: Global,
     entries: &[GroupEntry],

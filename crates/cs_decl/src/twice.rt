@@ -7,7 +7,7 @@ use crate::entries::{AnacronEntry, CronEntry, GroupEntry};
 use indexmap::IndexSet;
 use std::alloc::{AllocError, Global};
 
-/// The place of the first group whose name stood before.
+/// The index of the first group whose name an earlier one has.
 pub(crate) fn twice_group(alloc: Global, groups: &[GroupEntry]) -> Result<Option<usize>, AllocError>
     ensures { IfOk result (λ o. o ≡ first_twice bytes_eq (map (λ g. g.name) groups.now)) }
 {
@@ -20,7 +20,7 @@ pub(crate) fn twice_group(alloc: Global, groups: &[GroupEntry]) -> Result<Option
     Ok(None)
 }
 
-/// The place of the first anacron entry whose identifier stood before.
+/// The index of the first anacron entry whose identifier an earlier one has.
 pub(crate) fn twice_identifier(
     alloc: Global,
     anacron: &[AnacronEntry],
@@ -36,7 +36,7 @@ pub(crate) fn twice_identifier(
     Ok(None)
 }
 
-/// The place of the first cron entry whose line stood before.
+/// The index of the first cron entry whose line an earlier one has.
 pub(crate) fn twice_line(alloc: Global, cron: &[CronEntry]) -> Result<Option<usize>, AllocError>
     ensures { IfOk result (λ o. o ≡ first_twice int_eq (map (λ e. e.line) cron.now)) }
 {

@@ -1,4 +1,4 @@
--- What a clock has told so far.
+-- A clock's answers so far.
 use Rattle.std.specs.Prelude.{ℕ, ◌+◌, nat_lt, if◌then◌else◌, Option, Some, None}
 use Rattle.cs_device.specs.Count.{most_failures}
 use Rattle.cs_device.specs.Rise.{risen_by, top_by}
@@ -22,7 +22,7 @@ failed_by (At minute) = 0
 failed_by Stop = 0
 failed_by Failed = 1
 
--- what is told with one answer more
+-- the answers with one more
 abbrev pub telling : Telling → Tick → Telling
 telling t tick = record {
   last = Some tick;
@@ -31,7 +31,7 @@ telling t tick = record {
   risen = t.risen + risen_by t.top tick;
 }
 
--- a failure past the greatest count is told as the end
+-- a failure past the greatest count is the end
 abbrev pub said : Telling → Tick → Tick
 said t (At minute) = At minute
 said t Stop = Stop

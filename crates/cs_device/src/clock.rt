@@ -1,20 +1,20 @@
-//! Clocks, by what they answer.
+//! Clocks, by their answers.
 ghost use Rattle.std.specs.Prelude.{◌≡◌, ℕ, ◌+◌, ◌<◌, ◌≤◌, Option, Some};
 
 use cs_civil::Minute;
 
-/// What a clock answers.
+/// A clock's answer.
 #[derive(Clone, Copy, Debug, PartialEq, Eq)]
 pub enum Tick {
     /// It is this minute.
     At(Minute),
-    /// The daemon is to end.
+    /// The daemon has to end.
     Stop,
     /// The clock can't be read.
     Failed,
 }
 
-/// A clock in whole minutes, by what it has answered so far.
+/// A clock in whole minutes, by its answers so far.
 pub trait Clock {
     ghost use Rattle.cs_device.specs.declared.clock.Tick.{Tick};
     ghost use Rattle.cs_device.specs.declared.clock.Tick.TheVariants.{Failed};
@@ -29,12 +29,11 @@ pub trait Clock {
     /// The greatest minute so far, 0 before the first.
     ghost top: { Self → ℕ };
 
-    /// How many answers were a minute above all before.
+    /// How many answers were a minute later than all before.
     ghost risen: { Self → ℕ };
 
-    /// The next answer. `now` is the last minute that it gave, and none before the first: a clock
-    /// answers the first call at once and waits before each other, so that a loop over its answers
-    /// isn't a busy one.
+    /// Returns the next answer. `now` is the last minute returned, none before the first. A clock
+    /// returns at once from the first call and waits in each other, so no loop over it is busy.
     fn tick(&mut self, now: Option<Minute>) -> Tick
         ensures last { last self.new ≡ Some result }
         ensures failures { failures self.old ≤ failures self.new }

@@ -6,8 +6,7 @@ use std::marker::Model;
 
 /// How often a device has failed, up to the greatest number of 64 bits.
 ///
-/// A device may answer a failure only where its count rises, so one failure more than that is
-/// answered as something else: of that a device says what.
+/// A device may report a failure only if its count rises. Each says what it does on one more.
 #[derive(Clone, Copy, Debug, PartialEq, Eq)]
 pub struct Failures {
     count: u64,
@@ -27,21 +26,21 @@ impl Model for Failures {
 }
 
 impl Failures {
-    /// No failure yet.
+    /// Returns no failures.
     pub fn none() -> Failures
         ensures { result ≡ 0 }
     {
         Failures { count: 0 }
     }
 
-    /// How many there were.
+    /// Returns the number of failures.
     pub fn number(self) -> u64
         ensures { result ≡ self }
     {
         self.count
     }
 
-    /// Counts one more, and tells whether there was room for it.
+    /// Counts a failure, and returns whether there was room for it.
     pub fn count(&mut self) -> bool
         ensures room { IsTrue result ↔ (self.old < most_failures) }
         ensures count { self.new ≡ (if result then self.old + 1 else self.old) }

@@ -1,17 +1,17 @@
-//! What a worker passes round each run.
+//! The points that a worker passes around each run.
 use cs_history::Run;
 
-/// Where a run stands.
+/// A point of a run.
 #[derive(Clone, Copy, Debug, PartialEq, Eq)]
 pub enum Point {
-    /// Its command has not been started.
+    /// Its command has not started.
     Before,
     /// Its command has ended, or could not be started.
     After,
 }
 
-/// What a worker passes before and after each run, outside the lock: tests hold runs there.
+/// The points before and after each run, passed outside the lock: tests hold runs there.
 pub trait Gate {
-    /// Comes back when the run may go on.
+    /// Returns when the run may go on.
     fn pass(&self, run: Run, point: Point);
 }

@@ -1,4 +1,4 @@
-//! What the daemon asks of the outside: a clock, runs of commands, stamps, and a gate for tests.
+//! The daemon's devices: a clock, runs of commands, stamps, and a gate for tests.
 #![tactic(auto)]
 
 mod clock;

@@ -1,4 +1,4 @@
-//! Runs of commands, by what comes of them.
+//! Runs of commands, by their outcomes.
 ghost use Rattle.std.specs.Prelude.{◌≡◌, ℕ, ◌<◌, ◌≤◌};
 
 use cs_civil::Bytes;
@@ -8,7 +8,7 @@ use cs_civil::Bytes;
 pub enum Outcome {
     /// It exited with this status, from 0 to 255 on this machine.
     Exited(i32),
-    /// It ended without a status, as by a signal.
+    /// It ended without a status, for example by a signal.
     Ended,
     /// It could not be started.
     NotStarted,
@@ -21,8 +21,8 @@ pub trait Runner {
     /// How often a command could not be started.
     ghost failures: { Self → ℕ };
 
-    /// Runs a command with this standard input, an empty one where there is none, and these
-    /// settings, each a name and its value, in its environment. Comes back when it has ended.
+    /// Runs a command with this standard input, or an empty one, and these settings, each a name
+    /// and its value, in its environment. Returns when it has ended.
     fn run(&mut self, command: &[u8], input: Option<&[u8]>, env: &[(Bytes, Bytes)]) -> Outcome
         ensures failures { failures self.old ≤ failures self.new }
         ensures failed { result ≡ NotStarted → failures self.old < failures self.new };

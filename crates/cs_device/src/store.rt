@@ -1,9 +1,9 @@
-//! Stores of stamps, by what they answer.
+//! Stores of stamps, by their answers.
 ghost use Rattle.std.specs.Prelude.{◌≡◌, ℕ, ◌<◌, ◌≤◌, false};
 
 use cs_civil::Day;
 
-/// What a store says of a job's stamp.
+/// A store's answer for a job's stamp.
 #[derive(Clone, Copy, Debug, PartialEq, Eq)]
 pub enum Stamp {
     /// The job ran on this day.
@@ -21,12 +21,12 @@ pub trait StampStore {
     /// How often a stamp could not be read or written.
     ghost failures: { Self → ℕ };
 
-    /// The stamp of a job.
+    /// Reads the stamp of a job.
     fn read(&mut self, identifier: &[u8]) -> Stamp
         ensures failures { failures self.old ≤ failures self.new }
         ensures failed { result ≡ Failed → failures self.old < failures self.new };
 
-    /// Writes the stamp of a job in place of the one before, and tells whether it is written.
+    /// Writes the stamp of a job in place of the one before, and returns whether it is written.
     fn write(&mut self, identifier: &[u8], day: Day) -> bool
         ensures failures { failures self.old ≤ failures self.new }
         ensures failed { result ≡ false → failures self.old < failures self.new };

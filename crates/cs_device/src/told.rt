@@ -1,4 +1,4 @@
-//! What a clock has told, for those who make clocks.
+//! A clock's answers so far, for those who make clocks.
 ghost use Rattle.std.specs.Prelude.{◌≡◌};
 ghost use Rattle.cs_device.specs.Telling.{nothing_told, telling, said};
 
@@ -6,7 +6,7 @@ use crate::clock::Tick;
 use crate::failures::Failures;
 use std::marker::Model;
 
-/// What a clock has told so far. Each of its answers goes through [`tell`](Told::tell).
+/// A clock's answers so far. Each goes through [`tell`](Told::tell).
 #[derive(Debug, Drop)]
 pub struct Told {
     answer: Option<Tick>,
@@ -29,7 +29,7 @@ impl Model for Told {
 }
 
 impl Told {
-    /// No answer yet.
+    /// Returns no answers.
     pub fn nothing() -> Told
         ensures { result ≡ nothing_told }
     {
@@ -41,8 +41,7 @@ impl Told {
         }
     }
 
-    /// Notes an answer, and gives it back. Once 2^64 - 1 failures are counted, one more is told as
-    /// [`Stop`](Tick::Stop).
+    /// Notes an answer, and returns it. After 2^64 - 1 failures, another is [`Stop`](Tick::Stop).
     pub fn tell(&mut self, tick: Tick) -> Tick
         ensures answer { result ≡ said self.old tick }
         ensures told { self.new ≡ telling self.old result }

@@ -52,7 +52,7 @@ pub none_pass : {X : Type 0} (t : X → Bool) (xs : List X) → AllByRecursion (
 none_pass t [] a = refl
 none_pass t (x ∷ xs) a = either_false (t x) (list_any t xs) a.0 (none_pass t xs a.1)
 
--- what holds of each is had of one that passes
+-- what holds for each holds for one that passes
 pub any_at : {X : Type 0} (t : X → Bool) (P : X → Type 0) (xs : List X) → list_any t xs ≡ true → AllByRecursion P xs → (x : X) × (t x ≡ true) × P x
 any_at t P [] e a = absurd (cc)
 any_at {X} t P (x ∷ xs) e a =
@@ -150,7 +150,7 @@ term_below f (suc n) k l =
     last : (n k : ℕ) → k < suc n → (k ≡ n) ⊎ (k < n)
     last n k l = ⊎_elim (λ h. inr h) (λ h. inl (omega (arith, h, l))) (cases_lt k n)
 
--- Of those that pass t no two are but such as both pass s: then they are one at most, or all pass s.
+-- If any two that pass t both pass s, then at most one passes t, or all that do pass s.
 alone : (a c : Bool) → ((a && true) && not (c && false)) ≡ false → a ≡ false
 alone true true e = absurd (cc)
 alone true false e = absurd (cc)

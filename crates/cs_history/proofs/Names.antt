@@ -35,7 +35,7 @@ at_most_one false = omega arith
 pub one_no : (b : Bool) → b ≡ false → one b ≡ 0
 one_no b e = ap one e
 
--- how often a name stands among what is pending at minute t
+-- how often a name occurs among what is pending at minute t
 abbrev pub due_of : Run → ℕ → ℕ → ℕ
 due_of n t j = one (same_run n (run_of j t))
 
@@ -94,7 +94,7 @@ due_cron : (p : Plan) (t : ℕ) → AllByRecursion (λ j. is_cron p j ≡ true) 
 due_cron p t = all-filter (λ j. is_cron p j ≡ true) (λ j. p.due j t) (below p.crons) (all_map (λ j. j < p.crons) (λ j. is_cron p j ≡ true) (below p.crons) (λ j h. lt-ltb j p.crons h) (all_below p.crons))
 
 module _ (p : Plan) (s : State) (k : AreNamed p s) where
-  -- a Begin, whatever it comes to
+  -- a Begin, whatever it leads to
   begin_named : (j : ℕ) → list_any (λ i. j == i) s.pending ≡ true → (a : Answer) → AreNamed p (record s {
     pending = filter (λ i. not (j == i)) s.pending;
     waiting = with_waiting a s.waiting (run_of j s.now);

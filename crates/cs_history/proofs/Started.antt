@@ -65,7 +65,7 @@ or_right : (a b : Bool) → b ≡ true → (a || b) ≡ true
 or_right true b e = refl
 or_right false b e = e
 
--- no job stands twice in order of delay
+-- no job occurs twice in order of delay
 pairs_placed : (before : ℕ → ℕ → Bool) (j : ℕ) (js : List ℕ) → AllByRecursion (λ i. ((j == i) ≡ false) × ((i == j) ≡ false)) js → EachPair (λ i k. (i == k) ≡ false) js → EachPair (λ i k. (i == k) ≡ false) (placed before j js)
 pairs_placed before j [] a d = (tt, tt)
 pairs_placed before j (i ∷ is) a d = go (before j i) (pairs_placed before j is a.1 d.1)

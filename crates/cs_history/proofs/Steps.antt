@@ -1,4 +1,4 @@
--- The state of a history and an event is the next state, and the legal events are those with no refusal.
+-- A history with an event is in the next state, and the legal events are those without refusal.
 use Rattle.std.proofs.Common.{arith, ◌+◌, Result, Ok, Err, ℕ, ◌≡◌, ◌%◌, ◌≤◌, Bool, true, false, not, ◌&&◌, ◌↔◌, if◌then◌else◌, List, [], ◌∷◌, refl, sym, ap, ◌∙◌, subst, ◌==◌, Option, Some, None, nat_lt, nat_le}
 use Rattle.std.specs.List.{list_any}
 use Rattle.std.proofs.lemmas.Bool.{and_parts, and_from, leb-true, le-leb, ltb-true, lt-ltb, eqb-true, eq-eqb, not-true}

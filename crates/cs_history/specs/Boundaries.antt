@@ -31,7 +31,7 @@ abbrev pub both_unlocked : History
 both_unlocked = history (record { now = 4320; up = true; stamps = [] })
     (Minute 4321 ∷ Begin 0 ∷ Begin 1 ∷ [])
 
--- two jobs that wait for a lock and one that gives up, each due at each full hour
+-- two jobs that wait for a lock and a skip job, each due at each full hour
 abbrev pub at_one_lock : Plan
 at_one_lock = hourly (0 ∷ 0 ∷ 0 ∷ []) (Wait ∷ Wait ∷ Skip ∷ []) (20 ∷ 20 ∷ 20 ∷ [])
 

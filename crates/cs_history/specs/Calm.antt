@@ -8,11 +8,12 @@ use Rattle.cs_history.specs.declared.mode.Mode.TheVariants.{Skip}
 use Rattle.cs_history.specs.declared.run.Run.{Run}
 use Rattle.cs_history.specs.declared.run.Going.{Going}
 
--- a window of the job begins at this minute: where a cron job is due, where the catch-up hours begin
+-- a window of the job begins at this minute: a cron job is due, or the catch-up hours begin
 abbrev pub opens : Plan → ℕ → ℕ → Bool
 opens p j d = if is_cron p j then p.due j d else (d % 1440 == p.from)
 
--- how many minutes its windows last: the declared time, of those that wait what c gives them; a catch-up run may start in the last of the catch-up hours' minutes
+-- how many minutes its windows last: the declared time, of those that wait what c gives them; a
+-- catch-up run may start in the last of the catch-up hours' minutes
 abbrev pub reach : Plan → (ℕ → ℕ) → ℕ → ℕ
 reach p c j =
     if is_cron p j then (if waits p j then c j else p.limit j) else (p.to - 1 + p.limit j) - p.from
@@ -52,7 +53,7 @@ pub record IsCalm (p : Plan) (c : ℕ → ℕ) (t : ℕ) : Type 0 where
   pub exclusive : (v w : Run) → Holds p c t v → Holds p c t w → same_run v w ≡ false
       → is_cron p v.job ≡ true → is_cron p w.job ≡ true → rivals p v.job w.job ≡ true
       → (takes_lock p v.job ≡ true) × (takes_lock p w.job ≡ true)
-  -- no cron window is beside a catch-up window of its exclusive group
+  -- no cron window meets a catch-up window of its exclusive group
   pub beside : (v w : Run) → Holds p c t v → Holds p c t w → is_cron p v.job ≡ true
       → is_cron p w.job ≡ false → (rivals p v.job w.job ≡ false) × (rivals p w.job v.job ≡ false)
   -- all the windows together are within the capacity
@@ -68,9 +69,10 @@ arrives p g t = total (λ j. if locks p g j then p.limit j else 0) (due_at p t)
 
 -- b bounds the minutes that are left to do for group g before what arrives at the minute
 pub record IsBacklog (p : Plan) (c : ℕ → ℕ) (g : ℕ) (b : ℕ → ℕ) : Type 0 where
-  -- from minute to minute what arrives is added and the lock's holder takes off one; asked only where both minutes can be reached
+  -- from minute to minute what arrives is added and the lock's holder takes off one; asked only
+  -- where both minutes can be reached
   pub falls : (t : ℕ) → IsReached t → IsReached (t + 1) → (b t + arrives p g t) - 1 ≤ b (t + 1)
-  -- within the reach of each run that waits it is 0; past the last minute that can be reached nothing is asked of it
+  -- within the reach of each run that waits it is 0, or no minute is left that can be reached
   pub clears : (j d : ℕ) → is_cron p j ≡ true → waits p j ≡ true → locks p g j ≡ true → IsReached d
       → p.due j d ≡ true → (z : ℕ) × (d < z) × (z ≤ d + c j) × (IsReached z → b z ≡ 0)
 
@@ -85,7 +87,7 @@ pub record HasWaiter (p : Plan) (g : ℕ) : Type 0 where
 abbrev pub IsBounded : Plan → (ℕ → ℕ) → (ℕ → ℕ → ℕ) → Type 0
 IsBounded p c b = (g : ℕ) → HasWaiter p g → IsBacklog p c g (b g)
 
--- the window of a running run: of a cron run from its due minute on, of an anacron run from the catch-up hours of the day on which it started
+-- the window of a running run: from its due minute, or from the catch-up hours of its start's day
 abbrev pub window_of : Plan → Going → Run
 window_of p r = record {
   job = r.run.job;

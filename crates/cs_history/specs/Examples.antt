@@ -126,7 +126,8 @@ midnights l = plan_of 1 [] (at_of (0 ∷ [])) 3 true (λ _. l) 1
 abbrev pub sundays : Plan
 sundays = plan_of 1 [] (λ j t. ((t / 1440 + 4) % 7 == 0) && (t % 1440 == 720)) 3 true (λ _. 4320) 1
 
--- a cron job at minute m of the day, and two anacron jobs of its group, all of up to an hour, with catch-up hours 03:00 to 05:00
+-- a cron job at minute m of the day, and two anacron jobs of its group, all of up to an hour, with
+-- catch-up hours 03:00 to 05:00
 abbrev pub beside_catch_up : ℕ → Plan
 beside_catch_up m = record {
   crons = 1;
@@ -150,7 +151,7 @@ beside_catch_up m = record {
 abbrev pub heavy : Mode → Plan
 heavy m = plan_of 2 (m ∷ m ∷ []) (at_of (0 ∷ 0 ∷ [])) 3 true (λ _. 10) 2
 
--- at each full hour a job of 20 minutes that waits, at minute 49 one that gives up
+-- at each full hour a job of 20 minutes that waits, at minute 49 a skip job
 abbrev pub skipping : Plan
 skipping = plan_of 2 (Wait ∷ Skip ∷ []) (λ j t. t % 60 == get_or (0 ∷ 49 ∷ []) j 0) 3 true
     (λ j. if j == 0 then 20 else 10) 1
@@ -160,7 +161,7 @@ abbrev pub spring : Plan
 spring = plan_of 2 [] (λ j t. t == get_or (27960420 ∷ 27960510 ∷ []) j 0) 3 true
     (λ j. if j == 0 then 120 else 10) 1
 
--- the first goes on over an outage that ends one minute before the second is due, or this much later
+-- the first goes on over an outage that ends a minute before the second is due, or this much later
 abbrev pub over_outage : ℕ → History
 over_outage later = history (record { now = 27960419; up = true; stamps = [] })
     (Minute 27960420 ∷ Begin 0 ∷ Down ∷ Up (later + 27960509) ∷ Minute (later + 27960510) ∷ Begin 1
@@ -180,7 +181,7 @@ abbrev pub all_begin : History
 all_begin = history (record { now = at 59; up = true; stamps = [] })
     (Minute (at 60) ∷ Begin 0 ∷ Begin 1 ∷ Begin 2 ∷ [])
 
--- a job that gives up finds the lock held by one that waits
+-- a skip job finds the lock held by one that waits
 abbrev pub held_lock : History
 held_lock = history (record { now = at 59; up = true; stamps = [] })
     (Minute (at 60) ∷ Begin 1 ∷ Begin 0 ∷ [])

@@ -10,7 +10,7 @@ use Rattle.cs_history.specs.declared.event.Event.TheVariants.{Minute, Begin, Got
 use Rattle.cs_history.specs.declared.mode.Mode.{Mode}
 use Rattle.cs_history.specs.declared.mode.Mode.TheVariants.{Plain, Skip, Wait, Shared}
 
--- the minute at which a history starts, whether the daemon is up then, and the stamps of the anacron jobs; nothing runs
+-- the minute at which a history starts, up or down, and the anacron stamps; nothing runs
 pub record Start : Type 0 where
   pub now : ℕ
   pub up : Bool
@@ -53,13 +53,13 @@ is_up (h ▸ e) = is_up h
 abbrev pub is_free : Plan → List Going → ℕ → Bool
 is_free p rs j = not (list_any (λ r. in_the_way p j r.run.job) rs)
 
--- what the Begin of a job comes to
+-- what the Begin of a job leads to
 pub data Answer : Type 0 where
   Starts : Answer
   Waits : Answer
   Skips : Answer
 
--- where the lock is held (flock(1)): -n gives up, flock alone and -s wait; without a lock a job starts
+-- if the lock is held (flock(1)), -n skips, flock alone and -s wait; without a lock a job starts
 abbrev pub when_held : Mode → Answer
 when_held Plain = Starts
 when_held Skip = Skips
@@ -82,7 +82,7 @@ with_waiting Starts ws w = ws
 with_waiting Waits ws w = ws ++ w ∷ []
 with_waiting Skips ws w = ws
 
--- the runs that have started and not ended, in order of start: going down ends no run (cron(8) starts its jobs and does not stop them)
+-- the runs that have started and not ended, in order of start; Down ends none, as in cron(8)
 abbrev pub running : Plan → History → List Going
 running p (From s) = []
 running p (h ▸ Begin j) =
@@ -92,7 +92,8 @@ running p (h ▸ Catch j) = running p h ++ going j (now h) (now h) ∷ []
 running p (h ▸ End r) = filter (λ x. not (same_run r x.run)) (running p h)
 running p (h ▸ e) = running p h
 
--- the jobs due at the last Minute that have not begun since (cron(8)): what is due in an outage is lost, and a daemon that comes up in a minute starts nothing due at it
+-- the jobs due at the last Minute that have not begun since (cron(8)): what is due in an outage is
+-- lost, and a daemon that comes up in a minute starts nothing due at it
 abbrev pub pending : Plan → History → List ℕ
 pending p (From s) = []
 pending p (h ▸ Minute t) = due_at p t
@@ -110,7 +111,8 @@ waiting p (h ▸ Down) = []
 waiting p (h ▸ Up t) = []
 waiting p (h ▸ e) = waiting p h
 
--- the stamps (anacron(8)), one for each anacron job: those of the start, none for those that it does not reach; when a run ends, its job's stamp is the day on which the run started
+-- the stamps (anacron(8)), one for each anacron job: those of the start, none for those that it
+-- does not reach; when a run ends, its job's stamp is the day on which the run started
 abbrev pub stamps : Plan → History → List (Option ℕ)
 stamps p (From s) = take (p.jobs - p.crons) (s.stamps ++ replicate (p.jobs - p.crons) None)
 stamps p (h ▸ End r) =
@@ -126,7 +128,7 @@ abbrev pub pass_of : ℕ → List ℕ → Option Pass
 pass_of t [] = None
 pass_of t (j ∷ js) = Some (record { at = t; left = j ∷ js })
 
--- the jobs that a pass has which begins at minute t: those due that day of which no run is running, by delay, then line
+-- the jobs of a pass that begins at minute t: due that day and not running, by delay, then line
 abbrev pub owed_at : Plan → List (Option ℕ) → List Going → ℕ → List ℕ
 owed_at p ss rs t = filter (λ j.
     p.owed j (get_or ss (j - p.crons) None) (t / 1440) && not (list_any (λ r. r.run.job == j) rs))
@@ -141,7 +143,8 @@ abbrev pub without_first : Option Pass → Option Pass
 without_first None = None
 without_first (Some o) = elim o.left [ [] ↦ None | j ∷ js ↦ pass_of o.at js ]
 
--- the open pass (anacron(8) with -s): it begins at a coming up and at the pass minute, and is over when its last job has started, or at a going down
+-- the open pass (anacron(8) with -s): it begins at a coming up and at the pass minute, and is over
+-- when its last job has started, or at a going down
 abbrev pub pass : Plan → History → Option Pass
 pass p (From s) = None
 pass p (h ▸ Minute t) =
@@ -172,7 +175,7 @@ pub record MayGet (p : Plan) (h : History) (r : Run) : Type 0 where
   pub is_waiting : list_any (same_run r) (waiting p h) ≡ true
   pub free : is_free p (running p h) r.job ≡ true
 
--- the first job of the open pass, once its delay is over, in the catch-up hours, one at a time (anacron(8) with -s)
+-- the open pass's first job, its delay over, in the catch-up hours, one at a time (anacron(8) -s)
 pub record MayCatch (p : Plan) (h : History) (j : ℕ) : Type 0 where
   pub up : is_up h ≡ true
   pub begun : ℕ
@@ -214,14 +217,15 @@ IsInTime p (h ▸ Minute t) = IsInTime p h × AllByRecursion (IsWithin p t) (run
 IsInTime p (h ▸ Up t) = IsInTime p h × AllByRecursion (IsWithin p t) (running p h)
 IsInTime p (h ▸ e) = IsInTime p h
 
--- no two runs of an exclusive group run at once but such as both share the lock, and the weights are within the capacity
+-- no two runs of an exclusive group run at once but such as both share the lock, and the weights
+-- are within the capacity
 pub record IsSafeNow (p : Plan) (h : History) : Type 0 where
   pub apart : EachPair
       (λ r q. (rivals p q.run.job r.run.job && not (both_share p q.run.job r.run.job)) ≡ false)
       (running p h)
   pub load : total (λ r. p.weight r.run.job) (running p h) ≤ p.capacity
 
--- the event is no Begin that comes to a skip
+-- the event is no Begin that is skipped
 abbrev pub IsNoSkip : Plan → History → Event → Type 0
 IsNoSkip p h (Begin j) = answer p (running p h) j ≢ Skips
 IsNoSkip p h e = ⊤

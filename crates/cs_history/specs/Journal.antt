@@ -6,7 +6,7 @@ use Rattle.cs_history.specs.Plan.{Plan}
 use Rattle.cs_history.specs.History.{History, From, ◌▸◌, Start, IsLegal}
 use Rattle.cs_history.specs.Step.{State, state_of, reply}
 
--- the history that a journal tells
+-- the history in a journal
 abbrev pub told : Start → List (Event × Reply) → History
 told s es = fold (λ h e. h ▸ e.0) (From s) es
 

@@ -1,4 +1,4 @@
--- A plan, as far as histories and safety speak of it: the jobs of both tables, and what the operator declared of them.
+-- A plan as histories and safety see it: the jobs of both tables, and the operator's declarations.
 use Rattle.std.specs.Prelude.{◌≡◌, ℕ, ◌%◌, ◌<◌, ◌≤◌, Bool, true, false, not, ◌&&◌, List, Option, Some, None, if◌then◌else◌, nat_lt, ◌==◌, filter, zero, suc, []}
 use Rattle.cs_civil.specs.Calendar.{first_minute, last_minute}
 use Rattle.cs_history.specs.Lists.{below, placed}
@@ -26,10 +26,10 @@ pub record Plan : Type 0 where
   -- the catch-up hours are the minutes of the day from `from` on, below `to`
   pub from : ℕ
   pub to : ℕ
-  -- the minute of the day at which a pass begins; where there is none, passes begin at a coming up alone
+  -- the minute of the day at which a pass begins; without one, passes begin only at a coming up
   pub pass_minute : Option ℕ
 
--- whether the mode takes the lock of the group, waits for it, shares it (flock(1): with -n, without, with -s)
+-- whether the mode takes the group's lock, waits for it, shares it (flock(1): -n, none, -s)
 abbrev pub takes : Mode → Bool
 takes Plain = false
 takes Skip = true
@@ -85,7 +85,7 @@ same_group p i j = in_group_of p (p.group i) j
 abbrev pub both_share : Plan → ℕ → ℕ → Bool
 both_share p i j = shares p i && shares p j
 
--- a running run of j is in the way of i (flock(1)): both take the lock of one group, and not both share it
+-- a running run of j keeps i's lock from it (flock(1)): both take one lock, and not both share it
 abbrev pub in_the_way : Plan → ℕ → ℕ → Bool
 in_the_way p i j =
     (takes_lock p i && takes_lock p j) && (same_group p i j && not (both_share p i j))
@@ -124,7 +124,7 @@ pub record IsCivil (t : ℕ) : Type 0 where
   pub first : first_minute ≤ t
   pub last : t ≤ last_minute
 
--- 1970-01-04 00:00, the first minute at which a history may start: three whole days lie before it
+-- 1970-01-04 00:00, the first minute at which a history may start, after three whole days
 abbrev pub first_start : ℕ
 first_start = 4320
 
@@ -133,7 +133,7 @@ pub record IsReached (t : ℕ) : Type 0 where
   pub first : first_start ≤ t
   pub last : t ≤ last_minute
 
--- what is read and joined is such a plan: numbers in range, names resolved, no lock for an anacron job
+-- what is read and joined is such a plan: numbers in range, names resolved, anacron without locks
 pub record IsPlan (p : Plan) : Type 0 where
   pub crons : p.crons ≤ p.jobs
   pub limits : (j : ℕ) → 0 < p.limit j

@@ -1,4 +1,4 @@
--- The refusals as they are printed.
+-- The refusals as printed.
 use Rattle.std.specs.Prelude.{ℕ, List, codes}
 use Rattle.cs_history.specs.declared.refusal.Refusal.{Refusal}
 use Rattle.cs_history.specs.declared.refusal.Refusal.TheVariants.{NotUp, AlreadyUp, WrongMinute, NotSettled, NotDue, LockHeld, NotWaiting, NotRunning, NotCatchable, OutOfRange, HistoryFull, OutOfMemory}

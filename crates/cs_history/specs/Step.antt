@@ -1,4 +1,4 @@
--- The state that a history leaves; of a state and an event the next state, the reply and the refusal.
+-- The state after a history; for a state and an event the next state, the reply and the refusal.
 use Rattle.std.specs.Prelude.{◌≡◌, ℕ, ◌+◌, ◌-◌, ◌%◌, ◌/◌, Bool, true, false, not, ◌&&◌, List, [], ◌∷◌, ◌++◌, Option, Some, None, if◌then◌else◌, nat_lt, nat_le, ◌==◌, filter, set, Result, Ok, Err}
 use Rattle.std.specs.List.{list_any}
 use Rattle.cs_civil.specs.Calendar.{first_minute, last_minute}
@@ -87,7 +87,7 @@ abbrev pub is_turn : Plan → ℕ → Option Pass → ℕ → Bool
 is_turn p t None j = false
 is_turn p t (Some o) j = is_first p t o.at o.left j
 
--- it is the job's turn, no anacron run is running, and the minute of the day is in the catch-up hours
+-- it is the job's turn, no anacron run is running, and the minute is in the catch-up hours
 abbrev pub is_catchable : Plan → State → ℕ → Bool
 is_catchable p s j = is_turn p s.now s.pass j
     && not (list_any (λ r. not (is_cron p r.run.job)) s.running) && nat_le p.from (s.now % 1440)
@@ -117,7 +117,7 @@ is_in_time p t r [] = true
 is_in_time p t r (x ∷ xs) =
     if same_run r x.run then nat_lt t (x.since + p.limit r.job) else is_in_time p t r xs
 
--- how it is said what a Begin comes to
+-- the reply to a Begin
 abbrev pub said : Answer → Run → Reply
 said Starts r = Started r
 said Waits r = Waiting
@@ -133,7 +133,7 @@ reply p s (End r) = Ended (is_in_time p s.now r s.running)
 reply p s Down = Went
 reply p s (Up t) = Came
 
--- what a refusal names: the one that comes first, or want of memory where none does
+-- what a refusal names: the first one, or OutOfMemory if there is none
 abbrev pub IsFirst : Refusal → Option Refusal → Type 0
 IsFirst f None = f ≡ OutOfMemory
 IsFirst f (Some g) = f ≡ g

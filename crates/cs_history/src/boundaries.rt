@@ -1,4 +1,4 @@
-//! Laws that hold the definitions from both sides, where they begin and where they end.
+//! Laws that fix where the definitions begin and end, from both sides.
 ghost use Rattle.std.specs.Prelude.{◌≡◌, ◌≢◌, ◌+◌, ◌-◌, ◌≤◌, ℕ, Bool, [], ◌∷◌};
 ghost use Rattle.cs_history.specs.Boundaries.{RunTogether, RunsAlone, at_one_lock, both_unlocked};
 ghost use Rattle.cs_history.specs.Boundaries.{in_a_queue, last_first, newcomer, over_at, unlocked};
@@ -11,8 +11,8 @@ ghost use Rattle.cs_history.specs.declared.event.Event.TheVariants.{Minute, Up};
 ghost use Rattle.cs_history.specs.declared.mode.Mode.TheVariants.{Shared};
 ghost use Rattle.cs_history.specs.declared.run.Going.{Going};
 
-/// A history may start at each minute from 1970-01-04 00:00 to 9999-12-31 23:59, up or down, and at
-/// no other. The call does nothing.
+/// Lemma. A history may start at each minute from 1970-01-04 00:00 to 9999-12-31 23:59, up or down,
+/// and at no other.
 pub fn first_and_last_start()
     ensures first { (p : Plan) (up : Bool) → IsLegal p (start 4320 up []) }
     ensures before { (p : Plan) (up : Bool) → IsLegal p (start 4319 up []) → ⊥ }
@@ -20,9 +20,8 @@ pub fn first_and_last_start()
     ensures after { (p : Plan) (up : Bool) → IsLegal p (start 4223371680 up []) → ⊥ }
 {}
 
-/// A run of at most `max` minutes is in time in the minute `max - 1` after that of its start, and no
-/// more in the minute `max` after it: as the clock goes on, and as the daemon comes up. The call does
-/// nothing.
+/// Lemma. A run of at most `max` minutes is in time in the minute `max - 1` after that of its
+/// start, and late in the minute `max` after it: as the clock goes on, and as the daemon comes up.
 pub fn last_minute_of_a_run()
     ensures minute { (p : Plan) (h : History) (r : Going) → RunsAlone p h r
         → IsInTime p (h ▸ Minute (over_at p r - 1)) }
@@ -34,8 +33,8 @@ pub fn last_minute_of_a_run()
         → IsInTime p (h ▸ Up (over_at p r)) → ⊥ }
 {}
 
-/// A run that shares the lock of an exclusive group is unsafe beside one of another mode of that
-/// group, and two that share it aren't. The call does nothing.
+/// Lemma. A run that shares the lock of an exclusive group is unsafe together with one of another
+/// mode of that group, and two that share it aren't.
 pub fn sharers_beside_others()
     ensures first { (p : Plan) (h : History) (r q : Going) → RunTogether p h r q
         → p.mode r.run.job ≡ Shared → p.mode q.run.job ≢ Shared → IsSafeNow p h → ⊥ }
@@ -46,8 +45,7 @@ pub fn sharers_beside_others()
         → p.weight r.run.job + p.weight q.run.job ≤ p.capacity → IsSafeNow p h }
 {}
 
-/// A whole history of a plan that isn't calm: it is legal and in time, and not safe. The call does
-/// nothing.
+/// Lemma. A plan that isn't calm can have a history that is legal and in time, and not safe.
 pub fn unsafe_history()
     ensures plan { IsPlan unlocked }
     ensures legal { IsLegal unlocked both_unlocked }
@@ -56,8 +54,8 @@ pub fn unsafe_history()
     ensures not_calm { (c : ℕ → ℕ) → IsCalm unlocked c 4321 → ⊥ }
 {}
 
-/// No order is promised to those that wait (flock(1)): a newcomer may get the lock while another
-/// waits, and of two that wait the later one. The call does nothing.
+/// Lemma. Waiting runs have no order (flock(1)): a newcomer may get the lock while another waits,
+/// and of two that wait the later one.
 pub fn waiters_may_be_passed()
     ensures newcomer { IsLegal at_one_lock newcomer }
     ensures it_runs { running at_one_lock newcomer ≡ going 2 (at 60) (at 60) ∷ [] }

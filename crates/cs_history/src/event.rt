@@ -1,11 +1,11 @@
 use crate::run::Run;
 
-/// What may happen next. Minutes are civil minutes; one that is out of range is refused when the event is tried.
+/// An event that may come next. Minutes are civil minutes; one out of range is refused when tried.
 #[derive(Clone, Copy, Debug, PartialEq, Eq)]
 pub enum Event {
     /// The clock reaches this minute.
     Minute(u64),
-    /// cron begins this job, which is due now: it starts its run, or finds the lock held.
+    /// cron begins this job, which is due now: its run starts, waits for the lock, or is skipped.
     Begin(u16),
     /// The waiting run of this job, due at this minute, gets the lock and starts.
     Got(u16, u64),
@@ -13,7 +13,7 @@ pub enum Event {
     Catch(u16),
     /// This run ends.
     End(Run),
-    /// The daemon goes down. The runs that have started go on.
+    /// The daemon goes down. Running runs go on.
     Down,
     /// The daemon comes up in this minute.
     Up(u64),

@@ -8,8 +8,8 @@ ghost use Rattle.cs_history.specs.Step.{State, Steps, after, refusal, state_of};
 ghost use Rattle.cs_history.specs.declared.event.Event.{Event};
 ghost use Rattle.cs_history.specs.declared.reply.Reply.{Reply};
 
-/// The state that a history leaves moves on as its last event says, and those events may come that meet no refusal.
-/// The call does nothing.
+/// Lemma. The state after a history follows from the state before its last event, and exactly the
+/// events that meet no refusal may come next.
 #[tactic(auto, using(crate::proofs::Steps::stands, crate::proofs::Steps::legal))]
 pub fn states_follow_histories()
     ensures stands { (p : Plan) (h : History) (e : Event)
@@ -18,21 +18,20 @@ pub fn states_follow_histories()
         ↔ May p h e }
 {}
 
-/// An accepted step, written at the end of a journal, leaves a journal. The call does nothing.
+/// Lemma. A journal with an accepted step at its end is a journal.
 pub fn journals_grow()
     ensures { (p : Plan) (base : Start) (es : List (Event × Reply)) (old new : State) (e : Event)
         (r : Reply) → IsJournal p base es old → Steps p old e (Ok r) new
         → IsJournal p base (es ++ (e, r) ∷ []) new }
 {}
 
-/// Runs have names of their own: each state that a legal history leaves keeps them apart, whether or not its runs keep
-/// their declared times. The call does nothing.
+/// Lemma. The runs in each state of a legal history have different names, in time or not.
 pub fn names_differ()
 
     // nothing runs at a start
     ensures start { (p : Plan) (s : Start) → AreNamed p (state_of p (From s)) }
 
-    // each event that is not refused keeps it
+    // each event that is not refused keeps that
     ensures step { (p : Plan) (s : State) (e : Event) → refusal p s e ≡ None → AreNamed p s
         → AreNamed p (after p s e) }
 
@@ -42,7 +41,8 @@ pub fn names_differ()
     // so no two of its runs have one name
     ensures apart { (p : Plan) (s : State) → AreNamed p s → AreApart p s }
 
-    // where no anacron job is due on the day of its stamp, no two that it has started have one, ended or not
+    // if no anacron job is due on the day of its stamp, no two runs that it has started have one
+    // name, ended or not
     ensures started { (p : Plan) (h : History) → ((j day : ℕ) → p.owed j (Some day) day ≡ false)
         → IsLegal p h → EachPair (λ r q. same_run r.run q.run ≡ false) (started p h) }
 {}

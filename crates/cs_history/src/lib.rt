@@ -1,4 +1,4 @@
-//! What happens to the jobs of a crontab and an anacrontab, event by event, and what a history of such events leaves.
+//! Histories: the events of the jobs of a crontab and an anacrontab, and the state after them.
 #![tactic(auto)]
 
 mod boundaries;

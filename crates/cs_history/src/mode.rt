@@ -1,9 +1,9 @@
-/// How a job treats the lock of its group, as `flock(1)` would before its command.
+/// How a job treats the lock of its group, like `flock(1)` before its command.
 #[derive(Clone, Copy, Debug, PartialEq, Eq)]
 pub enum Mode {
     /// The job takes no lock.
     Plain,
-    /// `flock -n`: where the lock is held the run is given up at once.
+    /// `flock -n`: the run is skipped if the lock is held.
     Skip,
     /// `flock`: the run waits until nobody holds the lock.
     Wait,

@@ -5,7 +5,7 @@ ghost use Rattle.cs_history.specs.declared.refusal.Refusal.TheVariants.{OutOfMem
 use std::alloc::{AllocError, AllocFailed};
 use thiserror::Error;
 
-/// Why an event was refused. It is printed as its number and its name, `4 NotSettled`, and want of memory as `out of memory`.
+/// Why an event was refused, printed as number and name, `4 NotSettled`, or as `out of memory`.
 #[derive(Clone, Copy, Debug, PartialEq, Eq, Error)]
 #[error("{}", self.text())]
 pub enum Refusal {
@@ -13,7 +13,7 @@ pub enum Refusal {
     NotUp,
     /// The daemon is up.
     AlreadyUp,
-    /// The minute is not the next one, or lies before the present one.
+    /// The minute is not the next one, or is before the present one.
     WrongMinute,
     /// A job that is due has not begun, or a waiting run could have the lock.
     NotSettled,
@@ -27,7 +27,7 @@ pub enum Refusal {
     NotRunning,
     /// anacron would not start this job now.
     NotCatchable,
-    /// The minute does not lie from 1970-01-02 to 9999-12-31.
+    /// The minute is not from 1970-01-02 to 9999-12-31.
     OutOfRange,
     /// The journal has no room for the event.
     HistoryFull,
@@ -36,7 +36,7 @@ pub enum Refusal {
 }
 
 impl Refusal {
-    /// Its number and its name, as it is printed.
+    /// Returns its number and name, as printed.
     pub fn text(self) -> &'static str
         ensures { result.now ≡ refusal_text self }
     {

@@ -1,6 +1,6 @@
 use crate::run::Run;
 
-/// What an accepted event is answered.
+/// The reply to an accepted event.
 #[derive(Clone, Copy, Debug, PartialEq, Eq)]
 pub enum Reply {
     /// The clock was moved on.
@@ -9,12 +9,12 @@ pub enum Reply {
     Started(Run),
     /// The job waits for the lock of its group.
     Waiting,
-    /// The job found the lock held and gave up.
+    /// The job found the lock held and was skipped.
     Skipped,
-    /// The run has ended: `true` within its declared time.
+    /// The run has ended: `true` if within its declared time.
     Ended(bool),
-    /// The daemon is down.
+    /// The daemon went down.
     Went,
-    /// The daemon is up.
+    /// The daemon came up.
     Came,
 }

@@ -1,16 +1,17 @@
-/// A run by its name: its job, and the minute in which the job was due (`cron(8)`) or, of an anacron job, the minute in
-/// which the run started.
-///
-/// Jobs are counted from 0, those of the crontab first. Minutes are civil minutes.
+/// A run's name.
 #[derive(Clone, Copy, Debug, PartialEq, Eq, Hash)]
 pub struct Run {
+    /// Its job, counted from 0, those of the crontab first.
     pub job: u16,
+    /// The civil minute in which the job was due (`cron(8)`), or an anacron job's run started.
     pub at: u64,
 }
 
-/// A run that goes on, and the civil minute in which it started.
+/// A running run.
 #[derive(Clone, Copy, Debug, PartialEq, Eq)]
 pub struct Going {
+    /// Its name.
     pub run: Run,
+    /// The civil minute in which it started.
     pub since: u64,
 }

@@ -2,9 +2,11 @@ use crate::event::Event;
 use crate::start::Start;
 use cs_civil::Sequence;
 
-/// A start and the events that are tried from there on, the first one first. Nothing says that they are accepted.
+/// A start and the events to try from there, in order. They need not be accepted.
 #[derive(Debug, Drop)]
 pub struct Script {
+    /// The start.
     pub start: Start,
+    /// The events.
     pub events: Sequence<Event>,
 }

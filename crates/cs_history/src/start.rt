@@ -4,10 +4,10 @@ use arrayvec::ArrayVec;
 use cs_civil::{Day, Minute};
 use std::marker::Model;
 
-/// How many stamps a start holds, and how many jobs an anacrontab has at most.
+/// The most stamps of a start, and jobs of an anacrontab.
 pub const MAX_STAMPS: usize = 64;
 
-/// How a history starts: at this minute the daemon is up or down, nothing runs, and the anacron jobs have these stamps.
+/// The start of a history: up or down at this minute, nothing running, and these anacron stamps.
 #[derive(Debug, Drop)]
 pub struct Start {
     minute: Minute,
@@ -24,8 +24,9 @@ impl Model for Start {
 }
 
 impl Start {
-    /// The start at this minute. `stamps` are by anacron job, in order of line, `None` for a job without a stamp; jobs that
-    /// the list doesn't reach have none, and what stands past the last job counts for nothing.
+    /// Returns the start at this minute. `stamps` are by anacron job, in order of line, `None` for
+    /// a job without a stamp; jobs past its end have none, and stamps past the last job are
+    /// ignored.
     pub fn new(now: Minute, up: bool, stamps: ArrayVec<Option<Day>, 64>) -> Start
         ensures { result ≡ record { now = now; up = up; stamps = stamps.items } }
     {
@@ -36,21 +37,21 @@ impl Start {
         }
     }
 
-    /// The civil minute at which the history starts.
+    /// Returns the civil minute at which the history starts.
     pub fn now(&self) -> Minute
         ensures { result ≡ self.now.now }
     {
         self.minute
     }
 
-    /// Whether the daemon is up.
+    /// Checks whether the daemon is up.
     pub fn is_up(&self) -> bool
         ensures { result ≡ self.now.up }
     {
         self.up
     }
 
-    /// The stamps, at most 64.
+    /// Returns the stamps, at most 64.
     pub fn stamps(&self) -> &[Option<Day>]
         ensures value { result.now ≡ self.now.stamps }
         ensures few { length result.now ≤ MAX_STAMPS }

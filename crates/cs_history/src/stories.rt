@@ -8,7 +8,7 @@ ghost use Rattle.cs_history.specs.declared.mode.Mode.TheVariants.{Plain, Shared,
 ghost use Rattle.cs_history.specs.declared.refusal.Refusal.TheVariants.{AlreadyUp, LockHeld, NotCatchable, NotDue, NotRunning, NotSettled, NotUp, NotWaiting, OutOfRange, WrongMinute};
 ghost use Rattle.cs_history.specs.declared.reply.Reply.TheVariants.{Came, Clock, Ended, Skipped, Started, Waiting, Went};
 
-/// Worked examples: Minutes, outages and the range of minutes. The call does nothing.
+/// Lemma. Worked examples: minutes, outages and the range of minutes.
 pub fn clock_and_outages()
 
     // a job that is due has to begin before the clock may move on
@@ -22,7 +22,7 @@ pub fn clock_and_outages()
         (Minute (at 60) ∷ Begin 0 ∷ Minute (at 61) ∷ End (run_of 0 (at 60)) ∷ [])
         ≡ Said Clock ∷ Said (Started (run_of 0 (at 60))) ∷ Said Clock ∷ Said (Ended false) ∷ [] }
 
-    // going down and coming up leave a run that goes on
+    // a run goes on when the daemon goes down and comes up
     ensures outage { let h = story (hourly (0 ∷ []) [] (60 ∷ [])) (start (at 50) false [])
         (Up (at 59) ∷ Minute (at 60) ∷ Begin 0 ∷ Down ∷ Up (at 70) ∷ []) in
         state_of (hourly (0 ∷ []) [] (60 ∷ [])) h
@@ -58,27 +58,27 @@ pub fn clock_and_outages()
         ≡ Refused OutOfRange ∷ Refused WrongMinute ∷ Refused NotWaiting ∷ Said Clock ∷ Said Went
         ∷ Said Came ∷ Refused NotDue ∷ Said Clock ∷ [] }
 
-    // a wrong minute is told before what is not settled
+    // a wrong minute is refused before what is not settled
     ensures wrong_minute_first { answers (hourly (0 ∷ []) [] []) (start (at 59) true [])
         (Minute (at 60) ∷ Minute (at 62) ∷ Minute (at 60) ∷ Minute (at 61) ∷ [])
         ≡ Said Clock ∷ Refused WrongMinute ∷ Refused WrongMinute ∷ Refused NotSettled ∷ [] }
 
-    // after 9999-12-31 23:59 nothing comes
+    // nothing comes after 9999-12-31 23:59
     ensures last_minute { answers (hourly (0 ∷ []) [] []) (start 4223371679 true [])
         (Minute 4223371680 ∷ Down ∷ Up 4223371680 ∷ Up 4223371679 ∷ [])
         ≡ Refused OutOfRange ∷ Said Went ∷ Refused OutOfRange ∷ Said Came ∷ [] }
 
-    // before 1970-01-02 minutes are out of range, from there on only wrong
+    // minutes before 1970-01-02 are out of range, later ones only wrong
     ensures range_stays { answers (hourly (0 ∷ []) [] []) (start (at 59) true [])
         (Minute 1439 ∷ Minute 1440 ∷ Down ∷ Up 1439 ∷ Up 1440 ∷ [])
         ≡ Refused OutOfRange ∷ Refused WrongMinute ∷ Said Went ∷ Refused OutOfRange
         ∷ Refused WrongMinute ∷ [] }
 {}
 
-/// Worked examples: Locks, as flock(1) has them. The call does nothing.
+/// Lemma. Worked examples: locks, as in flock(1).
 pub fn locks_and_waiting()
 
-    // one waits for the other, and the clock waits for him who could go on
+    // one waits for the other, and the clock waits for the one that could go on
     ensures locks { answers (hourly (0 ∷ 0 ∷ []) (Wait ∷ Wait ∷ []) (20 ∷ 20 ∷ []))
         (start (at 59) true [])
         (Minute (at 60) ∷ Begin 1 ∷ Begin 0 ∷ Got 0 (at 60) ∷ End (run_of 1 (at 60))
@@ -87,7 +87,7 @@ pub fn locks_and_waiting()
         ∷ Said (Ended true) ∷ Refused NotSettled ∷ Said (Started (run_of 0 (at 60))) ∷ Said Clock
         ∷ [] }
 
-    // with -n a job gives up
+    // with -n a job is skipped
     ensures skips { answers (hourly (0 ∷ 0 ∷ []) (Skip ∷ Wait ∷ []) (20 ∷ 20 ∷ []))
         (start (at 59) true []) (Minute (at 60) ∷ Begin 1 ∷ Begin 0 ∷ Got 0 (at 60) ∷ [])
         ≡ Said Clock ∷ Said (Started (run_of 1 (at 60))) ∷ Said Skipped ∷ Refused NotWaiting ∷ [] }
@@ -109,7 +109,7 @@ pub fn locks_and_waiting()
         ≡ Said Clock ∷ Said (Started (run_of 0 (at 60))) ∷ Said Waiting ∷ Said (Ended true)
         ∷ Said (Started (run_of 2 (at 60))) ∷ Refused LockHeld ∷ Said Clock ∷ [] }
 
-    // two share beside one that waits
+    // two share while one waits
     ensures shares { answers (hourly (0 ∷ 0 ∷ 0 ∷ []) (Shared ∷ Shared ∷ Wait ∷ [])
         (20 ∷ 30 ∷ 10 ∷ [])) (start (at 59) true [])
         (Minute (at 60) ∷ Begin 0 ∷ Begin 1 ∷ Begin 2 ∷ End (run_of 0 (at 60)) ∷ Got 2 (at 60)
@@ -128,7 +128,7 @@ pub fn locks_and_waiting()
         ∷ Said (Started (run_of 0 (at 60))) ∷ Said Clock ∷ [] }
 {}
 
-/// Worked examples: Passes and stamps, as anacron(8) with -s has them. The call does nothing.
+/// Lemma. Worked examples: passes and stamps, as in anacron(8) with -s.
 pub fn passes_and_stamps()
 
     // not before its delay is over, and once a day
@@ -168,12 +168,12 @@ pub fn passes_and_stamps()
           pass = Some (record { at = at 9; left = 1 ∷ [] });
         } }
 
-    // a pass begins at the pass minute, and none at a start that is up
+    // a pass begins at the pass minute, but not at a start that is up
     ensures pass_minute { answers (catching (0 ∷ []) 0 1440 (Some 20)) (start (at 19) true [])
         (Catch 0 ∷ Minute (at 20) ∷ Catch 0 ∷ [])
         ≡ Refused NotCatchable ∷ Said Clock ∷ Said (Started (run_of 0 (at 20))) ∷ [] }
 
-    // without a pass minute none begins at midnight
+    // without a pass minute no pass begins at midnight
     ensures no_pass_minute { state_of (catching (0 ∷ []) 0 1440 None)
         (story (catching (0 ∷ []) 0 1440 None) (start (at 1439) true []) (Minute (at 1440) ∷ []))
         ≡ record {
@@ -186,7 +186,7 @@ pub fn passes_and_stamps()
           pass = None;
         } }
 
-    // an open pass stays at the pass minute
+    // the pass minute leaves an open pass as it is
     ensures pass_stays { answers (catching (5 ∷ []) 0 1440 (Some 20)) (start (at 19) false [])
         (Up (at 19) ∷ Minute (at 20) ∷ Minute (at 21) ∷ Minute (at 22) ∷ Minute (at 23) ∷ Catch 0
         ∷ Minute (at 24) ∷ Catch 0 ∷ [])
@@ -206,7 +206,7 @@ pub fn passes_and_stamps()
         (Up (at 9) ∷ Catch 0 ∷ Minute (at 10) ∷ Catch 0 ∷ [])
         ≡ Said Came ∷ Refused NotCatchable ∷ Said Clock ∷ Said (Started (run_of 0 (at 10))) ∷ [] }
 
-    // a job of which a run goes on is left out
+    // a job that is running is left out
     ensures running_left_out { state_of (catching (0 ∷ 0 ∷ []) 0 1440 None)
         (story (catching (0 ∷ 0 ∷ []) 0 1440 None) (start (at 9) false [])
         (Up (at 9) ∷ Catch 0 ∷ Down ∷ Up (at 1440) ∷ []))
@@ -221,8 +221,8 @@ pub fn passes_and_stamps()
         } }
 {}
 
-/// Worked examples: windows, and minutes that are calm or not, whatever the certificate gives those that wait. Day 2 is
-/// 1970-01-03. The call does nothing.
+/// Lemma. Worked examples: windows, and minutes that are calm or not, whatever reaches the
+/// certificate gives. Day 2 is 1970-01-03.
 pub fn windows_and_calm()
 
     // 23:30 for 30 minutes ends at midnight, for 60 it meets what begins there
@@ -246,17 +246,17 @@ pub fn windows_and_calm()
         → (IsCalm (beside_catch_up 358) c (2880 + 358) → ⊥)
         × (Holds (beside_catch_up 359) c (2880 + 359) (run_of 1 (2880 + 180)) → ⊥) }
 
-    // a job that gives up meets the window of one that waits
+    // a skip job meets the window of one that waits
     ensures skip { IsCalm skipping (λ _. 60) (2880 + 49) → ⊥ }
 
-    // by mode: what holds a lock alone weighs once
+    // by mode: jobs that hold a lock alone weigh once
     ensures loads { (load (heavy Plain) (run_of 0 2880 ∷ run_of 1 2880 ∷ []) ≡ 4)
         × (load (heavy Wait) (run_of 0 2880 ∷ run_of 1 2880 ∷ []) ≡ 2)
         × (load (heavy Skip) (run_of 0 2880 ∷ run_of 1 2880 ∷ []) ≡ 2)
         × (load (heavy Shared) (run_of 0 2880 ∷ run_of 1 2880 ∷ []) ≡ 4) }
 {}
 
-/// Worked examples: histories that are safe, in time, or not. The call does nothing.
+/// Lemma. Worked examples: histories that are safe, in time, or not.
 pub fn safe_and_unsafe()
 
     // two of an exclusive group, one of which has gone on over an outage
@@ -270,7 +270,7 @@ pub fn safe_and_unsafe()
     ensures overload { IsSafe (plan_of 2 [] (at_of (0 ∷ 0 ∷ [])) 3 false (λ _. 10) 2)
         both_at_midnight → ⊥ }
 
-    // a job that gives up finds the lock held
+    // a skip job finds the lock held
     ensures skipped { IsSafe
         (plan_of 2 (Skip ∷ Wait ∷ []) (at_of (60 ∷ 60 ∷ [])) 3 true (λ _. 20) 1) held_lock → ⊥ }
 

@@ -44,7 +44,7 @@ again : (w l m : Option (List ℕ)) → ((text : List ℕ) → l ≡ Some text �
 again None l m e h = h
 again (Some text) l m e h = e text h
 
--- after a read at the end of a path, all stand at their fronts where they did before
+-- after a read at the end of a path, all are at their fronts that were before
 pub still_fresh : (whole left0 left1 left2 : List ℕ → Option (List ℕ)) (path : List ℕ) (buf done : List ℕ) →
     ((q : List ℕ) → q ≢ path → left1 q ≡ left0 q) →
     IfSome (left0 path) (λ xs. (ys : List ℕ) × (xs ≡ done ++ ys) × (left1 path ≡ Some ys)) →

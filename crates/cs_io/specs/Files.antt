@@ -49,8 +49,7 @@ pub record IsReadOut (path : List ℕ) (old new : Reads) : Type 0 where
   pub most : MOST_READS ≤ count
   pub reads : IsReadOn path count old new
 
--- what is left of this path, where that is known, is too long for as many reads as it may take, where
--- each gives a byte
+-- what is left of this path, if known, is too long for its most reads of a byte each
 abbrev pub IsTooLong : List ℕ → (List ℕ → Option (List ℕ)) → Type 0
 IsTooLong path left = IfSome (left path) (λ text. MOST_READS ≤ length text)
 

@@ -5,7 +5,7 @@ use Rattle.cs_io.specs.declared.inputs.ReadFault.TheVariants.{CannotRead, OutOfM
 use Rattle.cs_io.specs.declared.reason.Reason.{Reason}
 use Rattle.cs_io.specs.declared.reason.Reason.TheVariants.{Absent, Endless, Folder, NotAllowed, Unknown}
 
--- what is told behind the path
+-- the text printed after the path
 abbrev pub reason_text : Reason → List ℕ
 reason_text Absent = codes ": there is no such file"
 reason_text NotAllowed = codes ": it isn't allowed"

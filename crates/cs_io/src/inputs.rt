@@ -12,25 +12,25 @@ use std::alloc::{AllocError, AllocFailed, Global};
 /// A path that cannot be read, and why.
 #[derive(Clone, Copy, Debug, PartialEq, Eq)]
 pub struct CannotRead {
-    /// What the machine tells of it.
+    /// The machine's reason.
     pub reason: Reason,
 }
 
 /// Files by their paths, read from front to back. The path `-` is standard input.
 pub trait Inputs {
-    /// What a path has from its front on, where that is known.
+    /// The content of a path from its front, if known.
     ghost whole: { Self → List ℕ → Option (List ℕ) } = { λ _ _. None };
 
-    /// What the next reads of a path give up to its end, where that is known.
+    /// What the next reads of a path return up to its end, if known.
     ghost left: { Self → List ℕ → Option (List ℕ) } = { λ _ _. None };
 
     /// Whether a read of a path has failed.
     ghost failed: { Self → List ℕ → Bool };
 
-    /// The paths of all reads so far, the last read first, where they are known.
+    /// The paths of all reads so far, the latest first, if known.
     ghost reads: { Self → Option (List (List ℕ)) } = { λ _. None };
 
-    /// Gives the next bytes of a path, and 0 at its end, after which a read of it begins anew.
+    /// Reads the next bytes of a path; 0 bytes at its end, after which a read begins at its front.
     fn read(&mut self, path: &str, buf: &mut [u8]) -> Result<usize, CannotRead>
         ensures bound { IfOk result (λ n. n ≤ length buf.new) }
         ensures bytes { IfOk result (λ n. IsNextOf path.now (whole self.old) (left self.old)
@@ -44,9 +44,9 @@ pub trait Inputs {
 /// Why an input was not read.
 #[derive(Clone, Copy, Debug, PartialEq, Eq)]
 pub enum ReadFault {
-    /// A read of it failed, or it has no end.
+    /// A read failed, or the input has no end.
     CannotRead(Reason),
-    /// There was no room for its bytes.
+    /// Memory ran out.
     OutOfMemory,
 }
 
@@ -74,11 +74,12 @@ impl From<AllocError> for ReadFault {
     }
 }
 
-/// The most reads that a path takes.
+/// The most reads of a path.
 pub const MOST_READS: u32 = 16_777_217;
 
-/// Reads all of a path, or more than `limit` bytes of it where it is longer: an input without end is
-/// left as soon as it is too long. Each read gives a byte at least, so there are at most `limit + 1`.
+/// Reads all of a path, or more than `limit` bytes of it if it is longer: an input without end is
+/// left as soon as it is too long. Each read gives at least one byte, so there are at most `limit +
+/// 1`.
 pub fn read_up_to<I: Inputs>(
     alloc: Global,
     inputs: &mut I,
@@ -89,7 +90,7 @@ pub fn read_up_to<I: Inputs>(
     ensures works { OnOk result (I.failed inputs.new ≡ I.failed inputs.old) }
     ensures whole { I.whole inputs.new ≡ I.whole inputs.old }
 
-    // a path that was read to its end, and each other one, is to be read from its front again
+    // a path read to its end, and each other one, is read from its front next
     ensures fresh { IfOk result (λ v. length v.items ≤ limit
         → IsFresh (I.whole inputs.old) (I.left inputs.old)
         → IsFresh (I.whole inputs.new) (I.left inputs.new)) }
@@ -111,7 +112,7 @@ pub fn read_up_to<I: Inputs>(
     Ok(bytes)
 }
 
-/// Reads all of a path. One that has no end after [`MOST_READS`] reads can't be read.
+/// Reads all of a path. One without end after [`MOST_READS`] reads can't be read.
 pub fn read_whole<I: Inputs>(
     alloc: Global,
     inputs: &mut I,
@@ -122,7 +123,7 @@ pub fn read_whole<I: Inputs>(
     ensures works { OnOk result (I.failed inputs.new ≡ I.failed inputs.old) }
     ensures whole { I.whole inputs.new ≡ I.whole inputs.old }
 
-    // this path too is to be read from its front again
+    // this path too is read from its front next
     ensures fresh { OnOk result (IsFresh (I.whole inputs.old) (I.left inputs.old)
         → IsFresh (I.whole inputs.new) (I.left inputs.new)) }
     ensures fails { IfErr result (λ e. IsCannotRead e

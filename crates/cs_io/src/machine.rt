@@ -7,7 +7,7 @@ use std::io::Read;
 use std::rt::Files;
 use std::{fs, io};
 
-/// The machine's files and its standard input. A path is read to its end before another is.
+/// The machine's files and its standard input. A path is read to its end before another.
 #[derive(Drop)]
 pub struct Machine<'a, R: Files + Input> {
     rt: &'a R,
@@ -16,7 +16,7 @@ pub struct Machine<'a, R: Files + Input> {
 }
 
 impl<'a, R: Files + Input> Machine<'a, R> {
-    /// The machine's inputs, of which none is open and no read has failed.
+    /// Returns the machine's inputs, none open and without failures.
     pub fn new(rt: &'a R) -> Machine<'a, R>
         ensures { result.has_failed ≡ false }
     {
@@ -50,7 +50,7 @@ impl<'a, R: Files + Input> Machine<'a, R> {
 }
 
 impl<'a, R: Files + Input> Inputs for Machine<'a, R> {
-    // It keeps no paths: a failure of one counts for each.
+    // It keeps no paths: a failure of one is a failure of each.
     ghost failed = { λ s _. s.has_failed };
 
     fn read(&mut self, path: &str, buf: &mut [u8]) -> Result<usize, CannotRead> {

@@ -5,13 +5,13 @@ ghost use Rattle.std.specs.Io.KnownBytes.{Appends};
 use std::io;
 use std::io::Write;
 
-/// An output that did not take all of a text.
+/// The output did not take all of a text.
 #[derive(Clone, Copy, Debug, PartialEq, Eq)]
 pub struct CannotWrite;
 
-/// Standard output or standard error: texts are written to it one behind the other.
+/// Standard output or standard error: texts are written one after the other.
 pub trait Output {
-    /// The bytes that it holds, where they are known.
+    /// The bytes written, if known.
     ghost contents: { Self → Option (List ℕ) } = { λ _. None };
 
     /// Whether a write has failed.
@@ -32,7 +32,7 @@ pub struct Printer<W: Write> {
 }
 
 impl<W: Write> Printer<W> {
-    /// The output that writes to a writer, of which no write has failed.
+    /// Returns an output to this writer, without failures.
     pub fn new(writer: W) -> Printer<W>
         ensures writer { result.writer ≡ writer }
         ensures fresh { result.has_failed ≡ false }
@@ -43,7 +43,7 @@ impl<W: Write> Printer<W> {
         }
     }
 
-    /// The writer again.
+    /// Unwraps the writer.
     pub fn into_writer(self) -> W
         ensures { result ≡ self.writer }
     {

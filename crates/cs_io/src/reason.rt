@@ -5,23 +5,22 @@ ghost use Rattle.cs_io.specs.Reasons.{reason_text};
 use std::io;
 use std::io::ErrorKind;
 
-/// Why a path can't be read, as far as the machine tells.
+/// Why a path can't be read, as far as the machine says.
 #[derive(Clone, Copy, Debug, PartialEq, Eq)]
 pub enum Reason {
     /// There is nothing at this path.
     Absent,
-    /// Whoever runs the program may not read it.
+    /// The user may not read it.
     NotAllowed,
     /// It is a folder.
     Folder,
-    /// It has no end after as many reads as a path may take.
+    /// It has no end after the most reads of a path.
     Endless,
-    /// The machine tells nothing that is known here.
+    /// Another reason, or none.
     Unknown,
 }
 
 impl Reason {
-    /// What an error of the machine says.
     pub(crate) fn of(error: &io::Error) -> Reason {
         match error.kind() {
             ErrorKind::NotFound => Reason::Absent,
@@ -31,7 +30,7 @@ impl Reason {
         }
     }
 
-    /// What is told behind the path: nothing where nothing is known.
+    /// Returns the text printed after the path: empty for `Unknown`.
     pub fn text(self) -> &'static str
         ensures { result.now ≡ reason_text self }
     {

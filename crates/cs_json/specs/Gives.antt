@@ -4,7 +4,7 @@ use Rattle.cs_json.specs.declared.fault.JsonFault.{JsonFault}
 use Rattle.cs_json.specs.declared.fault.Misread.{Misread}
 use Rattle.cs_json.specs.declared.fault.Misread.TheVariants.{Memory, Fault}
 
--- want of memory, or the answer's own fault
+-- out of memory, or the answer's own fault
 abbrev pub Fails : {Y : Type 0} → Misread → Result Y JsonFault → Type 0
 Fails Memory answer = ⊤
 Fails (Fault f) answer = answer ≡ Err f

@@ -1,4 +1,4 @@
--- Shapes of a JSON value: what it says, or BadShape.
+-- Shapes of a JSON value: its value, or BadShape.
 use Rattle.std.specs.Prelude.{List, [], ◌∷◌, Option, Some, None, Result, Ok, Err, ⊤, Bool, true, false, ℕ, ℤ, option_and_then, bytes_eq}
 use Rattle.std.specs.List.{list_any}
 use Rattle.serde_json.specs.Data.{Data}
@@ -33,7 +33,7 @@ flag d = or_bad_shape (as_bool d)
 
 -- ---- lists
 
--- what each says, in order
+-- the value of each, in order
 abbrev pub all_as : {A B : Type 0} → (A → Result B JsonFault) → List A → Result (List B) JsonFault
 all_as f [] = Ok []
 all_as f (x ∷ xs) = f x >>= (λ y. all_as f xs >>= (λ ys. Ok (y ∷ ys)))
@@ -42,7 +42,7 @@ all_as f (x ∷ xs) = f x >>= (λ y. all_as f xs >>= (λ ys. Ok (y ∷ ys)))
 abbrev pub list_as : {A : Type 0} → (Data → Result A JsonFault) → Data → Result (List A) JsonFault
 list_as f d = or_bad_shape (as_array d) >>= (λ ds. all_as f (list_of ds))
 
--- what exactly two say
+-- the values of exactly two
 abbrev pub pair_of : {A B : Type 0} → (Data → Result A JsonFault) → (Data → Result B JsonFault)
     → List Data → Result (A × B) JsonFault
 pair_of f g [] = Err BadShape
@@ -55,7 +55,7 @@ abbrev pub pair_as : {A B : Type 0} → (Data → Result A JsonFault) → (Data 
     → Data → Result (A × B) JsonFault
 pair_as f g d = or_bad_shape (as_array d) >>= (λ ds. pair_of f g (list_of ds))
 
--- what exactly three say
+-- the values of exactly three
 abbrev pub triple_of : {A B C : Type 0} → (Data → Result A JsonFault) → (Data → Result B JsonFault)
     → (Data → Result C JsonFault) → List Data → Result (A × B × C) JsonFault
 triple_of f g h [] = Err BadShape

@@ -6,25 +6,24 @@ use std::alloc::{AllocError, AllocFailed};
 /// What is wrong with a text or a JSON value.
 #[derive(Clone, Copy, Debug, PartialEq, Eq)]
 pub enum JsonFault {
-    /// The bytes are no JSON text as `serde_json` reads one: UTF-8, one value, nested at most 127 deep.
+    /// The bytes are not JSON as `serde_json` reads it: UTF-8, one value, nested at most 127 deep.
     NotJson,
-    /// The value has another shape: a type, a length or a member that isn't the one wanted.
+    /// The value has another type or length than wanted, or other members.
     BadShape,
 }
 
-/// Why a reading gave no value.
+/// Why nothing was read.
 #[derive(Debug, Drop)]
 pub enum Misread {
     /// Memory ran out.
     Memory,
-    /// What was read is at fault.
+    /// The text or the value has this fault.
     Fault(JsonFault),
 }
 
-/// The answer to a value of another shape.
+/// The error for a value of another shape.
 pub const BAD_SHAPE: Misread = Misread::Fault(JsonFault::BadShape);
 
-/// Memory ran out.
 impl From<AllocError> for Misread {
     ghost from_gives = { λ _ e. e ≡ Memory };
 
@@ -33,7 +32,6 @@ impl From<AllocError> for Misread {
     }
 }
 
-/// Memory ran out.
 impl<T: Drop> From<AllocFailed<T>> for Misread {
     ghost from_gives = { λ _ e. e ≡ Memory };
 

@@ -11,21 +11,22 @@ use crate::reading::FromJson;
 use serde_json::{Map, Value};
 use std::alloc::Global;
 
-/// The value of the member of that name. `BadShape` where the value is no object or has no such member.
+/// Returns the member of that name. `BadShape` if the value is no object or lacks that member.
 pub fn value_at<'v>(value: &'v Value, name: &str) -> Result<&'v Value, Misread>
     ensures { Gives (λ v. view v.now) result (or_bad_shape (get name.now (view value.now))) }
 {
     value.get(name).ok_or(BAD_SHAPE)
 }
 
-/// A member that has to be there. `BadShape` where it isn't or has another shape; `Memory` where memory ran out.
+/// Reads a required member. `BadShape` if absent or of another shape; `Memory` if memory runs out.
 pub fn member<T: FromJson>(alloc: Global, value: &Value, name: &str) -> Result<T, Misread>
     ensures { Gives T.seen result (member_as T.shape name.now (view value.now)) }
 {
     T::from_json(alloc, value_at(value, name)?)
 }
 
-/// A member, or the default where it isn't there. `BadShape` where it has another shape, as `null`; `Memory` where memory ran out.
+/// Reads a member, or returns the default if it is absent. `BadShape` if it has another shape, such
+/// as `null`; `Memory` if memory runs out.
 pub fn member_or<T: FromJson>(
     alloc: Global,
     value: &Value,
@@ -41,7 +42,8 @@ pub fn member_or<T: FromJson>(
     }
 }
 
-/// A member, or `None` where it isn't there. `BadShape` where it has another shape, as `null`; `Memory` where memory ran out.
+/// Reads a member, or returns `None` if it is absent. `BadShape` if it has another shape, such as
+/// `null`; `Memory` if memory runs out.
 pub fn member_if_there<T: FromJson>(
     alloc: Global,
     value: &Value,
@@ -78,7 +80,8 @@ fn has_names(object: &Map<String, Value>, names: &[&str]) -> bool
         .all(|name| is_member_name(names, name.as_str()))
 }
 
-/// That the value is an object with no member but these, some of which may be absent. `BadShape` where it isn't. Takes no memory.
+/// Checks that the value is an object with no other members than these, without allocating.
+/// `BadShape` if it isn't.
 #[tactic(auto, using(crate::proofs::Items::only_names))]
 pub fn only_members(value: &Value, names: &[&str]) -> Result<(), Misread>
     ensures { Gives (λ u. u) result

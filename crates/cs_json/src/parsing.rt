@@ -8,8 +8,8 @@ use crate::fault::{JsonFault, Misread};
 use serde_json::Value;
 use std::alloc::{AllocError, Global};
 
-/// The JSON value of the bytes, as `serde_json` reads them: UTF-8, nested at most 127 deep, of a member that stands twice the last.
-/// `NotJson` where they have none; `Memory` where memory ran out.
+/// Parses JSON as `serde_json` does: UTF-8, nested at most 127 deep, the last of repeated members.
+/// `NotJson` if it isn't JSON; `Memory` if memory runs out.
 pub fn parse(alloc: Global, bytes: &[u8]) -> Result<Value, Misread>
     ensures { Gives view result (or_fault NotJson (json_of bytes.now)) }
 {

@@ -11,7 +11,7 @@ use crate::fault::{BAD_SHAPE, Misread};
 use serde_json::Value;
 use std::alloc::Global;
 
-/// What can be read from a JSON value of the right shape.
+/// A type that can be read from a JSON value of the right shape.
 pub trait FromJson: Drop {
     /// What a clause sees of a value of this type.
     ghost Seen: { Type 0 };
@@ -19,15 +19,16 @@ pub trait FromJson: Drop {
     /// How a clause sees it.
     ghost seen: { Self → Seen };
 
-    /// What a JSON value says, or `BadShape`.
+    /// The value of a JSON value, or `BadShape`.
     ghost shape: { Data → Result Seen JsonFault };
 
-    /// What the JSON value says. `BadShape` where it has another shape; `Memory` where memory ran out.
+    /// Reads the JSON value. `BadShape` if it has another shape; `Memory` if memory runs out.
     fn from_json(alloc: Global, value: &Value) -> Result<Self, Misread>
         ensures { Gives seen result (shape (view value.now)) };
 }
 
-/// A whole number, one that `serde_json` holds as a `u64` or an `i64`: `BadShape` for `1.0`, `1e2`, `-0` and what is wider.
+/// A whole number that `serde_json` holds as a `u64` or an `i64`: `BadShape` for `1.0`, `1e2`, `-0`
+/// and wider numbers.
 impl FromJson for i128 {
     ghost Seen = { ℤ };
 
@@ -72,7 +73,7 @@ impl FromJson for String {
     }
 }
 
-/// A list, of any length, each item of the one shape.
+/// A list of any length, all items of one shape.
 impl<T: FromJson> FromJson for Vec<T> {
     ghost Seen = { List T.Seen };
 
@@ -85,7 +86,7 @@ impl<T: FromJson> FromJson for Vec<T> {
     }
 }
 
-/// The items of a list.
+/// Returns the items of a list.
 pub fn items(value: &Value) -> Result<&Vec<Value>, Misread>
     ensures { Gives (λ l. items_view l.now.items) result
         (or_bad_shape (as_array (view value.now))) }

@@ -9,12 +9,12 @@ ghost use Rattle.cs_json.specs.NoFloat.{list_no_float, pair_no_float, triple_no_
 use serde_json::Value;
 use std::alloc::{AllocError, Global};
 
-/// What has a JSON value. An object's members stand in alphabetical order, as `serde_json` keeps them.
+/// A type that has a JSON value. Members are in alphabetical order, as `serde_json` keeps them.
 pub trait ToJson {
     /// The JSON value that is written.
     ghost spelled: { Self → Data };
 
-    /// The JSON value. An error only where memory ran out.
+    /// Returns the JSON value. The only error is out of memory.
     fn to_json(&self, alloc: Global) -> Result<Value, AllocError>
         ensures { IfOk result (λ v. view v ≡ spelled self.now) };
 
@@ -22,7 +22,6 @@ pub trait ToJson {
     ghost no_float: { (x : Self) → has_float (spelled x) ≡ false };
 }
 
-/// A whole number.
 impl ToJson for u64 {
     ghost spelled = { λ n. number (unsigned n) };
 
@@ -33,7 +32,6 @@ impl ToJson for u64 {
     }
 }
 
-/// A whole number.
 impl ToJson for u32 {
     ghost spelled = { λ n. number (unsigned n) };
 
@@ -44,7 +42,6 @@ impl ToJson for u32 {
     }
 }
 
-/// A whole number.
 impl ToJson for u16 {
     ghost spelled = { λ n. number (unsigned n) };
 
@@ -55,7 +52,6 @@ impl ToJson for u16 {
     }
 }
 
-/// A whole number.
 impl ToJson for u8 {
     ghost spelled = { λ n. number (unsigned n) };
 
@@ -66,7 +62,6 @@ impl ToJson for u8 {
     }
 }
 
-/// `true` or `false`.
 impl ToJson for bool {
     ghost spelled = { λ b. boolean b };
 
@@ -77,7 +72,6 @@ impl ToJson for bool {
     }
 }
 
-/// A text.
 impl ToJson for String {
     ghost spelled = { λ s. string (string_bytes s) };
 
@@ -139,7 +133,8 @@ fn values<T: ToJson>(alloc: Global, list: &[T]) -> Result<Vec<Value>, AllocError
     Ok(found)
 }
 
-/// The compact text of a value, which reads back where it nests at most 127 deep. An error only where memory ran out.
+/// Writes the compact text of a value, which can be read back if it nests at most 127 deep. The
+/// only error is out of memory.
 pub fn write<T: ToJson>(alloc: Global, value: &T) -> Result<Vec<u8>, AllocError>
     ensures text { IfOk result (λ b. b.items ≡ compact_text (T.spelled value.now)) }
     ensures reads_back { IfOk result

@@ -68,8 +68,7 @@ IsCertificate c text = (written : List ℕ) × (written ≡ compact_text (certif
     × (certificate_by written ≡ Ok c) × (length written < MAX_CERTIFICATE)
     × (text ≡ written ++ 10 ∷ [])
 
--- what `make` prints of a plan that was accepted with this certificate: the certificate, or that no
--- file can hold it
+-- what `make` prints for a plan accepted with this certificate: it, or that no file can hold it
 abbrev pub IsSafeMade : Content → Outcome → List ℕ → Type 0
 IsSafeMade c found text = ((found ≡ outcome.Safe) × IsCertificate c text)
     ⊎ ((found ≡ outcome.Unknown) × (text ≡ unknown_text LeafTooLong))
@@ -90,7 +89,7 @@ IsAnswer Certificate plan judged found text = IsMade plan judged found text
 IsAnswer Compact plan judged found text =
     IsJudgedBy Compact judged × IsMade plan judged found text
 
--- the text tells what a script breaks first, and is followed by the script: it shows that the plan is unsafe
+-- the text says what a script breaks first, and then has the script, which shows the plan unsafe
 pub record IsStory (plan : Declared) (text : List ℕ) : Type 0 where
   pub script : Script
   pub shown : Shown

@@ -26,7 +26,7 @@ IfUnsafe (Safe checked) P = ⊤
 IfUnsafe (Unsafe script shown) P = P script shown
 IfUnsafe (Unknown reason refusal) P = ⊤
 
--- and of the refusal, where there is one behind what is unknown
+-- and of the refusal, where there is one after what is unknown
 abbrev pub IfRefused : Judged → (CheckFault → Type 0) → Type 0
 IfRefused (Safe checked) P = ⊤
 IfRefused (Unsafe script shown) P = ⊤
@@ -43,8 +43,8 @@ abbrev pub IsCalmBy : Declared → Checked → Type 0
 IsCalmBy plan checked =
     IsCalmThroughout (as_plan plan) (reach_for plan (certificate_in checked))
 
--- the script can be written, and shows that the plan is unsafe: each of its events may come when it
--- comes, each run ends within its declared time, and this is broken first, of which can be told
+-- the script can be written, and shows the plan unsafe: each of its events may come when it comes,
+-- each run ends within its declared time, and this, which has a text, is broken first
 pub record Shows (plan : Declared) (script : Script) (shown : Shown) : Type 0 where
   pub nameable : is_nameable plan script ≡ true
   pub breaks : IsShown (as_plan plan) script shown
@@ -55,7 +55,8 @@ abbrev pub IsRefusal : Declared → CheckFault → Type 0
 IsRefusal plan fault = (c : Content) × (fault_of plan c ≡ Some (told fault))
 
 -- what is known of a plan is so: where it is called safe, the checker has accepted it, every legal
--- history in time is safe and each minute is calm; where it is called unsafe, the script shows it; and a refusal is the checker's
+-- history in time is safe and each minute is calm; where it is called unsafe, the script shows it;
+-- and a refusal is the checker's
 pub record IsJudgement (plan : Declared) (judged : Judged) : Type 0 where
   pub safe : IfSafe judged (IsCheckedFor plan)
   pub headline : IfSafe judged (λ checked. IsHeadline (as_plan plan))

@@ -1,4 +1,4 @@
-//! What is printed of a plan that was judged.
+//! The texts printed for a judged plan.
 ghost use Rattle.std.specs.Prelude.{◌≡◌, ◌++◌, IfOk, IfSome};
 ghost use Rattle.cs_cert.specs.Certificate.{content};
 ghost use Rattle.cs_check.specs.Checked.{certificate_in};
@@ -20,28 +20,30 @@ use cs_script::script_text;
 use cs_shown::{Shown, shown_text};
 use std::alloc::{AllocError, Global};
 
-/// What is wanted of a plan.
+/// What is asked of a plan.
 #[derive(Clone, Copy, Debug, PartialEq, Eq)]
 pub enum Wanted {
     /// Whether it is safe.
     Verdict,
-    /// A certificate that it is: one of version 1 or 2, which lists its windows, where a file can hold that.
+    /// A certificate that it is: version 1 or 2, which lists its windows, if a file can hold that.
     Certificate,
-    /// A certificate of version 3, which says only what the plan doesn't.
+    /// A certificate of version 3, with only what the plan doesn't say.
     Compact,
 }
 
-/// How a plan was found.
+/// The result for a plan.
 #[derive(Clone, Copy, Debug, PartialEq, Eq)]
 pub enum Outcome {
+    /// The checker accepted a certificate.
     Safe,
+    /// A counterexample was found.
     Unsafe,
+    /// Neither was found, or no file can hold the certificate.
     Unknown,
     /// Unknown, since memory ran out.
     NoMemory,
 }
 
-/// How a plan is found of which nothing is known, for this reason.
 fn unknown_outcome(reason: Reason) -> Outcome
     ensures { result ≡ unknown_outcome reason }
 {
@@ -62,7 +64,7 @@ fn unknown_text(alloc: Global, reason: Reason) -> Result<Vec<u8>, AllocError>
     Ok(text)
 }
 
-/// What the script breaks first, a line, and the script.
+/// A line for what the script breaks first, and the script.
 #[tactic(auto, unfolding(crate::specs::Answer::unsafe_text))]
 fn unsafe_text(
     alloc: Global,
@@ -79,7 +81,6 @@ fn unsafe_text(
     Ok(text)
 }
 
-/// How a plan was found, by what is known of it.
 fn outcome_of(judged: &Judged) -> Outcome
     ensures { result ≡ outcome_of judged.now }
 {
@@ -90,7 +91,7 @@ fn outcome_of(judged: &Judged) -> Outcome
     }
 }
 
-/// Why nothing is known of a plan, a line, and the line of the refusal behind it.
+/// A line for why a plan is unknown, and a line for the refusal.
 #[tactic(auto, unfolding(crate::specs::Answer::refusal_text))]
 fn refused_text(
     alloc: Global,
@@ -107,7 +108,7 @@ fn refused_text(
     Ok(text)
 }
 
-/// What is printed of a plan where it is asked whether it is safe.
+/// What is printed if the verdict is asked for.
 fn verdict_text(alloc: Global, plan: &Plan, judged: &Judged) -> Result<Vec<u8>, AllocError>
     requires { IfUnsafe judged.now (Shows plan.now) }
     ensures { IfOk result (λ text. text.items ≡ verdict_text plan.now judged.now) }
@@ -120,7 +121,7 @@ fn verdict_text(alloc: Global, plan: &Plan, judged: &Judged) -> Result<Vec<u8>, 
     }
 }
 
-/// The text of a certificate, a line, where a file may hold it.
+/// The text of a certificate, a line, if a file can hold it.
 fn certificate_line(alloc: Global, certificate: &Certificate) -> Result<Option<Vec<u8>>, AllocError>
     ensures { IfOk result (λ line.
         IfSome line (λ text. IsCertificate (content certificate.now) text.items)) }
@@ -136,7 +137,7 @@ fn certificate_line(alloc: Global, certificate: &Certificate) -> Result<Option<V
     Ok(Some(text))
 }
 
-/// What `make` prints of a plan that is safe.
+/// What `make` prints for a plan that is safe.
 fn safe_made(alloc: Global, checked: &Checked) -> Result<(Outcome, Vec<u8>), AllocError>
     ensures { IfOk result (λ told.
         IsSafeMade (certificate_in checked.now) told.0 told.1.items) }
@@ -147,7 +148,7 @@ fn safe_made(alloc: Global, checked: &Checked) -> Result<(Outcome, Vec<u8>), All
     }
 }
 
-/// What is printed of a plan where its certificate is asked for.
+/// What is printed if a certificate is asked for.
 fn made(alloc: Global, plan: &Plan, judged: &Judged) -> Result<(Outcome, Vec<u8>), AllocError>
     requires { IfUnsafe judged.now (Shows plan.now) }
     ensures { IfOk result (λ told. IsMade plan.now judged.now told.0 told.1.items) }
@@ -163,12 +164,12 @@ fn made(alloc: Global, plan: &Plan, judged: &Judged) -> Result<(Outcome, Vec<u8>
     }
 }
 
-/// What is printed of a plan that was judged, and how it was found.
+/// Returns the outcome of a judged plan, and what is printed for it.
 ///
-/// A verdict is `safe`, a line; or what a history breaks first and the script of it, lines; or `unknown: REASON` and, where the
-/// checker refused a certificate, the line of that refusal. Where a certificate is wanted, the one that the checker has accepted
-/// is printed in place of `safe`, a line, and no refusal behind what is unknown; one that a file can't hold (16 MiB) is
-/// `unknown: LeafTooLong`. The only error is want of memory.
+/// A verdict is `safe`, a line; or what a history breaks first and its script, lines; or `unknown:
+/// REASON` and, if the checker refused a certificate, a line for that refusal. If a certificate is
+/// asked for, the accepted one replaces `safe`, and no refusal follows `unknown`; a certificate
+/// above 16 MiB is `unknown: LeafTooLong`. The only error is out of memory.
 pub fn answer(
     alloc: Global,
     plan: &Plan,

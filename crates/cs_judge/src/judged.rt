@@ -9,8 +9,8 @@ use cs_shown::Shown;
 pub enum Judged {
     /// It is safe, whatever happens: the checker has accepted it with this certificate.
     Safe(Checked),
-    /// It is unsafe: this script is a history in which each run ends in time, and breaks this first.
+    /// It is unsafe: this script is a history in which each run ends in time, and breaks this.
     Unsafe(Script, Shown),
-    /// Neither is known, and why; and why the checker refuses the certificate that the maker gave, if it gave one.
+    /// Neither, and why; and why the checker refuses the maker's certificate, if there was one.
     Unknown(Reason, Option<CheckFault>),
 }

@@ -18,7 +18,7 @@ use cs_shown::{NotShown, prove_unsafe};
 use std::alloc::{AllocError, Global};
 use std::thread::Threads;
 
-/// What the checker says of a certificate; and this is why nothing is known where it refuses it.
+/// The checker's verdict on a certificate; the plan is unknown for this reason if it is refused.
 fn confirm<R: Threads + Sync>(
     rt: &R,
     alloc: Global,
@@ -40,7 +40,7 @@ fn confirm<R: Threads + Sync>(
     }
 }
 
-/// What a script shows, if it can be written and shows anything.
+/// What a script shows, if it can be written and shows the plan unsafe.
 fn show(alloc: Global, plan: &Plan, script: Script) -> Judged
     ensures safe { IfSafe result (IsCheckedFor plan.now) }
     ensures headline { IfSafe result (λ checked. IsHeadline (as_plan plan.now)) }
@@ -59,7 +59,7 @@ fn show(alloc: Global, plan: &Plan, script: Script) -> Judged
     }
 }
 
-/// What the checker says of a certificate that is proposed; none where it refuses it.
+/// The plan checked with a proposed certificate, none if it is refused.
 fn accepted<R: Threads + Sync>(
     rt: &R,
     alloc: Global,
@@ -81,7 +81,8 @@ fn accepted<R: Threads + Sync>(
     }
 }
 
-/// What is known by the compact certificate of the least bounds; none where there is none, or the checker refuses it.
+/// The verdict by the compact certificate of the least bounds; none if there is none, or the
+/// checker refuses it.
 fn judged_by_bounds<R: Threads + Sync>(rt: &R, alloc: Global, plan: &Plan) -> Option<Judged>
     ensures safe { IfSome result (λ judged. IfSafe judged (IsCheckedFor plan.now)) }
     ensures headline { IfSome result (λ judged.
@@ -98,7 +99,8 @@ fn judged_by_bounds<R: Threads + Sync>(rt: &R, alloc: Global, plan: &Plan) -> Op
     }
 }
 
-/// The same by the certificate that lists the windows of these bounds; none too where no file can hold the list.
+/// Like `judged_by_bounds`, with the certificate that lists the windows of these bounds; none too
+/// if no file can hold it.
 fn judged_by_list<R: Threads + Sync>(rt: &R, alloc: Global, plan: &Plan) -> Option<Judged>
     ensures safe { IfSome result (λ judged. IfSafe judged (IsCheckedFor plan.now)) }
     ensures headline { IfSome result (λ judged.
@@ -118,8 +120,8 @@ fn judged_by_list<R: Threads + Sync>(rt: &R, alloc: Global, plan: &Plan) -> Opti
     accepted(rt, alloc, plan, certificate)
 }
 
-/// What is known by what the maker gives where no certificate of the least bounds is accepted: a script that shows that the plan
-/// is unsafe, or why nothing is known.
+/// The verdict by the maker's answer if no certificate of the least bounds is accepted: a script
+/// that shows the plan unsafe, or why the plan is unknown.
 fn judged_by_story<R: Threads + Sync>(rt: &R, alloc: Global, plan: &Plan) -> Judged
     ensures safe { IfSafe result (IsCheckedFor plan.now) }
     ensures headline { IfSafe result (λ checked. IsHeadline (as_plan plan.now)) }
@@ -136,27 +138,28 @@ fn judged_by_story<R: Threads + Sync>(rt: &R, alloc: Global, plan: &Plan) -> Jud
     }
 }
 
-/// Judges a plan by what the maker gives for it, which isn't trusted: a certificate is checked, by as many threads as the machine
-/// has processors, and a script is tried. A compact certificate is tried first, so that a plan that is safe costs little more than
-/// a check.
+/// Judges a plan by the maker's answers, which aren't trusted: a certificate is checked, with as
+/// many threads as the machine has processors, and a script is tried. A compact certificate comes
+/// first, so that a safe plan costs little more than a check.
 ///
-/// `Safe` says that every legal history in which each run ends within its declared time is safe, and `Unsafe` shows one that
-/// isn't. `Unknown` has the maker's reason, `NotChecked` where what it gave wasn't confirmed, and `NoMemory` where memory ran
-/// out. The certificate is of version 3, but where one that lists windows is wanted and a file can hold it.
+/// `Safe`: every legal history in which each run ends within its declared time is safe. `Unsafe`
+/// shows one that isn't. `Unknown` has the maker's reason, `NotChecked` if its answer wasn't
+/// confirmed, or `NoMemory` if memory ran out. The certificate is of version 3, unless one that
+/// lists windows is wanted and a file can hold it.
 pub fn judge<R: Threads + Sync>(rt: &R, alloc: Global, plan: &Plan, wanted: Wanted) -> Judged
-    // what is called safe was accepted by the checker, every legal history in time is safe, and each
+    // a `Safe` plan was accepted by the checker: every legal history in time is safe, and each
     // minute from 1970-01-04 on is calm
     ensures safe { IfSafe result (IsCheckedFor plan.now) }
     ensures headline { IfSafe result (λ checked. IsHeadline (as_plan plan.now)) }
     ensures calm { IfSafe result (IsCalmBy plan.now) }
 
-    // what is called unsafe is shown by a script that can be written
+    // an `Unsafe` plan is shown unsafe by a script that can be written
     ensures shown { IfUnsafe result (Shows plan.now) }
 
-    // a refusal behind what is unknown is the checker's
+    // the refusal of an `Unknown` plan is the checker's
     ensures refused { IfRefused result (IsRefusal plan.now) }
 
-    // and where a compact certificate is wanted, it is by one that the plan was found safe
+    // and if a compact certificate is wanted, a `Safe` plan has one
     ensures form { IsJudgedBy wanted result }
 {
     let Some(judged) = judged_by_bounds(rt, alloc, plan) else {

@@ -8,16 +8,16 @@ ghost use Rattle.cs_judge.specs.declared.answers.Outcome.TheVariants.{Safe, Unsa
 ghost use Rattle.cs_judge.specs.declared.answers.Wanted.{Wanted};
 ghost use Rattle.cs_judge.specs.declared.judged.Judged.{Judged};
 
-/// What an answer stands for where what is known of the plan is so. The call does nothing.
+/// Lemma. If what is known of a plan is so, the answer means what it says.
 #[tactic(auto, using(crate::proofs::Outcomes::safe_stands, crate::proofs::Outcomes::unsafe_stands))]
 pub fn outcomes_hold()
 
-    // a plan that was found safe: every legal history in time is safe
+    // a `Safe` plan: every legal history in time is safe
     ensures safe { (wanted : Wanted) (plan : Declared) (judged : Judged) (found : Outcome)
         (text : List ℕ) → IsJudgement plan judged → IsAnswer wanted plan judged found text
         → found ≡ Safe → IsHeadline (as_plan plan) }
 
-    // one that was found unsafe: the text is a story that shows it
+    // an `Unsafe` plan: the text is a counterexample
     ensures story { (wanted : Wanted) (plan : Declared) (judged : Judged) (found : Outcome)
         (text : List ℕ) → IsJudgement plan judged → IsAnswer wanted plan judged found text
         → found ≡ Unsafe → IsStory plan text }

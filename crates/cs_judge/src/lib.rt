@@ -1,5 +1,5 @@
-//! Judges a plan: it is safe, as the checker has found by the maker's certificate, or unsafe, as a script shows, or neither is
-//! known. The maker is not trusted.
+//! Judges a plan: safe, if the checker accepts the maker's certificate, unsafe, if a script shows
+//! that, or unknown. The maker is not trusted.
 #![tactic(auto)]
 
 mod answers;

@@ -32,7 +32,7 @@ pub by_state : (t : Keeping × Place) (es : List Event) → (stepped_by t es).0.
 by_state t [] = refl
 by_state t (e ∷ es) = by_state (stepped t e) es
 
--- the same events with more behind them
+-- the same events with more after them
 full_longer : (k : Keeping) (es fs : List Event) → IsFullAt k es → IsFullAt k (es ++ fs)
 full_longer k [] fs h = absurd h
 full_longer k (e ∷ es) fs h = h
@@ -51,7 +51,7 @@ short_longer t u es fs f s = record {
   why = fault_longer (stepped_by t s.made).0 s.rest fs f s.why;
 }
 
--- events made behind others
+-- events made after others
 pub short_behind : (t u : Keeping × Place) (es fs : List Event) (f : TickFault) → IsCutShort (stepped_by t es) fs f u → IsCutShort t (es ++ fs) f u
 short_behind t u es fs f s =
     let at = by_append t es s.made in record {

@@ -68,7 +68,7 @@ not_full k e a b =
 first_is : (o : Option Refusal) (b : Bool) → o ≡ None → (or_full o b) ≡ (if b then Some HistoryFull else None)
 first_is o b e = ap (λ x. or_full x b) e
 
--- a refusal for want of room in the journal
+-- a refusal for lack of room in the journal
 pub refused_full : (k : Keeping) (e : Event) → refusal (plan_of k) k.core.state e ≡ None → length k.journal + length k.core.state.running ≤ MAX_ENTRIES → k.total + length k.core.state.running < 2 ^ 64
     → (MAX_ENTRIES < length k.journal + 1 + runs_after k e) ⊎ (2 ^ 64 - 1 < k.total + 1 + runs_after k e) → IsRefused k e HistoryFull
 refused_full k e n few counted h = record {
@@ -76,7 +76,7 @@ refused_full k e n few counted h = record {
   end = λ q. let room = is_end_room (plan_of k) k.core.state e n q in absurd (⊎_elim (λ x. omega (arith, room, few, x)) (λ x. omega (arith, room, counted, x)) h);
 }
 
--- a refusal for want of memory, where the event needs more than the places kept
+-- a refusal for lack of memory, where the event needs more than the room kept
 pub refused_memory : (k : Keeping) (e : Event) → refusal (plan_of k) k.core.state e ≡ None → length k.journal + 1 + runs_after k e ≤ MAX_ENTRIES → k.total + 1 + runs_after k e ≤ 2 ^ 64 - 1
     → length k.core.state.running < 1 + runs_after k e → IsRefused k e OutOfMemory
 refused_memory k e n a b h = record {

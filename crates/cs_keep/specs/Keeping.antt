@@ -36,8 +36,7 @@ opened d s = record {
   core = record { plan = d; state = state_of (as_plan d) (From s) };
 }
 
--- the journal is a legal history of the plan, with its replies, and the core is in the state that
--- this history leaves
+-- the journal is a legal history of the plan, with its replies, that ends in the core's state
 abbrev pub IsKept : Keeping → Type 0
 IsKept k = IsJournal (plan_of k) k.base k.journal k.core.state
 
@@ -57,17 +56,17 @@ IsFewInTime k = IsInTime (plan_of k) (told k.base k.journal)
 abbrev pub runs_after : Keeping → Event → ℕ
 runs_after k e = length (after (plan_of k) k.core.state e).running
 
--- no room in the journal, or in a total of 64 bits, for the event and the ends of what runs after it
+-- no room in the journal, or in a total of 64 bits, for the event and the ends of what runs then
 abbrev pub is_full : Keeping → Event → Bool
 is_full k e = nat_lt MAX_ENTRIES (length k.journal + 1 + runs_after k e)
     || nat_lt (2 ^ 64 - 1) (k.total + 1 + runs_after k e)
 
--- the core's refusal, and behind it that of a full journal
+-- the core's refusal, and after it that of a full journal
 abbrev pub or_full : Option Refusal → Bool → Option Refusal
 or_full (Some r) full = Some r
 or_full None full = if full then Some HistoryFull else None
 
--- the refusal that comes first, want of memory aside
+-- the first refusal, except OutOfMemory
 abbrev pub refusal_in : Keeping → Event → Option Refusal
 refusal_in k e = or_full (refusal (plan_of k) k.core.state e) (is_full k e)
 
@@ -80,8 +79,7 @@ is_end (End r) = true
 is_end Down = false
 is_end (Up t) = false
 
--- Why an event was refused: the first refusal, or where there is none want of memory. An end is
--- refused by the core alone.
+-- Why an event was refused: the first refusal, else out of memory. Only the core refuses an end.
 pub record IsRefused (k : Keeping) (e : Event) (f : Refusal) : Type 0 where
   pub first : (refusal_in k e ≡ Some f) ⊎ ((refusal_in k e ≡ None) × (f ≡ OutOfMemory))
   pub end : is_end e ≡ true → refusal (plan_of k) k.core.state e ≡ Some f

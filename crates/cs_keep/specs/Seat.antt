@@ -20,8 +20,7 @@ all_parts n = record { parts = n; share = 0; seen = 0 }
 abbrev pub counted : Place → ℕ → Place
 counted s total = record s { share = s.share + 1; seen = total }
 
--- one seat became two: the other has one part and no share, and has seen the same total; all else
--- stays with the first
+-- one seat became two: the other has one part, no share, and the total seen; the rest stays
 abbrev pub IsSplit : Place → Place → Place → Type 0
 IsSplit old other left = (other ≡ record { parts = 1; share = 0; seen = old.seen })
     × (left ≡ record old { parts = old.parts - 1 })

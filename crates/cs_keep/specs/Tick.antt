@@ -89,8 +89,8 @@ abbrev pub skipping : ℕ → Plan → State → List Event
 skipping m p s = then_from p s (Down ∷ []) (coming m p)
 
 -- The events for a minute that is not below the present one. A core that is down comes up, and
--- catches up. One that is up settles and catches up; in the minute after the present one it settles,
--- moves on, and does so again; past that it goes down and comes up.
+-- catches up. One that is up settles and catches up; in the minute after the present one it
+-- settles, moves on, and does so again; past that it goes down and comes up.
 abbrev pub tick_events : ℕ → Plan → State → List Event
 tick_events m p s =
     if s.up then (if m == s.now then settling_catching p s
@@ -131,7 +131,7 @@ abbrev pub IsMade : Keeping × Place → List Event → Result (Unit {0}) TickFa
 IsMade t es (Ok v) u = u ≡ stepped_by t es
 IsMade t es (Err f) u = IsCutShort t es f u
 
--- the events that a rule says of the present state
+-- the events that a rule lists for the present state
 abbrev pub Makes : (Plan → State → List Event) → Keeping × Place → Result (Unit {0}) TickFault
     → Keeping × Place → Type 0
 Makes events t r u = IsMade t (events (plan_of t.0) t.0.core.state) r u
@@ -152,7 +152,7 @@ IsTickFault t last m HistoryFull u = IsForward t.0.core.state last m
 IsTickFault t last m OutOfMemory u = IsForward t.0.core.state last m
     × IsCutShort t (tick_events m (plan_of t.0) t.0.core.state) OutOfMemory u
 
--- a tick made the events of its minute, or says why not
+-- a tick made the events of its minute, or the fault says why not
 abbrev pub Ticks : Keeping × Place → ℕ → ℕ → Result (Unit {0}) TickFault → Keeping × Place
     → Type 0
 Ticks t last m (Ok v) u = IsForward t.0.core.state last m

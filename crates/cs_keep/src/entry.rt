@@ -17,7 +17,7 @@ pub(crate) enum Kind {
     Up,
 }
 
-/// What it was answered.
+/// Which reply it had.
 #[derive(Clone, Copy, Debug, PartialEq, Eq)]
 pub(crate) enum Told {
     Clock,
@@ -30,13 +30,13 @@ pub(crate) enum Told {
     Came,
 }
 
-/// An accepted event with its reply, in half of the bytes that the two take side by side.
+/// An accepted event with its reply, in half of the bytes that the two take otherwise.
 #[derive(Debug, Drop)]
 pub struct Entry {
-    // the minute of the event, and that of the run that it started, 0 where there is none
+    // the minute of the event, and that of the run that it started, 0 if there is none
     at: u64,
     due: u64,
-    // the job of the event, and that of the run, 0 where there is none
+    // the job of the event, and that of the run, 0 if there is none
     job: u16,
     starts: u16,
     kind: Kind,
@@ -68,7 +68,7 @@ fn parts_of(event: Event) -> (Kind, u16, u64)
     }
 }
 
-/// The kind of a reply, and the job and the minute of the run that has started.
+/// The kind of a reply, and the job and the minute of the run that started.
 fn answer_of(reply: Reply) -> (Told, u16, u64)
     ensures { reply_of result.0 result.1 result.2 ≡ reply }
 {
@@ -85,7 +85,6 @@ fn answer_of(reply: Reply) -> (Told, u16, u64)
 }
 
 impl Entry {
-    /// An event with its reply.
     pub(crate) fn new(event: Event, reply: Reply) -> Entry
         ensures { result ≡ (event, reply) }
     {
@@ -101,7 +100,7 @@ impl Entry {
         }
     }
 
-    /// The event.
+    /// Returns the event.
     pub fn event(&self) -> Event
         ensures { result ≡ self.now.0 }
     {
@@ -117,7 +116,7 @@ impl Entry {
         }
     }
 
-    /// What it was answered.
+    /// Returns the reply to it.
     pub fn reply(&self) -> Reply
         ensures { result ≡ self.now.1 }
     {

@@ -1,4 +1,4 @@
-//! An event core beside its journal, which replays to it.
+//! An event core with its journal, which replays to it.
 ghost use Rattle.std.specs.Prelude.{◌≡◌, ◌↔◌, ◌≤◌, IfErr, IfOk, IsTrue, None, OnErr, OnOk, if◌then◌else◌};
 ghost use Rattle.cs_check.specs.Checked.{plan_in};
 ghost use Rattle.cs_history.specs.Plan.{first_start};
@@ -13,8 +13,8 @@ use cs_history::{Event, Refusal, Reply, Start};
 use std::alloc::{AllocError, Global};
 use std::marker::Model;
 
-/// An event core of a checked plan with the journal of its events since a base. Replaying the journal
-/// from the base gives the core.
+/// An event core of a checked plan with the journal of its events since a base. Replaying the
+/// journal from the base gives the core.
 #[derive(Drop)]
 pub(crate) struct JournaledCore {
     core: Core,
@@ -41,7 +41,7 @@ impl Model for JournaledCore {
 }
 
 impl JournaledCore {
-    /// An empty journal of a checked plan from this start. The only error is want of memory.
+    /// An empty journal of a checked plan from this start. The only error is out of memory.
     pub(crate) fn open(
         alloc: Global,
         checked: &Checked,
@@ -83,7 +83,6 @@ impl JournaledCore {
         self.total
     }
 
-    /// The event core.
     pub(crate) fn core(&self) -> &Core
         ensures value { result.now ≡ self.now.core }
         ensures kept { IsKept self.now }
@@ -93,7 +92,7 @@ impl JournaledCore {
         &self.core
     }
 
-    /// Makes the event, and writes it into the journal.
+    /// Steps the core, and writes the event into the journal.
     pub(crate) fn step(&mut self, event: Event) -> Result<Reply, Refusal>
         ensures legal { OnOk result (refusal_in self.old event ≡ None) }
         ensures reply { IfOk result (λ r. r ≡ reply_in self.old event) }
@@ -116,8 +115,8 @@ impl JournaledCore {
         Ok(reply)
     }
 
-    /// Begins the journal anew at the present state, where nothing is pending, waits or runs and no
-    /// pass is open.
+    /// Starts a new journal at the present state, if nothing is pending, waits or runs and no pass
+    /// is open.
     pub(crate) fn cut(&mut self) -> bool
         ensures idle { IsTrue result ↔ IsIdle self.old.core.state }
         ensures cut { self.new ≡ (if result then cut_here self.old else self.old) }

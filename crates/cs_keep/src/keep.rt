@@ -17,8 +17,8 @@ use std::alloc::{AllocError, Global};
 use std::marker::Model;
 use std::sync::ledger::{Blank, Book, Ledger};
 
-/// An event core of a checked plan with the journal of its events, and with the book of their total.
-/// It may be shared by threads under a lock.
+/// An event core of a checked plan with the journal of its events, and the book of their total.
+/// Threads may share it under a lock.
 #[derive(Drop)]
 pub struct Keep<L: Ledger> {
     journaled: JournaledCore,
@@ -37,8 +37,8 @@ impl<L: Ledger> Model for Keep<L> {
 }
 
 impl<L: Ledger> Keep<L> {
-    /// An empty journal of a checked plan from this start, and a seat with every part of the blank, of
-    /// which there are `parts`. The keep holds a copy of the plan. The only error is want of memory.
+    /// Opens a keep of a checked plan, which it copies, at this start, with an empty journal, and a
+    /// seat with every part of the blank: `parts` of them. The only error is out of memory.
     pub fn open(
         alloc: Global,
         blank: Blank,
@@ -67,10 +67,12 @@ impl<L: Ledger> Keep<L> {
         ))
     }
 
-    /// Makes the event, writes it into the journal with its reply, and counts it in the total and in
-    /// the seat's share. A refused event changes nothing: the core's refusals come first, then
-    /// `HistoryFull`, then `OutOfMemory`. A place is kept for the end of each run that runs, so an end
-    /// is refused by the core alone.
+    /// Steps the core, writes the event and its reply into the journal, and counts it in the total
+    /// and in the seat's share.
+    ///
+    /// err: the core's refusals first, then `HistoryFull`, then `OutOfMemory`; a refused event
+    /// changes nothing. There is always room for the end of each running run, so only the core
+    /// refuses an end.
     pub fn step(&mut self, seat: &mut Seat<L>, event: Event) -> Result<Reply, Refusal>
         ensures legal { OnOk result (refusal_in self.old event ≡ None) }
         ensures reply { IfOk result (λ r. r ≡ reply_in self.old event) }
@@ -78,8 +80,8 @@ impl<L: Ledger> Keep<L> {
         ensures seat { OnOk result (seat.new ≡ counted seat.old self.new.total) }
         ensures refused { IfErr result (IsRefused self.old event) }
         ensures same { OnErr result ((self.new ≡ self.old) × (seat.new ≡ seat.old)) }
-        // Where each run has ended within its declared time, the journal is safe, and no more runs run
-        // than the capacity.
+        // If each run has ended within its declared time, the journal is safe, and at most as many
+        // runs as the capacity run.
         ensures safe { IsSafeInTime self.new }
         ensures few { IsFewInTime self.new }
     {
@@ -103,8 +105,8 @@ impl<L: Ledger> Keep<L> {
         Ok(reply)
     }
 
-    /// Begins the journal anew at the present state, where nothing is pending, waits or runs and no
-    /// pass is open; else answers false. The total stays.
+    /// Starts a new journal at the present state, if nothing is pending, waits or runs and no pass
+    /// is open; else returns false. The total stays.
     pub fn cut(&mut self) -> bool
         ensures idle { IsTrue result ↔ IsIdle self.old.core.state }
         ensures cut { self.new ≡ (if result then cut_here self.old else self.old) }
@@ -112,8 +114,8 @@ impl<L: Ledger> Keep<L> {
         self.journaled.cut()
     }
 
-    /// How the seat's share stands to the total: who holds every part holds all of it, so no step of
-    /// any seat is missing or made up. The call does nothing.
+    /// Lemma. The seat's share is at most the total, and with every part all of it: no step of any
+    /// seat is missing or made up.
     pub fn audit(&mut self, seat: &mut Seat<L>)
         ensures keep { self.new ≡ self.old }
         ensures seat { seat.new ≡ seat.old }
@@ -125,43 +127,44 @@ impl<L: Ledger> Keep<L> {
         let _total = self.journaled.total();
     }
 
-    /// The events since the base with their replies, the latest last.
+    /// Returns the events since the base with their replies, the latest last.
     pub fn journal(&self) -> &[Entry]
         ensures value { result.now ≡ self.now.journal }
-        // It is a legal history of the core's plan, and leaves the core's state.
+        // It is a legal history of the core's plan, and ends in the core's state.
         ensures kept { IsKept self.now }
     {
         self.journaled.journal()
     }
 
-    /// The start from which the journal goes on.
+    /// Returns the start from which the journal goes on.
     pub fn base(&self) -> &Start
         ensures { result.now ≡ self.now.base }
     {
         self.journaled.base()
     }
 
-    /// How many events were accepted since the keep was opened.
+    /// Returns how many events were accepted since the keep was opened.
     pub fn total(&self) -> u64
         ensures { result ≡ self.now.total }
     {
         self.journaled.total()
     }
 
-    /// The event core.
+    /// Returns the event core.
     pub fn core(&self) -> &Core
         ensures value { result.now ≡ self.now.core }
-        // It is in the state that the journal leaves.
+        // It is in the state in which the journal ends.
         ensures kept { IsKept self.now }
-        // Where each run has ended within its declared time, the journal is safe, and no more runs run
-        // than the capacity.
+        // If each run has ended within its declared time, the journal is safe, and at most as many
+        // runs as the capacity run.
         ensures safe { IsSafeInTime self.now }
         ensures few { IsFewInTime self.now }
     {
         self.journaled.core()
     }
 
-    /// The journal without its book, beside what was checked: the very value that it is handed.
+    /// Closes the keep: returns its journal without its book, with `checked`, the very value passed
+    /// in.
     pub fn close(self, checked: Checked) -> Kept
         requires { plan_in checked ≡ self.core.plan }
         ensures checked { checked_in result ≡ checked }

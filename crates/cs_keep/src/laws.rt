@@ -1,8 +1,8 @@
 //! Laws of ticks, for every plan and state.
 ghost use Rattle.cs_keep.specs.Tick.{ChoicesRunOut};
 
-/// A tick makes the first choice of a kind (begins and lock grants, or catch-ups) until none of that
-/// kind is left: as many as it makes at most are enough. The call does nothing.
+/// Lemma. A tick makes the first choice of a kind (begins and lock grants, or catch-ups) until none
+/// is left: the most that it makes are enough.
 pub fn choices_run_out()
     ensures { ChoicesRunOut }
 {}

@@ -1,4 +1,4 @@
-//! How long a journal may be.
+//! The limit of a journal.
 
-/// The most entries of a journal, with the places for the ends of the runs that run.
+/// The most entries of a journal, with room for the ends of the running runs.
 pub const MAX_ENTRIES: usize = 4_194_304;

@@ -1,5 +1,5 @@
-//! The choice that comes first of a kind, found without a list of all: so that a minute in which nothing can be
-//! chosen costs the same however many runs wait.
+//! The first choice of a kind, found without a list of all: so that a minute without choices costs
+//! the same however many runs wait.
 ghost use Rattle.std.specs.Prelude.{◌≡◌, IsTrue, None, true};
 ghost use Rattle.cs_core.specs.Choices.{is_before};
 ghost use Rattle.cs_decl.specs.Plan.{as_plan};
@@ -12,14 +12,14 @@ ghost use Rattle.cs_keep.specs.declared.tick.Kind.TheVariants.{Catching, Settlin
 use cs_core::Core;
 use cs_history::{Event, Run};
 
-/// Whether the one run comes before the other by job, then minute.
+/// Whether a run comes before another, by job, then minute.
 fn is_before(one: Run, other: Run) -> bool
     ensures { result ≡ is_before one other }
 {
     one.job < other.job || (one.job == other.job && one.at < other.at)
 }
 
-/// The run that comes first of these two.
+/// The first of these two runs.
 fn earlier(best: Option<Run>, run: Run) -> Run
     ensures { result ≡ earlier best run }
 {
@@ -39,7 +39,7 @@ fn may_get(core: &Core, run: Run) -> bool
     }
 }
 
-/// The run that comes first by job, then minute, of those that may get the lock that they wait for.
+/// The first run, by job, then minute, that may get the lock that it waits for.
 fn first_to_get(core: &Core) -> Option<Run>
     ensures { result ≡ first_to_get (as_plan core.now.plan) core.now.state }
 {
@@ -52,7 +52,7 @@ fn first_to_get(core: &Core) -> Option<Run>
     best
 }
 
-/// Whether the clock may go on, so that nothing is due and no run that waits may get its lock.
+/// Whether the clock may go on: nothing is due and no waiting run may get its lock.
 fn goes_on(core: &Core) -> bool
     ensures { IsTrue result → is_settled (as_plan core.now.plan) core.now.state ≡ true }
 {

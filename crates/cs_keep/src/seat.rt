@@ -1,12 +1,12 @@
-//! A thread's part in the count of the steps.
+//! A thread's part in the count of steps.
 ghost use Rattle.std.specs.Prelude.{◌≡◌, ◌<◌, ◌^◌, MatchOption};
 ghost use Rattle.cs_keep.specs.Seat.{IsSplit, joined, saturated};
 
 use std::marker::Model;
 use std::sync::ledger::{Ledger, Share};
 
-/// Some parts of a keep's ledger, a share of its total, and the total that it last saw. It fits its
-/// own keep alone, by its type.
+/// Some parts of a keep's ledger, a share of its total, and the total last seen. Its type ties it
+/// to its keep.
 #[derive(Drop)]
 pub struct Seat<L: Ledger> {
     pub(crate) mark: Share<L>,
@@ -29,7 +29,7 @@ impl<L: Ledger> Model for Seat<L> {
 }
 
 impl<L: Ledger> Seat<L> {
-    /// How many parts it holds.
+    /// Returns how many parts it holds.
     pub fn parts(&self) -> u64
         ensures value { result ≡ self.now.parts }
         ensures some { 0 < self.now.parts }
@@ -37,21 +37,21 @@ impl<L: Ledger> Seat<L> {
         self.parts
     }
 
-    /// How many steps were made through it. The number is exact below the greatest one.
+    /// Returns how many steps were made through it: exact below 2^64 - 1, and then that number.
     pub fn share(&self) -> u64
         ensures { result ≡ saturated self.now.share }
     {
         self.share
     }
 
-    /// The total that it last saw.
+    /// Returns the total last seen.
     pub fn seen(&self) -> u64
         ensures { result ≡ self.now.seen }
     {
         self.seen
     }
 
-    /// Gives one part to a new seat, which has made no step; None where it has only one.
+    /// Moves one part to a new seat, which has made no step; None if this one has only one.
     pub fn split(&mut self) -> Option<Seat<L>>
         ensures { MatchOption result
             ((self.old.parts ≡ 1) × (self.new ≡ self.old))
@@ -70,7 +70,7 @@ impl<L: Ledger> Seat<L> {
         })
     }
 
-    /// Takes the other seat's parts and share, and keeps the greater total seen.
+    /// Takes over the other seat's parts and share, and keeps the greater total seen.
     pub fn join(&mut self, other: Seat<L>)
         requires { L.parts < 2 ^ 64 }
         ensures { self.new ≡ joined self.old other }

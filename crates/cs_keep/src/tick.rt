@@ -16,7 +16,7 @@ use std::sync::ledger::Ledger;
 /// Why a tick ended early.
 #[derive(Clone, Copy, Debug, PartialEq, Eq)]
 pub enum TickFault {
-    /// The present minute is another than the last one, or the new one lies before it.
+    /// `last` is not the present minute, or the new minute is before it.
     ClockBack,
     /// The journal has no room for the next event.
     HistoryFull,
@@ -34,13 +34,13 @@ pub(crate) enum Kind {
 }
 
 impl<L: Ledger> Keep<L> {
-    /// Goes on to a minute. A core that is down comes up in it. One that is up settles, moves on where
-    /// the minute is the next one, and settles again; past that it goes down and comes up. In the end
+    /// Goes on to a minute. A core that is down comes up in it. One that is up settles, moves on to
+    /// the next minute and settles again; over more minutes it goes down and comes up. In the end
     /// each catch-up run that may start does. To settle is to make the first Begin or Got of the
     /// choices until there is none.
     ///
-    /// `last` is the present minute. `ClockBack` changes nothing; where the journal is full or memory
-    /// runs out the earlier events stay.
+    /// `last` is the present minute. err: `ClockBack` changes nothing; if the journal is full or
+    /// memory runs out, the events made stay.
     pub fn tick(
         &mut self,
         seat: &mut Seat<L>,
@@ -49,7 +49,7 @@ impl<L: Ledger> Keep<L> {
     ) -> Result<(), TickFault>
         ensures ticks { Ticks (self.old, seat.old) last minute result (self.new, seat.new) }
         ensures now { OnOk result (self.new.core.state.now ≡ minute) }
-        // A later minute brings an event at least, whatever is due.
+        // A later minute brings at least one event, whatever is due.
         ensures rises { OnOk result (last < minute → seat.old.share < seat.new.share) }
         ensures grows { seat.old.share ≤ seat.new.share }
         ensures parts { seat.new.parts ≡ seat.old.parts }
@@ -75,7 +75,7 @@ impl<L: Ledger> Keep<L> {
         Ok(())
     }
 
-    /// Goes on to a minute that is not below the present one.
+    /// Goes on to a minute not before the present one.
     fn go_on(&mut self, seat: &mut Seat<L>, minute: Minute) -> Result<(), TickFault>
         requires { self.old.core.state.now ≤ minute }
         ensures { Makes (tick_events minute) (self.old, seat.old) result (self.new, seat.new) }

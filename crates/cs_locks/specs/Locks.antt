@@ -59,7 +59,7 @@ pub record IsCounted (hs : List Hold) (table : Counts) : Type 0 where
   pub alone : (g : ℕ) → g < 64 → slice_index table.alone g ≡ number_of (is_alone g) hs
   pub shared : (g : ℕ) → g < 64 → slice_index table.shared g ≡ number_of (is_shared g) hs
 
--- hs are ks and h, in some order: whatever one tells them by, so many more there are
+-- hs are ks and h, in some order: any count of them is greater by that of h
 abbrev pub IsWithOne : Hold → List Hold → List Hold → Type 0
 IsWithOne h ks hs = (t : Hold → Bool) → number_of t hs ≡ number_of t ks + (if t h then 1 else 0)
 
@@ -83,7 +83,7 @@ hold_in false shares (Some g) = Nothing
 hold_in true false (Some g) = Alone g
 hold_in true true (Some g) = Shared g
 
--- what a run of a job has to do with a lock: nothing where its mode takes none, or where it has no group
+-- what a run of a job has to do with a lock: nothing if its mode takes none, or without a group
 abbrev pub hold_of : Plan → ℕ → Hold
 hold_of p j = hold_in (takes_lock p j) (shares p j) (p.group j)
 

@@ -1,10 +1,10 @@
-/// What a run has to do with the lock of its group (`flock(1)`): it holds the lock, or waits for it, in this way.
+/// How a run holds the lock of its group, or waits for it (`flock(1)`).
 #[derive(Clone, Copy, Debug, PartialEq, Eq)]
 pub enum Hold {
     /// The run takes no lock.
     Nothing,
-    /// `flock` and `flock -n`: the run takes the lock of the group of this number for itself alone.
+    /// `flock` and `flock -n`: the run takes the lock of this group exclusively.
     Alone(u8),
-    /// `flock -s`: the run shares the lock of the group of this number.
+    /// `flock -s`: the run shares the lock of this group.
     Shared(u8),
 }

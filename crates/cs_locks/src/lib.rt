@@ -1,5 +1,4 @@
-//! Of each group of jobs, how many runs have its lock or wait for it: so whether a lock is free is told at a cost that
-//! doesn't grow with the runs.
+//! How many runs hold each group's lock or wait for it: the cost doesn't grow with the runs.
 #![tactic(auto)]
 
 mod hold;

@@ -6,11 +6,11 @@ ghost use Rattle.cs_locks.specs.declared.hold.Hold.{Hold};
 use crate::hold::Hold;
 use std::marker::Model;
 
-/// The number of groups that a plan may have.
+/// The most groups of a plan.
 const GROUPS: usize = 64;
 
-/// Of each group how many runs hold its lock, or wait for it, alone, and how many share it. No call takes memory, and
-/// each takes the same time, however many runs are counted.
+/// For each group how many runs hold its lock, or wait for it, exclusively, and how many share it.
+/// No call allocates, and each takes the same time, however many runs are counted.
 #[derive(Debug, Drop)]
 pub struct LockTable {
     alone: [u64; GROUPS],
@@ -26,7 +26,7 @@ impl Model for LockTable {
 }
 
 impl LockTable {
-    /// A table that counts no run.
+    /// Returns an empty table.
     pub fn new() -> LockTable
         ensures { IsCounted [] result }
     {
@@ -36,14 +36,14 @@ impl LockTable {
         }
     }
 
-    /// Counts no run any longer.
+    /// Removes all runs from the count.
     pub fn clear(&mut self)
         ensures { IsCounted [] self.new }
     {
         *self = LockTable::new();
     }
 
-    /// Counts one run more.
+    /// Counts a run.
     pub fn add(&mut self, hold: Hold)
         requires listed { is_listed hold ≡ true }
         requires room { HasRoom self.old }
@@ -56,7 +56,7 @@ impl LockTable {
         }
     }
 
-    /// Counts a run no longer, which is one of those that are counted.
+    /// Removes a counted run from the count.
     pub fn take(&mut self, hold: Hold)
         requires listed { is_listed hold ≡ true }
         ensures { (hs ks : List Hold) → IsWithOne hold ks hs
@@ -75,7 +75,7 @@ impl LockTable {
         }
     }
 
-    /// Whether none of the runs that are counted keeps the lock from a run.
+    /// Checks whether no counted run keeps the lock from a run.
     pub fn is_free(&self, hold: Hold) -> bool
         requires listed { is_listed hold ≡ true }
         ensures { (hs : List Hold) → IsCounted hs self.now
@@ -91,7 +91,7 @@ impl LockTable {
         }
     }
 
-    /// Whether one of the runs that wait would find its lock free. Those that wait take a lock, each of them.
+    /// Checks whether a waiting run would find its lock free. Each of them takes a lock.
     pub fn frees(&self, waiting: &LockTable) -> bool
         ensures { (hs ws : List Hold) → IsCounted hs self.now → IsCounted ws waiting.now
             → AllByRecursion (λ w. takes w ≡ true) ws
@@ -106,7 +106,7 @@ impl LockTable {
         false
     }
 
-    /// Whether one of the runs that wait for the lock of this group would find it free.
+    /// Whether one of the runs that wait for this group's lock would find it free.
     fn frees_in(&self, group: usize, waiting: &LockTable) -> bool
         requires { group < 64 }
         ensures { result ≡ frees_in self.now waiting.now group }

@@ -9,7 +9,7 @@ use Rattle.cs_machine.specs.Files.{IsFileName, is_kept_out, file_of, new_file_of
 pub own_file : (folder a b : List ℕ) → file_of folder a ≡ file_of folder b → a ≡ b
 own_file folder a b same = append_cancel_left (folder ++ codes "/") a b same
 
--- a text with a blank behind it has something kept out
+-- a text with a blank after it has a byte that names don't have
 ends_badly : (bit : Bool) → (bit || true) ≡ true
 ends_badly true = refl
 ends_badly false = refl

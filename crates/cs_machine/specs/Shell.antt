@@ -1,4 +1,4 @@
--- What the shell of a command is told (crontab(5)).
+-- The shell of a command, and its words (crontab(5)).
 use Rattle.std.specs.Prelude.{ℕ, List, [], ◌∷◌, Bool, ◌&&◌, Option, Some, None, codes, if◌then◌else◌}
 use Rattle.std.specs.List.{fold, list_all}
 use Rattle.std.specs.Str.{bytes_eq, is_utf8}
@@ -34,6 +34,6 @@ value_with name before setting = if bytes_eq setting.0 name then Some setting.1 
 abbrev pub value_of : List Variable → List ℕ → Option (List ℕ)
 value_of env name = fold (value_with name) None env
 
--- the words behind the shell's name
+-- the words after the shell's name
 abbrev pub shell_words : List ℕ → List (List ℕ)
 shell_words command = codes "-c" ∷ command ∷ []

@@ -1,8 +1,8 @@
-/// Why the machine can't be asked for a command.
+/// Why a command can't be set up.
 #[derive(Clone, Copy, Debug, PartialEq, Eq)]
 pub enum CommandFault {
-    /// The command or a setting is no UTF-8 text (this profile).
+    /// The command or a setting is not UTF-8 (this profile).
     NotText,
-    /// There was no memory for it.
+    /// Memory ran out.
     OutOfMemory,
 }

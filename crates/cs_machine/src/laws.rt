@@ -1,13 +1,13 @@
 ghost use Rattle.std.specs.Prelude.{◌≡◌, ◌≢◌, ℕ, List};
 ghost use Rattle.cs_machine.specs.Files.{IsFileName, file_of, new_file_of};
 
-/// The files of a folder of stamps don't meet. The call does nothing.
+/// Lemma. No two files of a folder of stamps have the same path.
 #[tactic(auto, using(crate::proofs::Names::own_file, crate::proofs::Names::new_file_apart))]
 pub fn files_differ()
 
     // each identifier has a file of its own
     ensures own { (folder a b : List ℕ) → file_of folder a ≡ file_of folder b → a ≡ b }
 
-    // and what is written first is in nobody's place
+    // and what is written first is at no identifier's path
     ensures apart { (folder a b : List ℕ) → IsFileName b → new_file_of folder a ≢ file_of folder b }
 {}

@@ -12,9 +12,8 @@ use std::{thread, time};
 
 /// The machine's clock at one offset from UTC, which a daemon looks at once a second.
 ///
-/// [`Failed`](Tick::Failed) where the machine tells no time, and where that isn't from 1970-01-02
-/// 00:00 to 9999-12-31 23:59 at the offset. Once 2^64 - 1 failures are counted, one more is told as
-/// [`Stop`](Tick::Stop).
+/// [`Failed`](Tick::Failed) if the machine has no time, or it isn't from 1970-01-02 00:00 to
+/// 9999-12-31 23:59 at the offset. After 2^64 - 1 failures, another is [`Stop`](Tick::Stop).
 #[derive(Drop)]
 pub struct MachineClock<'r, R> {
     rt: &'r R,
@@ -25,9 +24,9 @@ pub struct MachineClock<'r, R> {
 }
 
 impl<'r, R: time::Clock> MachineClock<'r, R> {
-    /// A clock that has told nothing yet, at an offset in minutes that the clocks are ahead of UTC.
+    /// Returns a clock without answers yet, at an offset: the minutes by which it is ahead of UTC.
     ///
-    /// With a limit it stops so many minutes after its first answer, with 0 at its second.
+    /// With a limit it stops this many minutes after its first answer, with 0 at its second.
     pub fn new(rt: &'r R, offset: i16, limit: Option<u64>) -> MachineClock<'r, R>
         ensures told { result.told ≡ nothing_told }
         ensures asked { (result.offset ≡ offset) × (result.limit ≡ limit) × (result.first ≡ None) }
@@ -48,7 +47,7 @@ impl<'r, R: time::Clock> MachineClock<'r, R> {
         minute_after(since.as_secs(), self.offset)
     }
 
-    /// What the clock shows.
+    /// The clock's answer.
     fn look(&mut self) -> Tick
         ensures { self.new.told ≡ self.old.told }
     {
@@ -58,7 +57,7 @@ impl<'r, R: time::Clock> MachineClock<'r, R> {
         }
     }
 
-    /// What the clock shows at a minute.
+    /// The clock's answer at a minute.
     fn show(&mut self, minute: Minute) -> Tick
         ensures tick { result ≡ shown self.old.limit self.old.first minute }
         ensures first { self.new
@@ -75,7 +74,7 @@ impl<'r, R: time::Clock> MachineClock<'r, R> {
     }
 }
 
-/// The minute so many seconds after 1970-01-01 00:00 UTC, if it is in range.
+/// The minute this many seconds after 1970-01-01 00:00 UTC, if it is in range.
 fn minute_after(seconds: u64, offset: i16) -> Option<Minute>
     ensures { IfSome result (λ minute. pos minute
         ≡ int_div_euclid (pos seconds +ℤ pos 60 *ℤ offset) (pos 60)) }
@@ -83,7 +82,7 @@ fn minute_after(seconds: u64, offset: i16) -> Option<Minute>
     minute_at(i64::try_from(seconds).ok()?, offset).ok()
 }
 
-/// Whether so many minutes have passed since the first one. None have where the clock went back.
+/// Whether this many minutes have passed since the first one. None have if the clock went back.
 fn has_passed(limit: u64, first: Minute, minute: Minute) -> bool
     ensures { IsTrue result ↔ (limit ≤ minute - first) }
 {

@@ -18,16 +18,15 @@ use std::str;
 /// The setting that names the shell (crontab(5)).
 const SHELL: &str = "SHELL";
 
-/// The shell where no setting names one (crontab(5)).
+/// The shell if no setting names one (crontab(5)).
 const USUAL_SHELL: &str = "/bin/sh";
 
-/// What the machine is asked for a command: the shell that its settings name in `SHELL`, by default
-/// `/bin/sh`, with `-c` and the command, and with these settings and `SHELL` in its environment
-/// (crontab(5)). All else of the environment, the folder and the streams are the daemon's own.
+/// Returns the process to start for a command: the shell that its setting `SHELL` names, by default
+/// `/bin/sh`, with `-c` and the command, and these settings and `SHELL` in its environment
+/// (crontab(5)). The rest of the environment, the folder and the streams are the daemon's.
 ///
-/// Settings are names with values; of one name the last counts.
-/// [`NotText`](CommandFault::NotText) exactly where the command, a name or a value is no UTF-8 text
-/// (this profile).
+/// The last setting of a name counts. [`NotText`](CommandFault::NotText) if and only if the
+/// command, a name or a value is not UTF-8 (this profile).
 pub fn shell_command(
     alloc: Global,
     command: &[u8],
@@ -76,7 +75,7 @@ fn are_settings(env: &[(Bytes, Bytes)]) -> bool
     true
 }
 
-/// What is asked for a command of texts. None for want of memory.
+/// The process of a command of texts, none if memory runs out.
 fn command_of(alloc: Global, command: &[u8], env: &[(Bytes, Bytes)]) -> Option<Command>
     ensures program { IfSome result
         (λ c. value_of (with_shell env.now) shell_name ≡ Some (command_program c)) }
@@ -111,7 +110,7 @@ fn set(shell: &mut Command, name: &[u8], value: &[u8]) -> Option<()>
     Some(())
 }
 
-/// The shell that settings name, where it is UTF-8.
+/// The shell that settings name, if it is UTF-8.
 fn shell_of(env: &[(Bytes, Bytes)]) -> Option<&str>
     ensures { IfSome result (λ shell. value_of (with_shell env.now) shell_name ≡ Some shell.now) }
 {

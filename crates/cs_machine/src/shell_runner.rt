@@ -9,11 +9,11 @@ use std::alloc::Global;
 use std::io::Write;
 use std::process::{Child, OpenProcess, Processes, Stdio};
 
-/// Runs each command by a shell of this machine (see [`shell_command`]), with the daemon's own
+/// Runs each command with a shell of this machine (see [`shell_command`]), with the daemon's own
 /// standard output and standard error.
 ///
-/// A command that can't be started is [`NotStarted`](Outcome::NotStarted); once 2^64 - 1 of them
-/// are counted, one more is told as [`Ended`](Outcome::Ended).
+/// A command that can't be started is [`NotStarted`](Outcome::NotStarted); after 2^64 - 1 of them,
+/// another is [`Ended`](Outcome::Ended).
 #[derive(Drop)]
 pub struct ShellRunner<'r, P> {
     processes: &'r P,
@@ -39,7 +39,7 @@ fn finish<S: OpenProcess>(child: &mut Child<S>, input: Option<&[u8]>) -> Outcome
 }
 
 impl<'r, P: Processes> ShellRunner<'r, P> {
-    /// A runner that has not failed yet.
+    /// Returns a runner without failures.
     pub fn new(processes: &'r P, alloc: Global) -> ShellRunner<'r, P>
         ensures { result.failures ≡ 0 }
     {
@@ -50,7 +50,7 @@ impl<'r, P: Processes> ShellRunner<'r, P> {
         }
     }
 
-    /// Starts a command: its input is a pipe, and the null device where it has none.
+    /// Starts a command, whose input is a pipe, or the null device if it has none.
     fn start(
         &self,
         command: &[u8],

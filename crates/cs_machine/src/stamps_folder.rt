@@ -15,18 +15,17 @@ use std::io::{ErrorKind, Read, Write};
 use std::rt::Files;
 use std::{fs, io, str};
 
-/// A path that names no folder, or one that can't be looked at.
+/// The path names no folder, or can't be looked at.
 #[derive(Clone, Copy, Debug, PartialEq, Eq)]
 pub struct NoFolder;
 
-/// A folder of stamps: for each identifier a file of its name, which holds `YYYYMMDD` and a newline
-/// (anacron(8)).
+/// A folder of stamps: each identifier's file holds `YYYYMMDD` and a newline (anacron(8)).
 ///
-/// A file that is empty, as anacron(8) makes them, is no stamp; one that holds anything else than a
-/// stamp can't be read (this profile). An identifier that can't be a file's name has no file: it
-/// can't be read or written. What a file holds no contract says.
+/// An empty file, as anacron(8) makes them, is no stamp; one with anything else can't be read (this
+/// profile). An identifier that can't be a file's name can't be read or written. No contract says
+/// what a file holds.
 ///
-/// Once 2^64 - 1 failures are counted, one more is told as no stamp, and as one that is written.
+/// After 2^64 - 1 failures, another is reported as no stamp, and as written.
 #[derive(Drop)]
 pub struct StampsFolder<'r, 'f, R> {
     rt: &'r R,
@@ -35,7 +34,7 @@ pub struct StampsFolder<'r, 'f, R> {
     failures: Failures,
 }
 
-/// Whether a text can be the name of a stamp's file, as each identifier of an anacrontab can.
+/// Whether a text can be the name of a stamp's file, like each identifier of an anacrontab.
 fn is_file_name(name: &str) -> bool
     ensures { IsTrue result ↔ IsFileName name.now }
 {
@@ -51,10 +50,10 @@ fn has_kept_out(bytes: &[u8]) -> bool
         .any(|byte| *byte == b'/' || *byte == b' ' || *byte == b'\t')
 }
 
-/// The longest text of a stamp and one byte more.
+/// The bytes of the longest stamp, and one more.
 const ENOUGH: u64 = 10;
 
-/// The day of a stamp file's text, and none where it is empty. An error where it is no stamp.
+/// The day in a stamp file's text, none if it is empty. An error if it is no stamp.
 fn day_in(text: &[u8]) -> io::Result<Option<Day>>
     ensures said { IfOk result (λ found.
         MatchOption found (text.now ≡ []) (IsStampText text.now)) }
@@ -71,7 +70,7 @@ fn day_in(text: &[u8]) -> io::Result<Option<Day>>
 }
 
 impl<'r, 'f, R: Files> StampsFolder<'r, 'f, R> {
-    /// The folder of that path, with no failure yet. [`NoFolder`] where the path names no folder.
+    /// Opens the folder at that path, without failures. [`NoFolder`] if the path names no folder.
     pub fn open(
         rt: &'r R,
         alloc: Global,
@@ -91,7 +90,7 @@ impl<'r, 'f, R: Files> StampsFolder<'r, 'f, R> {
         }
     }
 
-    /// The path of an identifier's file. An error too where it can't be the name of one.
+    /// The path of an identifier's file. An error too if it can't be the name of one.
     fn file_of(&self, identifier: &[u8]) -> io::Result<String>
         ensures { IfOk result
             (λ path. IsFileName identifier.now
@@ -109,8 +108,7 @@ impl<'r, 'f, R: Files> StampsFolder<'r, 'f, R> {
         Ok(path)
     }
 
-    /// The path at which it is written before it takes that file's place: with its blank it is no
-    /// identifier's file.
+    /// The path at which it is first written, which with its blank is no identifier's.
     fn new_file_of(&self, identifier: &[u8]) -> io::Result<String>
         ensures { IfOk result
             (λ path. string_bytes path ≡ new_file_of self.now.folder.now identifier.now) }
@@ -120,7 +118,7 @@ impl<'r, 'f, R: Files> StampsFolder<'r, 'f, R> {
         Ok(path)
     }
 
-    /// The day that an identifier's file holds, and none where it is empty or isn't there.
+    /// The day in an identifier's file, none if it is empty or absent.
     fn look(&self, identifier: &[u8]) -> io::Result<Option<Day>> {
         let path = self.file_of(identifier)?;
         let file = match fs::open(self.rt, path) {
@@ -133,8 +131,8 @@ impl<'r, 'f, R: Files> StampsFolder<'r, 'f, R> {
         day_in(text.as_slice())
     }
 
-    /// Writes a stamp beside its file, sees that the disk has it, puts it in the file's place and
-    /// sees that the disk has that too. So a crash leaves the old stamp or the new one.
+    /// Writes a stamp to another file, flushes it to the disk, renames it to the stamp's file, and
+    /// flushes that too. So a crash leaves the old stamp or the new one.
     fn replace(&self, identifier: &[u8], day: Day) -> io::Result<()> {
         let path = self.file_of(identifier)?;
         let new_path = self.new_file_of(identifier)?;

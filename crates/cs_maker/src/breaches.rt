@@ -1,19 +1,20 @@
-//! What the windows of a stretch break, and the civil minute at which that is met.
+//! What the windows of a stretch break, and the civil minute of that.
 use cs_profile::{Calendar, DAYS_BEFORE};
 use cs_story::{Breach, Rule, Span};
 use cs_stretch::{Quiet, Roles};
 use cs_windows::{MINUTES_OF_DAY, Window, touches};
 use std::alloc::{AllocError, Global};
 
-/// A rule that the windows of a stretch break, and the first minute of its last day at which they do.
+/// A rule that the windows of a stretch break, and the first minute of its last day at which they
+/// do.
 #[derive(Clone, Copy, Debug, PartialEq, Eq)]
 pub(crate) struct Found {
     pub(crate) rule: Rule,
     pub(crate) minute: u16,
 }
 
-/// What these windows of a stretch break, if they break a rule of which a quick test of them, or of longer ones, doesn't say
-/// that it is kept. The only error is want of memory.
+/// What these windows of a stretch break. A rule is skipped if a quick test of them, or of longer
+/// ones, finds that it is kept. The only error is out of memory.
 pub(crate) fn broken_by(
     alloc: Global,
     roles: &Roles,
@@ -50,8 +51,8 @@ fn begins_with(days: &[u16], place: usize, profiles: &[u16]) -> bool {
     }
 }
 
-/// The first civil day from 2024-01-01 on that is the last of days with these profiles, counted from 1970-01-01. In 28 years there
-/// always is one; else it would be the calendar's first day.
+/// The first civil day from 2024-01-01 on that is the last of days with these profiles, counted
+/// from 1970-01-01. There is one within 28 years; otherwise this is the calendar's first day.
 pub(crate) fn last_day(calendar: &Calendar, profiles: &[u16]) -> u64 {
     let days = calendar.profiles();
     let days_before = profiles.len().saturating_sub(1);
@@ -69,7 +70,7 @@ fn minute_on(day: u64, minute: u16) -> u64 {
         .saturating_add(u64::from(minute))
 }
 
-/// The civil minutes of a window that is looked at from this day.
+/// The civil minutes of a window as seen from this day.
 fn span_on(day: u64, window: &Window) -> Span {
     let from = minute_on(day.saturating_sub(u64::from(window.day_back)), window.from);
     Span {
@@ -95,7 +96,7 @@ fn held_at(
     Ok(held)
 }
 
-/// The breach that was found in these windows of the stretch that ends on this day. The only error is want of memory.
+/// The breach in these windows of the stretch up to this day. The only error is out of memory.
 pub(crate) fn breach_on(
     alloc: Global,
     day: u64,

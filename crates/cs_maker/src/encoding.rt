@@ -15,7 +15,7 @@ use cs_profile::{Classing, Facts};
 use cs_windows::{Occupied, windows_on};
 use std::alloc::{AllocError, Global};
 
-/// How many bytes of a text an entry takes, with the comma or the brackets beside it, at least.
+/// The fewest bytes that an entry takes in a text, with its comma or brackets.
 const LEAST_ENTRY: u64 = 8;
 
 /// How many windows begin on a day of this class.
@@ -35,7 +35,7 @@ fn windows_begun(facts: &Facts, classing: &Classing, class: u16) -> u64 {
     begun
 }
 
-/// How many bytes the entries of these stretches take in a text, at least: each lists what begins on its last day.
+/// The fewest bytes of the entries of these stretches: each lists what begins on its last day.
 fn least_entries(facts: &Facts, classing: &Classing, in_use: &Stretches) -> u64 {
     let mut least: u64 = 0;
     for (classes, _) in in_use {
@@ -47,7 +47,7 @@ fn least_entries(facts: &Facts, classing: &Classing, in_use: &Stretches) -> u64 
     least
 }
 
-/// Each of these stretches, with the windows that its last day has.
+/// Each of these stretches, with the windows of its last day.
 fn with_windows(
     alloc: Global,
     occupied: &[Occupied<'_>],
@@ -88,7 +88,7 @@ fn listed_certificate(
     }
 }
 
-/// The certificate that claims these bounds, in the form that is wanted, or why there is none. The only error is want of memory.
+/// The certificate of these bounds in this form, or why none. The only error is out of memory.
 pub(crate) fn certificate_of(
     alloc: Global,
     plan: &Plan,

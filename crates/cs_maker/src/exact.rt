@@ -1,4 +1,4 @@
-//! Stories of jobs that wait for a lock, from windows that are as long as their runs can really go on.
+//! Counterexamples with jobs that wait for a lock, from windows as long as runs can really go on.
 ghost use Rattle.std.specs.Prelude.{◌≤◌, length};
 
 use crate::breaches::{breach_on, broken_by};
@@ -17,16 +17,17 @@ use std::alloc::{AllocError, Global};
 /// The greatest reach of a certificate, in minutes.
 const GREATEST_REACH: u16 = 4_320;
 
-/// After so many breaches of which there is no story no other is looked for.
+/// The search ends after this many breaches without a counterexample.
 const MOST_BREACHES: u8 = 16;
 
-/// Nor after so many looks: at a window, for each other that is open with it or each few minutes of a day.
+/// The search also ends after this many looks: at a window, for each other that is open with it or
+/// each few minutes of a day.
 const MOST_LOOKS: u64 = 100_000_000;
 
-/// For so many minutes of a day that a window is held against, a look is counted.
+/// Comparing a window with this many minutes of a day is one look.
 const MINUTES_OF_LOOK: u64 = 8;
 
-/// Longer reaches for the jobs that wait than any that a certificate has.
+/// Reaches for the jobs that wait, longer than any of a certificate.
 pub(crate) fn greatest_reaches(alloc: Global, facts: &Facts) -> Result<Vec<JobReach>, AllocError> {
     let mut reaches = Vec::new(alloc);
     for (number, task) in facts.tasks().iter().enumerate() {
@@ -40,7 +41,7 @@ pub(crate) fn greatest_reaches(alloc: Global, facts: &Facts) -> Result<Vec<JobRe
     Ok(reaches)
 }
 
-/// The kinds of so many days, of which this is the last, eldest first.
+/// The kinds of this many days up to this one, eldest first.
 fn kinds_until(last_day: u64, days: u8) -> Chain {
     let mut kinds = Chain::new();
     for days_back in (0..days.min(4)).rev() {
@@ -51,7 +52,7 @@ fn kinds_until(last_day: u64, days: u8) -> Chain {
     kinds
 }
 
-/// How many looks the quick test of these windows takes: at each, for each other that is open with it.
+/// How many looks the quick test of these windows takes: at each, for each other open with it.
 fn looks_at_open(windows: &[Window]) -> u64 {
     let mut held = 0u64;
     for window in windows {
@@ -61,20 +62,21 @@ fn looks_at_open(windows: &[Window]) -> u64 {
     (windows.len() as u64).saturating_mul(open.saturating_add(1))
 }
 
-/// How many looks it takes to hold these windows against each minute of a day.
+/// How many looks it takes to compare these windows with each minute of a day.
 fn looks_by_minute(windows: &[Window]) -> u64 {
     let looks = u64::from(MINUTES_OF_DAY) / MINUTES_OF_LOOK;
     (windows.len() as u64).saturating_mul(looks)
 }
 
-/// Windows that can't be shorter than the exact ones, and the days of their stretches.
+/// Windows no shorter than the exact ones, and the days of their stretches.
 #[derive(Drop)]
 struct Bounded<'a> {
     occupied: Vec<Occupied<'a>>,
     days: u8,
 }
 
-/// What the exact windows of the stretch break that ends on this day. `looks` is how many are left, and are left then.
+/// What the exact windows of the stretch that ends on this day break. `looks` are those left,
+/// before and after.
 fn breach_until(
     alloc: Global,
     subject: &Subject<'_>,
@@ -100,8 +102,8 @@ fn breach_until(
     }
 }
 
-/// The first story of what exact windows break on one of these days. None where there is none, many breaches have none, or it
-/// took many looks to find none.
+/// The first counterexample for what exact windows break on one of these days. None if there is
+/// none, many breaches have none, or the search took too many looks.
 fn story_on(
     alloc: Global,
     subject: &Subject<'_>,
@@ -136,8 +138,8 @@ fn story_on(
     Ok(None)
 }
 
-/// A story of what windows break in which each run goes on as long as it really can. The reaches are those of jobs that wait,
-/// none less than the exact one. None where no such story is found. The only error is want of memory.
+/// A counterexample in which each run goes on exactly as long as it can, none if none is found. The
+/// reaches of the jobs that wait are no less than the exact ones. The only error is out of memory.
 pub(crate) fn exact_story(
     alloc: Global,
     subject: &Subject<'_>,

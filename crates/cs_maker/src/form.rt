@@ -1,8 +1,8 @@
-/// Which certificate is made for a plan.
+/// The form of the certificate that is made for a plan.
 #[derive(Clone, Copy, Debug, PartialEq, Eq)]
 pub enum Form {
-    /// One that lists due minutes, bounds and windows, of version 1 or 2, where a file can hold it; else a compact one.
+    /// Due minutes, bounds and windows (version 1 or 2) if a file can hold them; else compact.
     Listed,
-    /// One that says only what the plan doesn't, of version 3.
+    /// Only what the plan doesn't say, version 3.
     Compact,
 }

@@ -1,5 +1,5 @@
-//! The maker: finds a certificate for a plan, or a script that breaks it. Nothing trusts it, so it promises nothing but that
-//! it returns, and in which form a certificate is.
+//! The maker: finds a certificate for a plan, or a script that breaks it. It is not trusted; it
+//! promises only to return, and the form of a certificate.
 #![tactic(auto)]
 
 mod breaches;

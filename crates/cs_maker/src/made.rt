@@ -4,40 +4,40 @@ ghost use Rattle.cs_maker.specs.Reason.{reason_name};
 use cs_cert::Certificate;
 use cs_history::Script;
 
-/// Why the maker knows neither a certificate nor a script that breaks the plan.
+/// Why the maker finds neither a certificate nor a script that breaks the plan.
 #[derive(Clone, Copy, Debug, PartialEq, Eq)]
 pub enum Reason {
-    /// The days are of more sorts than a certificate has classes. The maker doesn't answer this: it then makes a compact one.
+    /// The days have more classes than a certificate can. Not returned: a compact one is made.
     TooManyClasses,
-    /// The text of the certificate is too long for a file, or a leaf is, where the maker made no compact one.
+    /// The certificate's text or a leaf is too long, and the maker made no compact one.
     LeafTooLong,
-    /// A tree of the certificate would be too deep. The maker doesn't answer this.
+    /// A tree of the certificate would be too deep. The maker doesn't return this.
     TooDeep,
-    /// A job that waits for its lock may have to wait for too long.
+    /// A job may have to wait too long for its lock.
     NoReach,
-    /// Windows break a rule, and no history was found in which runs do.
+    /// Windows break a rule, but no history was found in which runs do.
     NoScript,
-    /// What the maker gave was not confirmed.
+    /// The maker's answer was not confirmed.
     NotChecked,
     /// Memory ran out.
     NoMemory,
 }
 
-/// What the maker gives for a plan.
+/// The maker's answer for a plan.
 #[derive(Debug, Drop)]
 pub enum Made {
     /// A certificate that the checker should accept.
     Safe(Certificate),
     /// A script that should show the plan unsafe.
     Unsafe(Script),
-    /// The least certificate, whose windows break a rule, and why no script is known.
+    /// The least certificate, whose windows break a rule, and why there is no script.
     Refused(Certificate, Reason),
-    /// Neither.
+    /// Neither a certificate nor a script, and why.
     Unknown(Reason),
 }
 
 impl Reason {
-    /// Its name.
+    /// Returns its name.
     pub fn name(self) -> &'static str
         ensures { result.now ≡ reason_name self }
     {

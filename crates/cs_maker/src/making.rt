@@ -1,4 +1,4 @@
-//! The way from a plan to what is made for it: bounds first, then windows that break a rule, then the certificate.
+//! The steps of the maker: bounds first, then windows that break a rule, then the certificate.
 ghost use Rattle.std.specs.Prelude.{IfOk, IfSome};
 ghost use Rattle.cs_maker.specs.Form.{IsInForm, IsMadeIn};
 
@@ -16,7 +16,7 @@ use cs_story::{Breach, tell};
 use cs_stretch::Roles;
 use std::alloc::{AllocError, Global};
 
-/// A story of jobs that wait for as long as they really can, where nothing bounds for how long; or else this reason.
+/// A counterexample with jobs that wait as long as they can, if that is unbounded; or this reason.
 fn made_without_bounds(
     alloc: Global,
     subject: &Subject<'_>,
@@ -31,7 +31,7 @@ fn made_without_bounds(
     })
 }
 
-/// The story of a breach of windows in which no job waits.
+/// The counterexample for a breach of windows in which no job waits.
 fn made_of_breach(alloc: Global, subject: &Subject<'_>, breach: &Breach) -> Result<Made, AllocError>
     ensures { IfOk result (IsMadeIn subject.now.form) }
 {
@@ -42,8 +42,8 @@ fn made_of_breach(alloc: Global, subject: &Subject<'_>, breach: &Breach) -> Resu
     }
 }
 
-/// What is made where the windows of these bounds break a rule: a story of jobs that wait for as long as they really can, or
-/// else the certificate, which the checker refuses.
+/// The answer if the windows of these bounds break a rule: a counterexample with jobs that wait as
+/// long as they can, or else the certificate, which the checker refuses.
 fn made_in_doubt(alloc: Global, subject: &Subject<'_>, bounds: &Bounds) -> Result<Made, AllocError>
     ensures { IfOk result (IsMadeIn subject.now.form) }
 {
@@ -58,7 +58,7 @@ fn made_in_doubt(alloc: Global, subject: &Subject<'_>, bounds: &Bounds) -> Resul
     )
 }
 
-/// What is made where windows break a rule though no job waits, if there is such a breach.
+/// The answer if windows break a rule though no job waits, if there is such a breach.
 fn made_of_plain_breach(alloc: Global, subject: &Subject<'_>) -> Result<Option<Made>, AllocError>
     ensures { IfOk result (λ made. IfSome made (IsMadeIn subject.now.form)) }
 {
@@ -68,8 +68,8 @@ fn made_of_plain_breach(alloc: Global, subject: &Subject<'_>) -> Result<Option<M
     }
 }
 
-/// The certificate of these bounds, unless their windows break a rule. Where they break none with the reaches of the jobs that
-/// wait, they break none without.
+/// The certificate of these bounds, unless their windows break a rule. If they break none with the
+/// reaches of the jobs that wait, they break none without.
 fn made_of_bounds(alloc: Global, subject: &Subject<'_>, bounds: &Bounds) -> Result<Made, AllocError>
     ensures { IfOk result (IsMadeIn subject.now.form) }
 {
@@ -87,7 +87,7 @@ fn made_of_bounds(alloc: Global, subject: &Subject<'_>, bounds: &Bounds) -> Resu
     }
 }
 
-/// What is made for the plan. The only error is want of memory.
+/// The answer for the plan. The only error is out of memory.
 fn made_of(alloc: Global, subject: &Subject<'_>) -> Result<Made, AllocError>
     ensures { IfOk result (IsMadeIn subject.now.form) }
 {
@@ -100,7 +100,7 @@ fn made_of(alloc: Global, subject: &Subject<'_>) -> Result<Made, AllocError>
     }
 }
 
-/// The same, with what is read off the plan once.
+/// The answer, from what is read off the plan once.
 fn made_of_plan(alloc: Global, plan: &Plan, form: Form) -> Result<Made, AllocError>
     ensures { IfOk result (IsMadeIn form) }
 {
@@ -117,8 +117,9 @@ fn made_of_plan(alloc: Global, plan: &Plan, form: Form) -> Result<Made, AllocErr
     made_of(alloc, &subject)
 }
 
-/// The certificate in this form that the least bounds of a plan give, whether or not windows break a rule then: who asks for it
-/// has it checked. None where nothing bounds for how long jobs wait. The only error is want of memory.
+/// Returns the certificate with the least bounds for a plan in this form, whether or not its
+/// windows break a rule: the caller has it checked. None if nothing bounds how long jobs wait. The
+/// only error is out of memory.
 pub fn propose(alloc: Global, plan: &Plan, form: Form) -> Result<Option<Certificate>, AllocError>
     ensures { IfOk result (λ made. IfSome made (IsInForm form)) }
 {
@@ -132,8 +133,8 @@ pub fn propose(alloc: Global, plan: &Plan, form: Form) -> Result<Option<Certific
     }
 }
 
-/// A certificate for the plan in this form, or a script that breaks it, or why neither is known. `NoMemory` is the reason where
-/// memory ran out.
+/// Returns a certificate for the plan in this form, or a script that breaks it, or why neither is
+/// found: `NoMemory` if memory ran out.
 pub fn make(alloc: Global, plan: &Plan, form: Form) -> Made
     ensures { IsMadeIn form result }
 {

@@ -7,10 +7,10 @@ use cs_windows::Occupied;
 use std::alloc::{AllocError, Global};
 use std::collections::BTreeMap;
 
-/// Stretches by the numbers of their days, as profiles or classes, eldest first, each with kinds of such days. They rise.
+/// Stretches by the numbers of their days (profiles or classes), eldest first, with kinds of them.
 pub(crate) type Stretches = BTreeMap<Vec<u16>, Chain>;
 
-/// Of how many days the stretches are.
+/// The days of a stretch.
 pub(crate) fn days_of(occupied: &[Occupied<'_>]) -> u8
     ensures { (1 ≤ result) × (result ≤ 4) }
 {
@@ -27,7 +27,7 @@ fn numbers_of(alloc: Global, chain: &Chain, by_kind: &[u16]) -> Result<Vec<u16>,
     Ok(numbers)
 }
 
-/// The stretches of so many days that successive days have, where each kind of day has this number.
+/// The stretches of this many successive days, with this number for each kind of day.
 pub(crate) fn stretches_by(
     alloc: Global,
     days: u8,

@@ -3,7 +3,7 @@ use cs_decl::Plan;
 use cs_profile::{Calendar, Facts};
 use cs_stretch::Roles;
 
-/// A plan, what is read off it once, and which certificate is wanted of it.
+/// A plan, what is read off it once, and the form of certificate wanted.
 #[derive(Drop)]
 pub(crate) struct Subject<'a> {
     pub(crate) plan: &'a Plan,

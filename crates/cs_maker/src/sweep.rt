@@ -11,7 +11,7 @@ use cs_stretch::Roles;
 use cs_windows::{JobReach, Window, windows_on};
 use std::alloc::{AllocError, Global};
 
-/// What these windows of a stretch break. Most break nothing, which the quick test tells.
+/// What these windows of a stretch break. The quick test shows for most that they break nothing.
 fn found_in(alloc: Global, roles: &Roles, windows: &[Window]) -> Result<Option<Found>, AllocError>
     requires { IsRising windows.now }
 {
@@ -19,8 +19,9 @@ fn found_in(alloc: Global, roles: &Roles, windows: &[Window]) -> Result<Option<F
     broken_by(alloc, roles, quiet, windows)
 }
 
-/// The first breach in the windows of a plan, where jobs that wait have these reaches, and those without one their declared
-/// times. Where there is none, no history breaks what is declared, if runs end within the reaches. The only error is want of memory.
+/// The first breach in the windows of a plan, where waiting jobs have these reaches, and others
+/// their declared times. If there is none, no history breaks a declaration while runs end within
+/// the reaches. The only error is out of memory.
 pub(crate) fn first_breach(
     alloc: Global,
     subject: &Subject<'_>,

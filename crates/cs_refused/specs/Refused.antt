@@ -1,4 +1,4 @@
--- How it is told why a certificate is refused.
+-- The text of a refusal.
 use Rattle.std.specs.Prelude.{ℕ, ◌+◌, ◌*◌, ◌-◌, ◌/◌, max, min, nat_lt, if◌then◌else◌, List, [], ◌∷◌, ◌++◌, codes, flat_map, slice_index_or}
 use Rattle.std.specs.Fmt.{decimal}
 use Rattle.cs_civil.specs.Calendar.{Kind, first_minute, last_minute}

@@ -1,9 +1,9 @@
--- What a fault says, as the rules have it.
+-- A fault in the terms of the rules.
 use Rattle.cs_accepted.specs.Faults.{Fault, ClassNotDue, Missing, BacklogRises, ReachTooShort, WindowMissing, Collision, OverCapacity, SkipBlocked}
 use Rattle.cs_refused.specs.declared.fault.CheckFault.{CheckFault}
 use Rattle.cs_refused.specs.declared.fault.CheckFault.TheVariants as faults
 
--- what a fault says
+-- the same fault
 abbrev pub told : CheckFault → Fault
 told (faults.ClassNotDue kind) = ClassNotDue kind
 told (faults.MissingPair kinds) = Missing kinds.items

@@ -2,20 +2,22 @@ use arrayvec::ArrayVec;
 use cs_civil::{DayKind, Minute};
 use cs_windows::Window;
 
-/// Why a certificate is refused: the first rule that isn't met, and its first place. A minute `at` is one of the first day
-/// from 1970-01-03 on that ends such a stretch of days; where the rule is one of the day before, it is a minute of that day.
+/// Why a certificate is refused: the first rule that fails, and its first place. A minute `at` is
+/// on the first day from 1970-01-03 on that ends such a stretch of days, or on the day before if
+/// the rule is one of that day.
 #[derive(Debug, Drop)]
 pub enum CheckFault {
-    /// The class of this kind of day hasn't the due minutes of the kind.
+    /// The class of this kind of day doesn't have the due minutes of the kind.
     ClassNotDue(DayKind),
     /// The certificate has no stretch for the classes of these successive kinds of days.
     MissingPair(ArrayVec<DayKind, 4>),
-    /// The bound of a group falls faster than its lock's holder takes off, or leaves out what arrives, from this minute to the next.
+    /// The bound of a group, from this minute to the next, falls by more than one minute of runs,
+    /// or leaves out arrivals.
     BacklogRises {
         group: usize,
         at: Minute,
     },
-    /// This job waits for a lock and has no reach, or one that ends before the bound of its group is zero.
+    /// This job waits for a lock and has no reach, or one that ends before its group's bound is 0.
     ReachTooShort {
         job: usize,
     },
@@ -30,12 +32,12 @@ pub enum CheckFault {
         one: Window,
         other: Window,
     },
-    /// What is more than the capacity may run at this minute.
+    /// The runs that may run at this minute exceed the capacity.
     OverCapacity {
         at: Minute,
         load: u128,
     },
-    /// The skip job's run that is due at this minute may find its lock held by a run of the other window.
+    /// The skip job's run that is due at this minute may find its lock held by the other window's.
     SkipBlocked {
         at: Minute,
         skip: Window,

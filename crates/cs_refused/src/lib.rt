@@ -1,4 +1,4 @@
-//! Why a certificate is refused, and the line that tells it.
+//! Why a certificate is refused, and the line that is printed.
 #![tactic(auto)]
 
 mod fault;

@@ -1,4 +1,4 @@
-//! How it is told why a certificate is refused.
+//! The text of a refusal.
 ghost use Rattle.std.specs.Prelude.{◌≡◌, ◌≤◌, ◌++◌, IfOk, OnOk, decimal, flat_map};
 ghost use Rattle.cs_decl.specs.Plan.{crons};
 ghost use Rattle.cs_refused.specs.Told.{told};
@@ -17,7 +17,6 @@ const FIRST_MINUTE: u64 = 1_440;
 /// 9999-12-31 23:59.
 const LAST_MINUTE: u64 = 4_223_371_679;
 
-/// Adds a number.
 fn push_number(alloc: Global, text: &mut Vec<u8>, number: u128) -> Result<(), AllocError>
     ensures { OnOk result (text.new.items ≡ text.old.items ++ decimal number) }
 {
@@ -37,7 +36,7 @@ fn push_kind(alloc: Global, text: &mut Vec<u8>, kind: DayKind) -> Result<(), All
     push_number(alloc, text, u128::from(kind.dow()))
 }
 
-/// Adds the days that follow, each behind ` then `.
+/// Adds the other days, each after ` then `.
 fn push_following(alloc: Global, text: &mut Vec<u8>, kinds: &[DayKind]) -> Result<(), AllocError>
     ensures { OnOk result (text.new.items ≡ text.old.items ++ flat_map then_text kinds.now) }
 {
@@ -84,7 +83,7 @@ fn push_line(alloc: Global, text: &mut Vec<u8>, plan: &Plan, job: usize) -> Resu
     push_number(alloc, text, u128::from(number))
 }
 
-/// The identifier of an anacron job, nothing where there is no such job.
+/// The identifier of an anacron job, nothing if there is no such job.
 fn identifier_of(plan: &Plan, job: usize) -> &[u8]
     requires { crons plan.now ≤ job }
     ensures { result.now ≡ identifier_of plan.now job }
@@ -166,7 +165,6 @@ fn push_window(
     text.extend_from_slice(&date_text(start_of(at, window)))
 }
 
-/// Adds two windows.
 #[tactic(auto, unfolding(crate::specs::Refused::both_text))]
 fn push_both(
     alloc: Global,
@@ -184,7 +182,7 @@ fn push_both(
     push_window(alloc, text, plan, at, other)
 }
 
-/// The name of a group, nothing where there is no such group.
+/// The name of a group, nothing if there is no such group.
 fn group_name(plan: &Plan, group: usize) -> &[u8]
     ensures { result.now ≡ group_name plan.now group }
 {
@@ -239,7 +237,7 @@ fn push_collision(
     push_at(text, at)
 }
 
-/// Adds what is too much, and where.
+/// Adds which load exceeds the capacity, and where.
 #[tactic(auto, unfolding(crate::specs::Refused::overload_text))]
 fn push_overload(
     alloc: Global,
@@ -280,7 +278,6 @@ fn rule_text(fault: &CheckFault) -> &'static str
     }
 }
 
-/// Adds the place of a fault.
 fn push_place(
     alloc: Global,
     text: &mut Vec<u8>,
@@ -306,13 +303,15 @@ fn push_place(
     }
 }
 
-/// Why a certificate is refused, in one line without a newline: the rule by its number and name, then the place.
+/// Formats why a certificate is refused, in one line without a newline: the rule by number and
+/// name, then the place.
 ///
-/// 1 `refused 1 ClassNotDue: month M day D weekday W`, 2 `refused 2 MissingPair: ` with such days, ` then ` between them,
-/// 3 `refused 3 BacklogRises: group NAME at DT`, 4 `refused 4 ReachTooShort: line N`, 5 `refused 5 WindowMissing: WINDOW at DT`,
-/// 6 `refused 6 Collision: WINDOW and WINDOW meet at DT`, 7 `refused 7 OverCapacity: LOAD of CAPACITY at DT`,
-/// 8 `refused 8 SkipBlocked: WINDOW and WINDOW`, the skip job's first. A window is `line N due DT` or `catch-up of ID from DT`,
-/// and DT is `YYYY-MM-DD HH:MM`. The only error is want of memory.
+/// 1 `refused 1 ClassNotDue: month M day D weekday W`, 2 `refused 2 MissingPair: ` with such days,
+/// ` then ` between them, 3 `refused 3 BacklogRises: group NAME at DT`, 4 `refused 4 ReachTooShort:
+/// line N`, 5 `refused 5 WindowMissing: WINDOW at DT`, 6 `refused 6 Collision: WINDOW and WINDOW
+/// meet at DT`, 7 `refused 7 OverCapacity: LOAD of CAPACITY at DT`, 8 `refused 8 SkipBlocked:
+/// WINDOW and WINDOW`, the skip job's first. A window is `line N due DT` or `catch-up of ID from
+/// DT`, and DT is `YYYY-MM-DD HH:MM`. The only error is out of memory.
 #[tactic(auto, unfolding(crate::specs::Refused::fault_text))]
 pub fn fault_text(alloc: Global, plan: &Plan, fault: &CheckFault) -> Result<Bytes, AllocError>
     ensures { IfOk result (λ text. text ≡ fault_text plan.now (told fault.now)) }

@@ -38,7 +38,7 @@ none_has : (r : Run) (es : Entries) → AllByRecursion (λ k. same_run r k ≡ f
 none_has r [] h = refl
 none_has r (e ∷ es) h = has_head r e (still es) false (none_has r es h.1) h.0
 
--- a name that an entry has is that of none behind it
+-- a name that an entry has is that of none after it
 others_differ : (r : Run) (e : Run × Option ℕ) (es : Entries) → same_run r e.0 ≡ true → IsDistinct same_run (keys_of (e ∷ es)) → has (still es) r ≡ false
 others_differ r e es same d = none_has r es (subst (λ (q : Run). AllByRecursion (λ k. same_run q k ≡ false) (keys_of es)) (sym (run_is r e.0 same)) (IsDistinct-head same_run e.0 (keys_of es) d))
 

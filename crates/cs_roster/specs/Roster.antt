@@ -15,7 +15,7 @@ abbrev pub still : List (Run × Option ℕ) → List Going
 still [] = []
 still (e ∷ es) = unless_left e.0 e.1 ++ still es
 
--- no name stands twice, and so many of the entries are of runs that have left
+-- no name occurs twice, and this many entries are of runs that have left
 pub record AreKept (es : List (Run × Option ℕ)) (gone : ℕ) : Type 0 where
   pub distinct : IsDistinct same_run (map (λ e. e.0) es)
   pub count : length (still es) + gone ≡ length es

@@ -8,9 +8,9 @@ use indexmap::IndexMap;
 use std::alloc::{AllocError, Global};
 use std::marker::Model;
 
-/// Runs by name, each with the minute in which it came, in the order in which they came. A run that
-/// leaves is marked, and those that are marked are swept out once they are more than the others: so
-/// each call takes the same time on average, however many runs there are.
+/// Runs by name, each with its minute, in the order in which they came. A run that leaves is
+/// marked, and marked runs are swept out once they are more than the others: so each call takes the
+/// same time on average, however many runs there are.
 #[derive(Debug, Drop)]
 pub struct Roster {
     entries: IndexMap<Run, Option<u64>>,
@@ -30,7 +30,7 @@ impl Model for Roster {
 }
 
 impl Roster {
-    /// A roster without a run. It takes no memory.
+    /// Returns an empty roster, without allocating.
     pub fn new(alloc: Global) -> Roster
         ensures { result ≡ [] }
     {
@@ -40,7 +40,7 @@ impl Roster {
         }
     }
 
-    /// How many runs there are.
+    /// Returns the number of runs.
     pub fn len(&self) -> usize
         ensures value { result ≡ length self.now }
         ensures small { result < 2 ^ 63 }
@@ -48,7 +48,7 @@ impl Roster {
         self.entries.len() - self.gone
     }
 
-    /// Whether there is no run.
+    /// Checks whether there are no runs.
     #[tactic(auto, using(crate::proofs::Marks::none_counted, crate::proofs::Marks::some_counted))]
     pub fn is_empty(&self) -> bool
         ensures { IsTrue result ↔ (self.now ≡ []) }
@@ -56,7 +56,7 @@ impl Roster {
         self.len() == 0
     }
 
-    /// Whether the run of this name is there.
+    /// Checks whether there is a run of this name.
     pub fn contains(&self, run: Run) -> bool
         ensures { result ≡ has self.now run }
     {
@@ -66,7 +66,7 @@ impl Roster {
         }
     }
 
-    /// The minute in which the run of this name came, if it is there.
+    /// Returns the minute of the run of this name, if there is one.
     pub fn since(&self, run: Run) -> Option<u64>
         ensures { result ≡ option_map (λ x. x.since) (find (λ x. same_run run x.run) self.now) }
     {
@@ -76,7 +76,7 @@ impl Roster {
         }
     }
 
-    /// Adds a run behind the others. The only error is want of memory, and then nothing changes.
+    /// Adds a run at the end. The only error is out of memory, which changes nothing.
     pub fn push(&mut self, going: Going) -> Result<(), AllocError>
         requires { has self.old going.run ≡ false }
         ensures more { OnOk result (self.new ≡ self.old ++ going ∷ []) }
@@ -91,7 +91,7 @@ impl Roster {
         Ok(())
     }
 
-    /// Takes the run of this name out.
+    /// Removes the run of this name.
     #[tactic(auto, using(crate::proofs::Marks::nothing_to_remove))]
     pub fn remove(&mut self, run: Run)
         ensures { self.new ≡ others self.old run }
@@ -102,7 +102,6 @@ impl Roster {
         }
     }
 
-    /// Marks a run as one that has left.
     fn mark(&mut self, run: Run)
         requires { has self.old run ≡ true }
         ensures { self.new ≡ others self.old run }
@@ -125,7 +124,7 @@ impl Roster {
         }
     }
 
-    /// Takes all runs out.
+    /// Removes all runs.
     pub fn clear(&mut self)
         ensures { self.new ≡ [] }
     {
@@ -133,7 +132,7 @@ impl Roster {
         self.gone = 0;
     }
 
-    /// The runs, in the order in which they came.
+    /// Returns the runs, in the order in which they came.
     pub fn iter(&self) -> Runs<'_>
         ensures { result ≡ self.now }
     {

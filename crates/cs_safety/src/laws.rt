@@ -6,35 +6,35 @@ ghost use Rattle.cs_history.specs.Plan.{IsPlan, IsReached, Plan};
 ghost use Rattle.cs_history.specs.declared.run.Run.{Run};
 ghost use Rattle.cs_safety.specs.Example.{nightly, nightly_backlog, nightly_reach};
 
-/// In every legal history in which each run ends within its declared time, each running run is in its window: of a run
-/// that waits for its lock, the reach that bounds its backlog; of a catch-up run, the catch-up window of its day. The call
-/// does nothing.
+/// Lemma. In every legal history in which each run ends within its declared time, each running run
+/// is in its window: that of a job that waits for its lock lasts the reach that bounds its backlog;
+/// that of a catch-up run is the catch-up window of its day.
 pub fn runs_stay_in_their_windows()
     ensures { (p : Plan) (c : ℕ → ℕ) (b : ℕ → ℕ → ℕ) (h : History) → IsPlan p → IsBounded p c b
         → IsLegal p h → IsInTime p h
         → AllByRecursion (λ r. Holds p c (now h) (window_of p r)) (running p h) }
 {}
 
-/// Where each minute is calm and the backlog is bounded, every such history is safe. The call does nothing.
+/// Lemma. If each minute is calm and the backlog is bounded, every such history is safe.
 pub fn calm_plans_are_safe()
     ensures { (p : Plan) (c : ℕ → ℕ) (b : ℕ → ℕ → ℕ) (h : History) → IsPlan p → IsBounded p c b
         → ((t : ℕ) → IsReached t → IsCalm p c t) → IsLegal p h → IsInTime p h → IsSafe p h }
 {}
 
-/// And no more runs than the capacity run at once. The call does nothing.
+/// Lemma. If so, at most as many runs as the capacity run at once.
 pub fn few_runs()
     ensures { (p : Plan) (c : ℕ → ℕ) (b : ℕ → ℕ → ℕ) (h : History) → IsPlan p → IsBounded p c b
         → ((t : ℕ) → IsReached t → IsCalm p c t) → IsLegal p h → IsInTime p h
         → length (running p h) ≤ p.capacity }
 {}
 
-/// Different windows weigh no more than a list that has each of them. The call does nothing.
+/// Lemma. Different windows weigh no more than a list that holds each of them.
 pub fn windows_that_are_listed()
     ensures { (p : Plan) (ws all : List Run) → AreDifferent ws
         → AllByRecursion (λ w. IsTrue (list_any (same_run w) all)) ws → load p ws ≤ load p all }
 {}
 
-/// What these laws ask of a plan can be met, here by a job that waits for its lock. The call does nothing.
+/// Lemma. A plan can meet the premises of these laws, here one with a job that waits for its lock.
 pub fn premises_can_be_met()
     ensures plan { IsPlan nightly }
     ensures bounded { IsBounded nightly nightly_reach nightly_backlog }

@@ -5,7 +5,7 @@ use Rattle.std.proofs.lemmas.Bool.{both_ways, cases_lt}
 use Rattle.std.proofs.lemmas.Nat.Bits.{bit_at_xor, bit_at-lt}
 use Rattle.cs_schedule.specs.Minutes.{is_in}
 
--- a bit of the exclusive or is clear where both have the same, and set where they differ
+-- a bit of the exclusive or is clear if both have the same, and set if they differ
 pub bits_same : (a b i : ℕ) → bit_at (bit_xor a b) i ≡ 0 → bit_at a i ≡ bit_at b i
 bits_same a b i clear =
     let one = bit_at-lt a i in
@@ -41,7 +41,7 @@ minute_of_bit words place bit low =
     let same : (64 * place + bit) % 64 ≡ bit = omega arith in
     rw (there, same) refl
 
--- where the minutes of a word are the same, the first bit that differs is past the word, or past the day
+-- where a word has the same minutes, the first bit that differs is past the word, or past the day
 pub alike_past : (words others : List ℕ) (place unlike : ℕ) → unlike ≤ 64 → (unlike < 64 → bit_at (xor_at words others place) unlike ≡ 1)
     → ((m : ℕ) → m < 1440 → m / 64 ≡ place → is_in words m ≡ is_in others m) → 64 * place + unlike < 1440 → unlike ≡ 64
 alike_past words others place unlike within set alike day =

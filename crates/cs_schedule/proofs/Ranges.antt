@@ -31,7 +31,7 @@ filter_same p q a zero h = refl
 filter_same p q a (suc k) h =
     rw (h a (omega arith) (omega arith)) (ap (λ rest. cond (q a) (a ∷ rest) rest) (filter_same p q (a + 1) k (λ n low high. h n (omega arith) (omega arith))))
 
--- the numbers below 64 that pass a test hold what the test says
+-- the numbers below 64 that pass a test are a set with those numbers
 pub has-numbers_where : (p : ℕ → Bool) (n : ℕ) → n < 64 → has (numbers_where p) n ≡ p n
 unfolding numbers_where
 has-numbers_where p n below = has-filter p 0 64 n (omega arith) (omega arith)

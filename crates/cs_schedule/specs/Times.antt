@@ -6,12 +6,12 @@ use Rattle.cs_schedule.specs.declared.part.Part.TheVariants.{Minute, Hour, Dom, 
 use Rattle.cs_schedule.specs.Numbers.{has}
 use Rattle.cs_schedule.specs.Part.{first_of}
 
--- what one field says: whether its text begins with `*`, and its numbers, rising
+-- a field: whether its text begins with `*`, and its numbers, rising
 pub record Choice : Type 0 where
   pub star : Bool
   pub numbers : List ℕ
 
--- what the five fields say
+-- the five fields
 pub record Times : Type 0 where
   pub minute : Choice
   pub hour : Choice

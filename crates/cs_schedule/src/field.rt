@@ -4,7 +4,7 @@ ghost use Rattle.cs_schedule.specs.Numbers.{has};
 use crate::numbers::Numbers;
 use std::marker::Model;
 
-/// What one time and date field says: its numbers, and whether its text begins with `*`, so that it restricts nothing.
+/// A time and date field: its numbers, and whether it begins with `*` and so restricts nothing.
 #[derive(Debug, Drop)]
 pub struct Field {
     starred: bool,
@@ -20,7 +20,7 @@ impl Model for Field {
 }
 
 impl Field {
-    /// The field with these numbers.
+    /// Returns the field with these numbers.
     pub fn new(star: bool, numbers: Numbers) -> Field
         ensures { result ≡ record { star = star; numbers = numbers } }
     {
@@ -30,7 +30,7 @@ impl Field {
         }
     }
 
-    /// The same field.
+    /// Copies the field.
     pub fn copy(&self) -> Field
         ensures { result ≡ self.now }
     {
@@ -40,21 +40,21 @@ impl Field {
         }
     }
 
-    /// Whether its text begins with `*`.
+    /// Checks whether its text begins with `*`.
     pub fn begins_with_star(&self) -> bool
         ensures { result ≡ self.now.star }
     {
         self.starred
     }
 
-    /// Its numbers.
+    /// Returns its numbers.
     pub fn numbers(&self) -> &Numbers
         ensures { result.now ≡ self.now.numbers }
     {
         &self.chosen
     }
 
-    /// Whether the number is one of its numbers.
+    /// Checks whether the number is one of its numbers.
     pub fn has(&self, number: u8) -> bool
         ensures { result ≡ has self.now.numbers number }
     {

@@ -8,10 +8,10 @@ use crate::numbers::Numbers;
 use std::iter::FusedIterator;
 use std::marker::Model;
 
-/// How many minutes a block has. A day has 45 blocks, from 0 for the one that begins at 00:00.
+/// The minutes of a block. A day has 45 blocks, from 0 for the one that begins at 00:00.
 pub const MINUTES_OF_BLOCK: u16 = 32;
 
-/// Minutes of a day, from 0 for 00:00 to 1,439 for 23:59, as one bit each.
+/// Minutes of a day, from 0 for 00:00 to 1,439 for 23:59, a bit each.
 #[derive(Debug, Drop)]
 pub struct MinuteSet {
     words: [u64; 23],
@@ -56,7 +56,7 @@ fn is_set(words: &[u64; 23], minute: u16) -> bool
     (words[(minute / 64) as usize] >> (minute % 64)) & 1 == 1
 }
 
-/// The place of the lowest bit that is set, or 64 where none is.
+/// The index of the lowest bit set, or 64 if there is none.
 fn lowest_bit(word: u64) -> u16
     ensures within { result ≤ 64 }
     ensures out { (i : ℕ) → i < result → bit_at word i ≡ 0 }
@@ -65,7 +65,7 @@ fn lowest_bit(word: u64) -> u16
     word.trailing_zeros() as u16
 }
 
-/// The first minute from this one on that is set, where one is in the same word, and else the last minute of the day in that word.
+/// The first minute from this one on that is set in the same word, else the word's last.
 fn near(words: &[u64; 23], minute: u16) -> u16
     requires { minute < 1440 }
     ensures from { minute ≤ result }
@@ -91,14 +91,14 @@ fn is_alike(words: &[u64; 23], others: &[u64; 23], place: u16) -> bool
 }
 
 impl MinuteSet {
-    /// No minute.
+    /// Returns the empty set.
     pub fn new() -> MinuteSet
         ensures { result ≡ [] }
     {
         MinuteSet { words: [0; 23] }
     }
 
-    /// The minutes of a day whose hour is one of the hours and whose minute of the hour is one of the minutes.
+    /// The minutes of a day whose hour and whose minute of the hour are among the numbers.
     pub(crate) fn of_times(hours: &Numbers, minutes: &Numbers) -> MinuteSet
         ensures { result ≡ minutes_where (λ k. has hours.now (k / 60) && has minutes.now (k % 60)) }
     {
@@ -119,15 +119,15 @@ impl MinuteSet {
         put(&mut self.words, minute);
     }
 
-    /// Whether the minute is one of the set: false from 1,440 on.
+    /// Checks whether the minute is one of the set: false from 1,440 on.
     pub fn has(&self, minute: u16) -> bool
         ensures { result ≡ has self.now minute }
     {
         minute < 1_440 && is_set(&self.words, minute)
     }
 
-    /// The minutes of this block of a day that are in the set, one bit each, the lowest for the minute `MINUTES_OF_BLOCK * block`:
-    /// 0 from block 45 on.
+    /// Returns the minutes of this block that are in the set, a bit each, the lowest for the minute
+    /// `MINUTES_OF_BLOCK * block`: 0 from block 45 on.
     pub fn bits_of_block(&self, block: u16) -> u32
         ensures { (place : ℕ) → place < MINUTES_OF_BLOCK
             → has_bit result place ≡ has self.now (MINUTES_OF_BLOCK * block + place) }
@@ -141,7 +141,7 @@ impl MinuteSet {
         (rest % (1 << MINUTES_OF_BLOCK)) as u32
     }
 
-    /// How many minutes there are, at most 1,440.
+    /// Returns the number of minutes, at most 1,440.
     pub fn len(&self) -> usize
         ensures value { result ≡ length self.now }
         ensures within { result ≤ 1440 }
@@ -155,14 +155,14 @@ impl MinuteSet {
         count
     }
 
-    /// Whether there are none.
+    /// Checks whether there are none.
     pub fn is_empty(&self) -> bool
         ensures { IsTrue result ↔ (self.now ≡ []) }
     {
         self.len() == 0
     }
 
-    /// Whether both have the same minutes of a day.
+    /// Checks whether both sets have the same minutes.
     pub fn is_same(&self, other: &MinuteSet) -> bool
         ensures { IsTrue result ↔ ((m : ℕ) → m < 1440 → has self.now m ≡ has other.now m) }
     {
@@ -174,7 +174,7 @@ impl MinuteSet {
         true
     }
 
-    /// The minutes, rising.
+    /// Returns the minutes, rising.
     pub fn iter(&self) -> Minutes
         ensures { result ≡ self.now }
     {

@@ -3,7 +3,7 @@ ghost use Rattle.cs_schedule.specs.Numbers.{has, has_bit, is_every, numbers_wher
 
 use std::marker::Model;
 
-/// Numbers below 64, as one bit each.
+/// Numbers below 64, a bit each.
 #[derive(Debug, Drop)]
 pub struct Numbers {
     word: u64,
@@ -40,21 +40,21 @@ impl Numbers {
         number < 7 && (self.has(number) || (number == 0 && self.has(7)))
     }
 
-    /// No number.
+    /// Returns the empty set.
     pub fn none() -> Numbers
         ensures { result ≡ [] }
     {
         Numbers { word: 0 }
     }
 
-    /// The same numbers.
+    /// Copies the numbers.
     pub fn copy(&self) -> Numbers
         ensures { result ≡ self.now }
     {
         Numbers { word: self.word }
     }
 
-    /// The first number, and each `step`-th after it up to the last, of those below 64.
+    /// Returns the first number and each `step`-th after it up to the last, of those below 64.
     pub fn every(first: u8, last: u8, step: u32) -> Numbers
         requires { 0 < step }
         ensures value { result ≡ numbers_where (is_every first last step) }
@@ -69,7 +69,7 @@ impl Numbers {
         Numbers { word }
     }
 
-    /// The numbers of both.
+    /// Returns the numbers of both.
     pub fn union(&self, other: &Numbers) -> Numbers
         ensures { result ≡ numbers_where (λ n. has self.now n || has other.now n) }
     {
@@ -78,7 +78,7 @@ impl Numbers {
         }
     }
 
-    /// The days of the week among them, Sunday being 0: 7 counts as 0.
+    /// Returns the weekdays among them, from 0 for Sunday: 7 is 0 too.
     pub fn in_week(&self) -> Numbers
         ensures value { result ≡ in_week self.now }
         ensures within { All (λ n. n ≤ 6) result }
@@ -92,7 +92,7 @@ impl Numbers {
         Numbers { word }
     }
 
-    /// Whether the number is one of these.
+    /// Checks whether the number is one of these.
     pub fn has(&self, number: u8) -> bool
         ensures { result ≡ has self.now number }
     {

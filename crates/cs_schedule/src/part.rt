@@ -1,6 +1,6 @@
 ghost use Rattle.std.specs.Prelude.{◌≡◌};
 
-/// Which of the five time and date fields of a command line (crontab(5)).
+/// One of the five time and date fields of a command line (crontab(5)).
 #[derive(Clone, Copy, Debug, PartialEq, Eq)]
 pub enum Part {
     /// The minute of the hour.
@@ -18,7 +18,7 @@ pub enum Part {
 impl Part {
     ghost use Rattle.cs_schedule.specs.Part.{first_of, last_of};
 
-    /// The first number that may be written.
+    /// Returns the least number that may be written.
     pub fn first(self) -> u8
         ensures { result ≡ first_of self }
     {
@@ -28,7 +28,7 @@ impl Part {
         }
     }
 
-    /// The last number that may be written. Of weekdays that is 7, another Sunday.
+    /// Returns the greatest number that may be written: for weekdays 7, another Sunday.
     pub fn last(self) -> u8
         ensures { result ≡ last_of self }
     {

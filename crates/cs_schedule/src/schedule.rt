@@ -10,7 +10,7 @@ use crate::part::Part;
 use cs_civil::{DayKind, Minute, kind_of};
 use std::marker::Model;
 
-/// When a command is due: the five time and date fields of crontab(5), each with numbers of its range alone.
+/// When a command is due: the five time and date fields of crontab(5), with numbers in range.
 #[derive(Debug, Drop)]
 pub struct Schedule {
     minute: Field,
@@ -31,7 +31,7 @@ impl Model for Schedule {
 }
 
 impl Schedule {
-    /// The schedule with these fields.
+    /// Returns the schedule with these fields.
     pub fn new(minute: Field, hour: Field, dom: Field, month: Field, dow: Field) -> Schedule
         requires minute { IsWithin part.Minute minute.numbers }
         requires hour { IsWithin part.Hour hour.numbers }
@@ -49,7 +49,7 @@ impl Schedule {
         }
     }
 
-    /// The same schedule.
+    /// Copies the schedule.
     pub fn copy(&self) -> Schedule
         ensures { result ≡ self.now }
     {
@@ -62,7 +62,7 @@ impl Schedule {
         }
     }
 
-    /// One of its fields, whose numbers lie in their range, weekdays from 0 for Sunday to 6.
+    /// Returns one of its fields, with numbers in its range, weekdays from 0 for Sunday to 6.
     pub fn field(&self, part: Part) -> &Field
         ensures value { result.now ≡ choice_of self.now part }
         ensures within { IsWithin part (choice_of self.now part).numbers }
@@ -76,7 +76,8 @@ impl Schedule {
         }
     }
 
-    /// Whether the command is due on days of this kind, at the minutes that [`times`](Schedule::times) gives.
+    /// Checks whether the command is due on days of this kind, at the minutes of
+    /// [`times`](Schedule::times).
     pub fn is_day_due(&self, kind: DayKind) -> bool
         ensures { result ≡ is_day_due self.now kind }
     {
@@ -90,14 +91,14 @@ impl Schedule {
         self.month.has(kind.month()) && day
     }
 
-    /// Whether the command is due at this minute.
+    /// Checks whether the command is due at this minute.
     pub fn matches(&self, minute: Minute) -> bool
         ensures { result ≡ is_due self.now (kind (minute / 1440)) (minute % 1440) }
     {
         self.is_due_on(kind_of(minute.day()), minute.minute_of_day())
     }
 
-    /// Whether the command is due at this minute, counted from 0, of a day of this kind.
+    /// Checks whether the command is due at this minute, from 0, of a day of this kind.
     pub fn is_due_on(&self, kind: DayKind, minute_of_day: u16) -> bool
         requires { minute_of_day < 1440 }
         ensures { result ≡ is_due self.now kind minute_of_day }
@@ -107,14 +108,14 @@ impl Schedule {
             && self.is_day_due(kind)
     }
 
-    /// The minutes, from 0 to 1,439, at which the command is due on each day on which it is due at all.
+    /// Returns the minutes, from 0 to 1,439, at which the command is due on each day it is due.
     pub fn times(&self) -> MinuteSet
         ensures { result ≡ minutes_where (is_time_due self.now) }
     {
         MinuteSet::of_times(self.hour.numbers(), self.minute.numbers())
     }
 
-    /// The minutes at which the command is due on a day of this kind.
+    /// Returns the minutes at which the command is due on a day of this kind.
     pub fn minutes_of(&self, kind: DayKind) -> MinuteSet
         ensures { result ≡ minutes_where (is_due self.now kind) }
     {

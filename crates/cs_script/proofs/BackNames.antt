@@ -75,7 +75,7 @@ job_back d j rising below small =
     rw (lt-ltb (command_of d j).number 4_294_967_296 small)
     (position_is (λ line. line.number == (command_of d j).number) d.crontab.lines j no_command below (eq-eqb _ _ refl) (λ k l. ne_eqb _ _ (λ e. omega (arith, e, rising k j no_command l below))))
 
--- the number of a command's line tells it
+-- a command has the number of its line to itself
 pub command_told : (d : Declared) (j : ℕ) (line : CommandLine) → AllPairs (λ x y. x.number < y.number) d.crontab.lines → nat_lt j (crons d) ≡ true → line ≡ get_or d.crontab.lines j line → line.number < 4_294_967_296 → tells_command d j ≡ true
 unfolding tells_command
 command_told d j line rising is at small =

@@ -12,7 +12,7 @@ use Rattle.cs_script.proofs.BackMoments.{day_is}
 use Rattle.cs_script.proofs.Taking.{behind, behind_again}
 use Rattle.cs_script.proofs.Told.{stamp_placed}
 
--- the draft behind a start and some stamps
+-- the draft after a start and some stamps
 abbrev pub reading : ℕ × Bool → List (Option ℕ) → Draft
 reading o stamps = behind o stamps []
 

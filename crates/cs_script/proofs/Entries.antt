@@ -71,7 +71,7 @@ date_takes (Catch identifier) t e = tt
 date_takes (EndLine number moment) t e = minute_takes moment t e
 date_takes (EndJob identifier moment) t e = minute_takes moment t e
 
--- a date that the form has is read, or another that says the same
+-- a date that the form has is read, or another with the same content
 date_again : (form : Form) (t : ℕ) → HasDate form t → (s : ℕ) × (date_of form ≡ Some s) × ((j : ℕ) → entry form s j ≡ entry form t j)
 date_again (Start moment up) t (is, ge) = (t, ap (from_on first_start) (minute_again moment t is) ∙ from_again first_start t ge, λ j. refl)
 date_again (Stamp identifier date) t (is, ge, le) = (t, day_written t date ge le is, λ j. refl)
@@ -110,7 +110,7 @@ name_again d (Catch identifier) j is = (j, is, λ t. refl)
 name_again d (EndLine number moment) j is = (j, is, λ t. refl)
 name_again d (EndJob identifier moment) j is = (j, is, λ t. refl)
 
--- ---- what a form says
+-- ---- the content of a form
 
 abbrev said : Entry → Result Entry ScriptFault
 said x = Ok x

@@ -203,9 +203,9 @@ job_run_again : (identifier moment : List ℕ) → IsWord identifier → IsMomen
 unfolding job_run
 job_run_again identifier moment i m = rw (word_again identifier moment i, moment_again moment m) refl
 
--- ---- forms behind their first words
+-- ---- forms after their first words
 
--- a form that is written behind a front of its text
+-- a form that is written after a front of its text
 abbrev IsBehind : List ℕ → List ℕ → Form → Type 0
 IsBehind front text form = IsForm (front ++ text) form
 
@@ -289,7 +289,7 @@ chosen : {A : Type 0} (t : Bool) (x y : Option A) (z : A) → cond t x y ≡ Som
 chosen true x y z e = inl (refl, e)
 chosen false x y z e = inr e
 
--- a verb that was tested stands in front
+-- a verb that was tested is in front
 in_front : (verb word text line : List ℕ) (form : Form) → bytes_eq verb word ≡ true → line ≡ verb ++ 32 ∷ text → IsForm (word ++ 32 ∷ text) form → IsForm line form
 in_front verb word text line form is parts whole =
     subst (λ (l : List ℕ). IsForm l form) (ap (λ (l : List ℕ). l ++ 32 ∷ text) (sym (same_text verb word is)) ∙ sym parts) whole

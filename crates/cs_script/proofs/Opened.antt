@@ -24,7 +24,7 @@ use Rattle.cs_script.proofs.Loop.{goes_on, stops_at, is_done}
 use Rattle.cs_script.proofs.Taking.{behind, script_from, fine, ok_is, err_is, bind_ok, bind_err, ignored_takes, unignored, not_ignored, counts, ignored_again_here, behind_stops}
 use Rattle.cs_script.proofs.Told.{entries, set_stamps, AreOnce, AreFresh, Stands, Ends, lines_told, lines_go, head_is, tail_is}
 
--- ---- a line behind nothing
+-- ---- a line after nothing
 
 none_at : (n k : ℕ) → get_or (replicate {A = Option ℕ} n None) k None ≡ None
 none_at zero k = refl
@@ -53,7 +53,7 @@ module _ (d : Declared) where
   free (EndLine number moment) = refl
   free (EndJob identifier moment) = refl
 
-  -- the draft behind a start alone
+  -- the draft after a start alone
   abbrev pub started : ℕ → Bool → Draft
   started t up = behind (t, up) (replicate (length d.anacrontab.lines) None) []
 
@@ -83,7 +83,7 @@ module _ (d : Declared) where
               let s = start_only b.0 x b.2 in
               (s.0, s.1, (form, form_takes line form is, entry_takes d form (Starts s.0 s.1) (b.1 ∙ ap (λ (y : Entry). fine y) s.2)), sym same ∙ ap (λ (y : Entry). with_entry n y (nothing d)) s.3)
 
-  -- why a line is the first with a fault, behind nothing
+  -- why a line is the first with a fault, after nothing
   abbrev StandsFirst : List ℕ → ScriptFault → Type 0
   StandsFirst line fault = (IsNoLine line × (fault ≡ BadLine)) ⊎ ((form : Form) × IsForm line form × FailsFirst d form fault)
 
@@ -99,7 +99,7 @@ module _ (d : Declared) where
   no_start (EndLine number moment) t up (s, j, date, name, is) = absurd cc
   no_start (EndJob identifier moment) t up (s, j, date, name, is) = absurd cc
 
-  -- what a start says is a start
+  -- the content of a start is a start
   is_start_of : (form : Form) (x : Entry) → IsStart form → FormSays d form x → is_start x ≡ true
   is_start_of form x (moment, up, same) (t, j, date, name, is) = rw (is, same) refl
 
@@ -149,9 +149,9 @@ module _ (d : Declared) where
   first_stops n line fault (inr (form, is, inr (none, (x, says), same))) =
       rw (counts line form is, form_again line form is, free form, entry_again d form x says, unstarted form x none says, same) refl
 
-  -- ---- lines behind nothing
+  -- ---- lines after nothing
 
-  -- no line counts, and the draft has nothing; or such lines stand before the first fault
+  -- all lines are ignored, and the draft has nothing; or such lines are before the first fault
   record Closed (n : ℕ) (lines : List (List ℕ)) (r : Result Draft Fault) : Type 0 where
     before : List (List ℕ)
     later : List (List ℕ)
@@ -161,7 +161,7 @@ module _ (d : Declared) where
     place : number ≡ n + length before
     rest : ((later ≡ []) × (r ≡ Ok (nothing d))) ⊎ ((line : List ℕ) × (others : List (List ℕ)) × (fault : ScriptFault) × (later ≡ line ∷ others) × (r ≡ Err (number, fault)) × StandsFirst line fault)
 
-  -- the first line that counts is a start, and a front of the lines is told so
+  -- the first line that isn't ignored is a start, and a front of the lines is read so
   record Started (n : ℕ) (lines : List (List ℕ)) (r : Result Draft Fault) : Type 0 where
     start : ℕ
     t : ℕ
@@ -311,7 +311,7 @@ never : {A : Type 0} (x : A) (f : Fault) → read x ≡ fails f → ⊥
 never x f e = cc
 
 module _ (d : Declared) (text : List ℕ) where
-  -- the script of a start, stamps and events that were told
+  -- the script of a start, stamps and events that were read
   abbrev script_of_parts : ℕ → Bool → List StampLine → List (ℕ × Event) → Numbered
   script_of_parts t up stamps more = script_from (t, up) (set_stamps (replicate (length d.anacrontab.lines) None) stamps) more
 
@@ -359,7 +359,7 @@ module _ (d : Declared) (text : List ℕ) where
           let b = got_ok (lines_from d 1 (nothing d) (lines_of text)) finished s e in
           lines_taken b.0 s (ltb-false MAX_SCRIPT (length text) is) b.1 b.2
 
-  -- a fault behind a front that was told
+  -- a fault after a front that was read
   stands_first : (line : List ℕ) (fault : ScriptFault) → StandsFirst d line fault → LineFails d [] line fault
   stands_first line fault (inl none) = inl none
   stands_first line fault (inr (form, is, fails)) = inr (form, is, inl (refl, fails))

@@ -1,4 +1,4 @@
--- One line behind a draft: what it says is added, and what fails there is its fault.
+-- One line after a draft: its content is added, and its fault is the draft's.
 use Rattle.std.proofs.Common.{◌≡◌, ◌≢◌, ◌⊎◌, inl, inr, ℕ, Bool, true, false, not, ◌||◌, ◌==◌, cond, List, [], ◌∷◌, length, get_or, Option, Some, None, Result, Ok, Err, refl, sym, ap, ◌∙◌}
 use Rattle.std.specs.Prelude.{is_some}
 use Rattle.std.proofs.lemmas.Bool.{eqb-true, ne_eqb, false_from_ne_true}
@@ -44,7 +44,7 @@ pub guard_err : {A : Type 0} (t : Bool) (g : ScriptFault) (r : Result A ScriptFa
 guard_err true g r d e = inl (refl, cc)
 guard_err false g r d e = inr (refl, e)
 
--- ---- lines that count for nothing
+-- ---- lines that are ignored
 
 pub ignored_takes : (line : List ℕ) → is_ignored line ≡ true → IsIgnored line
 ignored_takes [] e = inl refl
@@ -79,9 +79,9 @@ form_counts (EndJob identifier moment) = refl
 pub counts : (line : List ℕ) (form : Form) → IsForm line form → is_ignored line ≡ false
 counts line form is = ap is_ignored is.0 ∙ form_counts form
 
--- ---- forms that may not stand there
+-- ---- forms that are out of place
 
--- the draft behind a start, stamps and events
+-- the draft after a start, stamps and events
 abbrev pub behind : ℕ × Bool → List (Option ℕ) → List (ℕ × Event) → Draft
 behind o days events = record { opening = Some o; stamps = days; events = events }
 
@@ -107,7 +107,7 @@ or_right : (a b : Bool) → b ≡ true → (a || b) ≡ true
 or_right true b e = refl
 or_right false b e = e
 
--- a stamp of that job stands there
+-- there is a stamp of that job
 abbrev IsThere : Declared → List (Option ℕ) → List ℕ → Type 0
 IsThere d days identifier = (place day : ℕ) × (place_of d identifier ≡ Some place) × (get_or days place None ≡ Some day)
 
@@ -171,7 +171,7 @@ module _ (d : Declared) (o : ℕ × Bool) (days : List (Option ℕ)) (events : L
       true_false : true ≡ false → ⊥
       true_false e = cc
 
-  -- ---- a line behind a start
+  -- ---- a line after a start
 
   -- what is taken of a line that counts
   abbrev pub TakesBehind : ℕ → List ℕ → Draft → Type 0

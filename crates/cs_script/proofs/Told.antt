@@ -1,4 +1,4 @@
--- The lines of a script one after the other: those that are read are written so, and those that are written so are read.
+-- The lines of a script one by one: those read are written so, and those written so are read.
 use Rattle.std.proofs.Common.{◌≡◌, ◌≢◌, ◌⊎◌, inl, inr, ℕ, suc, ◌+◌, ◌<◌, Bool, List, [], ◌∷◌, ◌++◌, length, get_or, set, fold, map, Option, Some, None, Result, Ok, Err, refl, sym, ap, subst, ◌∙◌, append_assoc, arith}
 use Rattle.std.specs.Prelude.{All, AllPairs}
 use Rattle.std.proofs.lemmas.List.{append-nil, length-set, get_or-set_same, get_or-set_other}
@@ -37,7 +37,7 @@ set_stamps days stamps = fold set_stamp days stamps
 abbrev pub AreOnce : List StampLine → Type 0
 AreOnce stamps = AllPairs (λ x y. x.place ≢ y.place) stamps
 
--- none of these stamps has a place where one stands
+-- none of these stamps is for a job that has one
 abbrev pub AreFresh : List (Option ℕ) → List StampLine → Type 0
 AreFresh days stamps = All (λ s. get_or days s.place None ≡ None) stamps
 
@@ -65,7 +65,7 @@ all_both P Q S weaker xs one two = λ k d below. weaker _ (one k d below) (two k
 some_none : (day : ℕ) → ◌≡◌ {A = Option ℕ} (Some day) None → ⊥
 some_none day e = cc
 
--- ---- what a stamp and an event say of their forms
+-- ---- the forms of a stamp and an event
 
 module _ (d : Declared) (o : ℕ × Bool) (days : List (Option ℕ)) (events : List (ℕ × Event)) where
   start_misplaced : (form : Form) (t : ℕ) (up : Bool) → FormSays d form (Starts t up) → IsMisplaced d (script_from o days events) form
@@ -107,7 +107,7 @@ module _ (d : Declared) (o : ℕ × Bool) (days : List (Option ℕ)) (events : L
   unfolding place_of
   place_below identifier place is = (position-Some (λ line. bytes_eq line.identifier identifier) d.anacrontab.lines place no_line is).0
 
-  -- where a stamp may stand
+  -- where a stamp is in place
   abbrev StampFits : ℕ → Type 0
   StampFits place = (events ≡ []) × (get_or days place None ≡ None) × (place < length d.anacrontab.lines)
 
@@ -148,7 +148,7 @@ module _ (d : Declared) (o : ℕ × Bool) (days : List (Option ℕ)) (events : L
   stamp_placed (EndLine number moment) place day (s, j, date, name, is) none free = absurd cc
   stamp_placed (EndJob identifier moment) place day (s, j, date, name, is) none free = absurd cc
 
--- ---- lines behind a start
+-- ---- lines after a start
 
 -- a front of the lines is written as stamps and then events, and of what is left this holds
 pub record Front (d : Declared) (n : ℕ) (days : List (Option ℕ)) (events : List (ℕ × Event)) (lines : List (List ℕ)) (P : ℕ → List (Option ℕ) → List (ℕ × Event) → List (List ℕ) → Type 0) : Type 0 where
@@ -253,7 +253,7 @@ module _ (d : Declared) (P : ℕ → List (Option ℕ) → List (ℕ × Event) �
 
 -- ---- what is read is written so
 
--- why a line is the first with a fault, behind a start, these stamps and these events
+-- why a line is the first with a fault, after a start, these stamps and these events
 abbrev pub Stands : Declared → ℕ × Bool → List (Option ℕ) → List (ℕ × Event) → List ℕ → ScriptFault → Type 0
 Stands d o days events line fault = (IsNoLine line × (fault ≡ BadLine)) ⊎ ((form : Form) × IsForm line form × FailsBehind d (script_from o days events) form fault)
 
@@ -263,7 +263,7 @@ Ends d o r number days events later =
     ((later ≡ []) × (r ≡ Ok (behind o days events)))
     ⊎ ((line : List ℕ) × (others : List (List ℕ)) × (fault : ScriptFault) × (later ≡ line ∷ others) × (r ≡ Err (number, fault)) × Stands d o days events line fault)
 
--- those behind this line are written so
+-- those after this line are written so
 abbrev pub Further : Declared → ℕ × Bool → ℕ → List (List ℕ) → Result Draft Fault → Type 0
 Further d o n lines r = (days : List (Option ℕ)) (events : List (ℕ × Event)) → length days ≡ length d.anacrontab.lines → lines_from d n (behind o days events) lines ≡ r → Front d n days events lines (Ends d o r)
 

@@ -1,4 +1,4 @@
--- What a form says under a plan, or its first fault.
+-- The content of a form under a plan, or its first fault.
 use Rattle.std.specs.Prelude.{◌≡◌, ℕ, ◌≤◌, Option, Some, None, Result, Ok, Err}
 use Rattle.cs_crontab.specs.Text.{decimal}
 use Rattle.cs_history.specs.Plan.{first_start}

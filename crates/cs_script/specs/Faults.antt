@@ -21,7 +21,7 @@ FormFails d form fault =
     (((t : ℕ) → HasDate form t → ⊥) × (fault ≡ BadDate))
     ⊎ (((t : ℕ) × HasDate form t) × ((j : ℕ) → HasName d form j → ⊥) × (fault ≡ UnknownName))
 
--- a second start, and a stamp behind an event or a stamp of the same job
+-- a second start, and a stamp after an event or a stamp of the same job
 abbrev pub IsMisplaced : Declared → Numbered → Form → Type 0
 IsMisplaced d script (Start moment up) = Unit {0}
 IsMisplaced d script (Stamp identifier date) =
@@ -40,13 +40,13 @@ IsMisplaced d script (EndJob identifier moment) = ⊥
 abbrev pub IsStart : Form → Type 0
 IsStart form = (moment : List ℕ) × (up : Bool) × (form ≡ Start moment up)
 
--- behind nothing that counts: the form fails, or is a good one and no start
+-- after nothing that counts: the form fails, or is a good one and no start
 abbrev pub FailsFirst : Declared → Form → ScriptFault → Type 0
 FailsFirst d form fault =
     FormFails d form fault
     ⊎ (¬ (IsStart form) × ((x : Entry) × FormSays d form x) × (fault ≡ NoStart))
 
--- behind the lines of a script: the form may not stand there, or else it fails
+-- after the lines of a script: the form is out of place, or else it fails
 abbrev pub FailsBehind : Declared → Numbered → Form → ScriptFault → Type 0
 FailsBehind d script form fault =
     (IsMisplaced d script form × (fault ≡ BadLine))
@@ -56,7 +56,7 @@ FailsBehind d script form fault =
 abbrev pub IsNoLine : List ℕ → Type 0
 IsNoLine line = ¬ (IsIgnored line) × ((form : Form) → IsForm line form → ⊥)
 
--- The line is none of a script, or its form fails behind what was said before it.
+-- The line is none of a script, or its form fails after what was said before it.
 abbrev pub LineFails : Declared → List (ℕ × Entry) → List ℕ → ScriptFault → Type 0
 LineFails d said line fault =
     (IsNoLine line × (fault ≡ BadLine))
@@ -87,8 +87,7 @@ pub record IsEmpty (d : Declared) (text : List ℕ) : Type 0 where
   pub short : length text ≤ MAX_SCRIPT
   pub none : AreLines d 1 (lines_of text) []
 
--- the text's fault, with the number of its line: the text's own length and the want of a start have
--- line 0
+-- the text's fault, with its line: too long a text and a missing start are in line 0
 abbrev pub IsFault : Declared → List ℕ → ℕ → ScriptFault → Type 0
 IsFault d text number fault =
     ((MAX_SCRIPT < length text) × (number ≡ 0) × (fault ≡ TooLong))
@@ -108,7 +107,7 @@ abbrev pub IsFaultOf : Declared → List ℕ → ScriptError → Type 0
 IsFaultOf d text OutOfMemory = Unit {0}
 IsFaultOf d text (At line fault) = IsFault d text line fault
 
--- The same without the numbers of the events' lines.
+-- the same without the line numbers of the events
 abbrev pub PlainMeaning : Type 0
 PlainMeaning = Result Script (ℕ × ScriptFault)
 

@@ -1,5 +1,4 @@
--- How a script is written: what each line says, and what all of them say. Nothing here reads from
--- left to right.
+-- How a script is written: each line, and all of them. Nothing here reads from left to right.
 use Rattle.std.specs.Prelude.{◌≡◌, ◌≢◌, ℕ, ◌+◌, ◌≤◌, ◌⊎◌, Bool, true, false, not, ◌==◌, List, []}
 use Rattle.std.specs.Prelude.{◌∷◌, ◌++◌, length, replicate, set, fold, map, AllPairs, codes, Option}
 use Rattle.std.specs.Prelude.{Some, None}
@@ -27,7 +26,7 @@ IsWord text = Are is_word_byte text
 abbrev pub IsNumber : List ℕ → Type 0
 IsNumber text = Are is_digit text
 
--- two words, where a date and a time of the day stand
+-- two words, for a date and a time of the day
 abbrev pub IsMoment : List ℕ → Type 0
 IsMoment text = (date time : List ℕ) × (text ≡ date ++ 32 ∷ time) × IsWord date × IsWord time
 
@@ -63,7 +62,7 @@ form_text (Catch identifier) = codes "catch " ++ identifier
 form_text (EndLine number moment) = codes "end line " ++ (number ++ 32 ∷ moment)
 form_text (EndJob identifier moment) = codes "end job " ++ (identifier ++ 32 ∷ moment)
 
--- each part is what stands in its place
+-- each part is of its kind
 abbrev pub IsWhole : Form → Type 0
 IsWhole (Start moment up) = IsMoment moment
 IsWhole (Stamp identifier date) = IsWord identifier × IsWord date
@@ -89,8 +88,7 @@ IsMinute text t = (text ≡ minute_text t) × (first_minute ≤ t) × (t ≤ las
 abbrev pub IsDay : List ℕ → ℕ → Type 0
 IsDay text day = (text ≡ day_text day) × (1 ≤ day) × (day ≤ last_day)
 
--- the minute or the day of a form's date: a start's is from 1970-01-04 on, and where there is no
--- date any will do
+-- the minute or the day of a form's date: a start's is from 1970-01-04 on; any if it has none
 abbrev pub HasDate : Form → ℕ → Type 0
 HasDate (Start moment up) t = IsMinute moment t × (first_start ≤ t)
 HasDate (Stamp identifier date) day = IsDay date day
@@ -103,8 +101,7 @@ HasDate (Catch identifier) t = Unit {0}
 HasDate (EndLine number moment) t = IsMinute moment t
 HasDate (EndJob identifier moment) t = IsMinute moment t
 
--- the job that a form names, of a stamp its place in the anacrontab; where there is no name any
--- will do
+-- the job that a form names, of a stamp its place in the anacrontab; any if it has no name
 abbrev pub HasName : Declared → Form → ℕ → Type 0
 HasName d (Start moment up) j = Unit {0}
 HasName d (Stamp identifier date) place = place_of d identifier ≡ Some place
@@ -119,13 +116,13 @@ HasName d (EndJob identifier moment) j = job_named d identifier ≡ Some j
 
 -- ---- lines
 
--- what one line says
+-- the content of one line
 pub data Entry : Type 0 where
   Starts : (t : ℕ) → (up : Bool) → Entry
   Stamps : (place day : ℕ) → Entry
   Happens : Event → Entry
 
--- what a form says with this date and this job
+-- the content of a form with this date and this job
 abbrev pub entry : Form → ℕ → ℕ → Entry
 entry (Start moment up) t j = Starts t up
 entry (Stamp identifier date) day place = Stamps place day
@@ -138,18 +135,18 @@ entry (Catch identifier) t j = Happens (events.Catch j)
 entry (EndLine number moment) t j = Happens (events.End (run_of j t))
 entry (EndJob identifier moment) t j = Happens (events.End (run_of j t))
 
--- the form has this date and this name, and says so
+-- the form has this date, this name and this content
 abbrev pub FormSays : Declared → Form → Entry → Type 0
 FormSays d form x = (t j : ℕ) × HasDate form t × HasName d form j × (x ≡ entry form t j)
 
 abbrev pub Says : Declared → List ℕ → Entry → Type 0
 Says d line x = (form : Form) × IsForm line form × FormSays d form x
 
--- an empty line or a comment counts for nothing
+-- an empty line or a comment is ignored
 abbrev pub IsIgnored : List ℕ → Type 0
 IsIgnored line = (line ≡ []) ⊎ ((comment : List ℕ) × (line ≡ 35 ∷ comment))
 
--- what the lines say that count, each with its number, where the first line has this number
+-- the content of the lines that aren't ignored, each with its number, from this one on
 abbrev pub AreLines : Declared → ℕ → List (List ℕ) → List (ℕ × Entry) → Type 0
 AreLines d number [] said = said ≡ []
 AreLines d number (line ∷ lines) said =

@@ -13,7 +13,7 @@ job_on d n =
 unfoldable pub place_of : Declared → List ℕ → Option ℕ
 place_of d identifier = position (λ line. bytes_eq line.identifier identifier) d.anacrontab.lines
 
--- its job: those of the anacrontab come behind those of the crontab
+-- its job: those of the anacrontab come after those of the crontab
 abbrev pub job_behind : ℕ → Option ℕ → Option ℕ
 job_behind crons None = None
 job_behind crons (Some place) = Some (crons + place)

@@ -1,4 +1,4 @@
--- The faults of a script as they are printed.
+-- The faults of a script as printed.
 use Rattle.std.specs.Prelude.{ℕ, List, codes}
 use Rattle.cs_script.specs.declared.fault.ScriptFault.{ScriptFault}
 use Rattle.cs_script.specs.declared.fault.ScriptFault.TheVariants as faults

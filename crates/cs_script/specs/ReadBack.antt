@@ -1,4 +1,4 @@
--- Which jobs the text of a script tells apart by the numbers of their lines.
+-- Which jobs can be told apart in a script by their line numbers.
 use Rattle.std.specs.Prelude.{ℕ, Bool, true, false, ◌==◌, nat_lt, if◌then◌else◌, Option, Some, None}
 use Rattle.cs_decl.specs.Plan.{Declared, command_of, crons}
 use Rattle.cs_history.specs.declared.event.Event.{Event}

@@ -21,11 +21,11 @@ abbrev pub parted : List ℕ → List ℕ → Option (List ℕ × List ℕ)
 parted word [] = None
 parted word (space ∷ bs) = if is_nothing word then None else Some (word, bs)
 
--- the first word, and the text behind the space after it
+-- the first word, and the text after the space after it
 unfoldable pub first_word : List ℕ → Option (List ℕ × List ℕ)
 first_word text = parted (front is_word_byte text) (after is_word_byte text)
 
--- a word and nothing behind it
+-- a word and nothing after it
 unfoldable pub is_word : List ℕ → Bool
 is_word text = not (is_nothing text) && list_all is_word_byte text
 
@@ -46,45 +46,45 @@ is_moment text = is_word_behind (first_word text)
 abbrev pub start_at : List ℕ → Bool → Option Form
 start_at moment up = if is_moment moment then Some (Start moment up) else None
 
--- `DT up` or `DT down` behind `start`
+-- `DT up` or `DT down` after `start`
 unfoldable pub start_form : List ℕ → Option Form
 start_form text =
     if ends_with nat_eq text (codes " up") then start_at (take (length text - 3) text) true
     else if ends_with nat_eq text (codes " down") then start_at (take (length text - 5) text) false
     else None
 
--- `ID YYYY-MM-DD` behind `stamp`
+-- `ID YYYY-MM-DD` after `stamp`
 unfoldable pub stamp_form : List ℕ → Option Form
 stamp_form text = do
   parts ← first_word text
   if is_word parts.1 then Some (Stamp parts.0 parts.1) else None
 
--- `DT` behind `minute` or `up`
+-- `DT` after `minute` or `up`
 abbrev pub minute_form : List ℕ → Option Form
 minute_form text = if is_moment text then Some (Minute text) else None
 
 abbrev pub up_form : List ℕ → Option Form
 up_form text = if is_moment text then Some (Up text) else None
 
--- `line N` behind `begin`
+-- `line N` after `begin`
 unfoldable pub begin_form : List ℕ → Option Form
 begin_form text = do
   parts ← first_word text
   if bytes_eq parts.0 (codes "line") && is_number parts.1 then Some (Begin parts.1) else None
 
--- `N DT` behind `line`
+-- `N DT` after `line`
 unfoldable pub line_run : List ℕ → Option (List ℕ × List ℕ)
 line_run text = do
   parts ← first_word text
   if is_number parts.0 && is_moment parts.1 then Some parts else None
 
--- `ID DT` behind `job`
+-- `ID DT` after `job`
 unfoldable pub job_run : List ℕ → Option (List ℕ × List ℕ)
 job_run text = do
   parts ← first_word text
   if is_moment parts.1 then Some parts else None
 
--- `line N DT` behind `got`
+-- `line N DT` after `got`
 abbrev pub got_run : List ℕ → List ℕ → Option Form
 got_run kind text =
     if bytes_eq kind (codes "line") then line_run text >>= (λ run. Some (Got run.0 run.1))
@@ -95,11 +95,11 @@ got_form text = do
   parts ← first_word text
   got_run parts.0 parts.1
 
--- `ID` behind `catch`
+-- `ID` after `catch`
 abbrev pub catch_form : List ℕ → Option Form
 catch_form text = if is_word text then Some (Catch text) else None
 
--- `line N DT` or `job ID DT` behind `end`
+-- `line N DT` or `job ID DT` after `end`
 abbrev pub ended : List ℕ → List ℕ → Option Form
 ended kind text =
     if bytes_eq kind (codes "line") then line_run text >>= (λ run. Some (EndLine run.0 run.1))
@@ -111,7 +111,7 @@ end_form text = do
   parts ← first_word text
   ended parts.0 parts.1
 
--- a form by its first word, and what stands behind it
+-- a form by its first word and the rest
 unfoldable pub form_behind : List ℕ → List ℕ → Option Form
 form_behind verb text =
     if bytes_eq verb (codes "start") then start_form text

@@ -1,4 +1,4 @@
--- How the answer to an event is told.
+-- The texts of replies and refusals.
 use Rattle.std.specs.Prelude.{ℕ, Bool, true, false, List, ◌++◌, codes, Result, Ok, Err}
 use Rattle.cs_history.specs.Printed.{refusal_text}
 use Rattle.cs_history.specs.declared.reply.Reply.{Reply}
@@ -25,7 +25,7 @@ taken_text (Ended in_time) = ended_text in_time
 taken_text Went = codes "went"
 taken_text Came = codes "came"
 
--- want of memory is told as such
+-- the text of a refusal, or `out of memory`
 abbrev pub refused_text : Refusal → List ℕ
 refused_text OutOfMemory = codes "out of memory"
 refused_text NotUp = codes "refused " ++ refusal_text NotUp

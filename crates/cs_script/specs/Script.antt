@@ -31,8 +31,7 @@ abbrev pub Denotes : {X Y : Type 0} → (X → Y) → Result Y Fault → Result 
 Denotes view read (Ok x) = read ≡ Ok (view x)
 Denotes view read (Err e) = Fails e read
 
--- the lines so far: the start's minute and whether it is up, the stamps by anacron job, and the
--- events with the numbers of their lines
+-- the lines so far: the start's minute and up or down, the stamps, and the events with line numbers
 pub record Draft : Type 0 where
   pub opening : Option (ℕ × Bool)
   pub stamps : List (Option ℕ)
@@ -59,7 +58,7 @@ unfoldable pub is_too_late : Declared → Draft → List ℕ → Bool
 is_too_late d draft identifier =
     not (length draft.events == 0) || has_stamp draft.stamps (place_of d identifier)
 
--- the form may not stand behind those before it
+-- the form is out of place after those before it
 abbrev pub is_misplaced : Declared → Draft → Form → Bool
 is_misplaced d draft (Start moment up) = is_some draft.opening
 is_misplaced d draft (Stamp identifier date) = is_too_late d draft identifier
@@ -86,7 +85,7 @@ fitted d draft form =
     if is_misplaced d draft form then Err BadLine
     else entry_of d form >>= behind_start (is_some draft.opening)
 
--- what a line says behind those before it
+-- the content of a line after those before it
 unfoldable pub said_behind : Declared → Draft → List ℕ → Result Entry ScriptFault
 said_behind d draft line = or_fault BadLine (form_of line) >>= fitted d draft
 
@@ -107,14 +106,14 @@ abbrev pub numbered : {A : Type 0} → ℕ → Result A ScriptFault → Result A
 numbered number (Ok x) = Ok x
 numbered number (Err fault) = Err (number, fault)
 
--- the lines behind the draft, of which the first has this number
+-- the lines after the draft, of which the first has this number
 unfoldable pub lines_from : Declared → ℕ → Draft → List (List ℕ) → Result Draft Fault
 lines_from d number draft [] = Ok draft
 lines_from d number draft (text ∷ texts) = do
   more ← numbered number (taken d number draft text)
   lines_from d (number + 1) more texts
 
--- the script of all lines: one without a start has a fault that stands in no line
+-- the script of all lines: one without a start has a fault in no line
 abbrev pub whole : Draft → Option (ℕ × Bool) → Result Numbered Fault
 whole draft None = Err (0, NoStart)
 whole draft (Some opening) = Ok (record {

@@ -23,11 +23,11 @@ use Rattle.cs_script.specs.Reading.{is_word}
 unfoldable pub job_name : Declared → ℕ → List ℕ
 job_name d j = if nat_lt j (crons d) then command_name d j else codes "job " ++ identifier_of d j
 
--- `YYYY-MM-DD HH:MM` behind a space
+-- `YYYY-MM-DD HH:MM` after a space
 abbrev pub at_minute : ℕ → List ℕ
 at_minute t = 32 ∷ minute_text t
 
--- `YYYY-MM-DD` behind a space
+-- `YYYY-MM-DD` after a space
 abbrev pub on_day : ℕ → List ℕ
 on_day n = 32 ∷ day_text n
 

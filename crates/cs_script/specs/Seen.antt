@@ -1,4 +1,4 @@
--- What the code holds of a line, without where it lies in memory.
+-- A line as the code holds it, wherever it lies in memory.
 use Rattle.cs_script.specs.declared.form.Form.{Form as HeldForm}
 use Rattle.cs_script.specs.declared.form.Form.TheVariants as form
 use Rattle.cs_script.specs.declared.entry.Entry.{Entry as HeldEntry}

@@ -4,14 +4,12 @@ ghost use Rattle.cs_script.specs.Dates.{minute_of, day_of};
 
 use cs_civil::{Day, Minute, read_day, read_minute};
 
-/// The minute that a text names.
 pub(crate) fn minute_of(text: &[u8]) -> Option<Minute>
     ensures { result ≡ minute_of text.now }
 {
     read_minute(text).ok()
 }
 
-/// The day that a text names.
 pub(crate) fn day_of(text: &[u8]) -> Option<Day>
     ensures { result ≡ day_of text.now }
 {

@@ -1,4 +1,4 @@
-//! The lines of a script that were read so far.
+//! The lines of a script read so far.
 ghost use Rattle.std.specs.Prelude.{◌≡◌, ◌≤◌, IfOk, length, replicate, set, None, Some};
 ghost use Rattle.cs_script.specs.Entries.{Gives, IsLateEnough};
 ghost use Rattle.cs_script.specs.Script.{Denotes, is_misplaced, is_too_late, nothing, numbered};
@@ -16,8 +16,7 @@ use cs_history::Event;
 use std::alloc::{AllocError, Global};
 use std::marker::Model;
 
-/// The start, once it was read, the stamps by anacron job, and the events with the numbers of their
-/// lines.
+/// The start, once read, the stamps by anacron job, and the events with their line numbers.
 #[derive(Drop)]
 pub(crate) struct Draft {
     pub(crate) start: Option<(Minute, bool)>,
@@ -38,7 +37,7 @@ impl Model for Draft {
     ghost invariant = { λ a. IfSome a.start (λ opening. first_start ≤ opening.0) };
 }
 
-/// No stamp for any of so many jobs.
+/// No stamp for any of this many jobs.
 #[tactic(auto, using(crate::proofs::Stamps::one_none_more))]
 fn no_stamps(count: usize) -> ArrayVec<Option<Day>, 64>
     requires { count ≤ 64 }
@@ -62,7 +61,7 @@ impl Draft {
         }
     }
 
-    /// Whether a stamp of the identifier can't come any more.
+    /// Whether it is too late for a stamp of the identifier.
     #[tactic(auto, unfolding(crate::specs::Script::is_too_late))]
     fn is_too_late(&self, plan: &Plan, identifier: &[u8]) -> bool
         ensures { result ≡ is_too_late plan.now self.now identifier.now }
@@ -87,7 +86,7 @@ impl Draft {
         }
     }
 
-    /// Whether a form may not stand behind those before it.
+    /// Whether a form is out of place after those before it.
     fn is_misplaced(&self, plan: &Plan, form: &Form<'_>) -> bool
         ensures { result ≡ is_misplaced plan.now self.now (form_seen form.now) }
     {
@@ -105,7 +104,7 @@ impl Draft {
         }
     }
 
-    /// What a line says behind those before it.
+    /// The content of a line after those before it.
     #[tactic(auto, unfolding(crate::specs::Script::said_behind))]
     fn said(&self, plan: &Plan, line: &[u8]) -> Result<Entry, ScriptFault>
         ensures value { Gives entry_seen result (said_behind plan.now self.now line.now) }

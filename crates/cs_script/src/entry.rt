@@ -1,4 +1,4 @@
-//! What a script's line says under a plan.
+//! The content of a script's line under a plan.
 ghost use Rattle.std.specs.Prelude.{◌≡◌, ◌≤◌, IfOk};
 ghost use Rattle.cs_crontab.specs.Text.{decimal};
 ghost use Rattle.cs_history.specs.Plan.{first_start};
@@ -20,12 +20,12 @@ use cs_history::{Event, Run};
 /// The first minute at which a history may start, 1970-01-04 00:00.
 pub(crate) const FIRST_START: u64 = 4_320;
 
-/// What a line says.
+/// The content of a line.
 #[derive(Drop)]
 pub(crate) enum Entry {
     /// The start: its minute, and whether it is up.
     Start(Minute, bool),
-    /// A stamp: the place of its job in the anacrontab, and its day.
+    /// A stamp: the index of its job in the anacrontab, and its day.
     Stamp(usize, Day),
     /// An event.
     Event(Event),
@@ -45,7 +45,6 @@ fn minute_at(moment: &[u8]) -> Result<Minute, ScriptFault>
     minute_of(moment).ok_or(ScriptFault::BadDate)
 }
 
-/// The minute of a start.
 fn start_minute(moment: &[u8]) -> Result<Minute, ScriptFault>
     ensures value { Gives (λ t. t) result
         (or_fault BadDate (from_on first_start (minute_of moment.now))) }
@@ -64,21 +63,20 @@ fn day_at(date: &[u8]) -> Result<Day, ScriptFault>
     day_of(date).ok_or(ScriptFault::BadDate)
 }
 
-/// The job of the command on the line of that number.
+/// The job of the command on that line.
 fn command(plan: &Plan, number: &[u8]) -> Result<u16, ScriptFault>
     ensures { Gives (λ j. j) result (or_fault UnknownName (job_on plan.now (decimal number.now))) }
 {
     job_on(plan, number).ok_or(ScriptFault::UnknownName)
 }
 
-/// The job of the anacrontab with that identifier.
 fn anacron_job(plan: &Plan, identifier: &[u8]) -> Result<u16, ScriptFault>
     ensures { Gives (λ j. j) result (or_fault UnknownName (job_named plan.now identifier.now)) }
 {
     job_named(plan, identifier).ok_or(ScriptFault::UnknownName)
 }
 
-/// Its place among those of the anacrontab.
+/// Its index in the anacrontab.
 fn place_at(plan: &Plan, identifier: &[u8]) -> Result<usize, ScriptFault>
     ensures { Gives (λ place. place) result
         (or_fault UnknownName (place_of plan.now identifier.now)) }
@@ -86,7 +84,7 @@ fn place_at(plan: &Plan, identifier: &[u8]) -> Result<usize, ScriptFault>
     place_of(plan, identifier).ok_or(ScriptFault::UnknownName)
 }
 
-/// What a form says under the plan. Its date is looked at before its name.
+/// The content of a form under the plan. Its date is checked before its name.
 pub(crate) fn entry_of(plan: &Plan, form: Form<'_>) -> Result<Entry, ScriptFault>
     ensures value { Gives entry_seen result (entry_of plan.now (form_seen form.entry)) }
     ensures late { IfOk result (λ x. IsLateEnough (entry_seen x)) }

@@ -5,25 +5,24 @@ ghost use Rattle.cs_script.specs.declared.fault.ScriptError.TheVariants.{OutOfMe
 use std::alloc::{AllocError, AllocFailed};
 use thiserror::Error;
 
-/// What is wrong with a script, or with a line of one. It is printed as its number and its name,
-/// `3 BadDate`.
+/// What is wrong with a script or a line of one, printed as number and name: `3 BadDate`.
 #[derive(Clone, Copy, Debug, PartialEq, Eq, Error)]
 #[error("{}", self.text())]
 pub enum ScriptFault {
     /// The script is longer than [`MAX_SCRIPT`](crate::MAX_SCRIPT).
     TooLong,
-    /// The line is none of a script, a second start, or a stamp that comes late or a second time.
+    /// The line has no form of a script, or is a second start, or a stamp late or a second time.
     BadLine,
-    /// A date is none, or out of its range.
+    /// A date is none, or out of range.
     BadDate,
-    /// No command stands on the line, or no job has the identifier.
+    /// The line of that number has no command, or no job has the identifier.
     UnknownName,
-    /// The first line that counts is not the start, or no line counts.
+    /// The first line that isn't ignored is not the start, or all lines are ignored.
     NoStart,
 }
 
 impl ScriptFault {
-    /// Its number and its name, as it is printed.
+    /// Returns its number and name, as printed.
     pub fn text(self) -> &'static str
         ensures { result.now ≡ fault_text self }
     {
@@ -40,8 +39,7 @@ impl ScriptFault {
 /// Why a script could not be read.
 #[derive(Clone, Copy, Debug, PartialEq, Eq, Error)]
 pub enum ScriptError {
-    /// The first line with a fault, counted from 1, and its fault. The script's own length, and the
-    /// absence of a start, have line 0.
+    /// The first line with a fault, from 1, or 0 if the script is too long or has no start.
     #[error("line {line}: {fault}")]
     At { line: u32, fault: ScriptFault },
     /// Memory ran out.

@@ -1,4 +1,4 @@
-//! The form of a script's line: its words, whatever its date and its name are.
+//! The form of a script's line: its words, whatever date and name.
 ghost use Rattle.std.specs.Prelude.{◌≡◌, option_map};
 ghost use Rattle.cs_script.specs.Reading.{begin_form, catch_form, end_form, form_behind, form_of};
 ghost use Rattle.cs_script.specs.Reading.{got_form, job_run, line_run, minute_form, stamp_form};
@@ -7,7 +7,7 @@ ghost use Rattle.cs_script.specs.Seen.{form_seen};
 
 use crate::words::{first_word, is_moment, is_number, is_word};
 
-/// What a line's words are: texts of minutes, dates, numbers of lines and identifiers.
+/// The words of a line: texts of minutes, dates, line numbers and identifiers.
 #[derive(Drop)]
 pub(crate) enum Form<'a> {
     /// `start DT up` or `start DT down`.
@@ -42,7 +42,7 @@ fn start_at(moment: &[u8], up: bool) -> Option<Form<'_>>
     Some(Form::Start(moment, up))
 }
 
-/// `DT up` or `DT down` behind `start`.
+/// `DT up` or `DT down` after `start`.
 #[tactic(auto, unfolding(crate::specs::Reading::start_form))]
 fn start_form(text: &[u8]) -> Option<Form<'_>>
     ensures { option_map form_seen result ≡ start_form text.now }
@@ -56,7 +56,7 @@ fn start_form(text: &[u8]) -> Option<Form<'_>>
     None
 }
 
-/// `ID YYYY-MM-DD` behind `stamp`.
+/// `ID YYYY-MM-DD` after `stamp`.
 #[tactic(auto, unfolding(crate::specs::Reading::stamp_form))]
 fn stamp_form(text: &[u8]) -> Option<Form<'_>>
     ensures { option_map form_seen result ≡ stamp_form text.now }
@@ -68,7 +68,7 @@ fn stamp_form(text: &[u8]) -> Option<Form<'_>>
     Some(Form::Stamp(identifier, date))
 }
 
-/// `DT` behind `minute`.
+/// `DT` after `minute`.
 fn minute_form(text: &[u8]) -> Option<Form<'_>>
     ensures { option_map form_seen result ≡ minute_form text.now }
 {
@@ -78,7 +78,7 @@ fn minute_form(text: &[u8]) -> Option<Form<'_>>
     Some(Form::Minute(text))
 }
 
-/// `DT` behind `up`.
+/// `DT` after `up`.
 fn up_form(text: &[u8]) -> Option<Form<'_>>
     ensures { option_map form_seen result ≡ up_form text.now }
 {
@@ -88,7 +88,7 @@ fn up_form(text: &[u8]) -> Option<Form<'_>>
     Some(Form::Up(text))
 }
 
-/// `line N` behind `begin`.
+/// `line N` after `begin`.
 #[tactic(auto, unfolding(crate::specs::Reading::begin_form))]
 fn begin_form(text: &[u8]) -> Option<Form<'_>>
     ensures { option_map form_seen result ≡ begin_form text.now }
@@ -100,7 +100,7 @@ fn begin_form(text: &[u8]) -> Option<Form<'_>>
     Some(Form::Begin(number))
 }
 
-/// `N DT` behind `line`.
+/// `N DT` after `line`.
 #[tactic(auto, unfolding(crate::specs::Reading::line_run))]
 fn line_run(text: &[u8]) -> Option<(&[u8], &[u8])>
     ensures { option_map (λ run. (run.0.now, run.1.now)) result ≡ line_run text.now }
@@ -112,7 +112,7 @@ fn line_run(text: &[u8]) -> Option<(&[u8], &[u8])>
     Some((number, moment))
 }
 
-/// `ID DT` behind `job`.
+/// `ID DT` after `job`.
 #[tactic(auto, unfolding(crate::specs::Reading::job_run))]
 fn job_run(text: &[u8]) -> Option<(&[u8], &[u8])>
     ensures { option_map (λ run. (run.0.now, run.1.now)) result ≡ job_run text.now }
@@ -124,7 +124,7 @@ fn job_run(text: &[u8]) -> Option<(&[u8], &[u8])>
     Some((identifier, moment))
 }
 
-/// `line N DT` behind `got`.
+/// `line N DT` after `got`.
 #[tactic(auto, unfolding(crate::specs::Reading::got_form))]
 fn got_form(text: &[u8]) -> Option<Form<'_>>
     ensures { option_map form_seen result ≡ got_form text.now }
@@ -137,7 +137,7 @@ fn got_form(text: &[u8]) -> Option<Form<'_>>
     Some(Form::Got(number, moment))
 }
 
-/// `ID` behind `catch`.
+/// `ID` after `catch`.
 fn catch_form(text: &[u8]) -> Option<Form<'_>>
     ensures { option_map form_seen result ≡ catch_form text.now }
 {
@@ -147,7 +147,7 @@ fn catch_form(text: &[u8]) -> Option<Form<'_>>
     Some(Form::Catch(text))
 }
 
-/// `line N DT` or `job ID DT` behind `end`.
+/// `line N DT` or `job ID DT` after `end`.
 #[tactic(auto, unfolding(crate::specs::Reading::end_form))]
 fn end_form(text: &[u8]) -> Option<Form<'_>>
     ensures { option_map form_seen result ≡ end_form text.now }
@@ -164,7 +164,7 @@ fn end_form(text: &[u8]) -> Option<Form<'_>>
     None
 }
 
-/// A form by its first word, and what stands behind it.
+/// A form by its first word and the rest.
 #[tactic(auto, unfolding(crate::specs::Reading::form_behind))]
 fn form_behind<'a>(verb: &[u8], text: &'a [u8]) -> Option<Form<'a>>
     ensures { option_map form_seen result ≡ form_behind verb.now text.now }
@@ -196,7 +196,6 @@ fn form_behind<'a>(verb: &[u8], text: &'a [u8]) -> Option<Form<'a>>
     None
 }
 
-/// The form of a line, if it has one.
 #[tactic(auto, unfolding(crate::specs::Reading::form_of))]
 pub(crate) fn form_of(line: &[u8]) -> Option<Form<'_>>
     ensures { option_map form_seen result ≡ form_of line.now }

@@ -1,4 +1,4 @@
-//! Scripts of events, read and written, and the texts that tell what an event is answered.
+//! Scripts of events, read and written, and the texts of replies.
 #![tactic(auto)]
 
 mod dates;

@@ -1,4 +1,4 @@
-//! Which scripts have a text.
+//! Scripts that have a text.
 ghost use Rattle.std.specs.Prelude.{◌≡◌, ◌==◌, ◌<◌, ◌≤◌, ◌-◌, length};
 ghost use Rattle.std.specs.List.{list_all, list_any};
 ghost use Rattle.cs_civil.specs.Calendar.{last_day};
@@ -37,7 +37,6 @@ pub(crate) fn is_cron(plan: &Plan, job: u16) -> bool
     usize::from(job) < plan.crontab().lines().len()
 }
 
-/// The identifier of a job of the anacrontab.
 pub(crate) fn identifier_of(plan: &Plan, job: u16) -> &[u8]
     requires behind { crons plan.now ≤ job }
     requires there { job - crons plan.now < length plan.now.anacrontab.lines }
@@ -77,7 +76,7 @@ fn is_civil(minute: u64) -> bool
     Minute::new(minute).is_some()
 }
 
-/// Whether the event names a job of its kind and minutes in range.
+/// Whether the event has a job of its kind and minutes in range.
 fn is_nameable_event(plan: &Plan, event: Event) -> bool
     ensures { result ≡ is_nameable_event plan.now event }
 {
@@ -125,9 +124,9 @@ fn are_nameable_events(plan: &Plan, events: &[Event]) -> bool
     events.iter().all(|event| is_nameable_event(plan, *event))
 }
 
-/// Whether the script has a text: its start is from 1970-01-04 00:00 on; it has one place for a
-/// stamp for each job of the anacrontab, and each stamp is from 1970-01-02 on;
-/// [`Begin`](Event::Begin) and [`Got`](Event::Got) name jobs of the crontab,
+/// Checks whether the script has a text: its start is from 1970-01-04 00:00 on; it has a place for
+/// a stamp for each job of the anacrontab, and each stamp is from 1970-01-02 on;
+/// [`Begin`](Event::Begin) and [`Got`](Event::Got) are of jobs of the crontab,
 /// [`Catch`](Event::Catch) of the anacrontab, [`End`](Event::End) of either; and each minute is
 /// from 1970-01-02 00:00 to 9999-12-31 23:59.
 #[tactic(auto, unfolding(crate::specs::ScriptText::is_nameable))]

@@ -1,4 +1,4 @@
-//! How the answer to an event is told.
+//! The texts of replies and refusals.
 ghost use Rattle.std.specs.Prelude.{◌≡◌, ◌++◌, IfOk, OnOk};
 ghost use Rattle.cs_script.specs.Reply.{reply_text, refused_text, taken_text};
 
@@ -6,7 +6,6 @@ use cs_civil::Bytes;
 use cs_history::{Refusal, Reply};
 use std::alloc::{AllocError, Global};
 
-/// What is told of an event that was taken.
 fn taken_text(reply: Reply) -> &'static str
     ensures { result.now ≡ taken_text reply }
 {
@@ -22,7 +21,6 @@ fn taken_text(reply: Reply) -> &'static str
     }
 }
 
-/// Adds what is told of an event that was refused.
 fn push_refusal(text: &mut Vec<u8>, refusal: Refusal) -> Result<(), AllocError>
     ensures { OnOk result (text.new.items ≡ text.old.items ++ refused_text refusal) }
 {
@@ -45,7 +43,7 @@ fn push_refusal(text: &mut Vec<u8>, refusal: Refusal) -> Result<(), AllocError>
     }
 }
 
-/// Adds what is told of an event's answer behind the text. The only error is want of memory.
+/// Adds the text of an answer, like [`reply_text`]. The only error is out of memory.
 pub fn push_reply(text: &mut Vec<u8>, answer: Result<Reply, Refusal>) -> Result<(), AllocError>
     ensures { OnOk result (text.new.items ≡ text.old.items ++ reply_text answer) }
 {
@@ -55,10 +53,9 @@ pub fn push_reply(text: &mut Vec<u8>, answer: Result<Reply, Refusal>) -> Result<
     }
 }
 
-/// What is told of an event's answer: `clock`, `started`, `waiting`, `skipped`, `ended in time`,
-/// `ended late`, `went` or `came`, and of a refusal `refused` with its number and its name, as
-/// `refused 4 NotSettled`; of want of memory `out of memory`. There is no newline at its end. The
-/// only error is want of memory.
+/// Formats the answer to an event: `clock`, `started`, `waiting`, `skipped`, `ended in time`,
+/// `ended late`, `went` or `came`; a refusal as `refused` with number and name, `refused 4
+/// NotSettled`, or as `out of memory`. There is no newline. The only error is out of memory.
 pub fn reply_text(alloc: Global, answer: Result<Reply, Refusal>) -> Result<Bytes, AllocError>
     ensures { IfOk result (λ text. text ≡ reply_text answer) }
 {

@@ -1,4 +1,4 @@
-//! Scripts: a start, and the events that are tried from there on.
+//! Scripts: a start, and the events to try from there.
 ghost use Rattle.std.specs.Prelude.{◌≡◌, ◌≤◌, ◌++◌, length, map, IfErr, IfOk, Ok};
 ghost use Rattle.cs_crontab.specs.Text.{lines_of};
 ghost use Rattle.cs_script.specs.declared.script.TheConstants.{MAX_SCRIPT};
@@ -16,10 +16,10 @@ use cs_history::{Event, Script, Start};
 use std::alloc::{AllocError, Global};
 use std::marker::Model;
 
-/// The bytes of the longest script that is read: 16 MiB (this profile).
+/// The most bytes of a script: 16 MiB (this profile).
 pub const MAX_SCRIPT: usize = 16_777_216;
 
-/// A script, and the number of the line of each event, counted from 1.
+/// A script, and the line number, from 1, of each event.
 #[derive(Debug, Drop)]
 pub struct NumberedScript {
     opening: Start,
@@ -42,15 +42,14 @@ impl Model for NumberedScript {
 impl NumberedScript {
     ghost use Rattle.cs_history.specs.Plan.{first_start};
 
-    /// The start.
+    /// Returns the start.
     pub fn start(&self) -> &Start
         ensures { result.now ≡ self.now.start }
     {
         &self.opening
     }
 
-    /// The start, and the events, each with the number of its line. The start is from 1970-01-04
-    /// 00:00 on.
+    /// Returns the start, from 1970-01-04 00:00 on, and the events, each with its line number.
     pub fn into_parts(self) -> (Start, Sequence<(u32, Event)>)
         ensures start { result.0 ≡ self.start }
         ensures late { first_start ≤ result.0.now }
@@ -60,7 +59,7 @@ impl NumberedScript {
         (opening, list)
     }
 
-    /// The events, each with the number of its line.
+    /// Returns the events, each with its line number.
     pub fn events(&self) -> &[(u32, Event)]
         ensures { result.now ≡ self.now.events }
     {
@@ -108,18 +107,17 @@ fn read_numbered(alloc: Global, plan: &Plan, bytes: &[u8]) -> Result<NumberedScr
     }
 }
 
-/// The script that the bytes denote under the plan, with the number of the line of each event, or
-/// its first fault, as [`read_script`] answers it.
+/// Reads a script like [`read_script`], with the line number of each event.
 pub fn read_numbered_script(
     alloc: Global,
     plan: &Plan,
     bytes: &[u8],
 ) -> Result<NumberedScript, ScriptError>
-    // What is read is written so.
+    // The script that is read is written in the bytes.
     ensures script { IfOk result (IsScript plan.now bytes.now) }
-    // A fault stands there, and is the first; nothing is said of want of memory.
+    // err: the first fault; `OutOfMemory` only if memory runs out
     ensures fault { IfErr result (IsFaultOf plan.now bytes.now) }
-    // The bytes mean nothing else, and what they mean is answered unless memory runs out.
+    // The bytes have no other meaning, and it is returned unless memory runs out.
     ensures only { (meaning : Meaning) → Means plan.now bytes.now meaning
         → Denotes (λ script. script) meaning result }
 {
@@ -148,23 +146,23 @@ fn read_plain(alloc: Global, plan: &Plan, bytes: &[u8]) -> Result<Script, Script
     })
 }
 
-/// The script that the bytes denote under the plan, or its first fault.
+/// Reads a script under the plan, or returns its first fault.
 ///
-/// Empty lines and lines that begin with `#` count for nothing. The first other line is
-/// `start DT up` or `start DT down`, DT being `YYYY-MM-DD HH:MM` from 1970-01-04 00:00 on.
-/// `stamp ID YYYY-MM-DD` comes before any event, each identifier once. The events are `minute DT`,
-/// `up DT`, `down`, `begin line N`, `got line N DT`, `catch ID`, `end line N DT` and
-/// `end job ID DT`, where N is the number of a command's line in the crontab and ID an identifier
-/// of the anacrontab. Words are parted by one space and by nothing else.
+/// Empty lines and lines that begin with `#` are ignored. The first other line is `start DT up` or
+/// `start DT down`, DT being `YYYY-MM-DD HH:MM` from 1970-01-04 00:00 on. `stamp ID YYYY-MM-DD`
+/// comes before any event, each identifier once. The events are `minute DT`, `up DT`, `down`,
+/// `begin line N`, `got line N DT`, `catch ID`, `end line N DT` and `end job ID DT`, where N is the
+/// line number of a command in the crontab and ID an identifier of the anacrontab. Words are
+/// separated by exactly one space.
 ///
-/// In a line the faults come in the order of [`ScriptFault`]'s numbers. A line without fault that
-/// should be the start is [`NoStart`](ScriptFault::NoStart).
+/// In a line the faults come in the order of [`ScriptFault`]'s numbers. A line without fault where
+/// the start is required is [`NoStart`](ScriptFault::NoStart).
 pub fn read_script(alloc: Global, plan: &Plan, bytes: &[u8]) -> Result<Script, ScriptError>
-    // What is read is written so.
+    // The script that is read is written in the bytes.
     ensures script { IfOk result (λ script. MeansPlain plan.now bytes.now (Ok script)) }
-    // A fault stands there, and is the first; nothing is said of want of memory.
+    // err: the first fault; `OutOfMemory` only if memory runs out
     ensures fault { IfErr result (IsFaultOf plan.now bytes.now) }
-    // The bytes mean nothing else, and what they mean is answered unless memory runs out.
+    // The bytes have no other meaning, and it is returned unless memory runs out.
     ensures only { (meaning : PlainMeaning) → MeansPlain plan.now bytes.now meaning
         → Denotes (λ script. script) meaning result }
 {

@@ -11,7 +11,7 @@ fn first_space(text: &[u8]) -> Option<usize>
     text.iter().position(|byte| *byte == b' ')
 }
 
-/// The first word, and the text behind the one space after it.
+/// The first word, and the text after the one space that follows it.
 #[tactic(auto, using(crate::proofs::FirstWord::no_space, crate::proofs::FirstWord::space_in_front, crate::proofs::FirstWord::space_behind))]
 pub(crate) fn first_word(text: &[u8]) -> Option<(&[u8], &[u8])>
     ensures { option_map (λ parts. (parts.0.now, parts.1.now)) result ≡ first_word text.now }
@@ -28,7 +28,6 @@ fn has_no_space(text: &[u8]) -> bool
     text.iter().all(|byte| *byte != b' ')
 }
 
-/// Whether the text is one word.
 #[tactic(auto, unfolding(crate::specs::Reading::is_word))]
 pub(crate) fn is_word(text: &[u8]) -> bool
     ensures { result ≡ is_word text.now }
@@ -73,7 +72,7 @@ pub(crate) fn is_moment(text: &[u8]) -> bool
     }
 }
 
-/// The number that digits stand for, or 2^32 where it is larger.
+/// The number in the digits, at most 2^32.
 pub(crate) fn number(digits: &[u8]) -> u64
     ensures { result ≡ min 4_294_967_296 (decimal digits.now) }
 {

@@ -106,7 +106,6 @@ fn push_event(
     }
 }
 
-/// Adds the lines of events.
 fn push_events(
     alloc: Global,
     text: &mut Vec<u8>,
@@ -146,7 +145,6 @@ fn push_stamp(text: &mut Vec<u8>, job: &Job, stamp: Option<Day>) -> Result<(), A
     text.extend_from_slice(b"\n")
 }
 
-/// Adds the lines of the stamps.
 #[tactic(auto, unfolding(crate::specs::ScriptText::stamp_lines))]
 fn push_stamps(text: &mut Vec<u8>, jobs: &[Job], stamps: &[Option<Day>]) -> Result<(), AllocError>
     ensures { OnOk result (text.new.items ≡ text.old.items ++ stamp_lines jobs.now stamps.now) }
@@ -177,9 +175,9 @@ fn push_start(text: &mut Vec<u8>, start: &Start) -> Result<(), AllocError>
     }
 }
 
-/// The text of a script that can be named: the start, its stamps and the events, a line each.
-/// [`read_script`](crate::read_script) answers the script again, where the text is no longer than a
-/// script may be. The only error is want of memory.
+/// Formats a script that is [`is_nameable`](crate::is_nameable): a line each for the start, its
+/// stamps and the events. [`read_script`](crate::read_script) returns the same script if the text
+/// isn't too long. The only error is out of memory.
 #[tactic(auto, unfolding(crate::specs::ScriptText::script_text), using(crate::proofs::NamedJobs::events_nameable, crate::proofs::BackScript::reads_back))]
 pub fn script_text(alloc: Global, plan: &Plan, script: &Script) -> Result<Bytes, AllocError>
     requires { is_nameable plan.now script.now ≡ true }

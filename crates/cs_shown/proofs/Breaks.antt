@@ -1,4 +1,4 @@
--- What an event breaks is told by the run that it starts.
+-- What an event breaks is decided by the run that it starts.
 use Rattle.std.proofs.Common.{ℕ, ◌+◌, ◌≤◌, ◌≡◌, Bool, true, false, not, if◌then◌else◌, List, [], ◌∷◌, ◌++◌, filter, refl, sym, ap, ◌∙◌, arith, Option, Some, None}
 use Rattle.cs_history.specs.Plan.{Plan}
 use Rattle.cs_history.specs.History.{Answer, Starts, Waits, Skips, answer, with_started, going, run_of, same_run}

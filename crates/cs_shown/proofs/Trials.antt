@@ -12,7 +12,7 @@ use Rattle.cs_shown.specs.Break.{break_among, skip_by, break_by, first_break}
 use Rattle.cs_shown.specs.Trial.{Tried, IsTaken, break_from, is_late}
 use Rattle.cs_shown.proofs.Deadlines.{in_time_if}
 
--- the trial stands where these events have been taken
+-- the trial after these events
 pub record IsTrial (d : Declared) (start : Start) (es : List Event) (t : Tried) : Type 0 where
   pub plan : t.plan ≡ d
   pub state : t.state ≡ state_of (as_plan d) (history start es)

@@ -16,7 +16,7 @@ use Rattle.cs_shown.specs.declared.shown.Shown.TheVariants.{Together, Load, Skip
 abbrev pub AreFine : Plan → Going → Going → Type 0
 AreFine p r q = clash p r.run.job q.run.job ≡ false
 
--- of the runs in order of start these are the first two that may not go on at once, by the one that started first
+-- of the runs in order of start, these are the first two that may not overlap, by the earlier one
 pub record IsFirstPair (p : Plan) (rs : List Going) (r q : Run) : Type 0 where
   pub front : List Going
   pub one : Going
@@ -39,7 +39,7 @@ pub record IsOverload (p : Plan) (rs : List Going) (n : ℕ) : Type 0 where
   pub weight : n ≡ weight_of p rs
   pub more : p.capacity < n
 
--- the event begins job j at minute t, which finds its lock held and gives up; what runs then may
+-- the event begins job j at minute t, which finds its lock held and is skipped; what runs then may
 pub record IsSkip (p : Plan) (h : History) (e : Event) (j t : ℕ) : Type 0 where
   pub safe : IsSafeNow p (h ▸ e)
   pub begin : e ≡ Begin j

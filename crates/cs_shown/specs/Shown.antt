@@ -17,7 +17,7 @@ use Rattle.cs_shown.specs.declared.shown.NotShown.TheVariants.{Illegal, Late, No
 abbrev pub history_of : Script → History
 history_of script = history script.start script.events
 
--- each event of the script may come when it comes, each run has ended within its declared time, and something is broken
+-- each event of the script is legal, each run has ended in declared time, and something is broken
 pub record IsUnsafe (p : Plan) (script : Script) : Type 0 where
   pub legal : IsLegal p (history_of script)
   pub in_time : IsInTime p (history_of script)
@@ -71,7 +71,7 @@ IsNotShown p script OutOfMemory = ⊤
 abbrev pub IsRunOf : Plan → Run → Type 0
 IsRunOf p r = (r.job < p.jobs) × IsReached r.at
 
--- what is shown can be told: it names such runs, and as one that gave up a run of a cron job
+-- what is shown has a text: it has such runs, and as skipped one a run of a cron job
 abbrev pub IsTellable : Plan → Shown → Type 0
 IsTellable p (Together r q) = IsRunOf p r × IsRunOf p q
 IsTellable p (Load n) = ⊤

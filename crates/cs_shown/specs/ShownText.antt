@@ -1,4 +1,4 @@
--- How it is told what a script breaks.
+-- The text of what a script breaks.
 use Rattle.std.specs.Prelude.{ℕ, List, ◌++◌, codes, nat_lt, if◌then◌else◌}
 use Rattle.std.specs.Fmt.{decimal}
 use Rattle.cs_civil.specs.Text.{minute_text}
@@ -33,11 +33,11 @@ both_text d r q = run_text d r ++ (codes " and " ++ run_text d q)
 unfoldable pub together_text : Declared → Run → Run → List ℕ
 together_text d r q = both_text d r q ++ codes " run together"
 
--- a weight beside the capacity
+-- a weight and the capacity
 unfoldable pub load_text : Declared → ℕ → List ℕ
 load_text d n = codes "load " ++ (decimal n ++ (codes " of " ++ decimal d.capacity))
 
--- a run that gave up
+-- a run that was skipped
 unfoldable pub skip_text : Declared → Run → List ℕ
 skip_text d r = run_text d r ++ codes " is skipped"
 

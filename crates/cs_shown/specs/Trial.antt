@@ -79,11 +79,11 @@ clash_before p [] q = None
 clash_before p (r ∷ rs) q =
     if clash p r.run.job q.job then Some (Together r.run q) else clash_before p rs q
 
--- what it breaks that the run starts behind these, which break nothing
+-- what it breaks that the run starts after these, which break nothing
 abbrev pub break_by_run : Plan → List Going → Run → Option Shown
 break_by_run p rs r = option_or (clash_before p rs r) (overload p (weight_of p rs + p.weight r.job))
 
--- the same, looked at only where nothing was broken before
+-- the same, worked out only if nothing was broken before
 abbrev pub break_by_start : Plan → Option Shown → List Going → Option Run → Option Shown
 break_by_start p (Some s) rs run = None
 break_by_start p None rs None = None
@@ -107,7 +107,8 @@ break_by_reply replies.Came run at_start = None
 abbrev pub IsDeadline : Plan → ℕ → List Going → Type 0
 IsDeadline p d rs = AllByRecursion (λ r. d ≤ r.since + p.limit r.run.job) rs
 
--- what a trial knows of the runs that run: a deadline, and that they break nothing while nothing is known to be broken
+-- what a trial knows of the runs that run: a deadline, and that they break nothing while nothing is
+-- known to be broken
 abbrev pub Watches : Plan → ℕ → Option Shown → List Going → Type 0
 Watches p d shown rs = IsDeadline p d rs × (shown ≡ None → break_among p rs ≡ None)
 

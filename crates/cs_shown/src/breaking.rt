@@ -1,5 +1,5 @@
-//! What an event breaks: by the run that it starts, or by one that gives up. No other event breaks
-//! anything, since with fewer runs nothing is broken that wasn't.
+//! What an event breaks: by the run that it starts, or by one that is skipped. No other event
+//! breaks anything, since fewer runs break no more.
 ghost use Rattle.std.specs.Prelude.{◌≡◌, ◌≤◌, ◌<◌};
 ghost use Rattle.cs_decl.specs.Plan.{as_plan};
 ghost use Rattle.cs_shown.specs.Break.{weight_of};
@@ -26,7 +26,7 @@ pub(crate) fn run_by(event: &Event, now: u64) -> Option<Run>
     }
 }
 
-/// The first of these with which the run may not go on.
+/// The first of these with which the run clashes.
 fn clash_before(plan: &Plan, earlier: &Roster, run: Run) -> Option<Shown>
     ensures { result ≡ clash_before (as_plan plan.now) earlier.now run }
 {
@@ -50,7 +50,7 @@ fn weigh(plan: &Plan, running: &Roster) -> u64
     sum
 }
 
-/// What it breaks that the run starts behind these, which break nothing.
+/// What the run breaks if it starts after these, which break nothing.
 pub(crate) fn break_by_run(plan: &Plan, earlier: &Roster, run: Run) -> Option<Shown>
     requires { weight_of (as_plan plan.now) earlier.now ≤ (as_plan plan.now).capacity }
     ensures { result ≡ break_by_run (as_plan plan.now) earlier.now run }
@@ -66,7 +66,7 @@ pub(crate) fn break_by_run(plan: &Plan, earlier: &Roster, run: Run) -> Option<Sh
     None
 }
 
-/// What an event breaks that is so replied to, where its run would break `at_start`.
+/// What an event with this reply breaks, if its run would break `at_start`.
 pub(crate) fn break_by_reply(
     reply: Reply,
     run: Option<Run>,

@@ -1,5 +1,5 @@
-//! When a run has passed its declared time. The deadline of runs is a minute before which none of
-//! them has, so that the runs are looked at one by one only once it has come.
+//! When a run has passed its declared time. A deadline is a minute before which no run has, so that
+//! the runs are checked one by one only from then on.
 ghost use Rattle.std.specs.Prelude.{◌≡◌, ◌+◌, ◌≤◌, nat_le};
 ghost use Rattle.cs_decl.specs.Plan.{as_plan};
 ghost use Rattle.cs_shown.specs.Trial.{IsDeadline, IsNextDeadline, any_over};
@@ -9,7 +9,7 @@ use cs_decl::Plan;
 use cs_history::{Going, Reply};
 use cs_roster::Roster;
 
-/// The first minute at which the run is over its declared time, if that is one of a `u64`.
+/// The first minute at which the run is over its declared time, if a `u64` can hold it.
 fn end_of(plan: &Plan, job: u16, since: u64) -> u64
     ensures { result ≤ since + (as_plan plan.now).limit job }
 {
@@ -27,7 +27,7 @@ pub(crate) fn first_deadline(plan: &Plan, running: &Roster) -> u64
     first
 }
 
-/// The deadline after an event that is so replied to. A run that ends leaves it too low at worst.
+/// The deadline after an event with this reply. A run that ends may leave it too low.
 pub(crate) fn deadline_of(plan: &Plan, deadline: u64, reply: Reply, now: u64) -> u64
     ensures { IsNextDeadline (as_plan plan.now) deadline reply now result }
 {

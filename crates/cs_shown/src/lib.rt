@@ -1,4 +1,4 @@
-//! Scripts that show a plan unsafe: what the first event breaks that breaks something.
+//! Scripts that show a plan unsafe, and what they break first.
 #![tactic(auto)]
 
 mod breaking;

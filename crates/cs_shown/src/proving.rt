@@ -10,25 +10,25 @@ use cs_decl::Plan;
 use cs_history::Script;
 use std::alloc::Global;
 
-/// Whether a script shows that the plan is unsafe: exactly where each of its events may come when it
-/// comes, each run has ended within its declared time, and something is broken. What is broken first
-/// is answered. The script starts at 1970-01-04 00:00 or later.
+/// Checks whether a script shows that the plan is unsafe: each event may come when it comes, each
+/// run ends within its declared time, and something is broken. Returns what is broken first. The
+/// script starts at 1970-01-04 00:00 or later.
 ///
-/// Otherwise the first event is answered that is refused or, being legal, finds a run that has
-/// passed its declared time; or that nothing is broken. `OutOfMemory` is want of memory alone.
+/// err: the first event that is refused or, being legal, finds a run that has passed its declared
+/// time; or `NothingBroken`; `OutOfMemory` only if memory runs out.
 pub fn prove_unsafe(alloc: Global, plan: &Plan, script: &Script) -> Result<Shown, NotShown>
     requires { first_start ≤ script.now.start.now }
 
-    // the whole script may be, is in time and is not safe, and this is broken first
+    // the whole script is legal, in time and not safe, and this is broken first
     ensures shown { IfOk result (IsShown (as_plan plan.now) script.now) }
 
     // else this is why
     ensures not_shown { IfErr result (IsNotShown (as_plan plan.now) script.now) }
 
-    // and no such script stays unshown but for want of memory
+    // and each such script is shown unless memory runs out
     ensures exact { IsUnsafe (as_plan plan.now) script.now → IsOkUnless result OutOfMemory }
 
-    // what is shown names runs of the plan, by minutes that a history may reach
+    // what is shown has runs of the plan, at minutes that a history may reach
     ensures tellable { IfOk result (IsTellable (as_plan plan.now)) }
 {
     let _jobs = plan.jobs();

@@ -1,4 +1,4 @@
-//! What a plan says of its jobs by number; past the last job, what a history knows there.
+//! The plan's rules for jobs by number; past the last job, those of a history.
 ghost use Rattle.std.specs.Prelude.{◌≡◌};
 ghost use Rattle.cs_decl.specs.Plan.{as_plan};
 ghost use Rattle.cs_history.specs.Plan.{exclusive_group, same_group, shares_in};
@@ -25,7 +25,6 @@ fn group(plan: &Plan, job: u16) -> Option<u8>
     }
 }
 
-/// What a run of the job weighs.
 pub(crate) fn weight(plan: &Plan, job: u16) -> u8
     ensures { result ≡ (as_plan plan.now).weight job }
 {
@@ -57,7 +56,6 @@ fn shares(mode: Mode) -> bool
     }
 }
 
-/// Whether the group is exclusive.
 fn is_exclusive(plan: &Plan, group: Option<u8>) -> bool
     ensures { result ≡ exclusive_group (as_plan plan.now) group }
 {
@@ -79,7 +77,7 @@ fn is_same_group(plan: &Plan, one: u16, other: u16) -> bool
     }
 }
 
-/// Whether runs of the two jobs may not go on at once.
+/// Whether runs of the two jobs may not overlap.
 pub(crate) fn clash(plan: &Plan, one: u16, other: u16) -> bool
     ensures { result ≡ clash (as_plan plan.now) one other }
 {

@@ -5,23 +5,21 @@ use cs_history::{Refusal, Run};
 use std::alloc::AllocError;
 use thiserror::Error;
 
-/// What a script breaks, although each of its runs ends within its declared time.
+/// What a script breaks although each of its runs ends within its declared time.
 #[derive(Clone, Copy, Debug, PartialEq, Eq)]
 pub enum Shown {
-    /// Two runs of an exclusive group go on at once and don't both share its lock. The first here
-    /// started first.
+    /// Two overlapping runs of an exclusive group, the earlier first, that don't share its lock.
     Together(Run, Run),
-    /// What runs weighs so much, which is more than the capacity.
+    /// The runs weigh this much, which exceeds the capacity.
     Load(u64),
-    /// The skip job of this number, whose run is due at this civil minute, finds its lock held and
-    /// gives up.
+    /// The skip job of this number, due at this civil minute, finds its lock held and is skipped.
     Skipped(u16, u64),
 }
 
-/// Why a script shows nothing. Events are counted from 1.
+/// Why a script doesn't show the plan unsafe. Events are counted from 1.
 #[derive(Clone, Copy, Debug, PartialEq, Eq, Error)]
 pub enum NotShown {
-    /// The event is refused. It never carries want of memory.
+    /// The event is refused, for another reason than `OutOfMemory`.
     #[error("event {0} is refused: {1}")]
     Illegal(usize, Refusal),
     /// The event may come, and finds a run that has passed its declared time.

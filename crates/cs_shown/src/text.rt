@@ -1,4 +1,4 @@
-//! How it is told what a script breaks.
+//! The text of what a script breaks.
 ghost use Rattle.std.specs.Prelude.{◌≡◌, ◌≤◌, ◌++◌, IfOk, OnOk, decimal};
 ghost use Rattle.cs_decl.specs.JobNames.{command_name, identifier_of};
 ghost use Rattle.cs_decl.specs.Plan.{as_plan, crons};
@@ -13,7 +13,6 @@ use cs_decl::Plan;
 use cs_history::Run;
 use std::alloc::{AllocError, Global};
 
-/// Adds a number.
 fn push_number(alloc: Global, text: &mut Vec<u8>, number: u64) -> Result<(), AllocError>
     ensures { OnOk result (text.new.items ≡ text.old.items ++ decimal number) }
 {
@@ -42,7 +41,7 @@ fn push_due(alloc: Global, text: &mut Vec<u8>, plan: &Plan, job: usize) -> Resul
     text.extend_from_slice(b" due ")
 }
 
-/// The identifier of an anacron job, nothing where there is no such job.
+/// The identifier of an anacron job, nothing if there is no such job.
 fn identifier_of(plan: &Plan, job: usize) -> &[u8]
     requires { crons plan.now ≤ job }
     ensures { result.now ≡ identifier_of plan.now job }
@@ -160,11 +159,11 @@ fn push_break(
     }
 }
 
-/// What a script breaks that [`prove_unsafe`](crate::prove_unsafe) shows of the same plan, in one
-/// line without a newline: `unsafe: RUN and RUN run together`, the run that started first first,
-/// `unsafe: load LOAD of CAPACITY` or `unsafe: RUN is skipped`. A run is `line N due DT` of a cron
-/// job and `job ID at DT` of an anacron job, DT being `YYYY-MM-DD HH:MM`. The only error is want of
-/// memory.
+/// Formats what a script breaks, from [`prove_unsafe`](crate::prove_unsafe) with the same plan, in
+/// one line without a newline: `unsafe: RUN and RUN run together`, the run that started first
+/// first, `unsafe: load LOAD of CAPACITY` or `unsafe: RUN is skipped`. A run is `line N due DT` of
+/// a cron job and `job ID at DT` of an anacron job, DT being `YYYY-MM-DD HH:MM`. The only error is
+/// out of memory.
 #[tactic(auto, unfolding(crate::specs::ShownText::shown_text))]
 pub fn shown_text(alloc: Global, plan: &Plan, shown: &Shown) -> Result<Bytes, AllocError>
     requires { IsTellable (as_plan plan.now) shown.now }

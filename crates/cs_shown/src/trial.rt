@@ -14,14 +14,14 @@ use cs_history::{Event, Refusal, Run, Start};
 use std::alloc::{AllocError, Global};
 use std::marker::Model;
 
-/// A history that is tried event by event, and what it broke first. Each of its events might come
-/// when it came, and found no run that had passed its declared time.
+/// A history that is tried event by event, and what it broke first. Each of its events was legal,
+/// and found no run that had passed its declared time.
 ///
-/// Contracts see the plan, the state that the events have left, and what was broken first.
+/// Contracts see the plan, the state after the events, and what was broken first.
 #[derive(Debug, Drop)]
 pub struct Trial {
     core: Core,
-    // No run that runs is over its declared time before this minute.
+    // No running run is over its declared time before this minute.
     deadline: u64,
     shown: Option<Shown>,
 }
@@ -49,7 +49,7 @@ fn copy_of(start: &Start) -> Start
     Start::new(start.now(), start.is_up(), copies)
 }
 
-/// What a refusal stops a trial with.
+/// The error for a refusal.
 fn fault_of(number: usize, refusal: Refusal) -> NotShown
     ensures { result ≡ fault_of number refusal }
 {
@@ -60,8 +60,8 @@ fn fault_of(number: usize, refusal: Refusal) -> NotShown
 }
 
 impl Trial {
-    /// The trial of a start, which is at 1970-01-04 00:00 or later: nothing runs, and nothing is
-    /// broken. It keeps a copy of the plan. The only error is want of memory.
+    /// Opens a trial of a start at 1970-01-04 00:00 or later: nothing runs, and nothing is broken.
+    /// It copies the plan. The only error is out of memory.
     pub fn open(alloc: Global, plan: &Plan, start: &Start) -> Result<Trial, AllocError>
         requires { first_start ≤ start.now.now }
         ensures { IfOk result (λ trial. trial ≡ opening plan.now start.now) }
@@ -73,15 +73,14 @@ impl Trial {
         })
     }
 
-    /// What was broken first, if anything was.
+    /// Returns what was broken first, if anything was.
     pub fn shown(&self) -> Option<Shown>
         ensures { result ≡ self.now.shown }
     {
         self.shown
     }
 
-    /// The core that has taken the events: it says what waits, runs and is pending, and which
-    /// events may come next.
+    /// Returns the core that has taken the events, whose state is that of the trial.
     pub fn core(&self) -> &Core
         ensures plan { result.now.plan ≡ self.now.plan }
         ensures state { result.now.state ≡ self.now.state }
@@ -89,12 +88,14 @@ impl Trial {
         &self.core
     }
 
-    /// Takes an event, whose number counted from 1 an error names: `Illegal` where it is refused,
-    /// `Late` where it is legal and finds a run that has passed its declared time, `OutOfMemory` for
-    /// want of memory, and no other. An event that isn't taken changes nothing.
+    /// Takes an event. An event that isn't taken changes nothing.
     ///
-    /// Only what the event changes is looked at: of a start the run that starts, beside those that
-    /// run, and at a minute the deadline, behind which alone the runs are looked at one by one.
+    /// err: with the event's `number`, counted from 1, `Illegal` if it is refused, `Late` if it is
+    /// legal and finds a run that has passed its declared time; `OutOfMemory` only if memory runs
+    /// out.
+    ///
+    /// Only what the event changes is checked: at a start the new run with those that run, and at a
+    /// minute the deadline, from which on alone the runs are checked one by one.
     #[tactic(auto, using(crate::proofs::Breaks::shown_next, crate::proofs::Breaks::quiet_next, crate::proofs::Deadlines::deadline_next))]
     pub fn take(&mut self, event: Event, number: usize) -> Result<(), NotShown>
         ensures taken { OnOk result (IsTaken (as_plan self.old.plan) event self.old self.new) }
@@ -117,7 +118,7 @@ impl Trial {
         }
     }
 
-    /// Why an event isn't taken that finds a run over its declared time.
+    /// Why an event isn't taken if it finds a run over its declared time.
     fn late_fault(&self, event: &Event, number: usize) -> NotShown
         requires { is_late (as_plan self.now.plan) self.now.state.running event.now ≡ true }
         ensures { Stops (as_plan self.now.plan) self.now.state event.now number result }
@@ -128,7 +129,7 @@ impl Trial {
         }
     }
 
-    /// What it breaks that the run starts now.
+    /// What the run breaks if it starts now.
     #[tactic(auto, using(crate::proofs::Breaks::light))]
     fn break_at_start(&self, run: Option<Run>) -> Option<Shown>
         ensures { result ≡ break_at_start self.now run }

@@ -90,7 +90,8 @@ meet m v w h k =
     let y = ltb-true (max (m + 1440 * w.day_back) w.from) (min ((m + 1) + 1440 * w.day_back) (w.from + w.reach)) k in
     lt-ltb (w.from + 1440 * v.day_back) ((v.from + v.reach) + 1440 * w.day_back) (omega (arith, x, y))
 
--- what holds of windows with those before them that they meet holds of those that hold the minute, where a further one of them keeps it
+-- what holds of windows with those before them that they meet holds of those that hold the minute,
+-- where a further one of them keeps it
 module _ (m : ℕ) (P : List Window → Window → Type 0) (Q : List Window → Type 0) where
   abbrev Turn : Type 0
   Turn = (before : List Window) (w : Window) → holds_at m w ≡ true → Q (filter (holds_at m) before) → P (met w before) w → Q (filter (holds_at m) before ++ w ∷ [])

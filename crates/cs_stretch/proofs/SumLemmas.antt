@@ -1,4 +1,4 @@
--- What the numbers of windows at a minute tell of the three rules there.
+-- What the numbers of windows at a minute mean for the three rules there.
 use Rattle.std.proofs.Common.{ℕ, ◌+◌, ◌<◌, ◌≤◌, ◌≡◌, max, Bool, true, false, not, ◌&&◌, ◌||◌, cond, if◌then◌else◌, List, [], ◌∷◌, filter, Option, None, Some, refl, sym, ap, ◌∙◌, subst, arith, ⊎_elim, ◌⊎◌, ◌==◌, slice_index, is_some}
 use Rattle.std.specs.List.{AllByRecursion}
 use Rattle.std.proofs.lemmas.Bool.{and_parts, both_ways, false_from_ne_true, eq-eqb, eqb-true}
@@ -227,7 +227,7 @@ module _ (roles : List Role) where
   pub apart_lockers : (ws : List Window) → AllByRecursion (λ w. takes (role_at roles w.job).mode ≡ true) ws → AreApartBy roles ws
   apart_lockers ws all m lt = pairs_of (λ w. takes (role_at roles w.job).mode ≡ true) Apart (holders m ws) apart_takers (all-filter (λ w. takes (role_at roles w.job).mode ≡ true) (λ w. touches w m (m + 1)) ws all)
 
-  -- no skip job, none that is barred
+  -- no skip job, none that finds its lock held
   pub free_none : (ws : List Window) → AllByRecursion (λ w. is_skip (role_at roles w.job).mode ≡ false) ws → AreFreeBy roles ws
   free_none ws all m lt = all_map (λ v. is_skip (role_at roles v.job).mode ≡ false) (λ v. AllByRecursion (λ w. role_blocks roles m v w ≡ false) (holders m ws)) (holders m ws)
       (λ v e. all_any (λ w. role_blocks roles m v w ≡ false) (holders m ws) (λ w. ap (λ (b : Bool). (b && ((v.day_back == 0) && (v.from == m))) && (not (same_window v w) && (takes (role_at roles w.job).mode && share_group (role_at roles v.job) (role_at roles w.job)))) e))

@@ -13,7 +13,7 @@ use Rattle.cs_stretch.proofs.HolderLemmas.{total_held, total_other}
 pub up_to_more : (table : List ℕ) (k : ℕ) → up_to table (k + 1) ≡ up_to table k + slice_index table k
 up_to_more table k = total_below (slice_index table) k
 
--- ---- where more stands at one place
+-- ---- if one place is raised
 
 module _ (old new : List ℕ) (place more : ℕ) (is : IsRaisedAt place more old new) where
   pub raised_before : (k : ℕ) → k ≤ place → up_to new k ≡ up_to old k

@@ -51,7 +51,8 @@ PassesWith test vs w = AllByRecursion (λ v. test v w ≡ true) vs
 abbrev pub IsLightWith : (List Window → ℕ) → ℕ → List Window → Window → Type 0
 IsLightWith weigh most vs w = weigh (vs ++ w ∷ []) ≤ most
 
--- no window meets one before it that it may not meet by the rule on groups; by the rule on skip jobs; and none weighs too much with those that it meets
+-- no window meets one before it that it may not meet by the rule on groups; by the rule on skip
+-- jobs; and none weighs too much with those that it meets
 abbrev pub MeetApart : Plan → List Window → Type 0
 MeetApart p ws = EachWithMet (PassesWith (are_apart p)) [] ws
 

@@ -15,7 +15,7 @@ role_of p j = record {
   is_exclusive = exclusive_group p (p.group j);
 }
 
--- what stands past the last job
+-- the role of a job past the last
 abbrev pub nobody : Role
 nobody = record { is_cron = false; mode = Plain; weight = 1; group = None; is_exclusive = false }
 
@@ -26,7 +26,7 @@ role_at roles j = get_or roles j nobody
 abbrev pub AreRoles : Plan → List Role → Type 0
 AreRoles p roles = (j : ℕ) → role_at roles j ≡ role_of p j
 
--- what a window weighs: without a lock, in a group where it holds the lock alone or shared, as catch-up
+-- the load of a window: without a lock, in a group holding the lock alone or shared, as catch-up
 abbrev pub free_weight : List Role → Window → ℕ
 free_weight roles w = if (role_at roles w.job).is_cron && not (takes (role_at roles w.job).mode)
     then (role_at roles w.job).weight else 0

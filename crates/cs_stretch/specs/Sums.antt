@@ -87,7 +87,7 @@ AreFreeBy roles ws = EachMinute
 abbrev pub AreGrouped : List Role → ℕ → Type 0
 AreGrouped roles groups = (j g : ℕ) → (role_at roles j).group ≡ Some g → g < groups
 
--- ---- tables that tell of them
+-- ---- tables for them
 
 -- at each minute of the day one run at most, or none without the lock, or none of a cron job
 abbrev pub NoneClash : List ℕ → List ℕ → List ℕ → Type 0
@@ -140,7 +140,7 @@ pub record IsRaisedAt (place more : ℕ) (old new : List ℕ) : Type 0 where
   pub here : slice_index new place ≡ slice_index old place + more
   pub others : (k : ℕ) → (k ≡ place → ⊥) → slice_index new k ≡ slice_index old k
 
--- at each minute of the day what has begun by then is what has ended by then and what the windows that hold it have
+-- what has begun by a minute is what has ended by then and what the windows that hold it have
 abbrev pub IsTally : (Window → ℕ) → List Window → List ℕ → List ℕ → Type 0
 IsTally f ws begun ended =
     EachMinute (λ m. up_to begun (m + 1) ≡ up_to ended (m + 1) + total f (holders m ws))

@@ -1,4 +1,4 @@
-//! The slow finders: what is wrong with the windows of one stretch, minute by minute.
+//! The slow finders: the first fault in the windows of one stretch, minute by minute.
 ghost use Rattle.std.specs.Prelude.{◌≡◌, ◌≤◌, ◌<◌, ℕ, IfOk, Some, find, not};
 ghost use Rattle.cs_accepted.specs.Faults.{first_of, first_pair, missing_in};
 ghost use Rattle.cs_windows.specs.Entries.{lists};
@@ -25,7 +25,7 @@ fn holders(alloc: Global, windows: &[Window], minute: u16) -> Result<Vec<Window>
     Ok(held)
 }
 
-/// Whether the first window is of this group and may not hold one minute with the other.
+/// Whether the first window is of this group and may not overlap the other.
 fn clash_in(roles: &[Role], group: usize, one: &Window, other: &Window) -> bool
     ensures { result ≡ clash_in roles.now group one.now other.now }
 {
@@ -37,7 +37,7 @@ fn clash_in(roles: &[Role], group: usize, one: &Window, other: &Window) -> bool
     is_in_group && clash(role, role_of(roles, other))
 }
 
-/// The first of these windows that may not hold one minute with this one.
+/// The first of these windows that this one may not overlap.
 fn rival_of(roles: &[Role], group: usize, one: &Window, others: &[Window]) -> Option<Window>
     ensures { result ≡ find (clash_in roles.now group one.now) others.now }
 {
@@ -49,7 +49,7 @@ fn rival_of(roles: &[Role], group: usize, one: &Window, others: &[Window]) -> Op
     None
 }
 
-/// The first two windows of a group that may not hold one minute.
+/// The first two windows of a group that may not overlap.
 fn first_clash(roles: &[Role], group: usize, held: &[Window]) -> Option<(Window, Window)>
     ensures { result ≡ first_pair (clash_in roles.now group) held.now }
 {
@@ -61,7 +61,7 @@ fn first_clash(roles: &[Role], group: usize, held: &[Window]) -> Option<(Window,
     None
 }
 
-/// The first two windows of this group that may not hold this minute together.
+/// The first two windows of this group that may not both hold this minute.
 fn collision_of(
     roles: &[Role],
     group: usize,
@@ -74,7 +74,7 @@ fn collision_of(
     Some((minute, one, other))
 }
 
-/// The first two windows that may not hold this minute together, by group.
+/// The first two windows that may not both hold this minute, by group.
 fn collision_at(
     alloc: Global,
     roles: &[Role],
@@ -94,7 +94,7 @@ fn collision_at(
     Ok(None)
 }
 
-/// The first minute of the day, and the first two windows there that may not hold it together.
+/// The first minute of the day, and the first two windows there that may not both hold it.
 pub(crate) fn collision(
     alloc: Global,
     roles: &[Role],
@@ -111,7 +111,7 @@ pub(crate) fn collision(
     Ok(None)
 }
 
-/// Too great a load at this minute.
+/// The load at this minute, if it exceeds the capacity.
 fn overload_at(
     alloc: Global,
     roles: &[Role],
@@ -133,7 +133,7 @@ fn overload_at(
     Ok(Some((minute, weight)))
 }
 
-/// The first minute of the day at which the windows weigh more than the capacity, and what they weigh.
+/// The first minute of the day at which the load exceeds the capacity, and the load.
 pub(crate) fn overload(
     alloc: Global,
     roles: &[Role],
@@ -177,7 +177,7 @@ fn blocker_of(roles: &[Role], minute: u16, skip: &Window, held: &[Window]) -> Op
     None
 }
 
-/// Whether a lock is kept from this skip job, and the window that keeps it.
+/// The first window that keeps the lock from this skip job.
 fn blocked_by(
     roles: &[Role],
     minute: u16,
@@ -216,7 +216,7 @@ fn blocked_at(
     Ok(first_blocked(roles, minute, held.as_slice()))
 }
 
-/// The first minute of the day at which a lock is kept from a skip job, with its window and the one that keeps it.
+/// The first minute of the day at which a skip job finds its lock held, its window, and the other.
 pub(crate) fn blocked(
     alloc: Global,
     roles: &[Role],
@@ -244,7 +244,7 @@ fn unlisted(entries: &[Entry], held: &[Window]) -> Option<Window>
     None
 }
 
-/// A window that holds this minute and isn't in the leaf there.
+/// A window that holds this minute and isn't in its leaf.
 fn missing_at(
     alloc: Global,
     tree: &MinuteTree,
@@ -262,7 +262,7 @@ fn missing_at(
     }
 }
 
-/// The first minute of the day, and the first window that holds it, that isn't in the leaf there.
+/// Returns the first minute of the day, and the first window that holds it, that its leaf lacks.
 pub fn missing(
     alloc: Global,
     tree: &MinuteTree,

@@ -4,8 +4,8 @@ ghost use Rattle.cs_history.specs.Plan.{Plan};
 ghost use Rattle.cs_stretch.specs.Quietness.{MeetApart, MeetFree, MeetLight};
 ghost use Rattle.cs_windows.specs.declared.window.Window.{Window};
 
-/// Where each window is harmless by a rule with those before it that it meets, no minute has a fault by it: a collision, too great
-/// a load, a skip job that is barred from its lock. The call does nothing.
+/// Lemma. If each window is harmless by a rule with the earlier ones that it meets, no minute has a
+/// fault by it: a collision, too great a load, a skip job without its lock.
 pub fn quiet_windows_are_calm()
     ensures apart { (p : Plan) (ws : List Window) → MeetApart p ws → AreApart p ws }
     ensures within { (p : Plan) (n : ℕ) (ws : List Window) → MeetLight p ws → AreWithin p n ws }

@@ -1,4 +1,4 @@
-//! What is wrong with the windows of one stretch of days: a quick test, and finders of the first fault.
+//! Faults of the windows of one stretch of days: a quick test, and finders of the first fault.
 #![tactic(auto)]
 
 mod found;

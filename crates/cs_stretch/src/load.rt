@@ -1,4 +1,4 @@
-//! What windows weigh together.
+//! The load of windows: what they weigh together.
 ghost use Rattle.std.specs.Prelude.{◌≡◌, ℕ, ◌+◌, ◌*◌, ◌^◌, ◌<◌, ◌≤◌, ◌↔◌, IsTrue, max, length, slice_index};
 ghost use Rattle.cs_history.specs.Lists.{total, greatest, below};
 ghost use Rattle.cs_stretch.specs.Roles.{free_weight, alone_weight, shared_weight, catch_weight, most_weight, group_weight, load_by};
@@ -27,7 +27,7 @@ fn catch_weight(roles: &[Role], window: &Window) -> u8
     if role.is_cron { 0 } else { role.weight }
 }
 
-/// What a window weighs at most: its weight, and as catch-up that takes a lock twice its weight.
+/// The most that a window weighs: its weight, twice that for a catch-up window that takes a lock.
 fn most_weight(roles: &[Role], window: &Window) -> u16
     ensures value { result ≡ most_weight roles.now window.now }
     ensures small { result ≤ 510 }
@@ -41,7 +41,7 @@ fn most_weight(roles: &[Role], window: &Window) -> u16
     }
 }
 
-/// The weights of the windows without a lock, added up.
+/// The sum of the weights of the windows without a lock.
 fn free_load(roles: &[Role], windows: &[Window]) -> u128
     ensures sum { result ≡ total (free_weight roles.now) windows.now }
     ensures small { result < 2 ^ 100 }
@@ -84,7 +84,7 @@ fn alone_loads(roles: &[Role], windows: &[Window]) -> [u8; GROUPS]
     table
 }
 
-/// The weights of the windows of each group that share its lock, added up.
+/// The sum of the weights of the windows of each group that share its lock.
 fn shared_loads(roles: &[Role], windows: &[Window]) -> [u128; GROUPS]
     ensures long { length result ≡ 64 }
     ensures each { (g : ℕ) → g < 64
@@ -105,7 +105,7 @@ fn shared_loads(roles: &[Role], windows: &[Window]) -> [u128; GROUPS]
     table
 }
 
-/// The weights of the first groups, added up.
+/// The sum of the weights of the first groups.
 fn group_load(alone: &[u8; GROUPS], shared: &[u128; GROUPS], groups: usize) -> u128
     requires few { groups ≤ 64 }
     requires long { (length alone.now ≡ 64) × (length shared.now ≡ 64) }
@@ -121,8 +121,8 @@ fn group_load(alone: &[u8; GROUPS], shared: &[u128; GROUPS], groups: usize) -> u
     sum
 }
 
-/// What the windows weigh together: each without a lock, of each group the greater of the greatest that holds its lock
-/// alone and all that share it, and the greatest of catch-up.
+/// The load of the windows: each without a lock, of each group the greater of the heaviest that
+/// holds its lock alone and the sum of those that share it, and the heaviest of catch-up.
 pub(crate) fn load(roles: &[Role], groups: usize, windows: &[Window]) -> u128
     requires few { groups ≤ 64 }
     ensures { result ≡ load_by roles.now groups windows.now }
@@ -134,7 +134,7 @@ pub(crate) fn load(roles: &[Role], groups: usize, windows: &[Window]) -> u128
         + u128::from(catch_load(roles, windows))
 }
 
-/// What the windows weigh at most, added up.
+/// The sum of the most that each window weighs.
 fn most_load(roles: &[Role], windows: &[Window]) -> u128
     ensures { result ≡ total (most_weight roles.now) windows.now }
 {
@@ -145,7 +145,7 @@ fn most_load(roles: &[Role], windows: &[Window]) -> u128
     sum
 }
 
-/// Whether the windows weigh together at most the capacity. What they weigh is looked at only where it may be more.
+/// Whether the load is at most the capacity. It is worked out only if it may be more.
 #[tactic(auto, using(crate::proofs::MostWeights::load_most))]
 pub(crate) fn fits(roles: &[Role], groups: usize, capacity: u8, windows: &[Window]) -> bool
     requires few { groups ≤ 64 }

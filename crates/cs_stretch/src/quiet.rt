@@ -8,19 +8,20 @@ use crate::role::{Role, clash, role_of, share_group};
 use cs_windows::{MINUTES_OF_DAY, Window};
 use std::alloc::{AllocError, Global};
 
-/// By which rules a quick test finds the windows of a stretch in order. Where it doesn't, the rule's finder tells whether something is wrong.
+/// The rules that a quick test finds kept by the windows of a stretch. For any other rule its
+/// finder decides whether there is a fault.
 #[derive(Clone, Copy, Debug, PartialEq, Eq)]
 pub struct Quiet {
     /// No two runs of an exclusive group may meet.
     pub is_apart: bool,
     /// No minute weighs more than the capacity.
     pub is_within: bool,
-    /// No due skip job is barred from its lock.
+    /// No due skip job finds its lock held.
     pub is_free: bool,
 }
 
 impl Quiet {
-    /// Whether it does by all three.
+    /// Checks whether all three rules are kept.
     pub fn by_all(self) -> bool
         ensures { result ≡ (self.is_apart && (self.is_within && self.is_free)) }
     {
@@ -28,7 +29,7 @@ impl Quiet {
     }
 }
 
-/// The minute at which the day looked at begins, counted from the start of the day on which the window begins.
+/// The first minute of the day looked at, from the start of the day on which the window begins.
 pub(crate) fn day_start(window: &Window) -> u32
     ensures value { result ≡ 1440 * window.now.day_back }
     ensures small { result ≤ 367200 }
@@ -54,7 +55,7 @@ fn is_open_at(window: &Window, other: &Window) -> bool
         && minute < u32::from(other.from) + u32::from(other.reach)
 }
 
-/// Whether the first window is a skip job's, and the second holds the lock of its group when it begins.
+/// Whether the first window is a skip job's, and the second holds its group's lock as it begins.
 fn bars(roles: &[Role], window: &Window, other: &Window) -> bool
     ensures { result ≡ role_bars roles.now window.now other.now }
 {
@@ -64,7 +65,7 @@ fn bars(roles: &[Role], window: &Window, other: &Window) -> bool
         && (holder.takes_lock() && share_group(skip, holder))
 }
 
-/// Whether a window may hold one minute with each of these by the rule on groups.
+/// Whether a window may overlap each of these by the rule of groups.
 fn is_apart_from(roles: &[Role], active: &[Window], window: &Window) -> bool
     ensures { IsTrue result → PassesWith (apart_by roles.now) active.now window.now }
 {
@@ -88,7 +89,7 @@ fn is_free_of(roles: &[Role], active: &[Window], window: &Window) -> bool
     true
 }
 
-/// Leaves those that the window meets.
+/// Drops those that the window doesn't meet.
 fn leave_met(active: &mut Vec<Window>, window: &Window)
     ensures { active.new.items ≡ met window.now active.old.items }
 {
@@ -99,8 +100,8 @@ fn leave_met(active: &mut Vec<Window>, window: &Window)
     );
 }
 
-/// By which rules each window, looked at with those before it that it meets, is harmless. Where they are in order of start, no
-/// minute of the day then has a fault by that rule.
+/// The rules by which each window is harmless with the earlier ones that it meets. If they are in
+/// order of start, no minute of the day then has a fault by those rules.
 pub(crate) fn quiet_by_rule(
     alloc: Global,
     roles: &[Role],

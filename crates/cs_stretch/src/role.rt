@@ -6,7 +6,7 @@ ghost use Rattle.cs_stretch.specs.Roles.{role_at, share_group, roles_clash};
 use cs_history::Mode;
 use cs_windows::Window;
 
-/// What a job is to the rules.
+/// What the rules need of a job.
 #[derive(Clone, Copy, Debug)]
 pub(crate) struct Role {
     /// Whether it is a job of the crontab.
@@ -19,7 +19,6 @@ pub(crate) struct Role {
 }
 
 impl Role {
-    /// Whether it takes the lock of its group.
     pub(crate) fn takes_lock(&self) -> bool
         ensures { result ≡ takes self.now.mode }
     {
@@ -43,7 +42,7 @@ impl Role {
         }
     }
 
-    /// Whether its run is skipped where the lock is held.
+    /// Whether its run is skipped if the lock is held.
     pub(crate) fn skips(&self) -> bool
         ensures { result ≡ is_skip self.now.mode }
     {
@@ -67,8 +66,8 @@ pub(crate) fn share_group(one: Role, other: Role) -> bool
     }
 }
 
-/// Whether their windows may not hold one minute: they are of one exclusive group, one of them is of the crontab, and not
-/// both take the lock.
+/// Whether their windows may not overlap: they are of one exclusive group, one of them is of the
+/// crontab, and not both take the lock.
 pub(crate) fn clash(one: Role, other: Role) -> bool
     ensures { result ≡ roles_clash one other }
 {
@@ -76,7 +75,6 @@ pub(crate) fn clash(one: Role, other: Role) -> bool
         && ((one.is_cron || other.is_cron) && !(one.takes_lock() && other.takes_lock()))
 }
 
-/// The role of the job of a window.
 pub(crate) fn role_of(roles: &[Role], window: &Window) -> Role
     ensures { result ≡ role_at roles.now window.now.job }
 {

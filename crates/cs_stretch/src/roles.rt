@@ -15,11 +15,11 @@ use cs_windows::Window;
 use std::alloc::{AllocError, Global};
 use std::marker::Model;
 
-/// From so many windows on a stretch is tested by sums, which take as long for each window; the other test
-/// looks at each with all that are open then.
+/// From this many windows on a stretch is tested by sums, whose time is the same for each window;
+/// the other test compares each with all that are open then.
 const MANY_WINDOWS: usize = 512;
 
-/// What the jobs of a plan are to the rules about windows: read off the plan once, for all stretches.
+/// What the rules about windows need of the jobs of a plan: read off once for all stretches.
 #[derive(Debug, Drop)]
 pub struct Roles {
     jobs: Vec<Role>,
@@ -39,7 +39,6 @@ impl Model for Roles {
     ghost invariant = { λ a. (a.groups ≤ 64) × AreGrouped a.jobs.items a.groups };
 }
 
-/// Whether this group of the plan is exclusive.
 #[tactic(auto, using(crate::proofs::PlanRoles::exclusive_some, crate::proofs::PlanRoles::exclusive_none))]
 fn is_exclusive(plan: &Plan, group: Option<u8>) -> bool
     ensures { result ≡ exclusive_group (as_plan plan.now) group }
@@ -53,7 +52,6 @@ fn is_exclusive(plan: &Plan, group: Option<u8>) -> bool
     }
 }
 
-/// The role of the job with this number.
 fn role_of(plan: &Plan, number: usize, job: Job) -> Role
     requires { slice_get plan.now.jobs number ≡ Some job }
     ensures { result ≡ role_of (as_plan plan.now) number }
@@ -80,7 +78,7 @@ fn jobs_of(alloc: Global, plan: &Plan) -> Result<Vec<Role>, AllocError>
 }
 
 impl Roles {
-    /// The roles of the jobs of this plan. The only error is want of memory.
+    /// Returns the roles of the plan's jobs. The only error is out of memory.
     pub fn of(alloc: Global, plan: &Plan) -> Result<Roles, AllocError>
         ensures { IfOk result (λ roles. IsOf (as_plan plan.now) roles) }
     {
@@ -111,9 +109,10 @@ impl Roles {
         self.capacity
     }
 
-    /// A quick test of the windows of a stretch, in order of start, by each of three rules. Where it answers true for one, no
-    /// minute of the last day has a collision, too great a load, or a due skip job that is barred from its lock. Where it
-    /// answers false, the rule's finder tells whether something is wrong. The only error is want of memory.
+    /// Tests the windows of a stretch, in order of start, quickly by each of three rules. A rule
+    /// that is true has no fault in a minute of the last day: no collision, no load above the
+    /// capacity, no due skip job that finds its lock held. For a rule that is false its finder
+    /// decides. The only error is out of memory.
     pub fn quiet(&self, alloc: Global, windows: &[Window]) -> Result<Quiet, AllocError>
         requires rising { IsRising windows.now }
         ensures apart { IfOk result (λ quiet. IsTrue quiet.is_apart
@@ -130,9 +129,10 @@ impl Roles {
         }
     }
 
-    /// The first minute of the last day of a stretch, and the first two windows of one exclusive group there that may not
-    /// hold it together: one of them is of the crontab, and not both take the group's lock. By minute, then group, then
-    /// the order of the windows. The only error is want of memory.
+    /// Returns the first minute of the last day of a stretch, and the first two windows of one
+    /// exclusive group that may not both hold it: one of them is of the crontab, and not both take
+    /// the group's lock. By minute, then group, then the order of the windows. The only error is
+    /// out of memory.
     pub fn collision(
         &self,
         alloc: Global,
@@ -144,8 +144,8 @@ impl Roles {
         found::collision(alloc, self.jobs(), self.groups(), windows)
     }
 
-    /// The first minute of the last day of a stretch at which its windows weigh more than the capacity, and what they
-    /// weigh. The only error is want of memory.
+    /// Returns the first minute of the last day of a stretch at which the load exceeds the
+    /// capacity, and the load. The only error is out of memory.
     pub fn overload(
         &self,
         alloc: Global,
@@ -157,8 +157,8 @@ impl Roles {
         found::overload(alloc, self.jobs(), self.groups(), self.capacity(), windows)
     }
 
-    /// The first due minute of a skip job on the last day of a stretch at which another window holds the lock of its group,
-    /// with the skip job's window and that one. The only error is want of memory.
+    /// Returns the first due minute of a skip job on the last day of a stretch at which another
+    /// window holds its group's lock, its window and the other. The only error is out of memory.
     pub fn blocked(
         &self,
         alloc: Global,

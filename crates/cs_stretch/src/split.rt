@@ -1,5 +1,4 @@
-//! The one pass over all windows of a stretch: what those that take no lock weigh at each minute, and the
-//! few that are looked at again.
+//! One pass over all windows of a stretch: the load without locks, and the few to look at again.
 ghost use Rattle.std.specs.Prelude.{◌≡◌, ◌++◌, IfOk, [], ◌∷◌, filter, if◌then◌else◌, map};
 ghost use Rattle.cs_stretch.specs.Split.{share_at, share_in};
 ghost use Rattle.cs_stretch.specs.Sums.{IsDay, IsSum, amount_in, has_group_or_catches};
@@ -12,10 +11,10 @@ use crate::table::{
 use cs_windows::Window;
 use std::alloc::{AllocError, Global};
 
-/// What the windows of a job are in that pass.
+/// A job's windows in that pass.
 #[derive(Clone, Copy, Debug)]
 struct Share {
-    /// What each weighs of a cron job that takes no lock; of another job 0.
+    /// The weight of each for a cron job that takes no lock; else 0.
     weight: u8,
     /// Whether each is kept, since the job has a group or is catch-up.
     is_kept: bool,
@@ -30,7 +29,7 @@ fn share_in(role: Role) -> Share
     }
 }
 
-/// Of each job, by number.
+/// The share of each job, by number.
 fn shares(alloc: Global, roles: &[Role]) -> Result<Vec<Share>, AllocError>
     ensures { IfOk result (λ found. found.items ≡ map share_in roles.now) }
 {
@@ -79,7 +78,7 @@ fn grouped_or_catch_up(
     Ok(found)
 }
 
-/// Puts a window after the others where it is kept.
+/// Adds a window to the others if it is kept.
 fn keep(others: &mut Vec<Window>, is_kept: bool, window: &Window) -> Result<(), AllocError>
     ensures { IfOk result (λ _.
         others.new.items ≡ others.old.items ++ (if is_kept then window.now ∷ [] else [])) }
@@ -90,9 +89,10 @@ fn keep(others: &mut Vec<Window>, is_kept: bool, window: &Window) -> Result<(), 
     Ok(())
 }
 
-/// What the cron jobs that take no lock weigh at each minute; and in order the windows of the jobs that have
-/// a group and those of catch-up, mostly a few of all. Each weight is added where the window begins, and
-/// again, to be taken off, where it ends, so that the cost doesn't grow with the minutes that windows hold.
+/// The weight at each minute of the cron jobs that take no lock; and in order the windows of
+/// catch-up and of jobs with a group, mostly a few of all. Each weight is added where the window
+/// begins, and taken off where it ends, so that the cost doesn't grow with the minutes that windows
+/// hold.
 pub(crate) fn free_and_others(
     alloc: Global,
     roles: &[Role],

@@ -32,7 +32,6 @@ fn windows_of(
     Ok(found)
 }
 
-/// Whether the job of a window is of this group.
 fn is_of(roles: &[Role], group: usize, window: &Window) -> bool
     ensures { result ≡ is_of roles.now group window.now }
 {
@@ -42,7 +41,6 @@ fn is_of(roles: &[Role], group: usize, window: &Window) -> bool
     }
 }
 
-/// Whether one of the windows is of an exclusive group.
 fn any_exclusive(roles: &[Role], windows: &[Window]) -> bool
     ensures { result ≡ false
         → AllByRecursion (λ w. (role_at roles.now w.job).is_exclusive ≡ false) windows.now }
@@ -68,7 +66,7 @@ fn any_plain(roles: &[Role], windows: &[Window]) -> bool
     false
 }
 
-/// Whether each minute has one run at most, or none that takes no lock, or none of a cron job.
+/// Whether each minute has at most one run, or none that takes no lock, or none of a cron job.
 fn none_clash(runs: &[u16], plain: &[u16], cron: &[u16]) -> bool
     requires { IsDay runs.now × IsDay plain.now × IsDay cron.now }
     ensures { IsTrue result → NoneClash runs.now plain.now cron.now }
@@ -97,8 +95,8 @@ fn are_apart(roles: &[Role], windows: &[Window]) -> bool
     none_clash(&runs, &plain, &cron)
 }
 
-/// Whether one run at most takes a lock at the minute at which this window begins, where it is of a skip
-/// job that is due on the day looked at.
+/// Whether at most one run takes a lock at the minute at which this window begins, if it is of a
+/// skip job that is due on the day looked at.
 fn is_lone(roles: &[Role], takers: &[u16], window: &Window) -> bool
     requires { IsDay takers.now }
     ensures { IsTrue result → IsLone roles.now takers.now window.now }
@@ -124,7 +122,6 @@ fn are_lone(roles: &[Role], takers: &[u16], windows: &[Window]) -> bool
     true
 }
 
-/// Whether one of the windows is of a skip job.
 fn any_skips(roles: &[Role], windows: &[Window]) -> bool
     ensures { result ≡ false
         → AllByRecursion (λ w. is_skip (role_at roles.now w.job).mode ≡ false) windows.now }
@@ -148,7 +145,7 @@ fn are_free(roles: &[Role], windows: &[Window]) -> bool
     are_lone(roles, &takers, windows)
 }
 
-/// Adds at each minute the greater number of two tables, up to the greatest that there is room for.
+/// Adds the greater of two tables at each minute, up to the greatest number of the type.
 fn add_greater(load: &mut [u16], one: &[u16], other: &[u16])
     requires { IsDay load.old × IsDay one.now × IsDay other.now }
     ensures each { IsGreaterAdded one.now other.now load.old load.new }
@@ -172,8 +169,8 @@ fn is_within(load: &[u16], capacity: u8) -> bool
     true
 }
 
-/// Adds what the windows of catch-up weigh at each minute, all of which are among the others, to what those
-/// without a lock weigh.
+/// Adds the weight of the catch-up windows at each minute, all of which are among the others, to
+/// that of the windows without a lock.
 fn add_catch_up(free: &mut [u16], roles: &[Role], windows: &[Window], others: &[Window])
     requires free { IsDay free.old × IsSum (amount_in roles.now FreeWeight) windows.now free.old }
     requires others { others.now ≡ filter (has_group_or_catches roles.now) windows.now }
@@ -184,7 +181,7 @@ fn add_catch_up(free: &mut [u16], roles: &[Role], windows: &[Window], others: &[
     add_greater(free, &catch_up, &catch_up);
 }
 
-/// Adds what the windows of one group weigh at each minute, of which these are all.
+/// Adds the weight of all windows of one group at each minute.
 fn add_group(load: &mut [u16], roles: &[Role], windows: &[Window])
     requires { IsDay load.old }
     ensures each { IsAdded roles.now windows.now load.old load.new }
@@ -198,7 +195,7 @@ fn add_group(load: &mut [u16], roles: &[Role], windows: &[Window])
     add_greater(load, &alone, &shared);
 }
 
-/// By which rules the windows of a stretch are in order at each minute of the day looked at.
+/// The rules that the windows of a stretch keep at each minute of the day looked at.
 pub(crate) fn quiet_by_sums(
     alloc: Global,
     roles: &[Role],

@@ -1,5 +1,4 @@
-//! Tables over the minutes of the day looked at: what the windows that hold a minute have together, or
-//! at most.
+//! Tables over the minutes of the day looked at: sums or maxima over the windows at a minute.
 ghost use Rattle.std.specs.Prelude.{◌≡◌, ◌+◌, ◌*◌, ◌<◌, ◌≤◌, ℕ, if◌then◌else◌, length, max, slice_index};
 ghost use Rattle.cs_stretch.specs.Sums.{AreAtMost, EachMinute, HoldsFrom, IsChanged, IsDay, IsGreatest, IsRaisedAt, IsRunning, IsSum, amount_in, amount_of, capped, up_to};
 
@@ -13,11 +12,11 @@ pub(crate) const MINUTES: usize = 1_440;
 /// A place for each minute of a day, and one for its end.
 pub(crate) const PLACES: usize = MINUTES + 1;
 
-/// The most windows that are counted by where they begin and end: their amounts, each 255 at most, add up to
-/// less than 2^32.
+/// The most windows that are counted by where they begin and end: their amounts, each at most 255,
+/// sum to less than 2^32.
 pub(crate) const MOST_TALLIED: usize = 16_777_216;
 
-/// What of a run counts: its weight, or that it is one.
+/// What is added for a run: its weight, or one.
 #[derive(Clone, Copy, Debug)]
 pub(crate) enum Amount {
     /// The weight of a cron job's run that takes no lock.
@@ -38,14 +37,14 @@ pub(crate) enum Amount {
     LockRun,
 }
 
-/// A number where it counts.
+/// A number if it is counted, else 0.
 fn counted(is_counted: bool, number: u8) -> u8
     ensures { result ≡ (if is_counted then number else 0) }
 {
     if is_counted { number } else { 0 }
 }
 
-/// How much of this a run of such a job has.
+/// This amount of a run of such a job.
 pub(crate) fn amount_of(amount: Amount, role: Role) -> u8
     ensures { result ≡ amount_of amount role }
 {
@@ -61,8 +60,8 @@ pub(crate) fn amount_of(amount: Amount, role: Role) -> u8
     }
 }
 
-/// The minutes of the day looked at that a window holds: from the first on, below the second. Most begin
-/// on that day, and then no day is taken off.
+/// The minutes of the day looked at that a window holds: from the first on, below the second. Most
+/// begin on that day, and then no day is subtracted.
 pub(crate) fn minutes_held(window: &Window) -> (usize, usize)
     ensures range { (result.0 ≤ result.1) × (result.1 ≤ 1440) }
     ensures held { HoldsFrom window.now result.0 result.1 }
@@ -80,7 +79,7 @@ pub(crate) fn minutes_held(window: &Window) -> (usize, usize)
     (first as usize, end as usize)
 }
 
-/// Adds a number at each minute that the window holds, up to the greatest that there is room for.
+/// Adds a number at each minute that the window holds, up to the greatest number of the type.
 fn add(table: &mut [u16], window: &Window, number: u8)
     requires { IsDay table.old }
     ensures { IsChanged window.now (λ n. capped (n + number)) table.old table.new }
@@ -94,7 +93,7 @@ fn add(table: &mut [u16], window: &Window, number: u8)
     }
 }
 
-/// Raises what stands at each minute that the window holds to this number, where it is less.
+/// Raises each minute that the window holds to this number, if it is less.
 fn raise(table: &mut [u16], window: &Window, number: u8)
     requires { IsDay table.old }
     ensures { IsChanged window.now (λ n. max n number) table.old table.new }
@@ -108,8 +107,8 @@ fn raise(table: &mut [u16], window: &Window, number: u8)
     }
 }
 
-/// At each minute of the day looked at, how much of this the windows that hold it have together: the
-/// greatest number of the type where that is more.
+/// At each minute of the day looked at, the sum of this amount over the windows that hold it, at
+/// most the greatest number of the type.
 pub(crate) fn sums(roles: &[Role], amount: Amount, windows: &[Window]) -> [u16; MINUTES]
     ensures day { IsDay result }
     ensures each { IsSum (amount_in roles.now amount) windows.now result }
@@ -125,7 +124,7 @@ pub(crate) fn sums(roles: &[Role], amount: Amount, windows: &[Window]) -> [u16; 
     table
 }
 
-/// At each minute of the day looked at, how much of this the window that has most of it has.
+/// At each minute of the day looked at, the greatest of this amount among the windows that hold it.
 pub(crate) fn greatest(roles: &[Role], amount: Amount, windows: &[Window]) -> [u16; MINUTES]
     ensures day { IsDay result }
     ensures each { IsGreatest (amount_in roles.now amount) windows.now result }
@@ -141,7 +140,6 @@ pub(crate) fn greatest(roles: &[Role], amount: Amount, windows: &[Window]) -> [u
     table
 }
 
-/// Adds a number at one place.
 pub(crate) fn raise_at(table: &mut [u32], place: usize, number: u8)
     requires long { length table.old ≡ 1441 }
     requires inside { place ≤ 1440 }
@@ -152,8 +150,7 @@ pub(crate) fn raise_at(table: &mut [u32], place: usize, number: u8)
     table[place] += u32::from(number);
 }
 
-/// Of two tables, one of what begins at each minute and one of what has ended by it, the table of what
-/// goes on at each.
+/// From tables of what begins at each minute and has ended by it, what goes on at each.
 pub(crate) fn running(begun: &[u32], ended: &[u32]) -> [u16; MINUTES]
     requires long { (length begun.now ≡ 1441) × (length ended.now ≡ 1441) }
     requires order { EachMinute (λ m. up_to ended.now (m + 1) ≤ up_to begun.now (m + 1)) }

@@ -17,7 +17,7 @@ impl Model for Arrivals {
 }
 
 impl Arrivals {
-    /// Nothing arrives at any minute.
+    /// Returns no arrivals.
     pub fn none() -> Self
         ensures value { result ≡ none }
         ensures zero { (minute : ℕ) → minute < 1440 → slice_index result minute ≡ 0 }
@@ -25,8 +25,8 @@ impl Arrivals {
         Arrivals { sums: [0; 1_440] }
     }
 
-    /// One more job is due at a minute of the day, with a run of at most `max` minutes. All other minutes keep
-    /// what arrives at them.
+    /// Adds a job that is due at a minute of the day, with runs of at most `max` minutes. Other
+    /// minutes keep their arrivals.
     pub fn add(&mut self, minute: u16, max: u16)
         requires day { minute < 1440 }
         requires fits { slice_index self.old minute + max < 2 ^ 32 }
@@ -35,7 +35,7 @@ impl Arrivals {
         self.sums[usize::from(minute)] += u32::from(max);
     }
 
-    /// What arrives at a minute of the day, in minutes of runs.
+    /// Returns the arrivals at a minute of the day, in minutes of runs.
     pub fn at(&self, minute: u16) -> u32
         requires { minute < 1440 }
         ensures { result ≡ slice_index self.now minute }
@@ -43,7 +43,7 @@ impl Arrivals {
         self.sums[usize::from(minute)]
     }
 
-    /// What arrives at each minute of the day, in minutes of runs.
+    /// The arrivals at each minute of the day, in minutes of runs.
     pub(crate) fn by_minute(&self) -> &[u32]
         ensures value { result.now ≡ self.now }
         ensures long { length result.now ≡ 1440 }
@@ -52,9 +52,8 @@ impl Arrivals {
     }
 }
 
-/// Whether the bound follows what arrives, at each step from a minute of the day to the next minute of the same day: the
-/// bound after it is at least the bound before it and what arrives, less one, not below 0. The step over midnight is left
-/// out.
+/// Checks each step from a minute of the day to the next, except over midnight: the later bound is
+/// at least the earlier plus the arrivals, less one, and at least 0.
 pub fn steps_within(bounds: &Backlog, arrivals: &Arrivals) -> bool
     ensures { IsTrue result ↔ StepsHoldWithin (at bounds.now) (slice_index arrivals.now) }
 {
@@ -67,16 +66,16 @@ pub fn steps_within(bounds: &Backlog, arrivals: &Arrivals) -> bool
     true
 }
 
-/// Whether a bound follows from the bound a minute before it and what arrived then: the lock takes one minute of runs off.
+/// Whether a bound follows from that of a minute before plus the arrivals, less one minute of runs.
 fn follows(before: u32, arrives: u32, bound: u32) -> bool
     ensures { IsTrue result ↔ (before + arrives - 1 ≤ bound) }
 {
     u64::from(before) + u64::from(arrives) <= u64::from(bound) + 1
 }
 
-/// Whether the bound follows what arrives at the one step from a minute of the first day to the next minute, which for the
-/// last one is the first of the day after: the bound after the step is at least the bound before it and what arrives, less
-/// one, not below 0. `before` and `arrivals` are of the first day, `day` is of the day after it.
+/// Checks the step from a minute of the first day, `before`, to the next minute, after 23:59 the
+/// first of the next day, `day`: the later bound is at least the earlier plus the arrivals of the
+/// first day, less one, and at least 0.
 pub fn step_ok(before: &Backlog, arrivals: &Arrivals, day: &Backlog, minute: u16) -> bool
     requires { minute < MINUTES_OF_DAY }
     ensures { IsTrue result ↔ (at before.now minute + slice_index arrivals.now minute - 1
@@ -86,9 +85,7 @@ pub fn step_ok(before: &Backlog, arrivals: &Arrivals, day: &Backlog, minute: u16
     follows(before.at(minute), arrivals.at(minute), next)
 }
 
-/// Whether the bound follows what arrives at each step of the first day, the one over midnight too:
-/// the bound after a step is at least the bound before it and what arrives, less one, not below 0.
-/// `before` and `arrivals` are of the first day, `day` is of the day after it.
+/// Checks each step of the first day, like [`step_ok`], also the one over midnight to the next day.
 pub fn steps_ok(before: &Backlog, arrivals: &Arrivals, day: &Backlog) -> bool
     ensures { IsTrue result
         ↔ StepsHold (at before.now) (slice_index arrivals.now) (at day.now) }

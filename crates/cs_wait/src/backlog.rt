@@ -5,22 +5,22 @@ ghost use Rattle.cs_wait.specs.declared.backlog.Piece.{Piece};
 use std::alloc::Global;
 use std::marker::Model;
 
-/// How many minutes a day has.
+/// The minutes of a day.
 pub const MINUTES_OF_DAY: u16 = 1_440;
 
 /// The greatest value of a piece, in minutes of runs.
 pub const MAX_BACKLOG: u32 = 1_000_000;
 
-/// From this minute of the day on the bound is the value, less one for each minute since.
-///
-/// The value is in minutes of runs: the lock takes one off in each minute.
+/// A part of a backlog: from `minute` on, the bound is `value`, less one for each minute since.
 #[derive(Clone, Copy, Debug, PartialEq, Eq)]
 pub struct Piece {
+    /// The minute of the day, below 1,440.
     pub minute: u16,
+    /// In minutes of runs, from 1 to [`MAX_BACKLOG`].
     pub value: u32,
 }
 
-/// A bound for each minute of a day on the minutes of runs that still wait for a group's lock or hold it.
+/// A bound for each minute of a day on the minutes of runs that wait for a group's lock or hold it.
 #[derive(Debug, Drop)]
 pub struct Backlog {
     list: Vec<Piece>,
@@ -34,16 +34,16 @@ impl Model for Backlog {
     ghost invariant = { λ b. IsBacklog b.list.items };
 }
 
-/// The pieces make no backlog: their minutes do not rise strictly below 1,440, or a value is not from 1 to
-/// 1,000,000.
+/// The pieces make no backlog: their minutes don't rise strictly below 1,440, or a value is not
+/// from 1 to 1,000,000.
 #[derive(Clone, Copy, Debug, PartialEq, Eq)]
 pub struct BadPiece;
 
 impl Backlog {
-    /// The backlog of these pieces. It takes no memory.
+    /// Returns the backlog of these pieces, without allocating.
     ///
-    /// `BadPiece` comes exactly where the minutes do not rise strictly below 1,440, or a value is not from 1 to
-    /// 1,000,000 (this profile). No piece at all is the bound 0 everywhere.
+    /// `BadPiece` if and only if the minutes don't rise strictly below 1,440, or a value is not
+    /// from 1 to 1,000,000 (this profile). Without pieces the bound is 0 everywhere.
     pub fn new(list: Vec<Piece>) -> Result<Backlog, BadPiece>
         ensures value { IfOk result (λ b. b ≡ list.items) }
         ensures ok { IsOk result ↔ IsBacklog list.items }
@@ -55,7 +55,7 @@ impl Backlog {
         }
     }
 
-    /// The backlog of no piece: the bound 0 everywhere. It takes no memory.
+    /// Returns the backlog without pieces, whose bound is 0 everywhere, without allocating.
     pub fn none(alloc: Global) -> Backlog
         ensures { result ≡ [] }
     {
@@ -64,7 +64,7 @@ impl Backlog {
         }
     }
 
-    /// The backlog of pieces that are known to make one. It takes no memory.
+    /// The backlog of pieces known to make one, without allocating.
     pub(crate) fn of_pieces(list: Vec<Piece>) -> Backlog
         requires { IsBacklog list.items }
         ensures { result ≡ list.items }
@@ -72,7 +72,7 @@ impl Backlog {
         Backlog { list }
     }
 
-    /// The pieces, in order.
+    /// Returns the pieces, in order.
     pub fn pieces(&self) -> &[Piece]
         ensures value { result.now ≡ self.now }
         ensures backlog { IsBacklog result.now }
@@ -80,15 +80,16 @@ impl Backlog {
         self.list.as_slice()
     }
 
-    /// The bound at a minute of the day: 0 before the first piece, then the value of the last piece that begins by
-    /// that minute, less one for each minute since, not below 0. A minute past the day counts on from its last piece.
+    /// Returns the bound at a minute of the day: 0 before the first piece, then the value of the
+    /// latest piece, less one for each minute since, at least 0. A minute past the day counts on
+    /// from its last piece.
     pub fn at(&self, minute: u16) -> u32
         ensures { result ≡ at self.now minute }
     {
         at_minute(self.list.as_slice(), minute)
     }
 
-    /// The bound at each minute of the day, in one pass over the pieces.
+    /// Returns the bound at each minute of the day, in one pass over the pieces.
     pub fn by_minute(&self) -> [u32; 1_440]
         ensures long { length result ≡ 1440 }
         ensures each { (m : ℕ) → m < 1440 → slice_index result m ≡ at self.now m }
@@ -104,14 +105,14 @@ impl Backlog {
     }
 }
 
-/// Where a walk over the pieces of a day stands: the place of the next piece, and the bound at the minute if none begins.
+/// A walk over a day's pieces: the next one's index, and the bound if none begins at the minute.
 #[derive(Clone, Copy)]
 struct Walk {
     place: usize,
     bound: u32,
 }
 
-/// The walk with the piece taken that begins at the minute, if one does: the bound is then that of the minute.
+/// The walk past the piece that begins at the minute, if one does: its bound is the minute's.
 fn turn(list: &[Piece], walk: Walk, minute: u16) -> Walk
     requires { IsBacklogFrom minute (drop walk.place list.now) }
     ensures left { IsBacklogFrom (minute + 1) (drop result.place list.now) }
@@ -146,7 +147,7 @@ fn is_backlog(list: &[Piece]) -> bool
     true
 }
 
-/// How many of the pieces begin by a minute: they are the first ones.
+/// How many pieces begin by a minute: those are the first ones.
 fn begun_by(list: &[Piece], minute: u16) -> usize
     requires { IsBacklog list.now }
     ensures begun { All (λ piece. piece.minute ≤ minute) (take result list.now) }
@@ -156,7 +157,7 @@ fn begun_by(list: &[Piece], minute: u16) -> usize
     list.partition_point(|piece| piece.minute <= minute)
 }
 
-/// The bound that the pieces give at a minute. A piece that begins later, and all after it, decide nothing.
+/// The bound at a minute by the pieces. Pieces that begin later make no difference.
 fn at_minute(list: &[Piece], minute: u16) -> u32
     requires { IsBacklog list.now }
     ensures { result ≡ at list.now minute }

@@ -6,11 +6,10 @@ use crate::backlog::{Backlog, MAX_BACKLOG, MINUTES_OF_DAY, Piece};
 use std::alloc::{AllocError, Global};
 
 impl Backlog {
-    /// The backlog that is `first` at minute 0 and then follows what arrives, both in minutes of runs: a minute later the
-    /// bound is what a minute has and what arrives at it, less one, not below 0 and at most `MAX_BACKLOG`. A piece is
-    /// written only where the bound isn't one less than a minute before.
-    ///
-    /// `AllocError` comes where there is no memory for the pieces.
+    /// Returns the backlog that is `first` at minute 0 and follows the arrivals, both in
+    /// minutes of runs: each bound is the one before plus the arrivals there, less one, from 0 to
+    /// [`MAX_BACKLOG`]. It has a piece only where the bound isn't one less than a minute before.
+    /// The only error is out of memory.
     pub fn following(alloc: Global, first: u32, arrivals: &Arrivals) -> Result<Backlog, AllocError>
         requires { first ≤ MAX_BACKLOG }
         ensures value { IfOk result (λ b. b ≡ following first arrivals.now) }
@@ -36,7 +35,7 @@ impl Backlog {
     }
 }
 
-/// The bound a minute after one that has a bound, and at which so much arrives.
+/// The bound a minute after this bound and these arrivals.
 fn bound_after(bound: u32, arrives: u32) -> u32
     ensures { result ≡ min MAX_BACKLOG (bound + arrives - 1) }
 {

@@ -1,4 +1,4 @@
-//! Bounds on the work that waits for the lock of a group: how many minutes of runs may still be ahead.
+//! Bounds on the backlog of a group's lock: the minutes of runs that still wait for it or hold it.
 #![tactic(auto)]
 
 mod arrivals;

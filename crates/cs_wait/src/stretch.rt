@@ -3,11 +3,11 @@ ghost use Rattle.cs_wait.specs.Bounds.{ClearsBy, IsClearAt, at};
 
 use crate::backlog::{Backlog, MINUTES_OF_DAY};
 
-/// Whether the bound is zero at some minute of `(due, due + reach]`, so that all that waited at the due minute has
-/// had the lock by then.
+/// Checks whether the bound is 0 at some minute of `(due, due + reach]`, by which all that waited
+/// at the due minute has had the lock.
 ///
-/// `days` are the bounds of successive days, and the minutes are counted from the start of the first. No minute past
-/// the last day is looked at, so a list of no days never clears. Any number of days, due minute and reach is answered.
+/// `days` are the bounds of successive days; minutes count from the start of the first. Minutes
+/// past the last day are ignored, so no days never clear. `due` and `reach` may be any numbers.
 pub fn clears_by(days: &[&Backlog], due: u16, reach: u16) -> bool
     ensures { IsTrue result ↔ ClearsBy (map (λ b. at b.now) days.now) due reach }
 {
@@ -20,7 +20,7 @@ pub fn clears_by(days: &[&Backlog], due: u16, reach: u16) -> bool
     false
 }
 
-/// Whether a minute counted from the start of the first day lies on one of the days and has the bound zero.
+/// Whether a minute counted from the start of the first day is on one of the days and has bound 0.
 fn is_clear_at(days: &[&Backlog], minute: u32) -> bool
     ensures { IsTrue result ↔ IsClearAt (map (λ b. at b.now) days.now) minute }
 {

@@ -17,7 +17,7 @@ use Rattle.cs_windows.specs.Windows.{Job, starting}
 use Rattle.cs_windows.specs.Starter.{window_at, begun, window_near, begun_near}
 use Rattle.cs_windows.specs.Occupied.{job_of}
 
--- the window of one job that begins at this minute and reaches the day looked at: a list of one or none
+-- the window of one job that begins at this minute and reaches the day looked at: one or none
 abbrev begun_by : Kind → ℕ → ℕ → ℕ → Job Kind → List Window
 begun_by day back minute number job = filter reaches (starting day back minute number (job ∷ []))
 

@@ -10,7 +10,7 @@ use Rattle.cs_windows.specs.Window.{touches, Holds}
 first_held : (lo hi from end day : ℕ) → max (lo + day) from < min (hi + day) end → (x : ℕ) × (lo ≤ x) × (x < hi) × ((from ≤ x + day) × (x + day < end))
 first_held lo hi from end day lt = (max (lo + day) from - day, omega arith, omega arith, (omega arith, omega arith))
 
--- a minute that is held lies in both ranges
+-- a minute that both hold is in both ranges
 between : (lo hi from end day x : ℕ) → lo ≤ x → x < hi → from ≤ x + day → x + day < end → max (lo + day) from < min (hi + day) end
 between lo hi from end day x a b c d = omega arith
 

@@ -94,7 +94,8 @@ has_all : (p : Window → Bool) (ws : List Window) → ((w : Window) → Has ws 
 has_all p [] h = refl
 has_all p (v ∷ ws) h = true_both (p v) (list_all p ws) (h v (inl refl)) (has_all p ws (λ w k. h w (inr k)))
 
--- where the splits lie inside their ranges, a tree covers windows exactly where each minute's entries list those that hold it
+-- if the splits are inside their ranges, a tree covers windows exactly if each minute's entries
+-- list those that hold it
 pub covers_each : (tree : Tree) (ws : List Window) → SplitsInside tree 0 1440
     → (covers tree ws ≡ true) ↔ IsComplete tree ws
 covers_each tree ws inside = (

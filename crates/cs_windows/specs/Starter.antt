@@ -21,7 +21,7 @@ window_at s minute =
 abbrev pub begun : ℕ → List Starter → List Window
 begun minute starters = filter_map (λ s. window_at s minute) starters
 
--- at each minute of a day, the windows of these jobs that begin and reach the day so many days after it
+-- at each minute of a day, the windows of these jobs that begin and reach a day so many days later
 abbrev pub BeginOn : List Starter → Kind → ℕ → ℕ → List (Job Kind) → Type 0
 BeginOn starters day back number jobs = (minute : ℕ) → minute < MINUTES_OF_DAY
     → begun minute starters ≡ filter reaches (starting day back minute number jobs)

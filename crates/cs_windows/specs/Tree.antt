@@ -17,13 +17,13 @@ abbrev pub tree_of : MinuteTree → Tree
 tree_of (Leaf entries) = leaf entries
 tree_of (Split' at p before q after) = split at (tree_of before) (tree_of after)
 
--- over [lo, hi), each split lies inside its range
+-- over [lo, hi), each split is inside its range
 abbrev pub SplitsInside : Tree → ℕ → ℕ → Type 0
 SplitsInside (leaf entries) lo hi = Unit {0}
 SplitsInside (split at before after) lo hi =
     (lo < at) × (at < hi) × SplitsInside before lo at × SplitsInside after at hi
 
--- the entries of the leaf in whose range a minute lies
+-- the entries of the leaf whose range holds a minute
 abbrev pub entries_at : Tree → ℕ → List Entry
 entries_at (leaf entries) minute = entries
 entries_at (split at before after) minute =

@@ -5,21 +5,20 @@ use crate::window::MINUTES_OF_DAY;
 use cs_civil::DayKind;
 use cs_schedule::{MinuteSet, Schedule};
 
-/// What a job occupies: the windows in which its runs may go on.
-///
-/// A window of a cron job begins at each minute at which its schedule is due (`crontab(5)`), and lasts `reach`
-/// minutes. The catch-up window of an anacron job (`anacron(8)`) begins at minute `from` of every day, and lasts
-/// `reach` minutes; where `from` is no minute of a day, there is none.
+/// What a job occupies: windows of `reach` minutes, in which its runs may go on.
 #[derive(Clone, Copy, Debug)]
 pub enum Occupied<'a> {
+    /// A cron job's begin at each minute at which the schedule is due (`crontab(5)`).
     Cron { schedule: &'a Schedule, reach: u16 },
+    /// An anacron job's catch-up window begins at minute `from` of each day (`anacron(8)`); there is
+    /// none if `from` is 1,440 or more.
     CatchUp { from: u16, reach: u16 },
 }
 
 impl Occupied<'_> {
     ghost use Rattle.cs_windows.specs.Occupied.{job_of};
 
-    /// How many minutes a window lasts.
+    /// The minutes that a window lasts.
     pub(crate) fn reach(&self) -> u16
         ensures { result ≡ (job_of self.now).lasts }
     {
@@ -41,7 +40,7 @@ impl Occupied<'_> {
     }
 }
 
-/// The set of one minute, or of none where it is no minute of a day.
+/// The set of one minute, or no minute if it is 1,440 or more.
 fn minutes_at(from: u16) -> MinuteSet
     ensures { (minute : ℕ) → minute < MINUTES_OF_DAY → has result minute ≡ (minute == from) }
 {

@@ -1,4 +1,4 @@
-//! Windows: the minutes in which a run may go on, once its job was due or caught up.
+//! Windows: the minutes in which a run may go on once its job was due or caught up.
 #![tactic(auto)]
 
 mod job_windows;

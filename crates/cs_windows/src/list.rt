@@ -11,13 +11,13 @@ use cs_civil::DayKind;
 use cs_schedule::MINUTES_OF_BLOCK;
 use std::alloc::{AllocError, Global};
 
-/// So many jobs can be named by a window.
+/// The most jobs that windows can name.
 pub const MOST_OCCUPIED: usize = 65_536;
 
-/// A day's minutes are gone through by blocks of `MINUTES_OF_BLOCK`.
+/// The blocks of `MINUTES_OF_BLOCK` in a day's minutes.
 const BLOCKS_OF_DAY: u16 = MINUTES_OF_DAY / MINUTES_OF_BLOCK;
 
-/// The starts of a job on a day, if one of its windows may reach the day so many days after it.
+/// The starts of a job on a day, if a window of it may reach the day `day_back` days later.
 fn starter_on(job: u16, own: &Occupied<'_>, day: DayKind, day_back: u8) -> Option<Starter>
     ensures kept { IfSome result (λ starter.
         BeginOn (starter ∷ []) day day_back job (job_of own.now ∷ [])) }
@@ -35,7 +35,7 @@ fn starter_on(job: u16, own: &Occupied<'_>, day: DayKind, day_back: u8) -> Optio
     })
 }
 
-/// The starts of each job of which a window may begin on this day and reach the day so many days after it.
+/// The starts of each job whose windows may begin on this day and reach the day `day_back` later.
 fn starters_on(
     alloc: Global,
     occupied: &[Occupied<'_>],
@@ -55,7 +55,7 @@ fn starters_on(
     Ok(starters)
 }
 
-/// Keeps, in place of what was kept before, the starts in a block of minutes of the jobs of which a window may begin there.
+/// Keeps only the starts, in a block of minutes, of the jobs whose windows may begin there.
 fn keep_near(near: &mut Vec<Near>, starters: &[Starter], block: u16) -> Result<(), AllocError>
     ensures { OnOk result (BeginAlike block near.new.items starters.now) }
 {
@@ -97,7 +97,7 @@ fn add_minutes(
     Ok(())
 }
 
-/// Adds the windows that begin on a day and reach the day so many days after it.
+/// Adds the windows that begin on a day and reach the day `day_back` days later.
 fn add_day(
     alloc: Global,
     windows: &mut Vec<Window>,
@@ -120,11 +120,13 @@ fn add_day(
     Ok(())
 }
 
-/// The windows begun on successive days, given eldest first, that reach the last of them, by start, then job.
+/// Returns the windows that begin on successive days, given eldest first, and reach the last of
+/// them, by start, then job.
 ///
-/// A window that began days before is listed as long as it reaches the last day: midnight is no cut. A window of
-/// reach 0 holds no minute and is in no list. Four days are enough for each reach up to three days (4,320 minutes),
-/// and for a longer one those windows are missing that began before the first day given. The only error is want of memory.
+/// A window from days before is listed while it reaches the last day: midnight ends none. A window
+/// of reach 0 holds no minute and is never listed. Four days are enough for reaches up to 4,320
+/// minutes; windows of a longer reach that began before the first given day are missing. The only
+/// error is out of memory.
 pub fn windows_on(
     alloc: Global,
     occupied: &[Occupied<'_>],

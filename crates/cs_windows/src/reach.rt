@@ -1,17 +1,17 @@
 ghost use Rattle.std.specs.Prelude.{◌≡◌};
 ghost use Rattle.cs_windows.specs.Reach.{reach_of};
 
-/// How long a run of a job that waits for a lock may go on after it was due: one due in minute d holds no minute from
-/// d + reach on. A certificate lists one for each of its jobs that take a lock and may have to wait.
+/// How long a run of a job that waits for a lock may go on: one due in minute d holds no minute
+/// from d + reach on. A certificate lists a reach for each job that may have to wait for a lock.
 #[derive(Clone, Copy, Debug, PartialEq, Eq)]
 pub struct JobReach {
     /// The job's number in its plan, below 320.
     pub job: u16,
-    /// In minutes, from 1 on.
+    /// In minutes, from 1.
     pub reach: u16,
 }
 
-/// The reach that is listed for a job, `None` where none is; of several the first.
+/// Returns the first reach listed for a job, `None` if there is none.
 pub fn reach_of(reaches: &[JobReach], job: usize) -> Option<u16>
     ensures { result ≡ reach_of reaches.now job }
 {

@@ -1,10 +1,9 @@
 use crate::window::{Window, first_minute, reaches};
 use cs_schedule::{MINUTES_OF_BLOCK, MinuteSet};
 
-/// How many minutes a block has.
 const BLOCK: u32 = MINUTES_OF_BLOCK as u32;
 
-/// A job of which a window may begin on the day so many days before the one looked at, and reach the latter.
+/// A job of which a window may begin `day_back` days before the day looked at, and reach that day.
 #[derive(Debug, Drop)]
 pub(crate) struct Starter {
     pub(crate) job: u16,
@@ -13,7 +12,7 @@ pub(crate) struct Starter {
     pub(crate) starts: MinuteSet,
 }
 
-/// The starts of such a job in one block of minutes, one bit each, the lowest for the block's first.
+/// The starts of such a job in a block of minutes: a bit each, the lowest for the first minute.
 #[derive(Clone, Copy, Debug)]
 pub(crate) struct Near {
     job: u16,
@@ -26,7 +25,7 @@ impl Starter {
     ghost use Rattle.std.specs.Prelude.{[], ◌∷◌, IfNone, IfSome};
     ghost use Rattle.cs_windows.specs.Starter.{BeginAlike};
 
-    /// The starts in this block of minutes, if a window may begin there and reach the day looked at.
+    /// The starts in this block, if a window may begin there and reach the day looked at.
     pub(crate) fn near(&self, block: u16) -> Option<Near>
         ensures kept { IfSome result (λ near. BeginAlike block (near ∷ []) (self.now ∷ [])) }
         ensures left_out { IfNone result (BeginAlike block [] (self.now ∷ [])) }
@@ -49,7 +48,7 @@ impl Near {
     ghost use Rattle.std.specs.Prelude.{◌≡◌};
     ghost use Rattle.cs_windows.specs.Starter.{window_near};
 
-    /// The window that begins at this minute of the block, if there is one and it reaches the day looked at.
+    /// The window that begins at this minute of the block, if it reaches the day looked at.
     pub(crate) fn window_at(&self, minute: u16) -> Option<Window>
         ensures { result ≡ window_near self.now minute }
     {

@@ -7,19 +7,21 @@ ghost use Rattle.cs_windows.specs.Entries.{lists};
 use crate::window::{MINUTES_OF_DAY, Window, touches};
 use cs_civil::Sequence;
 
-/// The name of a window in a leaf: its job, how many days before the day looked at it begins, and at which
-/// minute of that day.
+/// The name of a window in a leaf.
 #[derive(Clone, Copy, Debug, PartialEq, Eq, Hash)]
 pub struct Entry {
+    /// Its job.
     pub job: u16,
+    /// How many days before the day looked at it begins.
     pub day_back: u8,
+    /// The minute of that day at which it begins.
     pub from: u16,
 }
 
 /// A tree over a range of minutes of a day; the whole tree is over `[0, 1440)`.
 ///
-/// A split over `[lo, hi)` has a half over `[lo, at)` and one over `[at, hi)`. It lies inside its range where
-/// `lo < at < hi`. Trees with other splits can be made; see the calls for what they mean there.
+/// A split over `[lo, hi)` has halves over `[lo, at)` and `[at, hi)`. It is inside its range if `lo
+/// < at < hi`. Other splits are possible; each method says what they mean.
 #[derive(Debug, Drop)]
 pub enum MinuteTree {
     /// The windows listed for each minute of the range.
@@ -33,18 +35,20 @@ pub enum MinuteTree {
     },
 }
 
-/// A leaf, lent, with its range `[lo, hi)`, in minutes of the day.
+/// A leaf, borrowed, with its range `[lo, hi)` in minutes of the day.
 #[derive(Clone, Copy, Debug)]
 pub struct LeafAt<'a> {
+    /// The first minute of the range.
     pub lo: u16,
+    /// The end of the range.
     pub hi: u16,
+    /// The windows listed.
     pub entries: &'a [Entry],
 }
 
 impl Entry {
     ghost use Rattle.cs_windows.specs.Entries.{names};
 
-    /// Whether this is the window's name.
     fn names(&self, window: &Window) -> bool
         ensures { result ≡ names self.now window.now }
     {
@@ -52,14 +56,14 @@ impl Entry {
     }
 }
 
-/// Whether one of the entries is the name of the window.
+/// Checks whether an entry names the window.
 pub fn lists(entries: &[Entry], window: &Window) -> bool
     ensures { result ≡ lists entries.now window.now }
 {
     entries.iter().any(|entry| entry.names(window))
 }
 
-/// The same. The entry at this place is looked at first.
+/// Like `lists`, with a look at the entry at this place first.
 fn lists_at(entries: &[Entry], window: &Window, place: usize) -> bool
     ensures { result ≡ lists entries.now window.now }
 {
@@ -74,14 +78,14 @@ fn lists_at(entries: &[Entry], window: &Window, place: usize) -> bool
 impl MinuteTree {
     ghost use Rattle.cs_windows.specs.Tree.{IsComplete, SplitsInside, covers, entries_at, leaf_over, leaves, keeps_to, tree_of};
 
-    /// Whether each split lies inside its range.
+    /// Checks whether each split is inside its range.
     pub fn splits_inside(&self) -> bool
         ensures { IsTrue result ↔ SplitsInside (tree_of self.now) 0 MINUTES_OF_DAY }
     {
         self.is_inside(0, MINUTES_OF_DAY)
     }
 
-    /// The same of a tree over `[lo, hi)`.
+    /// Like `splits_inside`, for a tree over `[lo, hi)`.
     fn is_inside(&self, lo: u16, hi: u16) -> bool
         ensures { IsTrue result ↔ SplitsInside (tree_of self.now) lo hi }
     {
@@ -93,7 +97,7 @@ impl MinuteTree {
         }
     }
 
-    /// The leaf whose range holds the minute of the day: there is one alone. Each split has to lie inside its range.
+    /// Returns the one leaf whose range holds the minute. Each split has to be inside its range.
     pub fn leaf_at(&self, minute: u16) -> LeafAt<'_>
         requires day { minute < MINUTES_OF_DAY }
         requires splits { SplitsInside (tree_of self.now) 0 MINUTES_OF_DAY }
@@ -128,9 +132,9 @@ impl MinuteTree {
         }
     }
 
-    /// Whether each leaf of a tree over `[lo, hi)` lists the window, if it touches the leaf's range. `inside`
-    /// tells that each split lies inside its range, so that no leaf is touched where the whole range is not. `place` is where
-    /// among its entries a leaf is looked at first.
+    /// Whether each leaf of a tree over `[lo, hi)` lists the window if it touches the leaf's range.
+    /// `inside` means that each split is inside its range, so that a window touches no leaf unless
+    /// it touches the whole range. A leaf looks at its entry at `place` first.
     fn keeps(&self, window: &Window, place: usize, lo: u16, hi: u16, inside: bool) -> bool
         requires { IsTrue inside → SplitsInside (tree_of self.now) lo hi }
         ensures { result
@@ -150,8 +154,8 @@ impl MinuteTree {
         }
     }
 
-    /// Whether each leaf lists every given window that touches its range. `inside` is as for `keeps`. A leaf of the whole day
-    /// whose entries are in the order of the windows is gone through once.
+    /// Whether each leaf lists every given window that touches its range. `inside` as in `keeps`. A
+    /// leaf of the whole day whose entries are in the order of the windows is gone through once.
     fn keeps_all(&self, windows: &[Window], inside: bool) -> bool
         requires { IsTrue inside → SplitsInside (tree_of self.now) 0 MINUTES_OF_DAY }
         ensures { result ≡ covers (tree_of self.now) windows.now }
@@ -164,11 +168,11 @@ impl MinuteTree {
         true
     }
 
-    /// Whether each leaf lists every given window that touches its range.
+    /// Checks whether each leaf lists every given window that touches its range.
     ///
-    /// Where each split lies inside its range, this says that at each minute of the day every given window that
-    /// holds it is listed in its leaf. Where a split lies outside its range, its halves are over `[lo, at)` and `[at, hi)` all the same, and a
-    /// range that is empty is touched by no window.
+    /// If each split is inside its range: whether the leaf of each minute lists every given window
+    /// that holds the minute. The halves of any other split are over `[lo, at)` and `[at, hi)` too,
+    /// and no window touches an empty range.
     pub fn covers(&self, windows: &[Window]) -> bool
         ensures value { result ≡ covers (tree_of self.now) windows.now }
 

@@ -1,32 +1,34 @@
 ghost use Rattle.std.specs.Prelude.{◌≡◌, ℕ, ◌+◌, ◌*◌, ◌≤◌, ◌<◌, ◌↔◌, IsTrue};
 ghost use Rattle.cs_windows.specs.Window.{reaches, touches, Holds};
 
-/// How many minutes a day has.
+/// The minutes of a day.
 pub const MINUTES_OF_DAY: u16 = 1_440;
 
-/// The minutes `[from, from + reach)` of the day looked at, or of the day `day_back` days before it, in which
-/// one run of a job may go on. Midnight is no cut: a window may hold minutes of several days.
+/// The minutes in which one run of a job may go on: `[from, from + reach)` of the day `day_back`
+/// days before the day looked at. It may hold minutes of several days.
 ///
-/// `from` counts the minutes of the day on which the window begins, from 0, and `reach` is in minutes. A window
-/// of reach 0 holds no minute. Jobs are named by their place, from 0, in the list that the window was made from. It takes eight
-/// bytes: a table of 256 lines may have a million of them.
+/// It takes eight bytes: a table of 256 lines may have a million of them.
 #[derive(Clone, Copy, Debug, PartialEq, Eq, Hash)]
 pub struct Window {
+    /// The job's index in the list that the window was made from.
     pub job: u16,
+    /// How many days before the day looked at it begins.
     pub day_back: u8,
+    /// The minute of that day at which it begins, from 0.
     pub from: u16,
+    /// Its length in minutes. A window of reach 0 holds no minute.
     pub reach: u16,
 }
 
-/// Whether the window reaches the day looked at: it holds a minute of that day, or of one after it.
+/// Whether the window holds a minute of the day looked at, or of one after it.
 pub(crate) fn reaches(window: &Window) -> bool
     ensures { result ≡ reaches window.now }
 {
     0 < window.reach && first_minute(window.day_back) < end(window)
 }
 
-/// Whether the window holds a minute of `[lo, hi)` of the day looked at, both in minutes of that day.
-/// An empty range or a window of reach 0 holds none.
+/// Checks whether the window holds a minute of `[lo, hi)` of the day looked at, in minutes of that
+/// day. An empty range has no minute, nor has a window of reach 0.
 pub fn touches(window: &Window, lo: u16, hi: u16) -> bool
     ensures value { result ≡ touches window.now lo hi }
     ensures held { IsTrue result
@@ -37,7 +39,7 @@ pub fn touches(window: &Window, lo: u16, hi: u16) -> bool
     first < (u32::from(hi) + day).min(end(window))
 }
 
-/// The minute at which the day looked at begins, counted from the start of the day so many days before it.
+/// The first minute of the day looked at, counted from the start of the day `day_back` days before.
 pub(crate) fn first_minute(day_back: u8) -> u32
     ensures { result ≡ MINUTES_OF_DAY * day_back }
 {
@@ -51,7 +53,7 @@ fn end(window: &Window) -> u32
     u32::from(window.from) + u32::from(window.reach)
 }
 
-/// Whether a window of this reach that begins on some minute of its day may reach the day looked at.
+/// Whether a window of this reach that begins `day_back` days before may reach the day looked at.
 pub(crate) fn may_reach(day_back: u8, reach: u16) -> bool
     ensures { IsTrue result
         ↔ ((0 < reach) × (MINUTES_OF_DAY * day_back + 1 < MINUTES_OF_DAY + reach)) }

@@ -2,7 +2,7 @@ use Rattle.std.proofs.Common.{◌≡◌, ◌≢◌, ◌≤◌, ℕ, List, Some, 
 use Rattle.cs_io.specs.Files.{IsReadOn}
 use Rattle.cs_io.proofs.inputs.read_up_to.Given as goal
 
--- each read gave a byte at least, what was read and what is left are the whole, and the other paths are as they were
+-- each read gave a byte; what was read and what is left are the whole; other paths are as they were
 pub record Reading (g : goal.Over) (l : goal.Live-loop-reads g) : Type 0 where
   pub room : length l.buf ≡ 4096
   pub count : l._reads ≤ length l.bytes.items

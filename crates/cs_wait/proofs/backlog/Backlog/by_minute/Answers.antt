@@ -18,7 +18,7 @@ one_more bounds f place minute bound long lt here before is m below =
           subst (λ (k : ℕ). get_or (set bounds place bound) k 0 ≡ f m) at_place (get_or-set_same bounds place bound 0 (omega (arith, here, lt, long)) ∙ (is ∙ ap f (sym same)))
     ]
 
--- before a piece that begins later, the bound stands
+-- before a piece that begins later, the bound stays
 stands : (minute bound : ℕ) (rest : List Piece) → IsBacklogFrom (minute + 1) rest → fold (decided minute) (bound - (minute - minute)) rest ≡ bound
 stands minute bound rest k =
     let none : bound - (minute - minute) ≡ bound = omega arith in

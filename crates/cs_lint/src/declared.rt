@@ -79,7 +79,7 @@ impl<'v> DeclaredLook<'v> {
     fn look_at_whole(&mut self, alloc: Global, value: &'v Value) -> Result<(), AllocError> {
         let span = trimmed(self.bytes, Span::of(0, self.bytes.len()));
         if !value.is_object() {
-            let why = "declarations are an object, {..}";
+            let why = "declarations are one object: write {..}";
             let words = plan_fault(alloc, DeclFault::BadShape, None, why)?;
             return self.findings.add_fault(span, words);
         }
@@ -174,7 +174,13 @@ fn no_group_words(
     name: &str,
 ) -> Result<String, AllocError> {
     let known = known_groups(alloc, groups)?;
-    let hint = meant(alloc, name, "\"", known.as_slice(), "\"groups\" declares")?;
+    let hint = meant(
+        alloc,
+        name,
+        "\"",
+        known.as_slice(),
+        "add it to \"groups\", which has",
+    )?;
     let text = quoted(alloc, name.as_bytes())?;
     format!(in alloc; "no group is named {text}: {hint}")
 }
@@ -213,7 +219,7 @@ impl<'v> Beside<'v> {
         what: &str,
     ) -> Result<(), AllocError> {
         let text = shown(alloc, span.bytes(self.bytes))?;
-        let why = format!(in alloc; "{what} {text} is declared by an entry before this one")?;
+        let why = format!(in alloc; "{what} {text} has an entry already: remove one of the two")?;
         self.add(alloc, entry, span, DeclFault::TwiceDeclared, why.as_str())
     }
 
@@ -226,7 +232,7 @@ impl<'v> Beside<'v> {
         names: &mut IndexSet<&'v str>,
     ) -> Result<(), AllocError> {
         if entry.index == MAX_GROUPS {
-            let why = "there are at most 64 groups, and this is the 65th";
+            let why = "this is group 65 of at most 64: remove groups without jobs";
             let fault = DeclFault::TooManyGroups;
             self.add(alloc, entry, entry.bracket(), fault, why)?;
         }
@@ -258,7 +264,7 @@ impl<'v> Beside<'v> {
             return Ok(None);
         }
         if groups.is_empty() {
-            let why = "\"groups\" declares no group";
+            let why = "\"groups\" is empty: add this group to it";
             return Ok(Some(String::from_str(alloc, why)?));
         }
         Ok(Some(no_group_words(alloc, groups, name)?))
@@ -287,7 +293,7 @@ impl<'v> Beside<'v> {
         if !takes || entry.member("group").is_some() {
             return Ok(());
         }
-        let why = "the lock is that of a group, and this entry has no \"group\"";
+        let why = "add the \"group\" whose lock it takes, or remove \"mode\"";
         self.add(alloc, entry, span, DeclFault::ModeNeedsGroup, why)
     }
 
@@ -388,7 +394,7 @@ impl<'v> Beside<'v> {
             Some(gap) if max > i128::from(gap) => {
                 let line = command.number;
                 let words = format!(in alloc;
-                    "a run of line {line} may take {max} minutes, but the line is due again {gap} minutes after it was due: it takes no lock, so two of its runs may go on at once"
+                    "line {line} may overlap itself, due again after {gap} minutes: lower \"max\", or set \"mode\""
                 )?;
                 self.findings.add_oddity(span, words)
             }
@@ -406,7 +412,7 @@ impl<'v> Beside<'v> {
         self.find_group(alloc, entry)?;
         if let Some(mode) = entry.member("mode") {
             let key = mode.key;
-            let why = "anacron jobs run one after the other, and take no lock";
+            let why = "remove \"mode\": anacron jobs take no lock";
             self.add(alloc, entry, key, DeclFault::ModeOnAnacron, why)?;
         }
         let Some((identifier, span)) = entry.text("id") else {
@@ -456,12 +462,8 @@ fn nearest_command(begun: &[Begun], line: i128) -> Option<u32> {
 /// The words for a line without a command.
 fn lineless_words(alloc: Global, begun: &[Begun], line: i128) -> Result<String, AllocError> {
     match nearest_command(begun, line) {
-        Some(near) => {
-            format!(in alloc;
-                "line {line} of the crontab holds no command: the nearest is on line {near}"
-            )
-        }
-        None => format!(in alloc; "line {line} holds no command: the crontab has none"),
+        Some(near) => { format!(in alloc; "line {line} has no command: did you mean line {near}?") }
+        None => format!(in alloc; "the crontab has no commands: remove this entry"),
     }
 }
 

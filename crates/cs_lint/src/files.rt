@@ -116,8 +116,8 @@ impl Looks {
     ) -> Result<Looks, AllocError> {
         let entered = entered_in(alloc, &declared)?;
         let no_job = match jobs {
-            Some(_) => "no job of the anacrontab has this identifier",
-            None => "no anacrontab is given, so there is no job of this identifier",
+            Some(_) => "no such job: correct \"id\", or remove the entry",
+            None => "no anacrontab is given: use --anacrontab FILE",
         };
         let table = look_at_table(alloc, table, entered.as_ref())?;
         let jobs = jobs_look(alloc, jobs, entered.as_ref())?;

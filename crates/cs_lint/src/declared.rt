@@ -5,7 +5,7 @@ use crate::object::{Kind, Object};
 use crate::outline::trimmed;
 use crate::shape::{find_in_list, find_in_object, names_of};
 use cs_decl::{DeclFault, MAX_GROUPS, MAX_MINUTES};
-use cs_finding::{Findings, Span, meant, nearest, quoted, shown};
+use cs_finding::{Findings, Span, nearest, quoted, shown};
 use cs_lint_tables::{Begun, Entered, plan_fault, shortest_gap};
 use indexmap::{IndexMap, IndexSet};
 use serde_json::{Error, Value};
@@ -174,15 +174,11 @@ fn no_group_words(
     name: &str,
 ) -> Result<String, AllocError> {
     let known = known_groups(alloc, groups)?;
-    let hint = meant(
-        alloc,
-        name,
-        "\"",
-        known.as_slice(),
-        "add it to \"groups\", which has",
-    )?;
     let text = quoted(alloc, name.as_bytes())?;
-    format!(in alloc; "no group is named {text}: {hint}")
+    match nearest(alloc, name, known.as_slice())? {
+        Some(near) => format!(in alloc; "no group is named {text}: did you mean \"{near}\"?"),
+        None => format!(in alloc; "no group is named {text}: add it to \"groups\""),
+    }
 }
 
 /// The entries that are looked at one after the other, beside those before them and beside the

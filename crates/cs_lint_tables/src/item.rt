@@ -69,7 +69,7 @@ fn lone_step_words(alloc: Global, part: Part, item: &[u8]) -> Result<String, All
 fn no_number_words(alloc: Global, part: Part, item: &[u8]) -> Result<String, AllocError> {
     let name = part_name(part);
     if item.is_empty() {
-        return format!(in alloc; "an item of the {name} is missing: add it, or remove the comma");
+        return format!(in alloc; "add an item of the {name} here, or remove the comma");
     }
     let range = range_words(alloc, part)?;
     let text = shown(alloc, item)?;

@@ -10,7 +10,7 @@ pub(crate) fn part_name(part: Part) -> &'static str {
     match part {
         Part::Minute => "minute",
         Part::Hour => "hour",
-        Part::Dom => "day of month",
+        Part::Dom => "day of the month",
         Part::Month => "month",
         Part::Dow => "weekday",
     }

@@ -174,7 +174,7 @@ impl<'d> TableLook<'d> {
         line: Line<'_>,
         name: &str,
     ) -> Result<(), AllocError> {
-        let why = format!(in alloc; "the {name} is missing: five fields come before the command")?;
+        let why = format!(in alloc; "the {name} is missing: write five fields and a command")?;
         let fault = LineFault::MissingField;
         self.add_fault(alloc, line, line.end(), fault, why.as_str())
     }

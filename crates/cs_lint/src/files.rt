@@ -37,7 +37,8 @@ fn add_refusal(
     if findings.has_faults() {
         return Ok(());
     }
-    findings.add_fault(place, String::from_str(alloc, fault)?)
+    let words = format!(in alloc; "{fault}: see 'cronsafe explain'")?;
+    findings.add_fault(place, words)
 }
 
 /// What is found in declarations by themselves, if there are any.

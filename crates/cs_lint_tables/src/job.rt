@@ -139,9 +139,7 @@ impl<'a, 'd> JobsLook<'a, 'd> {
 
     fn find_long_line(&mut self, alloc: Global, line: Line<'_>) -> Result<(), AllocError> {
         let len = line.text.len();
-        let why = format!(in alloc;
-            "a line has at most 4,096 bytes, not {len}: call a script instead"
-        )?;
+        let why = format!(in alloc; "a line has at most 4,096 bytes, not {len}: shorten it")?;
         let place = Span::of(MAX_LINE, 1);
         self.add_fault(alloc, line, place, JobFault::TooLong, why.as_str())
     }

@@ -57,7 +57,7 @@ fn bad_behind_name(text: &[u8], name_end: usize) -> (Span, &'static str) {
         Some(b'=') => bad_value(text, next.from.saturating_add(1)),
         _ => (
             next,
-            "`=` is missing: write NAME=VALUE, or five fields and a command",
+            "add `=`: a line that begins like this is a setting, NAME=VALUE",
         ),
     }
 }

@@ -121,25 +121,25 @@ top_app = on_top (λ s.
     record s { disable_help_subcommand = true; subcommand_required = true; has_version = true })
     (new_app (codes "cronsafe"))
 
--- `cronsafe` with the subcommands `judge` and `make`
-unfoldable pub judge_and_make_app : App
-judge_and_make_app = with_subcommand (with_subcommand top_app judge_app.top) make_app.top
+-- `cronsafe` with the subcommands `judge` and `check`
+unfoldable pub judge_and_check_app : App
+judge_and_check_app = with_subcommand (with_subcommand top_app judge_app.top) check_app.top
 
--- and with `check` and `run`
+-- and with `make` and `run`
 unfoldable pub up_to_run_app : App
-up_to_run_app = with_subcommand (with_subcommand judge_and_make_app check_app.top) run_app.top
-
--- and with `day` and `replay`
-unfoldable pub up_to_replay_app : App
-up_to_replay_app = with_subcommand (with_subcommand up_to_run_app day_app.top) replay_app.top
+up_to_run_app = with_subcommand (with_subcommand judge_and_check_app make_app.top) run_app.top
 
 -- and with `draft` and `lint`
 unfoldable pub up_to_lint_app : App
-up_to_lint_app = with_subcommand (with_subcommand up_to_replay_app draft_app.top) lint_app.top
+up_to_lint_app = with_subcommand (with_subcommand up_to_run_app draft_app.top) lint_app.top
 
--- and with `chart` and `explain`
+-- and with `day` and `chart`
+unfoldable pub up_to_chart_app : App
+up_to_chart_app = with_subcommand (with_subcommand up_to_lint_app day_app.top) chart_app.top
+
+-- and with `replay` and `explain`
 unfoldable pub up_to_explain_app : App
-up_to_explain_app = with_subcommand (with_subcommand up_to_lint_app chart_app.top) explain_app.top
+up_to_explain_app = with_subcommand (with_subcommand up_to_chart_app replay_app.top) explain_app.top
 
 -- and with `help`
 unfoldable pub cronsafe_app : App

@@ -1,9 +1,9 @@
 //! The command line, as `clap` is told of it.
 ghost use Rattle.std.specs.Prelude.{◌≡◌, IfOk, false, is_some};
 ghost use Rattle.clap.specs.Words.{App, app_of, new_app, new_rule, rule_of, with_rule, with_subcommand};
-ghost use Rattle.cs_call.specs.CommandLine.{IsLocal, check_app, cronsafe_app, day_app, help_app, judge_and_make_app};
+ghost use Rattle.cs_call.specs.CommandLine.{IsLocal, check_app, cronsafe_app, day_app, help_app, judge_and_check_app};
 ghost use Rattle.cs_call.specs.CommandLine.{judge_app, make_app, plan_app, replay_app, run_app};
-ghost use Rattle.cs_call.specs.CommandLine.{top_app, up_to_replay_app, up_to_run_app, with_certificate};
+ghost use Rattle.cs_call.specs.CommandLine.{top_app, up_to_chart_app, up_to_run_app, with_certificate};
 ghost use Rattle.cs_call.specs.CommandLine.{chart_app, draft_app, explain_app, lint_app};
 ghost use Rattle.cs_call.specs.CommandLine.{up_to_explain_app, up_to_lint_app};
 ghost use Rattle.cs_call.specs.CommandLine.{is_planned_name, is_shown_name};
@@ -344,31 +344,22 @@ fn top<'a>(alloc: Global) -> Result<Command<'a>, AllocError>
     )
 }
 
-/// The program with the subcommands `judge` and `make`.
-#[tactic(auto, unfolding(crate::specs::CommandLine::judge_and_make_app))]
-fn judge_and_make<'a>(alloc: Global) -> Result<Command<'a>, AllocError>
-    ensures { IfOk result (λ c. app_of c ≡ judge_and_make_app) }
+/// The program with the subcommands `judge` and `check`.
+#[tactic(auto, unfolding(crate::specs::CommandLine::judge_and_check_app))]
+fn judge_and_check<'a>(alloc: Global) -> Result<Command<'a>, AllocError>
+    ensures { IfOk result (λ c. app_of c ≡ judge_and_check_app) }
 {
     let cronsafe = with_subcommand(top(alloc), judge_command(alloc));
-    with_subcommand(cronsafe, make_command(alloc))
+    with_subcommand(cronsafe, check_command(alloc))
 }
 
-/// And with `check` and `run`.
+/// And with `make` and `run`.
 #[tactic(auto, unfolding(crate::specs::CommandLine::up_to_run_app))]
 fn up_to_run<'a>(alloc: Global) -> Result<Command<'a>, AllocError>
     ensures { IfOk result (λ c. app_of c ≡ up_to_run_app) }
 {
-    let cronsafe = with_subcommand(judge_and_make(alloc), check_command(alloc));
+    let cronsafe = with_subcommand(judge_and_check(alloc), make_command(alloc));
     with_subcommand(cronsafe, run_command(alloc))
-}
-
-/// And with `day` and `replay`.
-#[tactic(auto, unfolding(crate::specs::CommandLine::up_to_replay_app))]
-fn up_to_replay<'a>(alloc: Global) -> Result<Command<'a>, AllocError>
-    ensures { IfOk result (λ c. app_of c ≡ up_to_replay_app) }
-{
-    let cronsafe = with_subcommand(up_to_run(alloc), day_command(alloc));
-    with_subcommand(cronsafe, replay_command(alloc))
 }
 
 /// And with `draft` and `lint`.
@@ -376,16 +367,25 @@ fn up_to_replay<'a>(alloc: Global) -> Result<Command<'a>, AllocError>
 fn up_to_lint<'a>(alloc: Global) -> Result<Command<'a>, AllocError>
     ensures { IfOk result (λ c. app_of c ≡ up_to_lint_app) }
 {
-    let cronsafe = with_subcommand(up_to_replay(alloc), draft_command(alloc));
+    let cronsafe = with_subcommand(up_to_run(alloc), draft_command(alloc));
     with_subcommand(cronsafe, lint_command(alloc))
 }
 
-/// And with `chart` and `explain`.
+/// And with `day` and `chart`.
+#[tactic(auto, unfolding(crate::specs::CommandLine::up_to_chart_app))]
+fn up_to_chart<'a>(alloc: Global) -> Result<Command<'a>, AllocError>
+    ensures { IfOk result (λ c. app_of c ≡ up_to_chart_app) }
+{
+    let cronsafe = with_subcommand(up_to_lint(alloc), day_command(alloc));
+    with_subcommand(cronsafe, chart_command(alloc))
+}
+
+/// And with `replay` and `explain`.
 #[tactic(auto, unfolding(crate::specs::CommandLine::up_to_explain_app))]
 fn up_to_explain<'a>(alloc: Global) -> Result<Command<'a>, AllocError>
     ensures { IfOk result (λ c. app_of c ≡ up_to_explain_app) }
 {
-    let cronsafe = with_subcommand(up_to_lint(alloc), chart_command(alloc));
+    let cronsafe = with_subcommand(up_to_chart(alloc), replay_command(alloc));
     with_subcommand(cronsafe, explain_command(alloc))
 }
 

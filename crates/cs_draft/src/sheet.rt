@@ -117,7 +117,7 @@ impl<'a> Sheet<'a> {
             "@reboot",
             number,
             "left out",
-            "take the line out of the table that is judged",
+            "comment it out, since 'cronsafe judge' refuses it",
         )
     }
 

@@ -31,18 +31,19 @@ impl Unlocked {
     /// The reason, as a warning tells it.
     pub(crate) fn text(self) -> &'static str {
         match self {
-            Unlocked::Timed => "no mode waits for a limited time, as flock -w does",
-            Unlocked::OwnStatus => "no mode has an exit status of its own, as flock -E has",
-            Unlocked::Unlocking => "flock -u gives a lock back",
+            Unlocked::Timed => "no mode has a time limit, as flock -w has",
+            Unlocked::OwnStatus => "no mode sets the exit status, as flock -E does",
+            Unlocked::Unlocking => "flock -u releases a lock",
             Unlocked::Telling => "flock -h and flock -V run no command",
-            Unlocked::UnknownOption => "its flock has an option that isn't known here",
-            Unlocked::SharedAtOnce => "no mode is shared and gives up at once, as flock -s -n does",
+            Unlocked::UnknownOption => "its flock has an unknown option",
+            Unlocked::SharedAtOnce =>
+                "no mode shares the lock and gives up at once, as flock -s -n does",
             Unlocked::NoFile => "its flock has no lock file",
-            Unlocked::Descriptor => "its flock has a descriptor in place of a lock file",
-            Unlocked::ShellWord => "the name of its lock file is left to the shell",
+            Unlocked::Descriptor => "its flock has a number in place of a lock file",
+            Unlocked::ShellWord => "the shell expands the name of its lock file",
             Unlocked::NotUtf8 => "the name of its lock file isn't UTF-8",
             Unlocked::NoCommand => "its flock runs no command",
-            Unlocked::TooManyGroups => "its lock file would be the 65th group",
+            Unlocked::TooManyGroups => "its lock file would be group 65 of at most 64",
         }
     }
 }

@@ -6,7 +6,7 @@ pub(crate) static MEANINGS: [Meaning; 11] = [
     Meaning {
         name: "TooLong",
         short: "the file is over 1,048,576 bytes, or a line over 4,096",
-        text: "As in a crontab: put a long command into a script of its own, and call that.",
+        text: "As in a crontab: put a long command into a script, and call the script.",
     },
     Meaning {
         name: "NulByte",
@@ -35,7 +35,7 @@ right:
     Meaning {
         name: "MissingField",
         short: "one of the four parts is absent",
-        text: "A job's line is PERIOD DELAY IDENTIFIER COMMAND, parted by blanks.
+        text: "A job's line is PERIOD DELAY IDENTIFIER COMMAND, separated by blanks.
 wrong:
   7 10 cron.weekly
 right:
@@ -62,8 +62,8 @@ right:
     Meaning {
         name: "BadIdentifier",
         short: "the identifier names no stamp file",
-        text: "Its stamp is kept in a file of that name: 1 to 200 bytes of UTF-8 without blank
-or /, other than . and ..
+        text: "Its stamp file has this name: 1 to 200 bytes of UTF-8 without blanks and /, but
+not . or ..
 wrong:
   7 10 cron/weekly /usr/bin/weekly
 right:
@@ -72,7 +72,8 @@ right:
     Meaning {
         name: "TwiceNamed",
         short: "the identifier stood before",
-        text: "Two jobs would share a stamp, and one of them would hardly ever run.
+        text: "Two jobs would share a stamp, and one of them would hardly ever run. Give each
+job its own identifier.
 wrong:
   1 5 backup /usr/bin/backup
   7 10 backup /usr/bin/backup --full
@@ -83,7 +84,7 @@ right:
     Meaning {
         name: "Continued",
         short: "a setting or job line ends with a backslash",
-        text: r"Lines that go on in the next one aren't read here. Write one line.
+        text: r"Continued lines aren't read here. Write the job on one line.
 wrong:
   7 10 cron.weekly /usr/bin/weekly \
     --quiet
@@ -93,7 +94,7 @@ right:
     Meaning {
         name: "TooManyJobs",
         short: "it is the 65th job",
-        text: "An anacrontab has room for 64. Let one job call a script that does the work of
-several.",
+        text: "An anacrontab has at most 64 jobs. Let one job call a script that does the work
+of several.",
     },
 ];

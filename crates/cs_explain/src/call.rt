@@ -14,8 +14,8 @@ right:
     Meaning {
         name: "OutOfRange",
         short: "the date is before 1970-01-04",
-        text: "What runs on a date may have begun three days before it, and days are counted
-from 1970-01-01 on.
+        text: "Runs on a date may have begun up to three days before it, and the first day is
+1970-01-01.
 wrong:
   cronsafe day my.cron 1970-01-01 60
 right:
@@ -24,7 +24,7 @@ right:
     Meaning {
         name: "BadMax",
         short: "the longest time is outside 1 to 4320",
-        text: "It is in minutes, of three days at most.
+        text: "It is in minutes, and at most three days.
 wrong:
   cronsafe day my.cron 2024-09-13 0
 right:
@@ -34,7 +34,7 @@ right:
         name: "BadHours",
         short: "not 0 <= from < to <= 1440",
         text: "--from and --to are minutes of the day: catch-up may start a job from the first
-up to, and without, the second. They don't go over midnight.
+up to, but not including, the second. They can't go over midnight.
 wrong:
   cronsafe day my.cron 2024-09-13 60 --from 1320 --to 120
 right:

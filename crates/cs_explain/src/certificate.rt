@@ -6,14 +6,14 @@ pub(crate) static MEANINGS: [Meaning; 10] = [
     Meaning {
         name: "TooLong",
         short: "the text is over 16,777,216 bytes",
-        text: "Make it anew with 'cronsafe make --compact', which says only what the tables and
-declarations don't.",
+        text: "Make a new one with 'cronsafe make --compact', which states only what the tables
+and declarations don't.",
     },
     Meaning {
         name: "NotJson",
         short: "it is no JSON",
-        text: r#"Often the end of the file is lost, or it is the answer of a 'make' that printed
-no certificate. Make it anew.
+        text: r#"Often the end of the file is missing, or 'make' printed a verdict in place of a
+certificate. Make a new one.
 wrong:
   {"version": 3, "reach": [], "kinds": {"class": 0}, "classes": [{"carry": []}]
 right:
@@ -30,8 +30,7 @@ right:
     Meaning {
         name: "BadShape",
         short: "a member is unknown or absent, or has no value of its kind",
-        text: r#"Each version has members of its own, all of which have to be there; numbers are
-whole.
+        text: r#"Each version has its own members, and requires all of them. Numbers are whole.
 wrong:
   {"version": 3, "reach": [], "kinds": {"class": 0}, "classes": [{"due": []}]}
 right:
@@ -40,13 +39,13 @@ right:
     Meaning {
         name: "TooDeep",
         short: "a tree is deeper than 24",
-        text: "No tree has to be: no certificate that 'cronsafe make' prints is.",
+        text: "No certificate that 'cronsafe make' prints is so deep. Make a new one.",
     },
     Meaning {
         name: "BadSplit",
         short: "a split of a tree isn't possible where it stands",
-        text: r#"The values of a split of days rise, can still come there (months are 1 to 12),
-and aren't all that can; the minute of a split lies inside the tree's range.
+        text: r#"The values in a split of days rise, are still possible there (months are 1 to
+12), and aren't all that are. The minute of a split is inside the tree's range.
 wrong:
   {"version": 3, "reach": [], "classes": [{"carry": []}], "kinds":
    {"split": "month", "in": [13], "yes": {"class": 0}, "no": {"class": 0}}}
@@ -57,7 +56,7 @@ right:
     Meaning {
         name: "BadClass",
         short: "a class is named that isn't there, or stretches don't rise",
-        text: r#"Classes are counted from 0. Stretches rise by length, then in order, each once.
+        text: r#"Classes are numbered from 0. Stretches rise by length, then in order, each once.
 wrong:
   {"version": 3, "reach": [], "kinds": {"class": 1}, "classes": [{"carry": []}]}
 right:
@@ -67,7 +66,7 @@ right:
         name: "BadEntry",
         short: "a list doesn't rise, or a number in one is out of range",
         text: r#"Jobs are below 320, groups below 64, minutes of a day 0 to 1439, reaches 1 to
-4320 (1 to 1440 in version 1). Only the entries of a leaf stand in any order.
+4320 (1 to 1440 in version 1). Only the entries of a leaf may be in any order.
 wrong:
   {"version": 3, "reach": [], "kinds": {"class": 0},
    "classes": [{"carry": [[1, 5], [0, 5]]}]}
@@ -78,12 +77,11 @@ right:
     Meaning {
         name: "TooManyClasses",
         short: "there are more than 512 classes, in version 3 than 2,562",
-        text: "Where the days are of more sorts than 512, 'cronsafe make' writes version 3.",
+        text: "If the days need more than 512 classes, 'cronsafe make' writes version 3.",
     },
     Meaning {
         name: "LeafTooLong",
         short: "a leaf has more than 4,096 entries",
-        text: "Split the leaf, or make the certificate anew: with --compact it has no
-leaves.",
+        text: "Split the leaf, or make a new certificate with --compact, which has no leaves.",
     },
 ];

@@ -6,20 +6,20 @@ pub(crate) static MEANINGS: [Meaning; 12] = [
     Meaning {
         name: "TooLong",
         short: "the file is over 1,048,576 bytes, or a line over 4,096",
-        text: "A line's newline isn't counted; of a file that is too long, line 0 is named. Put
-a long command into a script of its own, and call that.",
+        text: "A line's newline doesn't count, and line 0 means the file. Put a long command
+into a script, and call the script.",
     },
     Meaning {
         name: "NulByte",
         short: "a line holds a zero byte, in a comment too",
-        text: "No text holds one. A table saved as UTF-16 is full of them: save it as UTF-8. In
-a damaged file, delete the byte.",
+        text: "A table saved as UTF-16 is full of zero bytes: save it as UTF-8. In a damaged
+file, delete the byte.",
     },
     Meaning {
         name: "BadSetting",
         short: "a line that begins as a setting isn't one",
-        text: "A line that begins with a letter, _ or a quote is a setting, NAME=VALUE. It is
-none without = or a name, or with more behind a quote that closes the value.
+        text: "A line that begins with a letter, _ or a quote is a setting, NAME=VALUE. Name
+and = are required, and only blanks may follow the quote that closes a value.
 wrong:
   PATH /usr/local/bin:/usr/bin:/bin
 right:
@@ -29,7 +29,7 @@ right:
         name: "UnknownWord",
         short: "the word behind @ is none that a crontab knows",
         text: "The words are @yearly, @annually, @monthly, @weekly, @daily, @midnight, @hourly
-and @reboot, in small letters.
+and @reboot, in lower case.
 wrong:
   @Daily /usr/bin/clean
 right:
@@ -39,7 +39,7 @@ right:
         name: "MissingField",
         short: "the line ends where a field should begin",
         text: "A command line is five fields (minute, hour, day of the month, month, weekday),
-each with blanks behind it, and a command.
+each followed by blanks, and a command.
 wrong:
   30 23 * *
 right:
@@ -49,7 +49,7 @@ right:
         name: "BadNumber",
         short: "no number, name, comma or end of the field where one should be",
         text: "Often a field was left out, and the command's first word is read as the fifth. A
-field holds no blanks, and names have three letters: jan to dec, sun to sat.
+field has no blanks, and names have three letters: jan to dec, sun to sat.
 wrong:
   30 23 * * /usr/bin/backup
 right:
@@ -78,7 +78,7 @@ right:
     Meaning {
         name: "BadStep",
         short: "the step n isn't digits, or is 0",
-        text: "Behind / stands a number from 1 on.
+        text: "The number after / is at least 1.
 wrong:
   */0 * * * * /usr/bin/poll
 right:
@@ -87,7 +87,7 @@ right:
     Meaning {
         name: "StepOnNumber",
         short: "/ follows a single number",
-        text: "A step stands behind * or a range. Some other daemons read 5/10 as 5-59/10.
+        text: "A step follows * or a range. Some other daemons read 5/10 as 5-59/10.
 wrong:
   5/10 * * * * /usr/bin/poll
 right:
@@ -96,7 +96,7 @@ right:
     Meaning {
         name: "NoCommand",
         short: "nothing follows the fifth field or the word",
-        text: "The command is missing, or a field too many was read as one.
+        text: "Write the command after the five fields, or after the word.
 wrong:
   @daily
 right:
@@ -105,7 +105,7 @@ right:
     Meaning {
         name: "TooManyJobs",
         short: "it is the 257th command line, those of @reboot counted",
-        text: "A table has room for 256. Let one line call a script that does the work of
-several.",
+        text: "A table has at most 256 commands. Let one line call a script that does the work
+of several.",
     },
 ];

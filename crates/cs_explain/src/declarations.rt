@@ -6,7 +6,8 @@ pub(crate) static MEANINGS: [Meaning; 15] = [
     Meaning {
         name: "NotJson",
         short: "the bytes aren't JSON",
-        text: r#"Often there is a comma behind a last entry, a comment, or a bracket too few.
+        text: r#"Often a comma follows the last entry, there is a comment, or a bracket is
+missing.
 crontab:
   30 23 * * * /usr/bin/backup
 wrong:
@@ -17,9 +18,9 @@ right:
     Meaning {
         name: "BadShape",
         short: "a member is unknown or absent, or has no value of its kind",
-        text: r#"Members are capacity, offset, hours, pass, groups, cron and anacron; of a cron
-entry line, max, weight, group and mode. Numbers are whole and have no quotes;
-offset is -1439 to 1439.
+        text: r#"The members are capacity, offset, hours, pass, groups, cron and anacron; those
+of a cron entry are line, max, weight, group and mode. Numbers are whole and
+have no quotes; offset is -1439 to 1439.
 crontab:
   30 23 * * * /usr/bin/backup
 wrong:
@@ -30,7 +31,7 @@ right:
     Meaning {
         name: "NoSuchLine",
         short: "no command on that line, or no such identifier",
-        text: r#"Lines are counted from 1, with comments, settings and empty lines.
+        text: r#"Lines are counted from 1, including comments, settings and empty lines.
 crontab:
   MAILTO=root
   30 23 * * * /usr/bin/backup
@@ -42,7 +43,8 @@ right:
     Meaning {
         name: "Undeclared",
         short: "a job that isn't @reboot has no entry",
-        text: r#"Each command line has an entry in cron, each job of the anacrontab in anacron.
+        text: r#"Each command line needs an entry in cron, and each job of the anacrontab one in
+anacron.
 crontab:
   30 23 * * * /usr/bin/backup
   0 1 * * * /usr/bin/report
@@ -54,7 +56,7 @@ right:
     Meaning {
         name: "TwiceDeclared",
         short: "a group, line or identifier comes a second time",
-        text: r#"Join the two entries, or mend the number of one.
+        text: r#"Merge the two entries, or correct the number of one.
 crontab:
   30 23 * * * /usr/bin/backup
   0 1 * * * /usr/bin/report
@@ -66,7 +68,7 @@ right:
     Meaning {
         name: "BadMax",
         short: "max is outside 1 to 4320",
-        text: r#"It is the longest time of a run in minutes, of three days at most.
+        text: r#"It is the longest time of a run in minutes, and at most three days.
 crontab:
   30 23 * * * /usr/bin/backup
 wrong:
@@ -77,7 +79,7 @@ right:
     Meaning {
         name: "BadWeight",
         short: "weight is outside 1 to 64",
-        text: r#"It is what a run takes of the capacity, 1 where it is left out.
+        text: r#"It is what a run takes of the capacity. The default is 1.
 crontab:
   30 23 * * * /usr/bin/backup
 wrong:
@@ -88,7 +90,7 @@ right:
     Meaning {
         name: "BadCapacity",
         short: "capacity is outside 1 to 64",
-        text: r#"It is what all runs at one minute may weigh together.
+        text: r#"It is what the running jobs may weigh together.
 crontab:
   30 23 * * * /usr/bin/backup
 wrong:
@@ -112,7 +114,7 @@ right:
     Meaning {
         name: "UnknownGroup",
         short: "a group that isn't listed",
-        text: r#"Each group stands in groups, written in the same letters.
+        text: r#"List each group in groups, with the same spelling and case.
 crontab:
   30 23 * * * /usr/bin/backup
 wrong:
@@ -125,13 +127,13 @@ right:
     Meaning {
         name: "TooManyGroups",
         short: "it is the 65th group",
-        text: "There may be 64. Leave out groups of which no job is.",
+        text: "There are at most 64. Remove the groups that no job is in.",
     },
     Meaning {
         name: "BadHours",
         short: "not 0 <= from < to <= 1440",
         text: r#"hours is [from, to], minutes of the day: catch-up may start a job from the first
-up to, and without, the second. They don't go over midnight.
+up to, but not including, the second. They can't go over midnight.
 crontab:
   30 23 * * * /usr/bin/backup
 wrong:
@@ -142,7 +144,7 @@ right:
     Meaning {
         name: "ModeOnAnacron",
         short: "an anacron entry has mode, whatever it is",
-        text: r#"Catch-up takes no lock. Leave out the mode.
+        text: r#"Anacron jobs take no lock. Leave out the mode.
 anacrontab:
   7 10 cron.weekly /usr/bin/weekly
 wrong:
@@ -153,8 +155,8 @@ right:
     Meaning {
         name: "RebootLine",
         short: "an @reboot line, which outages would start without bound",
-        text: r#"Nothing can be said of how many of its runs go on at once. Start such a command
-as a service, and take its line out of the table.
+        text: r#"Any number of its runs could overlap. Start such a command as a service, and
+remove its line, or put # before it to keep the numbers of the other lines.
 declarations:
   {"capacity": 1, "cron": [{"line": 1, "max": 30}]}
 wrong crontab:
@@ -166,7 +168,8 @@ right crontab:
     Meaning {
         name: "BadPassMinute",
         short: "pass is outside 0 to 1439",
-        text: r#"It is the minute of the day at which catch-up begins, beside each coming up.
+        text: r#"It is the minute of the day at which a catch-up pass begins. One also begins
+whenever the daemon comes up.
 crontab:
   30 23 * * * /usr/bin/backup
 wrong:

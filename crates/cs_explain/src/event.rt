@@ -6,7 +6,7 @@ pub(crate) static MEANINGS: [Meaning; 11] = [
     Meaning {
         name: "NotUp",
         short: "the daemon is down",
-        text: "While it is down nothing comes but up and the ends of runs.
+        text: "While it is down, only up and the ends of runs are possible.
 crontab:
   0 1 * * * /usr/bin/backup
 wrong:
@@ -19,7 +19,7 @@ right:
     Meaning {
         name: "AlreadyUp",
         short: "the daemon is up",
-        text: "Only a daemon that went down comes up.
+        text: "Only a daemon that is down can come up.
 crontab:
   0 1 * * * /usr/bin/backup
 wrong:
@@ -33,8 +33,8 @@ right:
     Meaning {
         name: "WrongMinute",
         short: "the minute isn't the next one, or is before the present one",
-        text: "Each minute has a line of its own while the daemon is up; minutes that it left
-out are an outage, down and up.
+        text: "While the daemon is up, each minute has its own line. Write minutes that it
+skipped as an outage, down and up.
 crontab:
   0 1 * * * /usr/bin/backup
 wrong:
@@ -48,8 +48,8 @@ right:
     Meaning {
         name: "NotSettled",
         short: "a due job hasn't begun, or a waiting run could have its lock",
-        text: "All that is due in a minute begins in it, and free locks are given, before the
-next minute comes.
+        text: "Everything that is due in a minute begins in it, and free locks are given,
+before the next minute.
 crontab:
   0 1 * * * /usr/bin/backup
 wrong:
@@ -65,8 +65,8 @@ right:
     Meaning {
         name: "NotDue",
         short: "the job isn't due now, or has begun",
-        text: "A job begins in its due minute, once; what is due in the minute of the start, or
-of a coming up, isn't started.
+        text: "A job begins once, in its due minute. What is due in the minute of the start, or
+in that of an up, isn't started.
 crontab:
   0 1 * * * /usr/bin/backup
 wrong:
@@ -80,7 +80,7 @@ right:
     Meaning {
         name: "LockHeld",
         short: "the lock is held",
-        text: r#"A waiting run gets it when the run that holds it has ended.
+        text: r#"A waiting run gets it after the run that holds it has ended.
 crontab:
   0 1 * * * /usr/bin/backup
   0 1 * * * /usr/bin/index
@@ -105,8 +105,8 @@ right:
     Meaning {
         name: "NotWaiting",
         short: "no such run waits",
-        text: "Either it was due at another minute, or it runs since it began: the lock was
-free, or it takes none.
+        text: "It was due at another minute, or it runs already: the lock was free when it
+began, or it takes none.
 crontab:
   0 1 * * * /usr/bin/backup
 wrong:
@@ -123,7 +123,7 @@ right:
         name: "NotRunning",
         short: "no such run is running",
         text: "A run is named by the minute at which it was due (of an anacron job: at which it
-started), not by that at which it ends.
+started), not by the minute at which it ends.
 crontab:
   0 1 * * * /usr/bin/backup
 wrong:
@@ -143,7 +143,7 @@ right:
         name: "NotCatchable",
         short: "anacron wouldn't start this job now",
         text: "It isn't due that day, its delay isn't over, another job of the pass comes first
-or still runs, or it is no minute of the catch-up hours.
+or still runs, or the minute is outside the catch-up hours.
 anacrontab:
   1 0 cron.daily /usr/bin/daily
 wrong:
@@ -160,13 +160,13 @@ right:
     Meaning {
         name: "OutOfRange",
         short: "the minute isn't from 1970-01-02 to 9999-12-31",
-        text: "No minute comes behind the last one of 9999. A script can't name another: there
-it is a BadDate.",
+        text: "There is no minute after the last one of 9999. A script can't name one: there it
+is a BadDate.",
     },
     Meaning {
         name: "HistoryFull",
         short: "the journal has no room for the event",
-        text: "A journal has 4,194,304 events at most. 'replay' and 'judge' keep none; 'run'
-says 'the history is full' then.",
+        text: "A journal has at most 4,194,304 events. 'replay' and 'judge' keep none; 'run'
+ends with 'the history is full'.",
     },
 ];

@@ -39,10 +39,10 @@ impl Kind {
             Kind::Anacrontab => "In an anacrontab:",
             Kind::Declarations => "In declarations:",
             Kind::Script => "In a script:",
-            Kind::Call => "In the words of a call:",
+            Kind::Call => "On the command line:",
             Kind::Certificate => "In a certificate:",
-            Kind::Refused => "Of a certificate that is refused:",
-            Kind::Event => "Of an event that is refused:",
+            Kind::Refused => "Of a refused certificate:",
+            Kind::Event => "Of a refused event:",
             Kind::Unknown => "Of an answer 'unknown':",
         }
     }

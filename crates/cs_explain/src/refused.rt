@@ -6,7 +6,7 @@ pub(crate) static MEANINGS: [Meaning; 8] = [
     Meaning {
         name: "ClassNotDue",
         short: "a class hasn't the due minutes of a kind of day",
-        text: r#"The table was changed, or the certificate is of another one. Make it anew.
+        text: r#"The table has changed, or the certificate is of another one. Make a new one.
 crontab:
   30 23 * * * /usr/bin/backup
 declarations:
@@ -23,8 +23,8 @@ right:
     Meaning {
         name: "MissingPair",
         short: "successive kinds of days have no stretch",
-        text: r#"The classes of each two days that can follow one another (of three or four where
-runs reach so far) have to be listed. Make the certificate anew.
+        text: r#"The classes of any two days that can follow each other (of three or four if runs
+reach so far) have to be listed. Make a new certificate.
 crontab:
   30 23 * * * /usr/bin/backup
 declarations:
@@ -41,8 +41,8 @@ right:
     Meaning {
         name: "BacklogRises",
         short: "a group's bound falls too fast, or leaves out a run",
-        text: r#"A bound falls by one a minute at most, and rises by the longest time of each run
-that comes: here 9 of 10 minutes are left at midnight. Make it anew.
+        text: r#"A bound falls by at most one a minute, and rises by the longest time of each run
+that arrives: here 9 of 10 minutes are left at midnight. Make a new certificate.
 crontab:
   59 23 * * * /usr/bin/backup
 declarations:
@@ -58,8 +58,8 @@ right:
     Meaning {
         name: "ReachTooShort",
         short: "a job that waits has no reach, or too short a one",
-        text: r#"Within its reach the bound of its group has to be 0: a run that waits then has
-had its turn and ended. Make the certificate anew.
+        text: r#"Within its reach the bound of its group has to be 0: then a run that waits has
+had its turn and has ended. Make a new certificate.
 crontab:
   59 23 * * * /usr/bin/backup
 declarations:
@@ -75,8 +75,8 @@ right:
     Meaning {
         name: "WindowMissing",
         short: "the leaf of a minute doesn't list a window that holds it",
-        text: r#"The table or a longest time was changed, or the certificate is of other ones.
-Make it anew.
+        text: r#"The table or a longest time has changed, or the certificate is of other files.
+Make a new one.
 crontab:
   30 23 * * * /usr/bin/backup
 declarations:
@@ -93,8 +93,8 @@ right:
     Meaning {
         name: "Collision",
         short: "windows of an exclusive group hold the same minute",
-        text: r#"Two runs that both may go on then may not run at once, and don't both take the
-lock. Move one, shorten its longest time, or let both take the lock.
+        text: r#"Two runs that must not overlap may both run then, and don't both take the lock.
+Move one, shorten its longest time, or let both take the lock.
 crontab:
   30 23 * * * /usr/bin/backup
   0 0 * * * /usr/bin/report
@@ -112,8 +112,8 @@ right declarations:
     Meaning {
         name: "OverCapacity",
         short: "what may run at a minute weighs more than the capacity",
-        text: r#"Move a job, shorten its longest time, make it weigh less, or raise the capacity
-if the machine has room.
+        text: r#"Move a job, shorten its longest time, lower its weight, or raise the capacity if
+the machine has room.
 crontab:
   0 1 * * * /usr/bin/backup
   30 1 * * * /usr/bin/index
@@ -127,7 +127,7 @@ right declarations:
     Meaning {
         name: "SkipBlocked",
         short: "a skip job may find its lock held when it is due",
-        text: r#"It would be left out then. Move it or the other job, shorten the other one's
+        text: r#"It would be skipped then. Move it or the other job, shorten the other one's
 longest time, or let it wait.
 crontab:
   0 1 * * * /usr/bin/backup

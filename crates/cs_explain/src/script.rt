@@ -6,13 +6,13 @@ pub(crate) static MEANINGS: [Meaning; 5] = [
     Meaning {
         name: "TooLong",
         short: "the script is over 16,777,216 bytes",
-        text: "Line 0 is named. Begin the script later: at a minute at which nothing runs.",
+        text: "Line 0 means the script. Begin it later, at a minute at which nothing runs.",
     },
     Meaning {
         name: "BadLine",
         short: "other words or blanks, or a start or stamp out of place",
-        text: "Words are parted by one space, with none at the end. The start stands once, as
-the first line that counts, and stamps right behind it, one for each job.
+        text: "Words are separated by one space, with none at the end. The start comes once and
+first, and the stamps directly after it, one for each job.
 crontab:
   0 1 * * * /usr/bin/backup
 wrong:
@@ -26,7 +26,7 @@ right:
         name: "BadDate",
         short: "a date is none, or before 1970-01-02, a start's before 1970-01-04",
         text: "Dates are YYYY-MM-DD, times HH:MM. A carriage return at the line's end belongs
-to the date: write lines that end with a newline alone.
+to the date: end lines with a newline alone.
 crontab:
   0 1 * * * /usr/bin/backup
 wrong:
@@ -37,7 +37,8 @@ right:
     Meaning {
         name: "UnknownName",
         short: "no command on that line, or no such identifier",
-        text: "Lines of the table are counted from 1, with comments, settings and empty lines.
+        text: "Lines of the table are counted from 1, including comments, settings and empty
+lines.
 crontab:
   MAILTO=root
   0 1 * * * /usr/bin/backup
@@ -53,8 +54,8 @@ right:
     Meaning {
         name: "NoStart",
         short: "the first line that counts is no start, or none counts",
-        text: "Say first when the script begins, and whether the daemon is up then. Of a script
-in which no line counts, line 0 is named.
+        text: "Say first when the script begins, and whether the daemon is up then.
+If all its lines are empty or comments, the fault is at line 0.
 crontab:
   0 1 * * * /usr/bin/backup
 wrong:

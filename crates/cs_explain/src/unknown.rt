@@ -6,8 +6,8 @@ pub(crate) static MEANINGS: [Meaning; 7] = [
     Meaning {
         name: "NoReach",
         short: "a job waits for a lock that may never become free for long",
-        text: r#"The runs of its group take nearly as much time as there is. Shorten longest
-times, take jobs out of the group, or let them skip.
+        text: r#"The runs of its group take nearly all the time there is. Shorten longest times,
+take jobs out of the group, or use mode skip.
 crontab:
   0 * * * * /usr/bin/poll
 wrong:
@@ -20,8 +20,8 @@ right:
     Meaning {
         name: "NoScript",
         short: "a rule is broken, but in no history that was found",
-        text: r#"The refused line below it says which. Change what that names: more time between
-the two, less weight, or another group.
+        text: r#"The second line says which rule. Give what it names more time between the two,
+less weight, or another group.
 declarations:
   {"capacity": 3, "groups": [{"name": "disk", "exclusive": true}],
    "cron": [{"line": 1, "max": 20, "group": "disk", "mode": "wait"},
@@ -39,29 +39,29 @@ right crontab:
     Meaning {
         name: "TooManyClasses",
         short: "there would be more than 512 classes",
-        text: "It isn't meant to come: version 3 has room for a class for each kind of day.",
+        text: "This shouldn't occur: version 3 has room for a class for each kind of day.",
     },
     Meaning {
         name: "LeafTooLong",
         short: "the certificate's text would be over 16 MiB",
-        text: "Only 'make' could tell it, and it isn't meant to come: no text of version 3 is
+        text: "Only 'make' could print this, and it shouldn't occur: no text of version 3 is
 that long.",
     },
     Meaning {
         name: "TooDeep",
         short: "a tree would be deeper than 24",
-        text: "It isn't meant to come: the certificate is then of version 3, whose day tree is
+        text: "This shouldn't occur: the certificate is then of version 3, whose day tree is
 never so deep.",
     },
     Meaning {
         name: "NotChecked",
         short: "what was made wasn't confirmed",
-        text: "It is a defect of the maker, which changes no other answer. Tell its authors,
-with the tables and declarations.",
+        text: "This is a defect of cronsafe that affects no other answer. Report it, with the
+tables and declarations.",
     },
     Meaning {
         name: "NoMemory",
         short: "memory ran out while the plan was judged",
-        text: "Give the call more memory, or judge it on a machine that has more.",
+        text: "Give the call more memory, or judge the plan on a machine that has more.",
     },
 ];

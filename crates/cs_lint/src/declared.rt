@@ -5,7 +5,7 @@ use crate::object::{Kind, Object};
 use crate::outline::trimmed;
 use crate::shape::{find_in_list, find_in_object, names_of};
 use cs_decl::{DeclFault, MAX_GROUPS, MAX_MINUTES};
-use cs_finding::{Findings, Span, meant, nearest, quoted, shown};
+use cs_finding::{Findings, Span, nearest, quoted, shown};
 use cs_lint_tables::{Begun, Entered, plan_fault, shortest_gap};
 use indexmap::{IndexMap, IndexSet};
 use serde_json::{Error, Value};
@@ -79,7 +79,7 @@ impl<'v> DeclaredLook<'v> {
     fn look_at_whole(&mut self, alloc: Global, value: &'v Value) -> Result<(), AllocError> {
         let span = trimmed(self.bytes, Span::of(0, self.bytes.len()));
         if !value.is_object() {
-            let why = "declarations are an object, {..}";
+            let why = "declarations are one object: write {..}";
             let words = plan_fault(alloc, DeclFault::BadShape, None, why)?;
             return self.findings.add_fault(span, words);
         }
@@ -174,9 +174,11 @@ fn no_group_words(
     name: &str,
 ) -> Result<String, AllocError> {
     let known = known_groups(alloc, groups)?;
-    let hint = meant(alloc, name, "\"", known.as_slice(), "\"groups\" declares")?;
     let text = quoted(alloc, name.as_bytes())?;
-    format!(in alloc; "no group is named {text}: {hint}")
+    match nearest(alloc, name, known.as_slice())? {
+        Some(near) => format!(in alloc; "no group is named {text}: did you mean \"{near}\"?"),
+        None => format!(in alloc; "no group is named {text}: add it to \"groups\""),
+    }
 }
 
 /// The entries that are looked at one after the other, beside those before them and beside the
@@ -213,7 +215,7 @@ impl<'v> Beside<'v> {
         what: &str,
     ) -> Result<(), AllocError> {
         let text = shown(alloc, span.bytes(self.bytes))?;
-        let why = format!(in alloc; "{what} {text} is declared by an entry before this one")?;
+        let why = format!(in alloc; "{what} {text} has an entry already: remove one of the two")?;
         self.add(alloc, entry, span, DeclFault::TwiceDeclared, why.as_str())
     }
 
@@ -226,7 +228,7 @@ impl<'v> Beside<'v> {
         names: &mut IndexSet<&'v str>,
     ) -> Result<(), AllocError> {
         if entry.index == MAX_GROUPS {
-            let why = "there are at most 64 groups, and this is the 65th";
+            let why = "this is group 65 of at most 64: remove groups without jobs";
             let fault = DeclFault::TooManyGroups;
             self.add(alloc, entry, entry.bracket(), fault, why)?;
         }
@@ -258,7 +260,7 @@ impl<'v> Beside<'v> {
             return Ok(None);
         }
         if groups.is_empty() {
-            let why = "\"groups\" declares no group";
+            let why = "\"groups\" is empty: add this group to it";
             return Ok(Some(String::from_str(alloc, why)?));
         }
         Ok(Some(no_group_words(alloc, groups, name)?))
@@ -287,7 +289,7 @@ impl<'v> Beside<'v> {
         if !takes || entry.member("group").is_some() {
             return Ok(());
         }
-        let why = "the lock is that of a group, and this entry has no \"group\"";
+        let why = "add the \"group\" whose lock it takes, or remove \"mode\"";
         self.add(alloc, entry, span, DeclFault::ModeNeedsGroup, why)
     }
 
@@ -388,7 +390,7 @@ impl<'v> Beside<'v> {
             Some(gap) if max > i128::from(gap) => {
                 let line = command.number;
                 let words = format!(in alloc;
-                    "a run of line {line} may take {max} minutes, but the line is due again {gap} minutes after it was due: it takes no lock, so two of its runs may go on at once"
+                    "line {line} may overlap itself, due again after {gap} minutes: lower \"max\", or set \"mode\""
                 )?;
                 self.findings.add_oddity(span, words)
             }
@@ -406,7 +408,7 @@ impl<'v> Beside<'v> {
         self.find_group(alloc, entry)?;
         if let Some(mode) = entry.member("mode") {
             let key = mode.key;
-            let why = "anacron jobs run one after the other, and take no lock";
+            let why = "remove \"mode\": anacron jobs take no lock";
             self.add(alloc, entry, key, DeclFault::ModeOnAnacron, why)?;
         }
         let Some((identifier, span)) = entry.text("id") else {
@@ -456,12 +458,8 @@ fn nearest_command(begun: &[Begun], line: i128) -> Option<u32> {
 /// The words for a line without a command.
 fn lineless_words(alloc: Global, begun: &[Begun], line: i128) -> Result<String, AllocError> {
     match nearest_command(begun, line) {
-        Some(near) => {
-            format!(in alloc;
-                "line {line} of the crontab holds no command: the nearest is on line {near}"
-            )
-        }
-        None => format!(in alloc; "line {line} holds no command: the crontab has none"),
+        Some(near) => { format!(in alloc; "line {line} has no command: did you mean line {near}?") }
+        None => format!(in alloc; "the crontab has no commands: remove this entry"),
     }
 }
 

@@ -37,7 +37,8 @@ fn add_refusal(
     if findings.has_faults() {
         return Ok(());
     }
-    findings.add_fault(place, String::from_str(alloc, fault)?)
+    let words = format!(in alloc; "{fault}: see 'cronsafe explain'")?;
+    findings.add_fault(place, words)
 }
 
 /// What is found in declarations by themselves, if there are any.
@@ -116,8 +117,8 @@ impl Looks {
     ) -> Result<Looks, AllocError> {
         let entered = entered_in(alloc, &declared)?;
         let no_job = match jobs {
-            Some(_) => "no job of the anacrontab has this identifier",
-            None => "no anacrontab is given, so there is no job of this identifier",
+            Some(_) => "no such job: correct \"id\", or remove the entry",
+            None => "no anacrontab is given: use --anacrontab FILE",
         };
         let table = look_at_table(alloc, table, entered.as_ref())?;
         let jobs = jobs_look(alloc, jobs, entered.as_ref())?;

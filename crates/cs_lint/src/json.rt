@@ -41,22 +41,19 @@ fn reason(bytes: &[u8], place: usize) -> &'static str {
     };
     if trimmed(bytes, rest).is_empty() {
         return match before {
-            None => "the file is empty, and should hold an object, {..}",
-            Some(_) => "the text ends too early: a quote or a bracket isn't closed",
+            None => "the file is empty: write an object, {..}",
+            Some(_) => "the end is missing: close each quote and bracket",
         };
     }
     if str::from_utf8(bytes).is_err() {
-        return "this byte isn't one of a text in UTF-8";
+        return "this byte isn't UTF-8: save the file as UTF-8";
     }
     match (bytes.get(place), before) {
-        (Some(b'}' | b']'), Some(b',')) =>
-            "no comma stands behind the last one of a list or an object",
-        (Some(b'\''), _) => "a text stands in double quotes",
-        (Some(b'/' | b'#'), _) => "JSON has no comments",
-        (Some(b'"' | b'{' | b'['), Some(byte)) if ends_value(byte) =>
-            "a comma is lacking in front of it",
-        _ =>
-            "this is no JSON: a text stands in double quotes, and a comma or a colon between two values",
+        (Some(b'}' | b']'), Some(b',')) => "remove the comma before this bracket",
+        (Some(b'\''), _) => "write text in double quotes",
+        (Some(b'/' | b'#'), _) => "JSON has no comments: remove this one",
+        (Some(b'"' | b'{' | b'['), Some(byte)) if ends_value(byte) => "add a comma before this",
+        _ => "this is no JSON: check the quotes, commas and colons here",
     }
 }
 

@@ -19,9 +19,9 @@ impl Kind {
     pub(crate) fn name(self) -> &'static str {
         match self {
             Kind::Whole => "the declarations",
-            Kind::Group => "an entry of \"groups\"",
-            Kind::Cron => "an entry of \"cron\"",
-            Kind::Anacron => "an entry of \"anacron\"",
+            Kind::Group => "this entry of \"groups\"",
+            Kind::Cron => "this entry of \"cron\"",
+            Kind::Anacron => "this entry of \"anacron\"",
         }
     }
 }

@@ -115,7 +115,7 @@ fn other_shape(
 }
 
 /// What a whole number is called where something else stands.
-const WHOLE: &str = "a whole number, without point and exponent";
+const WHOLE: &str = "a whole number: no quotes, point or exponent";
 
 /// The words of a number out of its range.
 fn number_fault(
@@ -163,15 +163,10 @@ fn hours_fault(
     match are_hours(value) {
         Some(true) => Ok(None),
         Some(false) => {
-            let why = "hours are two minutes of a day, from 0 to 1440, the first before the last";
+            let why = "\"hours\" is [FROM, TO], from 0 to 1440, FROM before TO";
             Ok(Some(told(alloc, object, DeclFault::BadHours, why)?))
         }
-        None => other_shape(
-            alloc,
-            object,
-            "hours",
-            "a list of two whole numbers, [FROM, TO]",
-        ),
+        None => other_shape(alloc, object, "hours", "two minutes of the day, [FROM, TO]"),
     }
 }
 
@@ -225,7 +220,7 @@ fn member_fault(
         Shape::Whole if whole(value).is_some() => Ok(None),
         Shape::Whole => other_shape(alloc, object, name, WHOLE),
         Shape::Text if value.is_string() => Ok(None),
-        Shape::Text => other_shape(alloc, object, name, "a text, in double quotes"),
+        Shape::Text => other_shape(alloc, object, name, "text, in double quotes"),
         Shape::Flag if value.is_boolean() => Ok(None),
         Shape::Flag => other_shape(alloc, object, name, "true or false"),
     }
@@ -243,11 +238,9 @@ fn find_unknown(
         return Ok(());
     }
     let name = member.name.as_str();
-    let kind = object.kind.name();
-    let has = format!(in alloc; "{kind} may have")?;
-    let hint = meant(alloc, name, "\"", names_of(object.kind), has.as_str())?;
+    let hint = meant(alloc, name, "\"", names_of(object.kind), "known are")?;
     let text = quoted(alloc, name.as_bytes())?;
-    let why = format!(in alloc; "{text} is unknown here: {hint}")?;
+    let why = format!(in alloc; "{text} is unknown: {hint}")?;
     let words = told(alloc, object, DeclFault::BadShape, why.as_str())?;
     findings.add_fault(member.key, words)
 }
@@ -267,7 +260,9 @@ fn last_places<'o>(
 /// Adds that a member doesn't count, as its name stands again behind it.
 fn find_again(alloc: Global, findings: &mut Findings, member: &Member) -> Result<(), AllocError> {
     let text = quoted(alloc, member.name.as_bytes())?;
-    let words = format!(in alloc; "{text} stands again further on, and only the last one counts")?;
+    let words = format!(in alloc;
+        "{text} is given again later, and only the last one counts: remove one"
+    )?;
     findings.add_oddity(member.key, words)
 }
 
@@ -280,7 +275,7 @@ fn find_lacking(
     let kind = object.kind.name();
     for name in needed_of(object.kind) {
         if object.member(name).is_none() {
-            let why = format!(in alloc; "{kind} has to have \"{name}\", which is lacking")?;
+            let why = format!(in alloc; "\"{name}\" is required: add it to {kind}")?;
             let words = told(alloc, object, DeclFault::BadShape, why.as_str())?;
             findings.add_fault(object.bracket(), words)?;
         }
@@ -333,7 +328,7 @@ fn find_no_object(
     place: Span,
 ) -> Result<(), AllocError> {
     let name = kind.name();
-    let why = format!(in alloc; "{name} is an object, {{..}}")?;
+    let why = format!(in alloc; "{name} is an object: write {{..}}")?;
     let words = plan_fault(alloc, DeclFault::BadShape, None, why.as_str())?;
     findings.add_fault(place, words)
 }

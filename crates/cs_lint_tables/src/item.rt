@@ -52,10 +52,7 @@ fn reversed_words(alloc: Global, part: Part, item: &[u8]) -> Result<String, Allo
             let (least, most) = (part.first(), part.last());
             format!(in alloc; "a range goes up: did you mean {from}-{most},{least}-{to}?")
         }
-        _ => String::from_str(
-            alloc,
-            "a range goes up: its first number is at most its last",
-        ),
+        _ => String::from_str(alloc, "a range goes up: put the smaller number first"),
     }
 }
 
@@ -65,18 +62,24 @@ fn lone_step_words(alloc: Global, part: Part, item: &[u8]) -> Result<String, All
     let number = shown(alloc, sides.next().unwrap_or(item))?;
     let step = shown(alloc, sides.next().unwrap_or(item))?;
     let last = part.last();
-    format!(in alloc; "a step stands behind `*` or a range: did you mean {number}-{last}/{step}?")
+    format!(in alloc; "a step follows `*` or a range: did you mean {number}-{last}/{step}?")
 }
 
 /// What an item that is no number and no name should be.
 fn no_number_words(alloc: Global, part: Part, item: &[u8]) -> Result<String, AllocError> {
     let name = part_name(part);
     if item.is_empty() {
-        return format!(in alloc; "an item of the {name} is lacking beside a comma");
+        return format!(in alloc; "add an item of the {name} here, or remove the comma");
     }
     let range = range_words(alloc, part)?;
     let text = shown(alloc, item)?;
-    format!(in alloc; "`{text}` is no {name}: {range}")
+    format!(in alloc; "`{text}` is no {name}: write {range}")
+}
+
+/// What the number of an item may be.
+fn out_of_field_words(alloc: Global, part: Part) -> Result<String, AllocError> {
+    let (name, range) = (part_name(part), range_words(alloc, part)?);
+    format!(in alloc; "the {name} is from {range}")
 }
 
 /// The words of the fault of an item.
@@ -87,10 +90,10 @@ fn item_words(
     fault: LineFault,
 ) -> Result<String, AllocError> {
     let why = match fault {
-        LineFault::OutOfField => range_words(alloc, part)?,
+        LineFault::OutOfField => out_of_field_words(alloc, part)?,
         LineFault::Reversed => reversed_words(alloc, part, item)?,
         LineFault::BadStep => {
-            String::from_str(alloc, "the step behind `/` is a number from 1 on")?
+            String::from_str(alloc, "the step after `/` is a number from 1 on")?
         }
         LineFault::StepOnNumber => lone_step_words(alloc, part, item)?,
         _ => no_number_words(alloc, part, item)?,

@@ -58,13 +58,13 @@ fn front_fault(alloc: Global, front: Front, word: &[u8]) -> Result<Option<JobFau
 /// Why a word is no identifier.
 fn no_identifier(word: &[u8]) -> &'static str {
     if word.len() > MAX_IDENTIFIER {
-        "an identifier has at most 200 bytes"
+        "an identifier has at most 200 bytes: shorten it"
     } else if word.iter().any(|byte| *byte == b'/') {
-        "an identifier names the stamp file, so it holds no `/`"
+        "an identifier is a file name: remove the `/`"
     } else if str::from_utf8(word).is_err() {
-        "an identifier is text in UTF-8"
+        "an identifier is UTF-8: save the file as UTF-8"
     } else {
-        "an identifier names the stamp file, so it isn't `.` or `..`"
+        "`.` and `..` name no stamp file: choose another identifier"
     }
 }
 
@@ -74,11 +74,9 @@ fn front_words(alloc: Global, word: &[u8], fault: JobFault) -> Result<String, Al
         JobFault::UnknownWord => unknown_word(alloc, word, WORDS.as_slice())?,
         JobFault::BadPeriod => String::from_str(
             alloc,
-            "the period is a number of days from 1 to 100,000, @daily, @weekly or @monthly",
+            "the period is 1 to 100,000 days, @daily, @weekly or @monthly",
         )?,
-        JobFault::BadDelay => {
-            String::from_str(alloc, "the delay is a number of minutes from 0 to 100,000")?
-        }
+        JobFault::BadDelay => { String::from_str(alloc, "the delay is 0 to 100,000 minutes")? }
         _ => String::from_str(alloc, no_identifier(word))?,
     };
     format!(in alloc; "{fault}: {text}")
@@ -132,7 +130,7 @@ impl<'a, 'd> JobsLook<'a, 'd> {
     /// Notes a job, and that it's one too many.
     fn begin(&mut self, alloc: Global, line: Line<'_>) -> Result<(), AllocError> {
         if self.jobs == MAX_JOBS {
-            let why = "an anacrontab has at most 64 jobs, and this is the 65th";
+            let why = "this is job 65 of at most 64: join some in one script";
             self.add_fault(alloc, line, line.first_word(), JobFault::TooManyJobs, why)?;
         }
         self.jobs = self.jobs.saturating_add(1);
@@ -141,7 +139,7 @@ impl<'a, 'd> JobsLook<'a, 'd> {
 
     fn find_long_line(&mut self, alloc: Global, line: Line<'_>) -> Result<(), AllocError> {
         let len = line.text.len();
-        let why = format!(in alloc; "a line has at most 4,096 bytes, and this one {len}")?;
+        let why = format!(in alloc; "a line has at most 4,096 bytes, not {len}: shorten it")?;
         let place = Span::of(MAX_LINE, 1);
         self.add_fault(alloc, line, place, JobFault::TooLong, why.as_str())
     }
@@ -151,7 +149,7 @@ impl<'a, 'd> JobsLook<'a, 'd> {
             Some(at) => at,
             None => 0,
         };
-        let why = "no line holds a zero byte, nor does a comment";
+        let why = "this byte is zero: delete it, or save the file as UTF-8";
         self.add_fault(alloc, line, Span::of(at, 1), JobFault::NulByte, why)
     }
 
@@ -162,7 +160,7 @@ impl<'a, 'd> JobsLook<'a, 'd> {
         name: &str,
     ) -> Result<(), AllocError> {
         let why = format!(in alloc;
-            "the {name} should stand here: a job is PERIOD DELAY IDENTIFIER COMMAND"
+            "the {name} is missing: write PERIOD DELAY IDENTIFIER COMMAND"
         )?;
         let fault = JobFault::MissingField;
         self.add_fault(alloc, line, line.end(), fault, why.as_str())
@@ -223,7 +221,7 @@ impl<'a, 'd> JobsLook<'a, 'd> {
     /// Adds that a line is continued, and what is wrong with what stands in front of its backslash.
     fn look_at_continued(&mut self, alloc: Global, line: Line<'_>) -> Result<(), AllocError> {
         let last = Span::of(line.text.len().saturating_sub(1), 1);
-        let why = "a line that goes on behind a backslash isn't read: write it as one";
+        let why = "continued lines aren't read: write it all on one line";
         self.add_fault(alloc, line, last, JobFault::Continued, why)?;
         let kept = match line.text.iter().rposition(|byte| *byte != b'\\') {
             Some(at) => at.saturating_add(1),
@@ -244,9 +242,7 @@ impl<'a, 'd> JobsLook<'a, 'd> {
         identifier: Span,
         first: u32,
     ) -> Result<(), AllocError> {
-        let why = format!(in alloc;
-            "line {first} has this identifier, which names the stamp file of one job"
-        )?;
+        let why = format!(in alloc; "line {first} has this identifier: choose another one")?;
         self.add_fault(alloc, line, identifier, JobFault::TwiceNamed, why.as_str())
     }
 
@@ -280,7 +276,7 @@ impl<'a, 'd> JobsLook<'a, 'd> {
             Some(entered) if entered.lacks_job(name) => {
                 let name = shown(alloc, name)?;
                 let words = format!(in alloc;
-                    "4 Undeclared at job {name}: no entry of \"anacron\" in the declarations has this identifier"
+                    "4 Undeclared at job {name}: \"anacron\" has no entry for this job: add one"
                 )?;
                 self.findings.add_fault(line.place(identifier), words)
             }
@@ -336,7 +332,7 @@ impl<'a, 'd> JobsLook<'a, 'd> {
         self.is_whole = false;
         let fault = JobFault::TooLong;
         let words = format!(in alloc;
-            "{fault}: a table has at most 1,048,576 bytes, and here begins what is over"
+            "{fault}: a table has at most 1,048,576 bytes: remove what begins here"
         )?;
         self.findings.add_fault(Span::of(MAX_TABLE, 1), words)
     }

@@ -41,9 +41,12 @@ fn bad_value(text: &[u8], from: usize) -> (Span, &'static str) {
     match first_at(text, start.saturating_add(1), quote) {
         Some(end) => (
             word_from(text, end.saturating_add(1)),
-            "only blanks stand behind the quote that closes a value",
+            "only blanks may follow the closing quote: remove this",
         ),
-        None => (Span::of(start, 1), "the quote round the value isn't closed"),
+        None => (
+            Span::of(start, 1),
+            "no quote closes this value: add one at its end",
+        ),
     }
 }
 
@@ -54,7 +57,7 @@ fn bad_behind_name(text: &[u8], name_end: usize) -> (Span, &'static str) {
         Some(b'=') => bad_value(text, next.from.saturating_add(1)),
         _ => (
             next,
-            "`=` should stand here: a line that begins with a letter, `_` or a quote is a setting, NAME = VALUE",
+            "add `=`: a line that begins like this is a setting, NAME=VALUE",
         ),
     }
 }
@@ -64,15 +67,21 @@ fn bad_setting(text: &[u8]) -> (Span, &'static str) {
     let start = word_from(text, 0).from;
     let first = match text.get(start) {
         Some(byte) => *byte,
-        None => return (Span::of(start, 0), "a setting is NAME = VALUE"),
+        None => return (Span::of(start, 0), "write NAME=VALUE"),
     };
     if !is_quote(first) {
         return bad_behind_name(text, plain_end(text, start));
     }
     let inside = start.saturating_add(1);
     match first_at(text, inside, first) {
-        None => (Span::of(start, 1), "the quote round the name isn't closed"),
-        Some(end) if end == inside => (Span::of(start, 2), "a name has one byte at least"),
+        None => (
+            Span::of(start, 1),
+            "no quote closes this name: add one at its end",
+        ),
+        Some(end) if end == inside => (
+            Span::of(start, 2),
+            "the name is empty: write one between the quotes",
+        ),
         Some(end) => bad_behind_name(text, end.saturating_add(1)),
     }
 }
@@ -93,13 +102,11 @@ pub(crate) fn find_bad_setting(
 /// `anacrontab(5)`).
 fn unheeded(name: &[u8]) -> Option<&'static str> {
     if name == b"CRON_TZ".as_slice() {
-        Some("CRON_TZ has no effect here: all times are those of the machine's one clock")
+        Some("CRON_TZ has no effect: remove it, and set \"offset\" in the declarations")
     } else if name == b"RANDOM_DELAY".as_slice() {
-        Some("RANDOM_DELAY has no effect here: a job starts in the minute in which it is due")
+        Some("RANDOM_DELAY has no effect: remove it, since no start is delayed at random")
     } else if name == b"START_HOURS_RANGE".as_slice() {
-        Some(
-            "START_HOURS_RANGE has no effect here: declarations have the catch-up hours, as \"hours\"",
-        )
+        Some("START_HOURS_RANGE has no effect: set \"hours\" in the declarations instead")
     } else {
         None
     }

@@ -33,7 +33,7 @@ pub(crate) fn unknown_word(
 ) -> Result<String, AllocError> {
     let name = shown(alloc, word)?;
     let hint = meant(alloc, name.as_str(), "", known, "the words are")?;
-    format!(in alloc; "{name} is no such word: {hint}")
+    format!(in alloc; "{name} is unknown: {hint}")
 }
 
 /// A line that begins as a command does.
@@ -104,7 +104,7 @@ impl<'d> TableLook<'d> {
                 line,
                 line.first_word(),
                 LineFault::TooManyJobs,
-                "a table has at most 256 commands, those of @reboot counted, and this is the 257th",
+                "this is command 257 of at most 256: join some in one script",
             )?;
         }
         self.begun.push(Begun {
@@ -118,7 +118,7 @@ impl<'d> TableLook<'d> {
 
     fn find_long_line(&mut self, alloc: Global, line: Line<'_>) -> Result<(), AllocError> {
         let len = line.text.len();
-        let why = format!(in alloc; "a line has at most 4,096 bytes, and this one {len}")?;
+        let why = format!(in alloc; "a line has at most 4,096 bytes, not {len}: shorten it")?;
         let place = Span::of(MAX_LINE, 1);
         self.add_fault(alloc, line, place, LineFault::TooLong, why.as_str())
     }
@@ -133,7 +133,7 @@ impl<'d> TableLook<'d> {
             line,
             Span::of(at, 1),
             LineFault::NulByte,
-            "no line holds a zero byte, nor does a comment",
+            "this byte is zero: delete it, or save the file as UTF-8",
         )
     }
 
@@ -146,7 +146,7 @@ impl<'d> TableLook<'d> {
         if !word_from(line.text, from).is_empty() {
             return Ok(());
         }
-        let why = "a command should stand here";
+        let why = "the command is missing: add it here";
         self.add_fault(alloc, line, line.end(), LineFault::NoCommand, why)
     }
 
@@ -172,9 +172,7 @@ impl<'d> TableLook<'d> {
         line: Line<'_>,
         name: &str,
     ) -> Result<(), AllocError> {
-        let why = format!(in alloc;
-            "the {name} should stand here: five fields stand in front of a command"
-        )?;
+        let why = format!(in alloc; "the {name} is missing: write five fields and a command")?;
         let fault = LineFault::MissingField;
         self.add_fault(alloc, line, line.end(), fault, why.as_str())
     }
@@ -229,11 +227,11 @@ impl<'d> TableLook<'d> {
         let (fault, why) = match command.when() {
             When::Reboot => (
                 DeclFault::RebootLine,
-                "repeated outages would start it without bound, so no plan has one",
+                "comment it out: outages would start it without bound",
             ),
             When::At(_) if entered.lacks_line(line.number) => (
                 DeclFault::Undeclared,
-                "no entry of \"cron\" in the declarations has this line",
+                "\"cron\" has no entry for this line: add one",
             ),
             When::At(_) => return Ok(()),
         };
@@ -254,7 +252,7 @@ impl<'d> TableLook<'d> {
         }
         let (longest, first) = days_named(schedule);
         let words = format!(in alloc;
-            "this line is never due: it names no day of the month below {first}, and the longest month that it names has {longest} days"
+            "never due: its first day is {first}, but its longest month has {longest} days: change either"
         )?;
         let [_, _, dom, month, _] = five_words(line.text);
         let place = Span {
@@ -278,7 +276,7 @@ impl<'d> TableLook<'d> {
         self.has_user = true;
         let words = String::from_str(
             alloc,
-            "the command begins with root, as in a table with a user column, which /etc/crontab has: here root is run as a command",
+            "here `root` is the command: this table has no user column, so remove it",
         )?;
         let start = line.text.len().saturating_sub(command.command().len());
         self.findings
@@ -349,7 +347,7 @@ impl<'d> TableLook<'d> {
         self.is_whole = false;
         let fault = LineFault::TooLong;
         let words = format!(in alloc;
-            "{fault}: a table has at most 1,048,576 bytes, and here begins what is over"
+            "{fault}: a table has at most 1,048,576 bytes: remove what begins here"
         )?;
         self.findings.add_fault(Span::of(MAX_TABLE, 1), words)
     }

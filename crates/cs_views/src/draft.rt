@@ -38,7 +38,7 @@ fn show(alloc: Global, table: &Crontab, jobs: &Anacrontab, max: u64) -> Result<R
             alloc,
             Status::Unknown,
             warned.as_slice(),
-            b"no declarations could be drawn up".as_slice(),
+            b"no draft could be made".as_slice(),
         ),
         Drawing::Drawn(draft) => {
             let (text, warnings) = draft.into_parts();

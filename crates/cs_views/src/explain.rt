@@ -10,10 +10,10 @@ use std::alloc::{AllocError, Global};
 /// What is told where nothing has the name, with the nearest one that something has.
 fn no_such_name(alloc: Global, name: &str) -> Result<Vec<u8>, AllocError> {
     let told = match nearest(alloc, name)? {
-        Some(near) => format!(in alloc;
-            "cronsafe: nothing is named {name}: did you mean {near}?\n"
+        Some(near) => format!(in alloc; "cronsafe: unknown name {name}: did you mean {near}?\n")?,
+        None => format!(in alloc;
+            "cronsafe: unknown name {name}: 'cronsafe explain' lists all names\n"
         )?,
-        None => format!(in alloc; "cronsafe: nothing is named {name}: try cronsafe explain\n")?,
     };
     Ok(told.into_bytes())
 }

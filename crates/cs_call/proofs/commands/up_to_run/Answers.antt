@@ -3,4 +3,4 @@ use Rattle.cs_call.proofs.commands.up_to_run.Goals as goal
 
 pub returns : goal.returns
 unfolding up_to_run_app
-returns c = c.with_subcommand.ensures _ _ (c.with_subcommand-cronsafe.ensures _ _ c.judge_and_make.ensures c.check_command.ensures.app) c.run_command.ensures.app
+returns c = c.with_subcommand.ensures _ _ (c.with_subcommand-cronsafe.ensures _ _ c.judge_and_check.ensures c.make_command.ensures.app) c.run_command.ensures.app

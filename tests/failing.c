@@ -1,8 +1,9 @@
-/* Preloaded into a program: lets one call of one function of the C library fail.
+/* Preloaded into a program: lets one call of one function of the C library fail, or all from one on.
  *
  * FAILING is `rename 2 28`: the function's name, which of its calls is to fail, from 1 on, and the
- * error's number. `memory` stands for malloc, calloc and realloc together. FAILED names a file that
- * is made as soon as the call has failed. What the program starts isn't meddled with.
+ * error's number; `rename -2 28` lets the second fail and each after it. `memory` stands for malloc,
+ * calloc and realloc together. A `read` that has to fail with the number 0 reads one byte. FAILED
+ * names a file that is made as soon as a call has failed. What the program starts isn't meddled with.
  */
 #define _GNU_SOURCE
 #include <dlfcn.h>
@@ -42,17 +43,24 @@ __attribute__((constructor)) static void begin(void) {
 
 static void *next(const char *name) { return dlsym(RTLD_NEXT, name); }
 
-/* Whether this call of the function has to fail. */
-static int fails(const char *name) {
-    int (*create)(const char *, int, ...);
-    int made;
-    if (strcmp(wanted, name) != 0 || atomic_fetch_add(&calls, 1) + 1 != which)
-        return 0;
-    wanted[0] = 0;
-    create = next("open");
-    made = create(told, O_WRONLY | O_CREAT, 0600);
+/* Makes the file that tells of a failure. */
+static void tell(void) {
+    int (*create)(const char *, int, ...) = next("open");
+    int made = create(told, O_WRONLY | O_CREAT, 0600);
     if (made >= 0)
         close(made);
+}
+
+/* Whether this call of the function has to fail. */
+static int fails(const char *name) {
+    long call;
+    if (strcmp(wanted, name) != 0)
+        return 0;
+    call = atomic_fetch_add(&calls, 1) + 1;
+    if (call < labs(which) || (call > which && which > 0))
+        return 0;
+    if (call == labs(which))
+        tell();
     errno = error;
     return 1;
 }
@@ -77,7 +85,13 @@ void *realloc(void *old, size_t size) {
         return fails(#name) ? failure : real arguments;                                            \
     }
 
-CALL(ssize_t, read, (int file, void *to, size_t size), (file, to, size), -1)
+ssize_t read(int file, void *to, size_t size) {
+    ssize_t (*real)(int, void *, size_t) = next("read");
+    if (!fails("read"))
+        return real(file, to, size);
+    return error ? -1 : real(file, to, size > 0);
+}
+
 CALL(ssize_t, pread64, (int file, void *to, size_t size, off64_t at), (file, to, size, at), -1)
 CALL(ssize_t, write, (int file, const void *from, size_t size), (file, from, size), -1)
 CALL(ssize_t, writev, (int file, const struct iovec *from, int count), (file, from, count), -1)

@@ -18,5 +18,8 @@ def compiled(folder):
 
 
 def failing(library, name, which, error, told):
-    """Returns the variables by which one call of a function fails; `told` is made when it does."""
+    """Returns the variables by which a call of a function fails; `told` is made when one does.
+
+    It is the call of the number `which`; that one and all after it where the number is negative.
+    """
     return {"LD_PRELOAD": library, "FAILING": f"{name} {which} {error}", "FAILED": told}

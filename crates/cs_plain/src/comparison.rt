@@ -24,7 +24,7 @@ const FIRST_MINUTE: u64 = 28_769_757;
 const FIRST_STAMP: u64 = 19_976;
 
 /// What a history starts with.
-#[derive(Debug, Drop)]
+#[derive(Drop)]
 struct Opening {
     minute: u64,
     is_up: bool,
@@ -322,6 +322,11 @@ impl Trial {
         !self.story().pass(rt).left.is_empty()
     }
 
+    /// An event to try next.
+    fn any_event<R: Abort + AllocGlobal>(&self, rt: &R, chance: &mut Chance) -> Event {
+        any_event(rt, &self.story(), chance)
+    }
+
     /// Whether the core answers so, in a test and in a step, which it takes.
     fn core_answers(&mut self, event: Event, wanted: Result<Reply, Refusal>) -> bool {
         let is_tested = self.core.test(&event) == wanted.map(|_| ());
@@ -361,7 +366,7 @@ fn is_next_met<R: Abort + AllocGlobal>(
     chance: &mut Chance,
     tally: &mut Tally,
 ) -> bool {
-    let event = any_event(rt, &trial.story(), chance);
+    let event = trial.any_event(rt, chance);
     trial.is_met(rt, event, tally)
 }
 
@@ -397,7 +402,7 @@ fn pass_at(event: Event) -> &'static str {
 
 #[test]
 fn core_meets_plain_reading(rt: HostRuntime) {
-    let mut tally = Tally::new(&rt);
+    let mut tally = Tally::new();
     for seed in 0..PLANS {
         let difference = first_difference(&rt, seed, &mut tally);
         assert!(rt;

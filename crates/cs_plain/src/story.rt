@@ -4,7 +4,7 @@ use cs_history::{Event, Going, Reply, Run};
 use std::process::Abort;
 
 /// An event that was taken, and the reply to it.
-#[derive(Clone, Copy, Debug, PartialEq, Eq)]
+#[derive(Clone, Copy)]
 pub(crate) struct Entry {
     pub(crate) event: Event,
     pub(crate) reply: Reply,
@@ -21,7 +21,7 @@ pub(crate) struct Story<'a> {
 }
 
 /// An open pass: its minute and the jobs that it has still to start. Where there is none, no pass is open.
-#[derive(Debug, Drop)]
+#[derive(Drop)]
 pub(crate) struct Pass {
     pub(crate) begun: u64,
     pub(crate) left: Vec<u16>,

@@ -7,7 +7,7 @@ use cs_history::Mode;
 use std::process::Abort;
 
 /// A cron job that is due each time so many minutes of an hour have gone by.
-#[derive(Clone, Copy, Debug, PartialEq, Eq)]
+#[derive(Clone, Copy)]
 pub(crate) struct CronJob {
     pub(crate) every: u64,
     pub(crate) max: u64,
@@ -16,7 +16,7 @@ pub(crate) struct CronJob {
 }
 
 /// An anacron job.
-#[derive(Clone, Copy, Debug, PartialEq, Eq)]
+#[derive(Clone, Copy)]
 pub(crate) struct AnacronJob {
     pub(crate) period: u64,
     pub(crate) delay: u64,
@@ -24,7 +24,7 @@ pub(crate) struct AnacronJob {
 }
 
 /// A plan of two groups, its catch-up hours and its pass minute.
-#[derive(Debug, Drop)]
+#[derive(Drop)]
 pub(crate) struct Table {
     pub(crate) crons: Vec<CronJob>,
     pub(crate) anacrons: Vec<AnacronJob>,

@@ -1,7 +1,6 @@
 //! How often each thing came up.
-use crate::table::{Table, add};
+use crate::table::Table;
 use cs_history::{Event, Mode, Refusal, Reply};
-use std::process::Abort;
 
 /// What an event may come to.
 pub(crate) const OUTCOMES: [&str; 26] = [
@@ -34,18 +33,14 @@ pub(crate) const OUTCOMES: [&str; 26] = [
 ];
 
 /// How often each outcome came up, in the order of the list above.
-#[derive(Debug, Drop)]
+#[derive(Drop)]
 pub(crate) struct Tally {
-    counts: Vec<u32>,
+    counts: [u32; 26],
 }
 
 impl Tally {
-    pub(crate) fn new<R: Abort + AllocGlobal>(rt: &R) -> Tally {
-        let mut counts = Vec::new(rt.alloc());
-        for _ in OUTCOMES {
-            add(rt, &mut counts, 0);
-        }
-        Tally { counts }
+    pub(crate) fn new() -> Tally {
+        Tally { counts: [0; 26] }
     }
 
     pub(crate) fn add(&mut self, outcome: &str) {

@@ -1,7 +1,7 @@
-"""Scripts of random events over random small plans, whether an event may come or not.
+"""Scripts of random events over random small plans, whether an event may come or not; and a week.
 
-Those that get on with a history are likelier: what is pending, waits or runs is known from the
-second reading, which plays each script as it is made.
+Events that get on with a history are likelier: what is pending, waits or runs is known from the
+second reading, which plays each script as it is made. In the week no event is refused.
 """
 import json
 
@@ -23,6 +23,21 @@ MIDNIGHT = 28_769_760
 DAY = 1_440
 MODES = ("none", "skip", "wait", "shared")
 WEIGHTS = {"begin": 22, "minute": 12, "end": 14, "got": 6, "catch": 3, "down": 1, "up": 1}
+SERVER = b"""\
+*/15 * * * * /usr/local/bin/check-disks
+17 * * * * /usr/sbin/logrotate /etc/logrotate.conf
+30 2 * * * /usr/local/sbin/backup /srv
+0 3 * * 0 find /var/tmp -mtime +30 -delete
+"""
+SERVER_DECLARED = b"""{"capacity": 4, "groups": [{"name": "disk", "exclusive": true}], "cron": [
+{"line": 1, "max": 5}, {"line": 2, "max": 10},
+{"line": 3, "max": 60, "group": "disk", "mode": "wait"},
+{"line": 4, "max": 60, "group": "disk", "mode": "wait"}]}
+"""
+# For how many minutes the command of a line runs, or waits and runs.
+TAKES = {1: 1, 2: 2, 3: 40, 4: 35}
+# 2024-03-11 00:00, and 02:40 and 05:20 of the third day.
+MONDAY, DOWN, UP = 28_501_920, 2 * DAY + 160, 2 * DAY + 320
 
 
 def files_of(chance):
@@ -134,8 +149,43 @@ class History:
             pass
 
 
+def is_due(line, minute):
+    """Returns whether the command of a line is due at a minute of the week."""
+    in_hour, in_day = minute % 60, minute % DAY
+    return (in_hour % 15 == 0, in_hour == 17, in_day == 150, minute == 6 * DAY + 180)[line - 1]
+
+
+def lines_at(minute):
+    """Yields the lines of a minute of the week: its runs end, one gets its lock, others begin."""
+    yield f"minute {minute_text(MONDAY + minute)}"
+    for line, takes in TAKES.items():
+        if minute >= takes and is_due(line, minute - takes):
+            yield f"end line {line} {minute_text(MONDAY + minute - takes)}"
+    if is_due(4, minute - 10):
+        yield f"got line 4 {minute_text(MONDAY + minute - 10)}"
+    for line in TAKES:
+        if is_due(line, minute):
+            yield f"begin line {line}"
+
+
+def week():
+    """Yields the script of a week, line by line, with an outage in which the backup ends."""
+    yield f"start {minute_text(MONDAY - 1)} up"
+    for minute in range(7 * DAY):
+        if not DOWN < minute <= UP:
+            yield from lines_at(minute)
+        if minute == DOWN:
+            yield "down"
+            yield f"end line 3 {minute_text(MONDAY + 2 * DAY + 150)}"
+        if minute == UP:
+            yield f"up {minute_text(MONDAY + minute)}"
+
+
 def histories(chance):
-    """Yields the calls that replay random scripts."""
+    """Yields the calls that replay the week and random scripts."""
+    text = "".join(f"{it}\n" for it in week()).encode()
+    beside = {b"crontab": SERVER, b"declarations": SERVER_DECLARED}
+    yield call_of("a week of a server", b"script", text, beside)
     for number in range(PLANS):
         crontab, anacrontab, declarations = files_of(chance)
         tables = read_crontab(crontab), read_anacrontab(anacrontab)

@@ -4,7 +4,7 @@ from hostile_calls.worked import worked_certificates
 
 # Of a longer input as many prefixes are taken, by the seed.
 LONG, PREFIXES_OF_A_LONG_ONE = 600, 100
-LONG_CERTIFICATE, PREFIXES_OF_A_LONG_CERTIFICATE = 100, 6
+LONG_CERTIFICATE, PREFIXES_OF_A_LONG_CERTIFICATE = 122, 6
 BYTES = b"\0\t\n\r \"%',-./01:=@\\a\xff"
 BYTES_OF_CERTIFICATES = BYTES + b"29[]{}eE+"
 # Of so many changes one is made of certificates too, which take longer.

@@ -1,5 +1,5 @@
 -- What is answered to `judge` and to `make`: how the tables stand as they are declared.
-use Rattle.std.specs.Prelude.{◌≡◌, ℕ, List, [], Option, Result}
+use Rattle.std.specs.Prelude.{◌≡◌, ℕ, Bool, true, false, List, [], Option, Result}
 use Rattle.cs_crontab.specs.Crontab.{Table}
 use Rattle.cs_anacrontab.specs.Anacrontab.{Table as JobTable}
 use Rattle.cs_decl.specs.Plan.{Declared}
@@ -9,7 +9,8 @@ use Rattle.cs_judge.specs.declared.judged.Judged.{Judged}
 use Rattle.cs_judge.specs.declared.answers.Outcome.{Outcome}
 use Rattle.cs_judge.specs.declared.answers.Outcome.TheVariants.{NoMemory, Safe, Unknown, Unsafe}
 use Rattle.cs_judge.specs.declared.answers.Wanted.{Wanted}
-use Rattle.cs_call.specs.CommandLine.{AskedJudge}
+use Rattle.cs_judge.specs.declared.answers.Wanted.TheVariants.{Certificate, Compact, Verdict}
+use Rattle.cs_call.specs.CommandLine.{AskedJudge, AskedMake}
 use Rattle.cs_io.specs.Files.{Failed}
 use Rattle.cs_reads.specs.Response.{Ending}
 use Rattle.cs_reads.specs.Reads.{AndThen, Answered, GivesSome, ReadsDeclared, ReadsTables}
@@ -39,8 +40,21 @@ JudgesPlan wanted files a tables =
 
 -- what is answered where this is wanted: how the plan was found, or the first fault of a file, and no
 -- file is read before its own turn
-abbrev pub AnswersJudge : Wanted → AskedJudge → (List ℕ → Option (List ℕ)) → Failed → Failed
-    → Ending
-    → Type 0
-AnswersJudge wanted a files =
+abbrev pub AnswersWanted : Wanted → AskedJudge → (List ℕ → Option (List ℕ)) → Failed → Failed
+    → Ending → Type 0
+AnswersWanted wanted a files =
     Answered (ReadsTables files a.table a.anacrontab) (λ both. JudgesPlan wanted files a both)
+
+-- `judge` prints a verdict
+abbrev pub AnswersJudge : AskedJudge → (List ℕ → Option (List ℕ)) → Failed → Failed → Ending
+    → Type 0
+AnswersJudge a files = AnswersWanted Verdict a files
+
+-- `make` prints the certificate of a plan that is safe, with `--compact` a compact one
+abbrev pub wanted_of : Bool → Wanted
+wanted_of true = Compact
+wanted_of false = Certificate
+
+abbrev pub AnswersMake : AskedMake → (List ℕ → Option (List ℕ)) → Failed → Failed → Ending
+    → Type 0
+AnswersMake a files = AnswersWanted (wanted_of a.compact) a.judge files

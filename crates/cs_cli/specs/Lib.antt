@@ -2,4 +2,3 @@ pub mod Check
 pub mod Safe
 pub mod Answer
 pub mod Judge
-pub mod Call

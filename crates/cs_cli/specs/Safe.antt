@@ -1,12 +1,13 @@
 -- What the word `safe` says of the files of a call.
-use Rattle.std.specs.Prelude.{ℕ, List, Option}
+use Rattle.std.specs.Prelude.{◌≡◌, ℕ, List, Option}
 use Rattle.cs_decl.specs.Plan.{as_plan}
 use Rattle.cs_check.specs.Case.{reach_for}
 use Rattle.cs_check.specs.Checked.{IsCalmThroughout, IsHeadline, certificate_in, plan_in}
 use Rattle.cs_check.specs.declared.checked.Checked.{Checked}
 use Rattle.cs_call.specs.CommandLine.{AskedCheck}
 use Rattle.cs_io.specs.Files.{Failed}
-use Rattle.cs_cli.specs.Check.{IsProofOf}
+use Rattle.cs_cli.specs.Check.{AnswersCheck, IsProofOf}
+use Rattle.cs_reads.specs.Response.{Ending}
 
 -- every legal history of its plan in which each run ends within its declared time is safe, and each
 -- minute from 1970-01-04 on is calm
@@ -21,3 +22,9 @@ pub record AreSafe (files : List ℕ → Option (List ℕ)) (a : AskedCheck)
   pub checked : Checked
   pub proof : IsProofOf files a failed checked
   pub safe : IsSafe checked
+
+-- what `check` answers; its status is 0 only where the files denote a plan that is safe
+pub record IsChecked (a : AskedCheck) (files : List ℕ → Option (List ℕ)) (before failed : Failed)
+    (ending : Ending) : Type 0 where
+  pub answer : AnswersCheck a files before failed ending
+  pub safe : ending.status ≡ 0 → AreSafe files a before

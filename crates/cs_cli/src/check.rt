@@ -171,8 +171,8 @@ pub(crate) fn checked_answer<R: Threads + Sync, I: Inputs>(
     }
 }
 
-/// The answer to `check TABLE DECLS CERT [--anacrontab FILE]`.
-pub(crate) fn check_certificate<R: Threads + Sync, I: Inputs>(
+/// Answers `check TABLE DECLS CERT [--anacrontab FILE]`. The only error is want of memory.
+pub fn answer_check<R: Threads + Sync, I: Inputs>(
     rt: &R,
     alloc: Global,
     request: &CheckWords<'_>,

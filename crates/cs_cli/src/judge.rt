@@ -1,15 +1,16 @@
 //! The subcommands `judge` and `make`.
 ghost use Rattle.std.specs.Prelude.{◌≡◌, ◌≢◌, IfErr, IfOk};
-ghost use Rattle.cs_call.specs.Asked.{asked_judge};
+ghost use Rattle.cs_call.specs.Asked.{asked_judge, asked_make};
 ghost use Rattle.cs_io.specs.Files.{AreReadInTurn, IsFresh, IsReadAlone};
-ghost use Rattle.cs_cli.specs.Judge.{AnswersJudge, IsJudged, JudgesPlan, outcome_status};
+ghost use Rattle.cs_cli.specs.Judge.{AnswersJudge, AnswersMake, AnswersWanted, IsJudged};
+ghost use Rattle.cs_cli.specs.Judge.{JudgesPlan, outcome_status, wanted_of};
 ghost use Rattle.cs_reads.specs.RanOut.{IsWarned};
 ghost use Rattle.cs_reads.specs.Response.{status_of};
 ghost use Rattle.cs_reads.specs.Trouble.{CameTo, IsHonest, IsHonestOf};
 ghost use Rattle.cs_reads.specs.Turn.{judge_paths};
 
 use cs_anacrontab::Anacrontab;
-use cs_call::JudgeWords;
+use cs_call::{JudgeWords, MakeWords};
 use cs_civil::Bytes;
 use cs_crontab::Crontab;
 use cs_decl::Plan;
@@ -68,9 +69,8 @@ fn told<'a, R: Threads + Sync, I: Inputs>(
     Ok(judged(rt, alloc, &plan, wanted)?)
 }
 
-/// The answer to `judge TABLE DECLS [--anacrontab FILE]`, where a verdict is wanted, and to `make` with the same words,
-/// where a certificate is, with `--compact` a compact one.
-pub(crate) fn judge_plan<R: Threads + Sync, I: Inputs>(
+/// Answers what is wanted of the plan in the files: a verdict or a certificate.
+fn answer_wanted<R: Threads + Sync, I: Inputs>(
     rt: &R,
     alloc: Global,
     request: &JudgeWords<'_>,
@@ -78,7 +78,7 @@ pub(crate) fn judge_plan<R: Threads + Sync, I: Inputs>(
     inputs: &mut I,
 ) -> Result<Response, RanOut>
     ensures value { IsFresh (I.whole inputs.old) (I.left inputs.old)
-        → IfOk result (AnswersJudge wanted (asked_judge request.now) (I.whole inputs.old)
+        → IfOk result (AnswersWanted wanted (asked_judge request.now) (I.whole inputs.old)
         (I.failed inputs.old) (I.failed inputs.new)) }
     ensures status { IfOk result (IsHonest (I.failed inputs.new) (I.reads inputs.new)) }
     ensures warned { IsFresh (I.whole inputs.old) (I.left inputs.old)
@@ -97,4 +97,58 @@ pub(crate) fn judge_plan<R: Threads + Sync, I: Inputs>(
         Ok(answer) => Ok(answer.behind(warnings)),
         Err(fault) => fault.response_behind(alloc, warnings),
     }
+}
+
+/// Answers `judge TABLE DECLS [--anacrontab FILE]`. The only error is want of memory.
+pub fn answer_judge<R: Threads + Sync, I: Inputs>(
+    rt: &R,
+    alloc: Global,
+    request: &JudgeWords<'_>,
+    inputs: &mut I,
+) -> Result<Response, RanOut>
+    ensures value { IsFresh (I.whole inputs.old) (I.left inputs.old)
+        → IfOk result (AnswersJudge (asked_judge request.now) (I.whole inputs.old)
+        (I.failed inputs.old) (I.failed inputs.new)) }
+    ensures status { IfOk result (IsHonest (I.failed inputs.new) (I.reads inputs.new)) }
+    ensures warned { IsFresh (I.whole inputs.old) (I.left inputs.old)
+        → IfErr result (λ e. IsWarned (I.whole inputs.old) (asked_judge request.now).table
+        (asked_judge request.now).anacrontab (I.failed inputs.old)
+        (I.reads inputs.old) (I.reads inputs.new) e.warnings) }
+    ensures turn { AreReadInTurn (judge_paths (asked_judge request.now))
+        (I.reads inputs.old) (I.reads inputs.new) }
+{
+    answer_wanted(rt, alloc, request, Wanted::Verdict, inputs)
+}
+
+/// What `make` prints of a plan that is safe.
+fn wanted_of(compact: bool) -> Wanted
+    ensures { result ≡ wanted_of compact }
+{
+    if compact {
+        Wanted::Compact
+    } else {
+        Wanted::Certificate
+    }
+}
+
+/// Answers `make TABLE DECLS [--anacrontab FILE] [--compact]`. The only error is want of memory.
+pub fn answer_make<R: Threads + Sync, I: Inputs>(
+    rt: &R,
+    alloc: Global,
+    request: &MakeWords<'_>,
+    inputs: &mut I,
+) -> Result<Response, RanOut>
+    ensures value { IsFresh (I.whole inputs.old) (I.left inputs.old)
+        → IfOk result (AnswersMake (asked_make request.now) (I.whole inputs.old)
+        (I.failed inputs.old) (I.failed inputs.new)) }
+    ensures status { IfOk result (IsHonest (I.failed inputs.new) (I.reads inputs.new)) }
+    ensures warned { IsFresh (I.whole inputs.old) (I.left inputs.old)
+        → IfErr result (λ e. IsWarned (I.whole inputs.old)
+        (asked_make request.now).judge.table (asked_make request.now).judge.anacrontab
+        (I.failed inputs.old) (I.reads inputs.old) (I.reads inputs.new) e.warnings) }
+    ensures turn { AreReadInTurn (judge_paths (asked_make request.now).judge)
+        (I.reads inputs.old) (I.reads inputs.new) }
+{
+    let wanted = wanted_of(request.compact);
+    answer_wanted(rt, alloc, &request.judge, wanted, inputs)
 }

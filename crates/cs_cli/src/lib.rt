@@ -1,11 +1,12 @@
-//! What is answered to the words of a call of `cronsafe`, from its inputs.
+//! The answers to `check`, `judge`, `make` and `run`, from the inputs of a call.
 #![tactic(auto)]
 
 mod answer;
 mod check;
 mod judge;
 mod order;
-mod responding;
 
 pub use answer::{Answer, Order};
-pub use responding::respond;
+pub use check::answer_check;
+pub use judge::{answer_judge, answer_make};
+pub use order::answer_run;

@@ -15,9 +15,9 @@ use cs_reads::RanOut;
 use std::alloc::Global;
 use std::thread::Threads;
 
-/// The answer to `run TABLE DECLS CERT STAMPS [--anacrontab FILE] [--minutes N]`: that of `check`
-/// where it isn't `safe`, else what is to be run.
-pub(crate) fn order<'a, R: Threads + Sync, I: Inputs>(
+/// Answers `run TABLE DECLS CERT STAMPS [--anacrontab FILE] [--minutes N]`: like `check` where that
+/// doesn't answer `safe`, else with what to run. The only error is want of memory.
+pub fn answer_run<'a, R: Threads + Sync, I: Inputs>(
     rt: &R,
     alloc: Global,
     request: &RunWords<'a>,

@@ -1,3 +1,4 @@
+pub mod Call
 pub mod Ending
 pub mod Serve
 pub mod Run

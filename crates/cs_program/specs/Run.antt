@@ -3,11 +3,11 @@ use Rattle.std.specs.Prelude.{◌⊎◌, ℕ, List, Option}
 use Rattle.clap.specs.Words.{Text}
 use Rattle.cs_io.specs.Files.{Failed, Reads}
 use Rattle.cs_cli.specs.Answer.{IfEnds}
-use Rattle.cs_cli.specs.Call.{Answers}
 use Rattle.cs_cli.specs.declared.answer.Answer.{Answer}
 use Rattle.cs_cli.specs.declared.answer.Answer.TheVariants as answers
 use Rattle.cs_reads.specs.RanOut.{RanOutOn}
 use Rattle.cs_reads.specs.Trouble.{IsHonest}
+use Rattle.cs_program.specs.Call.{Answers}
 use Rattle.cs_program.specs.Ending.{Ends, RunsOutBehind, Sink}
 use Rattle.cs_program.specs.Serve.{Serves}
 

@@ -3,6 +3,7 @@
 
 mod ending;
 mod program;
+mod responding;
 mod run;
 mod serve;
 

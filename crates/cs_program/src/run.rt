@@ -7,8 +7,9 @@ ghost use Rattle.cs_reads.specs.Turn.{ReadsInTurn};
 ghost use Rattle.cs_program.specs.Run.{CarriesOut, Runs};
 
 use crate::ending::{finish, run_out_behind};
+use crate::responding::respond;
 use crate::serve::serve;
-use cs_cli::{Answer, respond};
+use cs_cli::Answer;
 use cs_device::Runner;
 use cs_io::{Inputs, Output};
 use cs_reads::Status;

@@ -1,9 +1,9 @@
 -- What is answered to the words of a call.
-use Rattle.std.specs.Prelude.{◌≡◌, ◌⊎◌, ℕ, Bool, true, false, List, [], Option}
+use Rattle.std.specs.Prelude.{◌≡◌, ◌⊎◌, ℕ, List, [], Option}
 use Rattle.clap.specs.Words.{Text}
 use Rattle.cs_call.specs.CommandLine.{Asking, Asks, Chart, Check, Day, Draft, Explain, Help, Judge}
 use Rattle.cs_call.specs.CommandLine.{Lint, Make, Replay, Run}
-use Rattle.cs_call.specs.CommandLine.{AskedCheck, AsksHelp, AsksVersion, IsNoCall}
+use Rattle.cs_call.specs.CommandLine.{AsksHelp, AsksVersion, IsNoCall}
 use Rattle.cs_call.specs.Version.{version_text}
 use Rattle.cs_io.specs.Files.{Failed}
 use Rattle.cs_cli.specs.Answer.{AnswersRun, EndsAs}
@@ -14,27 +14,13 @@ use Rattle.cs_views.specs.ExplainAnswer.{AnswersExplain}
 use Rattle.cs_views.specs.LintAnswer.{AnswersLint}
 use Rattle.cs_reads.specs.Response.{Ending, done}
 use Rattle.cs_views.specs.Replayed.{AnswersReplay}
-use Rattle.cs_cli.specs.Check.{AnswersCheck}
-use Rattle.cs_cli.specs.Safe.{AreSafe}
-use Rattle.cs_cli.specs.Judge.{AnswersJudge}
+use Rattle.cs_cli.specs.Judge.{AnswersJudge, AnswersMake}
+use Rattle.cs_cli.specs.Safe.{IsChecked}
 use Rattle.cs_cli.specs.declared.answer.Answer.{Answer}
-use Rattle.cs_judge.specs.declared.answers.Wanted.{Wanted}
-use Rattle.cs_judge.specs.declared.answers.Wanted.TheVariants.{Certificate, Compact, Verdict}
 
 -- help is shown, on standard output alone
 abbrev pub ShowsHelp : Failed → Failed → Ending → Type 0
 ShowsHelp before failed ending = (failed ≡ before) × (ending.status ≡ 0) × (ending.err ≡ [])
-
--- what is answered to `check`, which is done only where the files denote a plan that is safe
-pub record IsChecked (a : AskedCheck) (files : List ℕ → Option (List ℕ)) (before failed : Failed)
-    (ending : Ending) : Type 0 where
-  pub answer : AnswersCheck a files before failed ending
-  pub safe : ending.status ≡ 0 → AreSafe files a before
-
--- what `make` is to print of a plan that is safe: with `--compact` a compact certificate
-abbrev pub wanted_of : Bool → Wanted
-wanted_of true = Compact
-wanted_of false = Certificate
 
 -- what is answered to a subcommand
 abbrev pub AnswersAsked : Asking → (List ℕ → Option (List ℕ)) → Failed → Failed → Answer → Type 0
@@ -42,9 +28,8 @@ AnswersAsked (Day a) files before failed = EndsAs (AnswersDay a files before fai
 AnswersAsked (Replay a) files before failed = EndsAs (AnswersReplay a files before failed)
 AnswersAsked (Check a) files before failed = EndsAs (IsChecked a files before failed)
 AnswersAsked (Run a) files before failed = AnswersRun a files before failed
-AnswersAsked (Judge a) files before failed = EndsAs (AnswersJudge Verdict a files before failed)
-AnswersAsked (Make a) files before failed =
-    EndsAs (AnswersJudge (wanted_of a.compact) a.judge files before failed)
+AnswersAsked (Judge a) files before failed = EndsAs (AnswersJudge a files before failed)
+AnswersAsked (Make a) files before failed = EndsAs (AnswersMake a files before failed)
 AnswersAsked (Draft a) files before failed = EndsAs (AnswersDraft a files before failed)
 AnswersAsked (Lint a) files before failed = EndsAs (AnswersLint a files before failed)
 AnswersAsked (Chart a) files before failed = EndsAs (AnswersChart a files before failed)

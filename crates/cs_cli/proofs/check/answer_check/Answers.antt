@@ -3,7 +3,7 @@ use Rattle.cs_check.specs.declared.checked.Checked.{Checked}
 use Rattle.cs_call.specs.Asked.{asked_check}
 use Rattle.cs_cli.specs.Check.{IsProofOf}
 use Rattle.cs_cli.specs.Safe.{IsSafe}
-use Rattle.cs_cli.proofs.check.check_certificate.Goals as goal
+use Rattle.cs_cli.proofs.check.answer_check.Goals as goal
 
 pub returns-in_default-Some-clause-safe : goal.returns-in_default-Some-clause-safe
 returns-in_default-Some-clause-safe g c fresh zero = record {

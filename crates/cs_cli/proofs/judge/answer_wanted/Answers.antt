@@ -9,7 +9,7 @@ use Rattle.cs_io.specs.Files.{Failed}
 use Rattle.cs_reads.specs.Turn.{table_paths}
 use Rattle.cs_reads.proofs.WarnedLemmas.{behind_warned}
 use Rattle.cs_reads.proofs.TurnLemmas.{first_read, some_read, then_read}
-use Rattle.cs_cli.proofs.judge.judge_plan.Goals as goal
+use Rattle.cs_cli.proofs.judge.answer_wanted.Goals as goal
 
 pub returns-in-Ok-told-clause-value : goal.returns-in-Ok-told-clause-value
 returns-in-Ok-told-clause-value g c = λ fresh.

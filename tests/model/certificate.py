@@ -4,7 +4,9 @@ The fault of the smallest number that stands anywhere in the value is answered, 
 fault is looked for in the whole certificate, in the order of the numbers. Whatever a number means,
 it may be any whole one as long as shapes are read; if it is out of range is asked later.
 """
-from model.json_text import NotJson, read_json
+from model.calendar import DAY
+from model.faults import Fault
+from model.json_text import NotJson, OtherShape, is_whole, items_of, numbers_of, read_json, whole
 
 LONGEST = 16_777_216
 DEEPEST = 24
@@ -13,17 +15,8 @@ MOST_CLASSES = {1: 512, 2: 512, 3: 2562}
 GREATEST_REACH = {1: 1440, 2: 4320, 3: 4320}
 DAYS_BACK = {1: 1, 2: 3}
 STRETCH_DAYS = {1: (2,), 2: (2, 3, 4)}
-JOBS, GROUPS, DAY, GREATEST_VALUE = 320, 64, 1440, 1_000_000
+JOBS, GROUPS, GREATEST_VALUE = 320, 64, 1_000_000
 NUMBERS_OF = {"month": range(1, 13), "day": range(1, 32), "weekday": range(7)}
-FAULTS = "TooLong NotJson BadVersion BadShape TooDeep BadSplit BadClass BadEntry".split()
-FAULTS += ["TooManyClasses", "LeafTooLong"]
-
-
-class Fault(Exception):
-    """A fault of a certificate's text, by its number."""
-
-    def __init__(self, name):
-        super().__init__(f"{FAULTS.index(name) + 1} {name}")
 
 
 class Certificate:
@@ -40,11 +33,11 @@ class Certificate:
 
     def __init__(self, version, value):
         self.version = version
-        self.classes = [class_said(it, version) for it in list_said(value["classes"])]
+        self.classes = [class_said(it, version) for it in items_of(value["classes"])]
         self.kinds = day_tree_said(value["kinds"])
-        self.reach = [numbers_said(it, 2) for it in list_said(value["reach"])]
+        self.reach = [numbers_of(it, 2) for it in items_of(value["reach"])]
         name = {1: "pairs", 2: "stretches"}.get(version)
-        listed = list_said(value[name]) if name else []
+        listed = items_of(value[name]) if name else []
         self.stretches = [stretch_said(it, version) for it in listed]
 
 
@@ -54,45 +47,23 @@ class Certificate:
 def object_said(value, *names):
     """Returns the values of an object that has these members and no other."""
     if not isinstance(value, dict) or set(value) != set(names):
-        raise Fault("BadShape")
+        raise OtherShape
     return [value[name] for name in names]
-
-
-def list_said(value, length=None):
-    """Returns a list, of that length where one is asked for."""
-    if not isinstance(value, list) or length not in (None, len(value)):
-        raise Fault("BadShape")
-    return value
-
-
-def is_whole(value):
-    """Returns whether a value is a whole number; a boolean is one in Python, but none in JSON."""
-    return isinstance(value, int) and not isinstance(value, bool)
-
-
-def number_said(value):
-    if not is_whole(value):
-        raise Fault("BadShape")
-    return value
-
-
-def numbers_said(value, length=None):
-    return [number_said(it) for it in list_said(value, length)]
 
 
 def class_said(value, version):
     """Returns the due minutes and the backlogs of a class: pairs of a job, a group and its list."""
     if version == 3:
         [carry] = object_said(value, "carry")
-        pairs = [numbers_said(it, 2) for it in list_said(carry)]
+        pairs = [numbers_of(it, 2) for it in items_of(carry)]
         return [], [(group, [[0, minutes]]) for group, minutes in pairs]
     due, backlog = object_said(value, "due", "backlog")
-    jobs = [list_said(it, 2) for it in list_said(due)]
-    groups = [list_said(it, 2) for it in list_said(backlog)]
+    jobs = [items_of(it, 2) for it in items_of(due)]
+    groups = [items_of(it, 2) for it in items_of(backlog)]
     return (
-        [(number_said(job), numbers_said(minutes)) for job, minutes in jobs],
+        [(whole(job), numbers_of(minutes)) for job, minutes in jobs],
         [
-            (number_said(group), [numbers_said(it, 2) for it in list_said(pieces)])
+            (whole(group), [numbers_of(it, 2) for it in items_of(pieces)])
             for group, pieces in groups
         ],
     )
@@ -100,25 +71,25 @@ def class_said(value, version):
 
 def day_tree_said(value):
     if isinstance(value, dict) and "class" in value:
-        return number_said(*object_said(value, "class"))
+        return whole(*object_said(value, "class"))
     field, numbers, yes, no = object_said(value, "split", "in", "yes", "no")
     if not isinstance(field, str) or field not in NUMBERS_OF:
-        raise Fault("BadShape")
-    return field, numbers_said(numbers), day_tree_said(yes), day_tree_said(no)
+        raise OtherShape
+    return field, numbers_of(numbers), day_tree_said(yes), day_tree_said(no)
 
 
 def minute_tree_said(value):
     if isinstance(value, dict) and "list" in value:
-        return [tuple(numbers_said(it, 3)) for it in list_said(*object_said(value, "list"))]
+        return [tuple(numbers_of(it, 3)) for it in items_of(*object_said(value, "list"))]
     at, before, after = object_said(value, "at", "before", "after")
-    return number_said(at), minute_tree_said(before), minute_tree_said(after)
+    return whole(at), minute_tree_said(before), minute_tree_said(after)
 
 
 def stretch_said(value, version):
     of, tree = object_said(value, "of", "tree")
-    classes = numbers_said(of)
+    classes = numbers_of(of)
     if len(classes) not in STRETCH_DAYS[version]:
-        raise Fault("BadShape")
+        raise OtherShape
     return tuple(classes), minute_tree_said(tree)
 
 
@@ -241,22 +212,28 @@ def members_of(version):
     return ["version", "classes", "kinds", "reach", *listed]
 
 
+def certificate_of(value):
+    """Returns the certificate of a JSON value whose shape is right."""
+    if not isinstance(value, dict) or not is_whole(value.get("version")):
+        raise OtherShape
+    version = value["version"]
+    if version not in (1, 2, 3):
+        raise Fault("certificate", "BadVersion")
+    object_said(value, *members_of(version))
+    return Certificate(version, value)
+
+
 def read(text):
     """Returns the certificate that bytes stand for; raises its fault."""
     if len(text) > LONGEST:
-        raise Fault("TooLong")
+        raise Fault("certificate", "TooLong")
     try:
-        value = read_json(text)
-    except NotJson as error:
-        raise Fault("NotJson") from error
-    if not isinstance(value, dict) or not is_whole(value.get("version")):
-        raise Fault("BadShape")
-    version = value["version"]
-    if version not in (1, 2, 3):
-        raise Fault("BadVersion")
-    object_said(value, *members_of(version))
-    certificate = Certificate(version, value)
+        certificate = certificate_of(read_json(text))
+    except NotJson:
+        raise Fault("certificate", "NotJson") from None
+    except OtherShape:
+        raise Fault("certificate", "BadShape") from None
     for name, stands_in in RULES:
         if stands_in(certificate):
-            raise Fault(name)
+            raise Fault("certificate", name)
     return certificate

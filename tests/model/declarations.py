@@ -1,8 +1,12 @@
 """The bytes of declarations, joined with two tables to a plan, or their first fault."""
+import functools
 from collections import namedtuple
 
+from model.anacrontab import NONE, read_anacrontab
+from model.calendar import DAY, KINDS, is_day_due, minutes_of
+from model.crontab import Command, read_crontab
 from model.faults import Fault
-from model.json_text import NotJson, read_json
+from model.json_text import NotJson, OtherShape, items_of, numbers_of, read_json, whole
 
 MODES = ("none", "skip", "wait", "shared")
 MOST_GROUPS = 64
@@ -10,26 +14,30 @@ GREATEST_MAX = 4_320
 GREATEST_WEIGHT = 64
 GREATEST_CAPACITY = 64
 GREATEST_OFFSET = 1_439
-DAY = 1_440
 
 # What the bytes say; `mode` of an anacron entry is whether it has one.
 Declared = namedtuple("Declared", "capacity offset hours pass_minute groups cron anacron")
 Group = namedtuple("Group", "name exclusive")
 Entry = namedtuple("Entry", "job max weight group mode")
-# A job of a plan by its number: `of` is the command or the job of its table.
-PlanJob = namedtuple("PlanJob", "of max weight group mode")
+# The jobs of a plan are those of the crontab first.
 Plan = namedtuple("Plan", "crontab anacrontab jobs groups capacity hours pass_minute offset")
 
 
-class OtherShape(Exception):
-    """A value has another shape than it has to have."""
+class Job:
+    """A job of a plan: `of` is the command or the job of its table."""
 
+    def __init__(self, of, longest, weight=1, group=None, mode="none"):
+        self.of, self.max, self.weight, self.group, self.mode = of, longest, weight, group, mode
+        self.is_cron = isinstance(of, Command)
+        self.name = b"line %d" % of.line if self.is_cron else of.identifier
+        self.takes_lock, self.shares = mode != "none", mode == "shared"
+        self.waits = mode in ("wait", "shared")
 
-def whole(value):
-    # A boolean is a number in Python, but none in JSON.
-    if not isinstance(value, int) or isinstance(value, bool):
-        raise OtherShape
-    return value
+    @functools.cached_property
+    def due(self):
+        """The due minutes of a command on each kind of day."""
+        schedule, minutes = self.of.schedule, minutes_of(self.of.schedule)
+        return {kind: minutes if is_day_due(schedule, kind) else [] for kind in KINDS}
 
 
 def boolean(value):
@@ -57,9 +65,7 @@ def offset(value):
 
 
 def hours(value):
-    if not isinstance(value, list) or len(value) != 2:
-        raise OtherShape
-    return whole(value[0]), whole(value[1])
+    return tuple(numbers_of(value, 2))
 
 
 def anything(_):
@@ -68,13 +74,7 @@ def anything(_):
 
 def list_of(read):
     """Returns the reader of lists whose items it reads."""
-
-    def read_list(value):
-        if not isinstance(value, list):
-            raise OtherShape
-        return [read(item) for item in value]
-
-    return read_list
+    return lambda value: [read(item) for item in items_of(value)]
 
 
 # The members of each kind of object: how each is read, and what it is where it is absent.
@@ -245,10 +245,10 @@ def joined(declared, crontab, anacrontab):
     jobs = []
     for of in crontab.commands:
         it = lines[of.line]
-        jobs.append(PlanJob(of, it.max, it.weight, numbers[it.group], it.mode))
+        jobs.append(Job(of, it.max, it.weight, numbers[it.group], it.mode))
     for of in anacrontab.jobs:
         it = names[identifier_text(of)]
-        jobs.append(PlanJob(of, it.max, it.weight, numbers[it.group], "none"))
+        jobs.append(Job(of, it.max, it.weight, numbers[it.group]))
     rest = declared.groups, declared.capacity, declared.hours, declared.pass_minute
     return Plan(crontab, anacrontab, jobs, *rest, declared.offset)
 
@@ -272,6 +272,13 @@ def plain_plan(longest, crontab, anacrontab):
     """Returns the plan of tables without declarations, each job with that longest time."""
     for place in reboot_places(crontab):
         raise Fault("declarations", "RebootLine", place)
-    found = [*crontab.commands, *anacrontab.jobs]
-    jobs = [PlanJob(of, longest, 1, None, "none") for of in found]
+    jobs = [Job(of, longest) for of in (*crontab.commands, *anacrontab.jobs)]
     return Plan(crontab, anacrontab, jobs, [], GREATEST_CAPACITY, (0, DAY), None, 0)
+
+
+def plan_of(files):
+    """Returns the plan of the bytes of tables and declarations, by their names as bytes."""
+    anacrontab = NONE
+    if b"anacrontab" in files:
+        anacrontab = read_anacrontab(files[b"anacrontab"])
+    return read_plan(files[b"declarations"], read_crontab(files[b"crontab"]), anacrontab)

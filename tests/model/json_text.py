@@ -29,6 +29,32 @@ class NotJson(Exception):
     """The bytes are no JSON."""
 
 
+class OtherShape(Exception):
+    """A value has another shape than it has to have."""
+
+
+def is_whole(value):
+    """Returns whether a value is a whole number; a boolean is one in Python, but none in JSON."""
+    return isinstance(value, int) and not isinstance(value, bool)
+
+
+def whole(value):
+    if not is_whole(value):
+        raise OtherShape
+    return value
+
+
+def items_of(value, length=None):
+    """Returns a list, of that length where one is asked for."""
+    if not isinstance(value, list) or length not in (None, len(value)):
+        raise OtherShape
+    return value
+
+
+def numbers_of(value, length=None):
+    return [whole(it) for it in items_of(value, length)]
+
+
 class Reader:
     """A text and the place that reading has come to."""
 

@@ -5,9 +5,8 @@ rules to say. It has the least carries and the least reaches, so that a number o
 rule.
 """
 from model import certificate, rules
-from model.certificate import DAY
+from model.calendar import DAY, KINDS
 from model.claims import Claim, chains
-from model.plan import KINDS
 
 ROUNDS = 9
 NUMBERS = ("month", "day", "weekday")
@@ -133,7 +132,7 @@ def pieces(bound):
 
 def class_listed(claim, number):
     """Returns what a class of version 1 and 2 lists of what version 3 stands for."""
-    due = [[job, minutes] for job, minutes in claim.due[number].items() if minutes]
+    due = [[job, list(minutes)] for job, minutes in claim.due[number].items() if minutes]
     groups = [(it, pieces(claim.bound(number, it))) for it in claim.waiting_groups()]
     return {"backlog": [[group, it] for group, it in groups if it], "due": due}
 

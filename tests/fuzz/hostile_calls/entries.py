@@ -1,16 +1,13 @@
 """Certificates of versions 1 and 2 in which one entry of a leaf isn't there."""
 import json
 
-from model.anacrontab import NONE, read_anacrontab
-from model.certificate import DAY, Certificate
+from model.calendar import DAY
+from model.certificate import Certificate
 from model.claims import Claim
-from model.crontab import read_crontab
-from model.declarations import read_plan
-from model.plan import Plan
+from model.declarations import plan_of
 from model.rules import RULES, windows_on
 
-from hostile_calls.bases import STRETCHES, stretches_of
-from hostile_calls.parts import check_of, part_of, taken_out, text_of
+from hostile_calls.parts import STRETCHES, check_of, part_of, stretches_of, taken_out, text_of
 from hostile_calls.worked import worked_certificates
 
 # The number of the rule that each leaf lists its windows.
@@ -46,12 +43,8 @@ class Judged:
     """What the rules up to that of the leaves say of a worked certificate beside its plan."""
 
     def __init__(self, it, value):
-        crontab, anacrontab = read_crontab(it.beside[b"crontab"]), NONE
-        if b"anacrontab" in it.beside:
-            anacrontab = read_anacrontab(it.beside[b"anacrontab"])
-        plan = Plan(read_plan(it.beside[b"declarations"], crontab, anacrontab))
         self.value, self.windows = value, {}
-        self.claim = Claim(plan, Certificate(value["version"], value))
+        self.claim = Claim(plan_of(it.beside), Certificate(value["version"], value))
         self.in_use = dict(self.claim.used)
         told = [rule(self.claim) is not None for rule in RULES[:LEAVES]]
         self.broken = told.index(True) + 1 if True in told else None

@@ -16,6 +16,8 @@ GREATEST_REACH = {1: 1440, 2: 4320, 3: 4320}
 DAYS_BACK = {1: 1, 2: 3}
 STRETCH_DAYS = {1: (2,), 2: (2, 3, 4)}
 JOBS, GROUPS, GREATEST_VALUE = 320, 64, 1_000_000
+# The member of each version that lists stretches.
+STRETCHES = {1: "pairs", 2: "stretches", 3: None}
 NUMBERS_OF = {"month": range(1, 13), "day": range(1, 32), "weekday": range(7)}
 
 
@@ -36,9 +38,13 @@ class Certificate:
         self.classes = [class_said(it, version) for it in items_of(value["classes"])]
         self.kinds = day_tree_said(value["kinds"])
         self.reach = [numbers_of(it, 2) for it in items_of(value["reach"])]
-        name = {1: "pairs", 2: "stretches"}.get(version)
-        listed = items_of(value[name]) if name else []
+        listed = items_of(stretches_of(value))
         self.stretches = [stretch_said(it, version) for it in listed]
+
+
+def stretches_of(value):
+    """Returns what the value of a certificate lists as its stretches; nothing in version 3."""
+    return value.get(STRETCHES[value["version"]], [])
 
 
 # Shapes: what a value has to be for any meaning. All else is BadShape.
@@ -208,8 +214,8 @@ RULES = (
 
 def members_of(version):
     """Returns the names of a certificate's members."""
-    listed = {1: ["pairs"], 2: ["stretches"], 3: []}[version]
-    return ["version", "classes", "kinds", "reach", *listed]
+    listed = STRETCHES[version]
+    return ["version", "classes", "kinds", "reach", *([listed] if listed else [])]
 
 
 def certificate_of(value):

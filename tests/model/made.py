@@ -144,7 +144,7 @@ def minute_tree(windows, first, end, chance):
         halves = [minute_tree(windows, *it, chance) for it in ((first, at), (at, end))]
         return {"at": at, "before": halves[0], "after": halves[1]}
     held = [it for it in windows if it.start < end and it.end > first]
-    return {"list": [[it.number, -(it.start // DAY), it.start % DAY] for it in held]}
+    return {"list": [list(rules.entry_of(it)) for it in held]}
 
 
 def listed(claim, value, version, chance):

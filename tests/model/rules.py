@@ -92,6 +92,11 @@ def minutes_with_windows(claim, of, tree=None):
     return by_minute(windows_on(claim, of), tree)
 
 
+def entry_of(window):
+    """Returns how a leaf lists a window: its job, how many days back, and the minute."""
+    return window.number, -(window.start // DAY), window.start % DAY
+
+
 # The rules.
 
 
@@ -171,7 +176,7 @@ def leaf_fault(claim):
         for minute, windows in minutes_with_windows(claim, of, tree):
             leaf = leaf_at(tree, minute)
             for it in windows:
-                if (it.number, -(it.start // DAY), it.start % DAY) not in leaf:
+                if entry_of(it) not in leaf:
                     midnight = midnight_of(claim, of)
                     place = window_text(it, midnight), minute_text(midnight + minute)
                     return b"5 WindowMissing: %s at %s" % place

@@ -2,7 +2,7 @@
 from collections import namedtuple
 
 from model.calendar import FIRST_START_DAY, day_of_text, day_text, minute_of_text, minute_text
-from model.crontab import DIGITS, lines_of
+from model.crontab import digits_of, lines_of
 from model.faults import Fault
 
 MOST_BYTES = 16_777_216
@@ -39,7 +39,7 @@ def is_of_form(words, form):
     for word, meant in zip(words, form):
         if meant not in ANY and word != meant:
             return False
-        if meant == b"N" and any(it not in DIGITS for it in word):
+        if meant == b"N" and digits_of(word)[1]:
             return False
     return True
 

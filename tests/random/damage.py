@@ -6,9 +6,9 @@ sort stands in the certificate it raises IndexError or ValueError.
 import json
 
 from model.calendar import DAY, KINDS
-from model.certificate import day_tree_said
+from model.certificate import day_tree_said, stretches_of
 from model.claims import class_in
-from model.damage import stretches_of, trees_in
+from model.damage import trees_in
 
 
 def take_out(items, rng):

@@ -1,9 +1,9 @@
 """Certificates that are as deep, as full and as long as they may be, and more."""
 from model.calendar import DAY
 from model.certificate import GROUPS, JOBS, LONGEST, MOST_CLASSES, MOST_ENTRIES, NUMBERS_OF
+from model.certificate import STRETCHES, stretches_of
 
-from hostile_calls.parts import STRETCHES, bases, check_of, part_of, put, stretches_of, text_of
-from hostile_calls.parts import text_with
+from hostile_calls.parts import bases, check_of, part_of, put, text_of, text_with
 
 # The depths from 122 on are those at which JSON is nested as deep as it may be, or deeper.
 DEPTHS = (24, 25, 60, 122, 123, 125, 126, 130)

@@ -8,12 +8,11 @@ import functools
 import json
 
 from model.call import answer_of
+from model.certificate import STRETCHES, stretches_of
 
 from hostile_calls.calls import call_of
 from hostile_calls.worked import worked_certificates
 
-# The member of each version that lists stretches.
-STRETCHES = {1: "pairs", 2: "stretches", 3: None}
 # The most bytes of a certificate and the crontab beside it that are taken apart.
 SHORT = 700
 ANY = "*"
@@ -95,11 +94,6 @@ def places_by_sort():
 def check_of(what, it, text):
     """Returns the call that checks a text in place of a worked certificate."""
     return call_of(f"{what}: {it.what}", b"certificate", text, it.beside)
-
-
-def stretches_of(value):
-    """Returns the stretches that a certificate lists."""
-    return value.get(STRETCHES[value["version"]], [])
 
 
 def has_leaves_alone(value):

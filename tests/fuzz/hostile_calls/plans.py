@@ -1,8 +1,9 @@
 """Certificates beside other plans, and such with other stretches, carries and reaches."""
 import itertools
 
-from hostile_calls.parts import STRETCHES, check_of, put, short_ones, stretches_of, taken_out
-from hostile_calls.parts import text_of
+from model.certificate import STRETCHES, stretches_of
+
+from hostile_calls.parts import check_of, put, short_ones, taken_out, text_of
 
 OTHER_PLANS, OTHER_DECLARATIONS, OTHER_STRETCHES = 80, 40, 1
 LENGTHS = {1: (2,), 2: (2, 3, 4)}

@@ -1,5 +1,6 @@
 """The bytes of declarations, joined with two tables to a plan, or their first fault."""
 import functools
+import itertools
 from collections import namedtuple
 
 from model.anacrontab import NONE, read_anacrontab
@@ -132,103 +133,60 @@ def identifier_text(job):
     return job.identifier.decode("utf-8")
 
 
-def second_times(keys):
-    """Returns the places, from 1, at which a key stands that stood before."""
-    return [at for at, key in enumerate(keys, 1) if key in keys[: at - 1]]
+def places(word, are_wrong):
+    """Returns the places, from 1, at which something is wrong."""
+    return [word + b" %d" % at for at, is_wrong in enumerate(are_wrong, 1) if is_wrong]
 
 
-def places(word, found):
-    return [word + b" %d" % at for at in found]
+def second_times(word, keys):
+    """Returns the places at which a key stands that stood before."""
+    return places(word, (key in keys[:at] for at, key in enumerate(keys)))
 
 
-class Rules:
-    """The rules beside the shape: for each fault the places where it stands, the first first."""
-
-    def __init__(self, declared, crontab, anacrontab):
-        self.declared, self.crontab, self.anacrontab = declared, crontab, anacrontab
-
-    def entries(self, is_wrong):
-        """Returns the places of the entries that are wrong, of cron and then of anacron."""
-        cron = [at for at, it in enumerate(self.declared.cron, 1) if is_wrong(it)]
-        anacron = [at for at, it in enumerate(self.declared.anacron, 1) if is_wrong(it)]
-        return places(b"cron", cron) + places(b"anacron", anacron)
-
-    def no_such_line(self):
-        names = {it.line for it in self.crontab.commands}
-        names |= {identifier_text(it) for it in self.anacrontab.jobs}
-        return self.entries(lambda it: it.job not in names)
-
-    def undeclared(self):
-        lines = [it.job for it in self.declared.cron]
-        names = [it.job for it in self.declared.anacron]
-        jobs = [it for it in self.crontab.commands if it.schedule and it.line not in lines]
-        found = [b"line %d" % it.line for it in jobs]
-        jobs = [it for it in self.anacrontab.jobs if identifier_text(it) not in names]
-        return found + [b"job " + it.identifier for it in jobs]
-
-    def twice_declared(self):
-        groups = second_times([it.name for it in self.declared.groups])
-        lines = second_times([it.job for it in self.declared.cron])
-        names = second_times([it.job for it in self.declared.anacron])
-        found = places(b"group", groups) + places(b"cron", lines)
-        return found + places(b"anacron", names)
-
-    def bad_max(self):
-        return self.entries(lambda it: not 1 <= it.max <= GREATEST_MAX)
-
-    def bad_weight(self):
-        return self.entries(lambda it: not 1 <= it.weight <= GREATEST_WEIGHT)
-
-    def bad_capacity(self):
-        return [] if 1 <= self.declared.capacity <= GREATEST_CAPACITY else [b""]
-
-    def mode_needs_group(self):
-        wrong = [it.mode != "none" and it.group is None for it in self.declared.cron]
-        return places(b"cron", [at for at, it in enumerate(wrong, 1) if it])
-
-    def unknown_group(self):
-        names = [None, *(it.name for it in self.declared.groups)]
-        return self.entries(lambda it: it.group not in names)
-
-    def too_many_groups(self):
-        is_over = len(self.declared.groups) > MOST_GROUPS
-        return places(b"group", [MOST_GROUPS + 1] if is_over else [])
-
-    def bad_hours(self):
-        first, past = self.declared.hours
-        return [] if 0 <= first < past <= DAY else [b""]
-
-    def mode_on_anacron(self):
-        found = [at for at, it in enumerate(self.declared.anacron, 1) if it.mode]
-        return places(b"anacron", found)
-
-    def reboot_line(self):
-        return reboot_places(self.crontab)
-
-    def bad_pass_minute(self):
-        minute = self.declared.pass_minute
-        return [] if minute is None or 0 <= minute < DAY else [b""]
+def places_of_entries(declared, is_wrong):
+    """Returns the places of the entries that are wrong, of cron and then of anacron."""
+    of_cron = places(b"cron", map(is_wrong, declared.cron))
+    return of_cron + places(b"anacron", map(is_wrong, declared.anacron))
 
 
-# What declarations say alone, by number behind 1 NotJson and 2 BadShape; and then, where none of
-# these stands, what they say of the tables, by number too.
-ALONE = (
-    ("TwiceDeclared", Rules.twice_declared),
-    ("BadMax", Rules.bad_max),
-    ("BadWeight", Rules.bad_weight),
-    ("BadCapacity", Rules.bad_capacity),
-    ("ModeNeedsGroup", Rules.mode_needs_group),
-    ("UnknownGroup", Rules.unknown_group),
-    ("TooManyGroups", Rules.too_many_groups),
-    ("BadHours", Rules.bad_hours),
-    ("ModeOnAnacron", Rules.mode_on_anacron),
-    ("BadPassMinute", Rules.bad_pass_minute),
-)
-OF_TABLES = (
-    ("NoSuchLine", Rules.no_such_line),
-    ("Undeclared", Rules.undeclared),
-    ("RebootLine", Rules.reboot_line),
-)
+def undeclared(declared, crontab, anacrontab):
+    """Returns the places of the jobs without an entry, but for commands at startup."""
+    lines, names = ([it.job for it in found] for found in (declared.cron, declared.anacron))
+    commands = [it for it in crontab.commands if it.schedule and it.line not in lines]
+    jobs = [it for it in anacrontab.jobs if identifier_text(it) not in names]
+    return [b"line %d" % it.line for it in commands] + [b"job " + it.identifier for it in jobs]
+
+
+def faults_alone(declared):
+    """Yields the faults after NotJson and BadShape, by number, each with the places of it."""
+    groups = [it.name for it in declared.groups]
+    twice = second_times(b"group", groups)
+    twice += second_times(b"cron", [it.job for it in declared.cron])
+    yield "TwiceDeclared", twice + second_times(b"anacron", [it.job for it in declared.anacron])
+
+    def of_entries(is_wrong):
+        return places_of_entries(declared, is_wrong)
+
+    yield "BadMax", of_entries(lambda it: not 1 <= it.max <= GREATEST_MAX)
+    yield "BadWeight", of_entries(lambda it: not 1 <= it.weight <= GREATEST_WEIGHT)
+    yield "BadCapacity", [] if 1 <= declared.capacity <= GREATEST_CAPACITY else [b""]
+    lacks_group = [it.mode != "none" and it.group is None for it in declared.cron]
+    yield "ModeNeedsGroup", places(b"cron", lacks_group)
+    yield "UnknownGroup", of_entries(lambda it: it.group not in [None, *groups])
+    yield "TooManyGroups", [b"group %d" % (MOST_GROUPS + 1)] if len(groups) > MOST_GROUPS else []
+    first, past = declared.hours
+    yield "BadHours", [] if 0 <= first < past <= DAY else [b""]
+    yield "ModeOnAnacron", places(b"anacron", [it.mode for it in declared.anacron])
+    minute = declared.pass_minute
+    yield "BadPassMinute", [] if minute is None or 0 <= minute < DAY else [b""]
+
+
+def faults_of_tables(declared, crontab, anacrontab):
+    """Yields the faults of declarations that have none alone beside their tables, by number."""
+    names = {it.line for it in crontab.commands} | set(map(identifier_text, anacrontab.jobs))
+    yield "NoSuchLine", places_of_entries(declared, lambda it: it.job not in names)
+    yield "Undeclared", undeclared(declared, crontab, anacrontab)
+    yield "RebootLine", reboot_places(crontab)
 
 
 def reboot_places(crontab):
@@ -261,9 +219,9 @@ def read_plan(data, crontab, anacrontab):
         raise Fault("declarations", "NotJson") from None
     except OtherShape:
         raise Fault("declarations", "BadShape") from None
-    rules = Rules(declared, crontab, anacrontab)
-    for name, places_of in ALONE + OF_TABLES:
-        for place in places_of(rules):
+    found = faults_alone(declared), faults_of_tables(declared, crontab, anacrontab)
+    for name, places_found in itertools.chain(*found):
+        for place in places_found:
             raise Fault("declarations", name, place)
     return joined(declared, crontab, anacrontab)
 

@@ -119,8 +119,8 @@ def claim_of(plan, value):
 
 def greatest_load(claim):
     """Returns the most that may run at once: a capacity that is just enough."""
-    minutes = (it for of, _ in claim.used for it in rules.minutes_with_windows(claim, of))
-    return max((rules.load(claim.plan, windows) for _, windows in minutes), default=1)
+    loads = (rules.load(claim.plan, windows) for *_, windows in rules.minutes_in_use(claim))
+    return max(loads, default=1)
 
 
 def pieces(bound):

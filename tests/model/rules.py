@@ -87,9 +87,17 @@ def by_minute(windows, tree=None):
         yield minute, [it for it in windows if it.start <= minute < it.end]
 
 
-def minutes_with_windows(claim, of, tree=None):
-    """Yields the minutes that count on the last day of a stretch, each with the windows there."""
-    return by_minute(windows_on(claim, of), tree)
+def minutes_in_use(claim):
+    """Yields stretches in use with their trees, each minute that counts, and the windows there."""
+    for of, tree in claim.used:
+        for minute, windows in by_minute(windows_on(claim, of), tree):
+            yield of, tree, minute, windows
+
+
+def places(claim, of, minute, *windows):
+    """Returns the texts of windows of a stretch and of a minute of its last day."""
+    midnight = midnight_of(claim, of)
+    return *(window_text(it, midnight) for it in windows), minute_text(midnight + minute)
 
 
 def entry_of(window):
@@ -170,16 +178,11 @@ def leaf_at(tree, minute):
 
 def leaf_fault(claim):
     """5: where windows are listed, the leaf of each minute lists all that hold it."""
-    for of, tree in claim.used:
-        if tree is None:
-            continue
-        for minute, windows in minutes_with_windows(claim, of, tree):
-            leaf = leaf_at(tree, minute)
-            for it in windows:
-                if entry_of(it) not in leaf:
-                    midnight = midnight_of(claim, of)
-                    place = window_text(it, midnight), minute_text(midnight + minute)
-                    return b"5 WindowMissing: %s at %s" % place
+    for of, tree, minute, windows in minutes_in_use(claim):
+        leaf = leaf_at(tree, minute)
+        for it in windows if tree is not None else ():
+            if entry_of(it) not in leaf:
+                return b"5 WindowMissing: %s at %s" % places(claim, of, minute, it)
     return None
 
 
@@ -201,14 +204,10 @@ def first_clash(plan, windows):
 
 def collision_fault(claim):
     """6: no two windows of an exclusive group clash."""
-    for of, _ in claim.used:
-        for minute, windows in minutes_with_windows(claim, of):
-            found = first_clash(claim.plan, windows)
-            if found:
-                midnight = midnight_of(claim, of)
-                place = [window_text(it, midnight) for it in found]
-                place.append(minute_text(midnight + minute))
-                return b"6 Collision: %s and %s meet at %s" % tuple(place)
+    for of, _, minute, windows in minutes_in_use(claim):
+        found = first_clash(claim.plan, windows)
+        if found:
+            return b"6 Collision: %s and %s meet at %s" % places(claim, of, minute, *found)
     return None
 
 
@@ -224,12 +223,10 @@ def load(plan, windows):
 
 def capacity_fault(claim):
     """7: what may run together weighs no more than the capacity."""
-    for of, _ in claim.used:
-        for minute, windows in minutes_with_windows(claim, of):
-            weight = load(claim.plan, windows)
-            if weight > claim.plan.capacity:
-                place = weight, claim.plan.capacity, minute_text(midnight_of(claim, of) + minute)
-                return b"7 OverCapacity: %d of %d at %s" % place
+    for of, _, minute, windows in minutes_in_use(claim):
+        weight, most = load(claim.plan, windows), claim.plan.capacity
+        if weight > most:
+            return b"7 OverCapacity: %d of %d at %s" % (weight, most, *places(claim, of, minute))
     return None
 
 
@@ -245,26 +242,15 @@ def first_block(minute, windows):
 
 def skip_fault(claim):
     """8: where a skip job is due, no other lock taker of its group may run."""
-    for of, _ in claim.used:
-        for minute, windows in minutes_with_windows(claim, of):
-            found = first_block(minute, windows)
-            if found:
-                midnight = midnight_of(claim, of)
-                place = tuple(window_text(it, midnight) for it in found)
-                return b"8 SkipBlocked: %s and %s" % place
+    for of, _, minute, windows in minutes_in_use(claim):
+        found = first_block(minute, windows)
+        if found:
+            return b"8 SkipBlocked: %s and %s" % places(claim, of, minute, *found)[:2]
     return None
 
 
-RULES = (
-    due_fault,
-    stretch_fault,
-    step_fault,
-    reach_fault,
-    leaf_fault,
-    collision_fault,
-    capacity_fault,
-    skip_fault,
-)
+RULES = (due_fault, stretch_fault, step_fault, reach_fault)
+RULES += (leaf_fault, collision_fault, capacity_fault, skip_fault)
 
 
 def verdict(plan, certificate):

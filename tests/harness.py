@@ -100,7 +100,7 @@ def called(program, words, folder, stdin=b"", seconds=10, **more):
 
 
 def outcome(test):
-    """Returns what is wrong, nothing where the test passes, and the text that it returns, if any."""
+    """Returns what is wrong, nothing where the test passes, and the text that it returns."""
     try:
         found = test()
     except (Fault, OSError, subprocess.SubprocessError) as fault:

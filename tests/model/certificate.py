@@ -161,37 +161,31 @@ def has_bad_class(it):
     return not are_within(named, 0, len(it.classes) - 1) or not rises(order)
 
 
-def is_class_in_range(due, backlogs):
-    jobs, groups = [job for job, _ in due], [group for group, _ in backlogs]
-    if not rises(jobs) or not are_within(jobs, 0, JOBS - 1):
-        return False
-    if not rises(groups) or not are_within(groups, 0, GROUPS - 1):
-        return False
-    for _, minutes in due:
-        if not minutes or not rises(minutes) or not are_within(minutes, 0, DAY - 1):
-            return False
-    for _, pieces in backlogs:
-        minutes, values = [at for at, _ in pieces], [value for _, value in pieces]
-        if not rises(minutes) or not are_within(minutes, 0, DAY - 1):
-            return False
-        if not are_within(values, 1, GREATEST_VALUE):
-            return False
-    return True
+def rising_lists(it):
+    """Yields the lists of numbers that have to rise, each with the greatest that one may be."""
+    yield [job for job, _ in it.reach], JOBS - 1
+    for due, backlogs in it.classes:
+        yield [job for job, _ in due], JOBS - 1
+        yield [group for group, _ in backlogs], GROUPS - 1
+        yield from ((minutes, DAY - 1) for _, minutes in due)
+        yield from (([at for at, _ in pieces], DAY - 1) for _, pieces in backlogs)
 
 
 def has_bad_entry(it):
-    jobs, reaches = [job for job, _ in it.reach], [reach for _, reach in it.reach]
-    if not rises(jobs) or not are_within(jobs, 0, JOBS - 1):
+    if not all(rises(found) and are_within(found, 0, most) for found, most in rising_lists(it)):
+        return True
+    values = [value for _, found in it.classes for _, pieces in found for _, value in pieces]
+    reaches = [reach for _, reach in it.reach]
+    is_due_at_none = any(not minutes for due, _ in it.classes for _, minutes in due)
+    if is_due_at_none or not are_within(values, 1, GREATEST_VALUE):
         return True
     if not are_within(reaches, 1, GREATEST_REACH[it.version]):
         return True
-    if not all(is_class_in_range(due, backlogs) for due, backlogs in it.classes):
-        return True
-    for _, tree in it.stretches:
-        for job, back, minute in [entry for leaf in leaves(tree) for entry in leaf]:
-            if not (0 <= job < JOBS and 0 <= back <= DAYS_BACK[it.version] and 0 <= minute < DAY):
-                return True
-    return False
+    listed = [entry for _, tree in it.stretches for leaf in leaves(tree) for entry in leaf]
+    return not all(
+        0 <= job < JOBS and 0 <= back <= DAYS_BACK[it.version] and 0 <= minute < DAY
+        for job, back, minute in listed
+    )
 
 
 def has_too_many_classes(it):

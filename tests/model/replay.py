@@ -58,7 +58,7 @@ def without(runs, run):
 class Rules:
     """Which event may come in a state of a plan, and what it leaves.
 
-    A function of an event's kind returns the state behind it and the reply, or raises Refused.
+    A function of an event's kind returns the state that it leaves and the reply, or raises Refused.
     """
 
     def __init__(self, plan):

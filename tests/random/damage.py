@@ -1,7 +1,7 @@
 """Certificates that `make` printed, spoilt in one place, and the rule that this breaks.
 
-A way changes the value of a certificate and returns the number of the rule; where nothing of its
-sort stands in the certificate it raises IndexError or ValueError.
+A way changes the value of a certificate and returns the number of the rule; where the
+certificate has nothing of its sort it raises IndexError or ValueError.
 """
 import json
 
@@ -22,7 +22,7 @@ def due_lists(value):
 
 
 def lower(value, rng, name, items_of):
-    """Makes one number a minute less, which stands last in an item of a class's member."""
+    """Makes one number a minute less: the last of an item in a class's member of that name."""
     found = [(items, it) for one in value["classes"] for items in items_of(one) for it in items]
     items, it = rng.choice(found)
     it[1] -= 1
@@ -85,8 +85,8 @@ def are_due_alike(plan, kinds):
 
 
 def without_split_of(plan):
-    """Returns the way in which one half of a split stands for both, so that days share a class
-    that aren't alike."""
+    """Returns the way in which one half of a split replaces both, so that a class has days that
+    aren't alike."""
 
     def without_split(value, rng):
         split = rng.choice(trees_in(value["kinds"], "split"))

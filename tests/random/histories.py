@@ -18,9 +18,8 @@ class TooMany(Exception):
 
 def run_text(plan, job, named):
     of = plan.jobs[job]
-    return f"{of.name.decode()} due {minute_text(named)}" if of.is_cron else (
-        f"job {of.name.decode()} at {minute_text(named)}"
-    )
+    text = "{} due {}" if of.is_cron else "job {} at {}"
+    return text.format(of.name.decode(), minute_text(named))
 
 
 def may_meet(plan, one, other):
@@ -30,7 +29,7 @@ def may_meet(plan, one, other):
 
 
 def breach(plan, state, event, reply):
-    """Returns what a state behind an event breaks, as `judge` tells it; nothing where it doesn't."""
+    """Returns what the state that an event leaves breaks, as `judge` tells it, if anything."""
     for one, other in combinations(state.running, 2):
         if not may_meet(plan, plan.jobs[one.job], plan.jobs[other.job]):
             runs = " and ".join(run_text(plan, it.job, it.named) for it in (one, other))
@@ -100,7 +99,7 @@ def in_any_order(state):
 
 
 def next_states(rules, state, last):
-    """Yields each event that comes in time by the last minute, the state behind it, the reply."""
+    """Yields each event that comes in time by the last minute, what it leaves, and the reply."""
     for event in events_at(state):
         try:
             after, reply = rules.take(state, event)

@@ -124,7 +124,7 @@ def doubled_members():
                 yield call_of(f"{member!r} before {opened!r}", b"declarations", text, tables)
                 at = whole.index(b"}", whole.index(opened))
                 text = whole[:at] + b"," + member + whole[at:]
-                yield call_of(f"{member!r} behind {opened!r}", b"declarations", text, tables)
+                yield call_of(f"{member!r} after {opened!r}", b"declarations", text, tables)
     escaped = whole[:-1] + b',"\\u0063apacity":65}'
     yield call_of("a name written in two ways", b"declarations", escaped, tables)
 

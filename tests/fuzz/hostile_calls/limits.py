@@ -157,7 +157,7 @@ def long_texts(chance):
         text = text_of(value)
         for length in (LONGEST, LONGEST + 1):
             blanks = b" " * (length - len(text))
-            yield check_of(f"{length} bytes, blank behind", it, text + blanks)
+            yield check_of(f"{length} bytes, blank after", it, text + blanks)
             yield check_of(f"{length} bytes, blank within", it, text[:1] + blanks + text[1:])
 
 

@@ -59,7 +59,7 @@ def doubled(chance):
         for other in DOUBLES:
             it, value, (*above, name) = chance.choice(found)
             inner, member = part_of(value, above), b'"%s":%s' % (name.encode(), other)
-            both = {"before": {MARK: MARK, **inner}, "behind": {**inner, MARK: MARK}}
+            both = {"before": {MARK: MARK, **inner}, "after": {**inner, MARK: MARK}}
             for what, twice in both.items():
                 text = text_of(put(value, tuple(above), twice)).replace(DOUBLED, member)
                 yield check_of(f"{member.decode()} {what} that at {above}", it, text)

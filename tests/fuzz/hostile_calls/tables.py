@@ -72,12 +72,12 @@ def numbers_of_tables():
 
 
 def scripts():
-    """Yields scripts of each line behind each head, and scripts as long as they may be."""
+    """Yields scripts of each line after each head, and scripts as long as they may be."""
     tables = {b"crontab": JOB, b"anacrontab": b"1 0 b c\n"}
     for head in HEADS:
         for line in LINES:
             for tail in (b"", b"\n", b"\nx", b"\n" + START):
-                what = f"{line!r} behind {head!r}, before {tail!r}"
+                what = f"{line!r} after {head!r}, before {tail!r}"
                 yield call_of(what, b"script", head + line + tail, tables)
     digits = START + b"begin line " + b"0" * 6_000 + b"1\n"
     yield call_of("a number of many zeros", b"script", digits, tables)

@@ -19,7 +19,7 @@ KINDS = {
     "DECLS": b"declarations",
     "DECLARATIONS": b"declarations",
 }
-# What each kind of input is read behind.
+# What each kind of input is read after.
 BEFORE = {
     b"crontab": (),
     b"anacrontab": (),

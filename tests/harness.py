@@ -1,8 +1,9 @@
 """What the test programs have in common: their words, folders, calls of the program, the count.
 
-A test is a name and a function that raises Fault where it finds something wrong. A test program
-ends with status 0 where all tests pass, 1 where one fails, and 2 where its words or its files are
-malformed; its last line is 'N passed, M failed'.
+A test is a name and a function that raises Fault where it finds something wrong; a text that it
+returns says what it came upon, and how often each is printed. A test program ends with status 0
+where all tests pass, 1 where one fails, and 2 where its words or its files are malformed; its last
+line is 'N passed, M failed'.
 """
 import argparse
 import difflib
@@ -11,6 +12,7 @@ import signal
 import subprocess
 import sys
 import tempfile
+from collections import Counter
 from concurrent.futures import ThreadPoolExecutor
 from contextlib import contextmanager
 from pathlib import Path
@@ -98,22 +100,25 @@ def called(program, words, folder, stdin=b"", seconds=10, **more):
 
 
 def outcome(test):
-    """Returns what is wrong, nothing where the test passes."""
+    """Returns what is wrong, nothing where the test passes, and the text that it returns."""
     try:
-        test()
+        found = test()
     except (Fault, OSError, subprocess.SubprocessError) as fault:
-        return str(fault) or type(fault).__name__
-    return ""
+        return str(fault) or type(fault).__name__, ""
+    return "", found if isinstance(found, str) else ""
 
 
 def count(tests, at_once=os.cpu_count()):
     """Runs tests, so many side by side; prints which fail and the count, and returns the status."""
-    failed = 0
+    failed, texts = 0, Counter()
     with ThreadPoolExecutor(at_once) as pool:
-        for (name, _), wrong in zip(tests, pool.map(outcome, [test for _, test in tests])):
+        for (name, _), (wrong, text) in zip(tests, pool.map(outcome, [it for _, it in tests])):
+            texts[text] += 1
             if wrong:
                 failed += 1
                 print(f"{name} failed: {wrong}", flush=True)
+    for text in sorted(filter(None, texts)):
+        print(f"{texts[text]:6}  {text}")
     print(f"{len(tests) - failed} passed, {failed} failed")
     return 1 if failed else 0
 

@@ -9,22 +9,18 @@ is wrong, or the words are unclear.
   calendar      days, dates, day kinds, and when a schedule is due
   crontab       the bytes of a crontab to a table
   anacrontab    the bytes of an anacrontab to a table
-  warnings      what is told of tables that were read well
   json_text     the bytes of JSON to a value, as strictly as the program takes it
   declarations  the bytes of declarations and two tables to a plan
-  script        the bytes of a script and a plan to a start, stamps and events
+  script        the bytes of a script and a plan to a start, stamps and events, and back
   day           what `cronsafe day` prints
-  replay        what `cronsafe replay` prints
+  replay        the rules of histories, and what `cronsafe replay` prints
   certificate   the bytes of a certificate to what it says
-  plan          a plan as the rules see it
   claims        what a certificate stands for
-  rules         the eight rules, and what `cronsafe check` prints
-  call          what a whole call answers, but for certificates and verdicts
-  check         what a whole call of `check` answers
+  rules         the eight rules, and the verdict of `cronsafe check`
+  call          what a whole call answers, but for the verdicts of `judge` and `make`
 
   plans, made, damage    random plans, certificates for them, and changes in one place
 
-`compare_cases.py` and `compare_certificates.py` hold it against the worked cases of the folder
-above; `tests/fuzz/hostile` and `tests/fuzz/certificates` hold a built program against it. Needs Python 3 alone, of
-the distribution's own packages.
+`compare_cases.py` holds it against the worked cases of tests/cases; the programs of tests/random
+and tests/fuzz hold a built program against it. Needs Python 3 alone.
 """

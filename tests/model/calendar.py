@@ -2,11 +2,13 @@
 
 A day is its number since 1970-01-01, which is day 0; a civil minute is counted from 00:00 of it.
 """
+import functools
 import re
 from collections import namedtuple
 
 from model.faults import Fault
 
+DAY = 1_440
 LAST_YEAR = 9999
 LAST_DAY = 2_932_896
 # Civil minutes begin a day after the first one.
@@ -61,7 +63,9 @@ def weekday_of(day):
     return (day + 4) % 7
 
 
+@functools.cache
 def kind_of(day):
+    """Returns the kind of a day."""
     _, month, day_of_month = date_of(day)
     return Kind(month, day_of_month, weekday_of(day))
 
@@ -70,6 +74,9 @@ def all_kinds():
     """Returns the 2,562 kinds of days, by month, then day, then weekday from Sunday."""
     days = [(month, day) for month in range(1, 13) for day in range(1, days_in(2000, month) + 1)]
     return [Kind(month, day, weekday) for month, day in days for weekday in range(7)]
+
+
+KINDS = all_kinds()
 
 
 def day_of_text(text):
@@ -105,16 +112,20 @@ def minute_text(minute):
 
 
 def is_day_due(schedule, kind):
-    """Returns whether the day fields take a day of that kind."""
+    """Returns whether a schedule is due on a day of that kind."""
     by_day, by_weekday = kind.day in schedule.day.numbers, kind.weekday in schedule.weekday.numbers
+    is_due = by_day and by_weekday
     if not schedule.day.is_star and not schedule.weekday.is_star:
-        return by_day or by_weekday
-    return by_day and by_weekday
+        is_due = by_day or by_weekday
+    return is_due and kind.month in schedule.month.numbers
+
+
+def minutes_of(schedule):
+    """Returns the minutes at which a schedule is due on its days, rising."""
+    hours, minutes = sorted(schedule.hour.numbers), sorted(schedule.minute.numbers)
+    return [60 * hour + minute for hour in hours for minute in minutes]
 
 
 def due_minutes(schedule, kind):
     """Returns the minutes of a day of that kind at which a schedule is due, rising."""
-    if kind.month not in schedule.month.numbers or not is_day_due(schedule, kind):
-        return []
-    hours, minutes = sorted(schedule.hour.numbers), sorted(schedule.minute.numbers)
-    return [60 * hour + minute for hour in hours for minute in minutes]
+    return minutes_of(schedule) if is_day_due(schedule, kind) else []

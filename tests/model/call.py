@@ -1,15 +1,17 @@
 """What a whole call answers, as far as this reading goes.
 
-Words, files and standard input go in; out come the status and both outputs. Of `check`, `judge`
-and `make` only faults of what is read are known here: past them an answer is not told. Of `lint`
-it is known whether there is a fault, of `draft` whether there is one of the words or of a table.
+Words, files and standard input go in; out come the status and both outputs. Of `judge` and `make`
+only faults of what is read are known here: past them an answer is not told. Of `lint` it is known
+whether there is a fault, of `draft` whether there is one of the words or of a table.
 """
+import re
 from collections import namedtuple
 
-from model import calendar, crontab, script, warnings
+from model import calendar, certificate, crontab, rules, script
 from model.anacrontab import NONE, read_anacrontab
+from model.calendar import DAY
 from model.day import day_answer
-from model.declarations import DAY, GREATEST_MAX, plain_plan, read_plan
+from model.declarations import GREATEST_MAX, plain_plan, read_plan
 from model.faults import Fault
 from model.replay import replay_answer
 
@@ -27,6 +29,8 @@ CALLS = {
 LEFT_OUT = {b"lint": 1}
 NUMBERS = ("max", "from", "to")
 HELP = (b"help", b"-h", b"--help")
+# Settings that other programs know and this one passes over.
+WITHOUT_EFFECT = (b"CRON_TZ", b"RANDOM_DELAY", b"START_HOURS_RANGE")
 
 # Outputs that aren't told are none, and so is a status.
 Answer = namedtuple("Answer", "status out err")
@@ -97,11 +101,27 @@ def asked(words):
     return found
 
 
+def warnings_of_settings(table, of):
+    told = b"warning: %s on line %d of the %s has no effect\n"
+    found = [it for it in table.settings if it.name in WITHOUT_EFFECT]
+    return b"".join(told % (it.name, it.line, of) for it in found)
+
+
+def warnings_of(table, jobs):
+    """Returns what is told of two tables that were read well: settings, and a user column."""
+    told = b"warning: the command on line %d of the crontab begins with root, as in a table with a "
+    told += b"user column\n"
+    lines = [it.line for it in table.commands if re.split(rb"[ \t]", it.command)[0] == b"root"]
+    users = b"".join(told % line for line in lines[:1])
+    of_settings = warnings_of_settings(table, b"crontab") + users
+    return of_settings + warnings_of_settings(jobs, b"anacrontab")
+
+
 class Call:
     """A call that is answered, with what it has to warn of so far."""
 
-    def __init__(self, words, files, stdin):
-        self.words, self.files, self.stdin = words, files, stdin
+    def __init__(self, words, files, stdin, is_judged):
+        self.words, self.files, self.stdin, self.is_judged = words, files, stdin, is_judged
         self.warned = b""
 
     def bytes_of(self, path):
@@ -117,7 +137,7 @@ class Call:
         jobs = NONE
         if "ANACRONTAB" in found:
             jobs = read_anacrontab(self.bytes_of(found["ANACRONTAB"]))
-        self.warned = warnings.warnings_of(table, jobs)
+        self.warned = warnings_of(table, jobs)
         return table, jobs
 
     def day(self, found):
@@ -158,9 +178,12 @@ class Call:
 
     def check(self, found):
         tables = self.read_tables(found)
-        read_plan(self.bytes_of(found["DECLS"]), *tables)
-        self.bytes_of(found["CERT"])
-        return None, None
+        plan = read_plan(self.bytes_of(found["DECLS"]), *tables)
+        text = self.bytes_of(found["CERT"])
+        if not self.is_judged:
+            return None, None
+        verdict = rules.verdict(plan, certificate.read(text))
+        return 0 if verdict == b"safe\n" else 1, verdict
 
     def replay(self, found):
         longest = found.get("max", DAY)
@@ -196,8 +219,11 @@ def look_at_max(longest):
         raise Fault("declarations", "BadMax")
 
 
-def answer_of(words, files, stdin=b""):
-    """Returns the answer to words, over files by their paths and what standard input holds."""
+def answer_of(words, files, stdin=b"", is_judged=True):
+    """Returns the answer to words, over files by their paths and what standard input holds.
+
+    Unless it is judged, of `check` too only faults of what is read before the certificate.
+    """
     if not words:
         return Answer(4, b"", None)
-    return Call(words, files, stdin).answer()
+    return Call(words, files, stdin, is_judged).answer()

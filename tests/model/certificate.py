@@ -4,7 +4,9 @@ The fault of the smallest number that stands anywhere in the value is answered, 
 fault is looked for in the whole certificate, in the order of the numbers. Whatever a number means,
 it may be any whole one as long as shapes are read; if it is out of range is asked later.
 """
-from model.json_text import NotJson, read_json
+from model.calendar import DAY
+from model.faults import Fault
+from model.json_text import NotJson, OtherShape, is_whole, items_of, numbers_of, read_json, whole
 
 LONGEST = 16_777_216
 DEEPEST = 24
@@ -13,17 +15,10 @@ MOST_CLASSES = {1: 512, 2: 512, 3: 2562}
 GREATEST_REACH = {1: 1440, 2: 4320, 3: 4320}
 DAYS_BACK = {1: 1, 2: 3}
 STRETCH_DAYS = {1: (2,), 2: (2, 3, 4)}
-JOBS, GROUPS, DAY, GREATEST_VALUE = 320, 64, 1440, 1_000_000
+JOBS, GROUPS, GREATEST_VALUE = 320, 64, 1_000_000
+# The member of each version that lists stretches.
+STRETCHES = {1: "pairs", 2: "stretches", 3: None}
 NUMBERS_OF = {"month": range(1, 13), "day": range(1, 32), "weekday": range(7)}
-FAULTS = "TooLong NotJson BadVersion BadShape TooDeep BadSplit BadClass BadEntry".split()
-FAULTS += ["TooManyClasses", "LeafTooLong"]
-
-
-class Fault(Exception):
-    """A fault of a certificate's text, by its number."""
-
-    def __init__(self, name):
-        super().__init__(f"{FAULTS.index(name) + 1} {name}")
 
 
 class Certificate:
@@ -40,12 +35,16 @@ class Certificate:
 
     def __init__(self, version, value):
         self.version = version
-        self.classes = [class_said(it, version) for it in list_said(value["classes"])]
+        self.classes = [class_said(it, version) for it in items_of(value["classes"])]
         self.kinds = day_tree_said(value["kinds"])
-        self.reach = [numbers_said(it, 2) for it in list_said(value["reach"])]
-        name = {1: "pairs", 2: "stretches"}.get(version)
-        listed = list_said(value[name]) if name else []
+        self.reach = [numbers_of(it, 2) for it in items_of(value["reach"])]
+        listed = items_of(stretches_of(value))
         self.stretches = [stretch_said(it, version) for it in listed]
+
+
+def stretches_of(value):
+    """Returns what the value of a certificate lists as its stretches; nothing in version 3."""
+    return value.get(STRETCHES[value["version"]], [])
 
 
 # Shapes: what a value has to be for any meaning. All else is BadShape.
@@ -54,45 +53,23 @@ class Certificate:
 def object_said(value, *names):
     """Returns the values of an object that has these members and no other."""
     if not isinstance(value, dict) or set(value) != set(names):
-        raise Fault("BadShape")
+        raise OtherShape
     return [value[name] for name in names]
-
-
-def list_said(value, length=None):
-    """Returns a list, of that length where one is asked for."""
-    if not isinstance(value, list) or length not in (None, len(value)):
-        raise Fault("BadShape")
-    return value
-
-
-def is_whole(value):
-    """Returns whether a value is a whole number; a boolean is one in Python, but none in JSON."""
-    return isinstance(value, int) and not isinstance(value, bool)
-
-
-def number_said(value):
-    if not is_whole(value):
-        raise Fault("BadShape")
-    return value
-
-
-def numbers_said(value, length=None):
-    return [number_said(it) for it in list_said(value, length)]
 
 
 def class_said(value, version):
     """Returns the due minutes and the backlogs of a class: pairs of a job, a group and its list."""
     if version == 3:
         [carry] = object_said(value, "carry")
-        pairs = [numbers_said(it, 2) for it in list_said(carry)]
+        pairs = [numbers_of(it, 2) for it in items_of(carry)]
         return [], [(group, [[0, minutes]]) for group, minutes in pairs]
     due, backlog = object_said(value, "due", "backlog")
-    jobs = [list_said(it, 2) for it in list_said(due)]
-    groups = [list_said(it, 2) for it in list_said(backlog)]
+    jobs = [items_of(it, 2) for it in items_of(due)]
+    groups = [items_of(it, 2) for it in items_of(backlog)]
     return (
-        [(number_said(job), numbers_said(minutes)) for job, minutes in jobs],
+        [(whole(job), numbers_of(minutes)) for job, minutes in jobs],
         [
-            (number_said(group), [numbers_said(it, 2) for it in list_said(pieces)])
+            (whole(group), [numbers_of(it, 2) for it in items_of(pieces)])
             for group, pieces in groups
         ],
     )
@@ -100,25 +77,25 @@ def class_said(value, version):
 
 def day_tree_said(value):
     if isinstance(value, dict) and "class" in value:
-        return number_said(*object_said(value, "class"))
+        return whole(*object_said(value, "class"))
     field, numbers, yes, no = object_said(value, "split", "in", "yes", "no")
     if not isinstance(field, str) or field not in NUMBERS_OF:
-        raise Fault("BadShape")
-    return field, numbers_said(numbers), day_tree_said(yes), day_tree_said(no)
+        raise OtherShape
+    return field, numbers_of(numbers), day_tree_said(yes), day_tree_said(no)
 
 
 def minute_tree_said(value):
     if isinstance(value, dict) and "list" in value:
-        return [tuple(numbers_said(it, 3)) for it in list_said(*object_said(value, "list"))]
+        return [tuple(numbers_of(it, 3)) for it in items_of(*object_said(value, "list"))]
     at, before, after = object_said(value, "at", "before", "after")
-    return number_said(at), minute_tree_said(before), minute_tree_said(after)
+    return whole(at), minute_tree_said(before), minute_tree_said(after)
 
 
 def stretch_said(value, version):
     of, tree = object_said(value, "of", "tree")
-    classes = numbers_said(of)
+    classes = numbers_of(of)
     if len(classes) not in STRETCH_DAYS[version]:
-        raise Fault("BadShape")
+        raise OtherShape
     return tuple(classes), minute_tree_said(tree)
 
 
@@ -184,37 +161,31 @@ def has_bad_class(it):
     return not are_within(named, 0, len(it.classes) - 1) or not rises(order)
 
 
-def is_class_in_range(due, backlogs):
-    jobs, groups = [job for job, _ in due], [group for group, _ in backlogs]
-    if not rises(jobs) or not are_within(jobs, 0, JOBS - 1):
-        return False
-    if not rises(groups) or not are_within(groups, 0, GROUPS - 1):
-        return False
-    for _, minutes in due:
-        if not minutes or not rises(minutes) or not are_within(minutes, 0, DAY - 1):
-            return False
-    for _, pieces in backlogs:
-        minutes, values = [at for at, _ in pieces], [value for _, value in pieces]
-        if not rises(minutes) or not are_within(minutes, 0, DAY - 1):
-            return False
-        if not are_within(values, 1, GREATEST_VALUE):
-            return False
-    return True
+def rising_lists(it):
+    """Yields the lists of numbers that have to rise, each with the greatest that one may be."""
+    yield [job for job, _ in it.reach], JOBS - 1
+    for due, backlogs in it.classes:
+        yield [job for job, _ in due], JOBS - 1
+        yield [group for group, _ in backlogs], GROUPS - 1
+        yield from ((minutes, DAY - 1) for _, minutes in due)
+        yield from (([at for at, _ in pieces], DAY - 1) for _, pieces in backlogs)
 
 
 def has_bad_entry(it):
-    jobs, reaches = [job for job, _ in it.reach], [reach for _, reach in it.reach]
-    if not rises(jobs) or not are_within(jobs, 0, JOBS - 1):
+    if not all(rises(found) and are_within(found, 0, most) for found, most in rising_lists(it)):
+        return True
+    values = [value for _, found in it.classes for _, pieces in found for _, value in pieces]
+    reaches = [reach for _, reach in it.reach]
+    is_due_at_none = any(not minutes for due, _ in it.classes for _, minutes in due)
+    if is_due_at_none or not are_within(values, 1, GREATEST_VALUE):
         return True
     if not are_within(reaches, 1, GREATEST_REACH[it.version]):
         return True
-    if not all(is_class_in_range(due, backlogs) for due, backlogs in it.classes):
-        return True
-    for _, tree in it.stretches:
-        for job, back, minute in [entry for leaf in leaves(tree) for entry in leaf]:
-            if not (0 <= job < JOBS and 0 <= back <= DAYS_BACK[it.version] and 0 <= minute < DAY):
-                return True
-    return False
+    listed = [entry for _, tree in it.stretches for leaf in leaves(tree) for entry in leaf]
+    return not all(
+        0 <= job < JOBS and 0 <= back <= DAYS_BACK[it.version] and 0 <= minute < DAY
+        for job, back, minute in listed
+    )
 
 
 def has_too_many_classes(it):
@@ -237,26 +208,32 @@ RULES = (
 
 def members_of(version):
     """Returns the names of a certificate's members."""
-    listed = {1: ["pairs"], 2: ["stretches"], 3: []}[version]
-    return ["version", "classes", "kinds", "reach", *listed]
+    listed = STRETCHES[version]
+    return ["version", "classes", "kinds", "reach", *([listed] if listed else [])]
+
+
+def certificate_of(value):
+    """Returns the certificate of a JSON value whose shape is right."""
+    if not isinstance(value, dict) or not is_whole(value.get("version")):
+        raise OtherShape
+    version = value["version"]
+    if version not in (1, 2, 3):
+        raise Fault("certificate", "BadVersion")
+    object_said(value, *members_of(version))
+    return Certificate(version, value)
 
 
 def read(text):
     """Returns the certificate that bytes stand for; raises its fault."""
     if len(text) > LONGEST:
-        raise Fault("TooLong")
+        raise Fault("certificate", "TooLong")
     try:
-        value = read_json(text)
-    except NotJson as error:
-        raise Fault("NotJson") from error
-    if not isinstance(value, dict) or not is_whole(value.get("version")):
-        raise Fault("BadShape")
-    version = value["version"]
-    if version not in (1, 2, 3):
-        raise Fault("BadVersion")
-    object_said(value, *members_of(version))
-    certificate = Certificate(version, value)
+        certificate = certificate_of(read_json(text))
+    except NotJson:
+        raise Fault("certificate", "NotJson") from None
+    except OtherShape:
+        raise Fault("certificate", "BadShape") from None
     for name, stands_in in RULES:
         if stands_in(certificate):
-            raise Fault(name)
+            raise Fault("certificate", name)
     return certificate

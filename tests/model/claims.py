@@ -7,8 +7,8 @@ the stretches are the lists of classes that successive kinds have.
 import functools
 
 from model import calendar
-from model.certificate import DAY, GREATEST_VALUE
-from model.plan import KINDS
+from model.calendar import DAY, KINDS
+from model.certificate import GREATEST_VALUE
 
 FIRST_LENGTH, LAST_LENGTH = 2, 4
 

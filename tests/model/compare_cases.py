@@ -1,72 +1,103 @@
 #!/usr/bin/env python3
 """Compares the second reading with what the worked cases of the folder above want.
 
-usage: tests/model/compare_cases.py [NAME..]
+  tests/model/compare_cases.py [NAME..]   all cases, those of a subcommand, or those named
 
-All cases of `day`, `check`, `judge`, `make`, `replay`, `lint` and `draft` are looked at, or those
-that are named as SUBCOMMAND/NAME. Where the wanted answer is one that this reading knows, it has to be the same:
-status and both outputs. Where it comes later, as the verdict of `check`, what is read before has to
-read well, with the wanted warnings. Cases of help are left out. Prints each case in which the two
-differ, with both answers, and last 'N passed, M failed'. Ends with status 0 where none fails, 1
-where one does, and 2 where a case is malformed or a name is none.
+Read are the cases of `day`, `check`, `judge`, `make`, `replay`, `lint` and `draft`, but for those
+of help. Where the wanted answer is one of what is read, the reading has to answer the same: status
+and both outputs. Where it comes later, all has to read well, with the wanted warnings.
+
+Judged are certificates; the reading of `check` has to give the whole answer, its verdict too:
+  of `check`   all cases but those that want help or say that the words are no call
+  of `run`     those that want a certificate's fault or refusal, or that were run; `check` of the
+               same files has to answer so
+  of `make`    those that want a certificate, which `check` has to accept
+
+No program is run. Needs Python 3 alone.
 """
 import sys
+from functools import partial
 from pathlib import Path
 
 sys.dont_write_bytecode = True
-TESTS = Path(__file__).resolve().parent.parent
-sys.path[0] = str(TESTS)
+# In place of the folder of this script, whose modules have names of Python's own.
+sys.path[0] = str(Path(__file__).resolve().parent.parent)
 
-from cases import BadCase, cases_of  # noqa: E402
-from model.call import Answer, answer_of, asks_help  # noqa: E402
+from cases import cases_of  # noqa: E402
+from harness import Fault, count, end_with, words_of  # noqa: E402
+from model.call import CALLS, Answer, answer_of, asks_help  # noqa: E402
 
-SUBCOMMANDS = ("day", "check", "judge", "make", "replay", "lint", "draft")
-# What standard error says behind the warnings where the text of a certificate holds a fault.
+SAFE = b"safe\n"
+# What standard error says after the warnings where the text of a certificate holds a fault.
 OF_CERTIFICATES = b"cronsafe: certificate: "
 
 
 def is_met(wanted, got):
     """Returns whether an answer is the wanted one, in what of it is told."""
     if got.status is None:
-        behind = wanted.err.removeprefix(got.err)
-        is_warned = wanted.err.startswith(got.err) and b"warning: " not in behind
+        rest = wanted.err.removeprefix(got.err)
+        is_warned = wanted.err.startswith(got.err) and b"warning: " not in rest
         if wanted.status == 3:
-            return is_warned and behind.startswith(OF_CERTIFICATES)
-        return is_warned and behind == b"" and wanted.status in (0, 1, 2)
+            return is_warned and rest.startswith(OF_CERTIFICATES)
+        return is_warned and rest == b"" and wanted.status in (0, 1, 2)
     outputs = (got.out, wanted.out), (got.err, wanted.err)
     return got.status == wanted.status and all(it[0] in (None, it[1]) for it in outputs)
 
 
-def printed(answer):
-    """Returns the lines of an answer, of long outputs the beginning."""
-    if answer.status is None:
-        return [f"    all reads well, warnings {answer.err!r}"]
-    out = answer.out[:300] if answer.out is not None else answer.out
-    return [f"    status {answer.status}", f"    output {out!r}", f"    error {answer.err!r}"]
+def wanted_of(case):
+    return Answer(case.status, case.stdout, case.stderr)
 
 
-def main(names):
-    passed = failed = left_out = 0
-    for case in cases_of(names or SUBCOMMANDS):
-        if asks_help(case.words):
-            left_out += 1
-            continue
-        got = answer_of(case.words, case.files, case.stdin)
-        wanted = Answer(case.status, case.stdout, case.stderr)
-        if is_met(wanted, got):
-            passed += 1
-            continue
-        failed += 1
-        print(f"{case.name} differs", "  wanted", *printed(wanted), sep="\n")
-        print("  second reading", *printed(got), sep="\n")
-    print(f"{left_out} of help left out")
-    print(f"{passed} passed, {failed} failed")
-    return 1 if failed else 0
+def look_at_reading(case):
+    wanted, got = wanted_of(case), answer_of(case.words, case.files, case.stdin, is_judged=False)
+    if not is_met(wanted, got):
+        raise Fault(f"\n  wanted: {wanted}\n  read:   {got}")
 
 
-if __name__ == "__main__":
-    try:
-        sys.exit(main(sys.argv[1:]))
-    except BadCase as error:
-        print(f"compare_cases: {error}", file=sys.stderr)
-        sys.exit(2)
+def words_of_check(case):
+    """Returns the words that check the certificate of a case, which `made` is of one of `make`."""
+    command, *words = case.words
+    words = [it for it in words if it != b"--compact"]
+    if b"--minutes" in words:
+        at = words.index(b"--minutes")
+        del words[at : at + 2]
+    if command == b"make":
+        words.insert(2, b"made")
+    if command == b"run":
+        del words[3:4]
+    return [b"check", *words]
+
+
+def is_judged(case):
+    """Returns whether a case says what `check` of its certificate answers."""
+    if b"*" in case.stdout + case.stderr:
+        return False
+    if case.words[:1] == [b"make"]:
+        return case.stdout.startswith(b'{"')
+    if case.words[:1] == [b"run"]:
+        is_refused = OF_CERTIFICATES in case.stderr or case.stdout.startswith(b"refused ")
+        return len(case.words) > 4 and (case.status == 0 or is_refused)
+    return case.words[:1] == [b"check"]
+
+
+def look_at_verdict(case):
+    wanted, files = wanted_of(case), {**case.files, b"made": case.stdout}
+    if case.words[0] != b"check" and case.status == 0:
+        warnings = [it for it in case.stderr.splitlines(True) if it.startswith(b"warning: ")]
+        wanted = Answer(0, SAFE, b"".join(warnings))
+    got = answer_of(words_of_check(case), files, case.stdin)
+    if got != wanted:
+        raise Fault(f"\n  wanted: {wanted}\n  judged: {got}")
+
+
+def main():
+    cases = cases_of(words_of(__doc__).names)
+    read = [it for it in cases if it.name.split("/")[0].encode() in CALLS]
+    read = [it for it in read if not asks_help(it.words)]
+    tests = [(f"reading of {it.name}", partial(look_at_reading, it)) for it in read]
+    judged = filter(is_judged, cases)
+    tests += [(f"verdict of {it.name}", partial(look_at_verdict, it)) for it in judged]
+    return count(tests, 1)
+
+
+end_with(main)

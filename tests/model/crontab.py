@@ -1,12 +1,15 @@
 """The bytes of a crontab to a table, or to the first fault with its line."""
+import re
 from collections import namedtuple
 
 from model.faults import Fault
 
 BLANKS = b" \t"
-LETTERS = b"ABCDEFGHIJKLMNOPQRSTUVWXYZabcdefghijklmnopqrstuvwxyz"
-DIGITS = b"0123456789"
-QUOTES = b"\"'"
+# What begins a setting; its name, in quotes or without; and a value in quotes.
+SETTING = re.compile(rb"[A-Za-z_\"']")
+NAME = re.compile(rb"""(?:(["'])((?:(?!\1).)+)\1|([^"' \t=][^ \t=]*))[ \t]*=[ \t]*""", re.DOTALL)
+QUOTED = re.compile(rb"""(["'])((?:(?!\1).)*)\1[ \t]*""", re.DOTALL)
+DIGITS = re.compile(rb"([0-9]*)(.*)", re.DOTALL)
 MOST_BYTES = 1_048_576
 MOST_BYTES_OF_A_LINE = 4_096
 MOST_COMMANDS = 256
@@ -69,55 +72,32 @@ def lines_that_count(text, of):
 
 
 def part_of(line):
-    """Returns what stands before the first blank, and what stands behind the blanks there."""
-    length = 0
-    while length < len(line) and line[length] not in BLANKS:
-        length += 1
-    return line[:length], line[length:].lstrip(BLANKS)
+    """Returns what stands before the first blank, and what stands after the blanks there."""
+    part, *rest = re.split(rb"[ \t]+", line, maxsplit=1)
+    return part, b"".join(rest)
 
 
 def begins_as_setting(line):
-    return line[0] in LETTERS or line[0] in b"_" or line[0] in QUOTES
-
-
-def name_of(line):
-    """Returns the name at the head of a setting, and what stands behind it."""
-    if line[0] in QUOTES:
-        name, quote, behind = line[1:].partition(line[:1])
-        if not quote or not name:
-            raise Wrong("BadSetting")
-        return name, behind
-    length = 0
-    while length < len(line) and line[length] not in BLANKS + b"=":
-        length += 1
-    return line[:length], line[length:]
-
-
-def value_of(text):
-    """Returns the value that a text behind `=` and blanks stands for."""
-    if text and text[0] in QUOTES:
-        value, quote, behind = text[1:].partition(text[:1])
-        if not quote or behind.strip(BLANKS):
-            raise Wrong("BadSetting")
-        return value
-    return text.rstrip(BLANKS)
+    return SETTING.match(line) is not None
 
 
 def setting_of(line):
     """Returns the name and the value of a setting."""
-    name, behind = name_of(line)
-    behind = behind.lstrip(BLANKS)
-    if not behind.startswith(b"="):
+    found = NAME.match(line)
+    if not found:
         raise Wrong("BadSetting")
-    return name, value_of(behind[1:].lstrip(BLANKS))
+    value = line[found.end() :].rstrip(BLANKS)
+    if value[:1] in (b'"', b"'"):
+        quoted = QUOTED.fullmatch(value)
+        if not quoted:
+            raise Wrong("BadSetting")
+        value = quoted[2]
+    return found[2] or found[3], value
 
 
 def digits_of(text):
-    """Returns the digits at the head of a text, as many as there are, and what stands behind."""
-    length = 0
-    while length < len(text) and text[length] in DIGITS:
-        length += 1
-    return text[:length], text[length:]
+    """Returns the digits at the head of a text, as many as there are, and what stands after."""
+    return DIGITS.match(text).groups()
 
 
 def number_of(text, field):

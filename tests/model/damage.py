@@ -3,6 +3,8 @@ import copy
 import json
 import re
 
+from model.certificate import stretches_of
+
 NUMBERS = (0, -1, 64, 320, 512, 1440, 4320, 4321, 1_000_000, 1_000_001, 2**32, 2**64 - 1, 2**64)
 OTHERS = (1.0, None, True, "0", [], {})
 FORMS = (b"01", b"1.0", b"1e0", b"1E3", b"-0", b"-1", b"1e400", b"18446744073709551616", b"+1")
@@ -87,12 +89,6 @@ def take_out_entry(chance, value):
     if lists:
         it = chance.choice(lists)
         del it[chance.randrange(len(it))]
-
-
-def stretches_of(value):
-    """Returns the list of stretches of a certificate, which has none where it is compact."""
-    found = value.get("pairs", value.get("stretches"))
-    return found if isinstance(found, list) else []
 
 
 def add_stretch(chance, value):

@@ -1,7 +1,6 @@
 """What `cronsafe day` prints: how often each line is due on a day, and its windows."""
-from model.calendar import WEEKDAYS, day_text, due_minutes, kind_of, weekday_of
+from model.calendar import DAY, WEEKDAYS, day_text, due_minutes, kind_of, weekday_of
 
-DAY = 1_440
 DAYS_BEFORE = 3
 
 

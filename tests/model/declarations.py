@@ -1,8 +1,13 @@
 """The bytes of declarations, joined with two tables to a plan, or their first fault."""
+import functools
+import itertools
 from collections import namedtuple
 
+from model.anacrontab import NONE, read_anacrontab
+from model.calendar import DAY, KINDS, is_day_due, minutes_of
+from model.crontab import Command, read_crontab
 from model.faults import Fault
-from model.json_text import NotJson, read_json
+from model.json_text import NotJson, OtherShape, items_of, numbers_of, read_json, whole
 
 MODES = ("none", "skip", "wait", "shared")
 MOST_GROUPS = 64
@@ -10,26 +15,30 @@ GREATEST_MAX = 4_320
 GREATEST_WEIGHT = 64
 GREATEST_CAPACITY = 64
 GREATEST_OFFSET = 1_439
-DAY = 1_440
 
 # What the bytes say; `mode` of an anacron entry is whether it has one.
 Declared = namedtuple("Declared", "capacity offset hours pass_minute groups cron anacron")
 Group = namedtuple("Group", "name exclusive")
 Entry = namedtuple("Entry", "job max weight group mode")
-# A job of a plan by its number: `of` is the command or the job of its table.
-PlanJob = namedtuple("PlanJob", "of max weight group mode")
+# The jobs of a plan are those of the crontab first.
 Plan = namedtuple("Plan", "crontab anacrontab jobs groups capacity hours pass_minute offset")
 
 
-class OtherShape(Exception):
-    """A value has another shape than it has to have."""
+class Job:
+    """A job of a plan: `of` is the command or the job of its table."""
 
+    def __init__(self, of, longest, weight=1, group=None, mode="none"):
+        self.of, self.max, self.weight, self.group, self.mode = of, longest, weight, group, mode
+        self.is_cron = isinstance(of, Command)
+        self.name = b"line %d" % of.line if self.is_cron else of.identifier
+        self.takes_lock, self.shares = mode != "none", mode == "shared"
+        self.waits = mode in ("wait", "shared")
 
-def whole(value):
-    # A boolean is a number in Python, but none in JSON.
-    if not isinstance(value, int) or isinstance(value, bool):
-        raise OtherShape
-    return value
+    @functools.cached_property
+    def due(self):
+        """The due minutes of a command on each kind of day."""
+        schedule, minutes = self.of.schedule, minutes_of(self.of.schedule)
+        return {kind: minutes if is_day_due(schedule, kind) else [] for kind in KINDS}
 
 
 def boolean(value):
@@ -57,9 +66,7 @@ def offset(value):
 
 
 def hours(value):
-    if not isinstance(value, list) or len(value) != 2:
-        raise OtherShape
-    return whole(value[0]), whole(value[1])
+    return tuple(numbers_of(value, 2))
 
 
 def anything(_):
@@ -68,13 +75,7 @@ def anything(_):
 
 def list_of(read):
     """Returns the reader of lists whose items it reads."""
-
-    def read_list(value):
-        if not isinstance(value, list):
-            raise OtherShape
-        return [read(item) for item in value]
-
-    return read_list
+    return lambda value: [read(item) for item in items_of(value)]
 
 
 # The members of each kind of object: how each is read, and what it is where it is absent.
@@ -132,103 +133,60 @@ def identifier_text(job):
     return job.identifier.decode("utf-8")
 
 
-def second_times(keys):
-    """Returns the places, from 1, at which a key stands that stood before."""
-    return [at for at, key in enumerate(keys, 1) if key in keys[: at - 1]]
+def places(word, are_wrong):
+    """Returns the places, from 1, at which something is wrong."""
+    return [word + b" %d" % at for at, is_wrong in enumerate(are_wrong, 1) if is_wrong]
 
 
-def places(word, found):
-    return [word + b" %d" % at for at in found]
+def second_times(word, keys):
+    """Returns the places at which a key stands that stood before."""
+    return places(word, (key in keys[:at] for at, key in enumerate(keys)))
 
 
-class Rules:
-    """The rules beside the shape: for each fault the places where it stands, the first first."""
-
-    def __init__(self, declared, crontab, anacrontab):
-        self.declared, self.crontab, self.anacrontab = declared, crontab, anacrontab
-
-    def entries(self, is_wrong):
-        """Returns the places of the entries that are wrong, of cron and then of anacron."""
-        cron = [at for at, it in enumerate(self.declared.cron, 1) if is_wrong(it)]
-        anacron = [at for at, it in enumerate(self.declared.anacron, 1) if is_wrong(it)]
-        return places(b"cron", cron) + places(b"anacron", anacron)
-
-    def no_such_line(self):
-        names = {it.line for it in self.crontab.commands}
-        names |= {identifier_text(it) for it in self.anacrontab.jobs}
-        return self.entries(lambda it: it.job not in names)
-
-    def undeclared(self):
-        lines = [it.job for it in self.declared.cron]
-        names = [it.job for it in self.declared.anacron]
-        jobs = [it for it in self.crontab.commands if it.schedule and it.line not in lines]
-        found = [b"line %d" % it.line for it in jobs]
-        jobs = [it for it in self.anacrontab.jobs if identifier_text(it) not in names]
-        return found + [b"job " + it.identifier for it in jobs]
-
-    def twice_declared(self):
-        groups = second_times([it.name for it in self.declared.groups])
-        lines = second_times([it.job for it in self.declared.cron])
-        names = second_times([it.job for it in self.declared.anacron])
-        found = places(b"group", groups) + places(b"cron", lines)
-        return found + places(b"anacron", names)
-
-    def bad_max(self):
-        return self.entries(lambda it: not 1 <= it.max <= GREATEST_MAX)
-
-    def bad_weight(self):
-        return self.entries(lambda it: not 1 <= it.weight <= GREATEST_WEIGHT)
-
-    def bad_capacity(self):
-        return [] if 1 <= self.declared.capacity <= GREATEST_CAPACITY else [b""]
-
-    def mode_needs_group(self):
-        wrong = [it.mode != "none" and it.group is None for it in self.declared.cron]
-        return places(b"cron", [at for at, it in enumerate(wrong, 1) if it])
-
-    def unknown_group(self):
-        names = [None, *(it.name for it in self.declared.groups)]
-        return self.entries(lambda it: it.group not in names)
-
-    def too_many_groups(self):
-        is_over = len(self.declared.groups) > MOST_GROUPS
-        return places(b"group", [MOST_GROUPS + 1] if is_over else [])
-
-    def bad_hours(self):
-        first, past = self.declared.hours
-        return [] if 0 <= first < past <= DAY else [b""]
-
-    def mode_on_anacron(self):
-        found = [at for at, it in enumerate(self.declared.anacron, 1) if it.mode]
-        return places(b"anacron", found)
-
-    def reboot_line(self):
-        return reboot_places(self.crontab)
-
-    def bad_pass_minute(self):
-        minute = self.declared.pass_minute
-        return [] if minute is None or 0 <= minute < DAY else [b""]
+def places_of_entries(declared, is_wrong):
+    """Returns the places of the entries that are wrong, of cron and then of anacron."""
+    of_cron = places(b"cron", map(is_wrong, declared.cron))
+    return of_cron + places(b"anacron", map(is_wrong, declared.anacron))
 
 
-# What declarations say alone, by number behind 1 NotJson and 2 BadShape; and then, where none of
-# these stands, what they say of the tables, by number too.
-ALONE = (
-    ("TwiceDeclared", Rules.twice_declared),
-    ("BadMax", Rules.bad_max),
-    ("BadWeight", Rules.bad_weight),
-    ("BadCapacity", Rules.bad_capacity),
-    ("ModeNeedsGroup", Rules.mode_needs_group),
-    ("UnknownGroup", Rules.unknown_group),
-    ("TooManyGroups", Rules.too_many_groups),
-    ("BadHours", Rules.bad_hours),
-    ("ModeOnAnacron", Rules.mode_on_anacron),
-    ("BadPassMinute", Rules.bad_pass_minute),
-)
-OF_TABLES = (
-    ("NoSuchLine", Rules.no_such_line),
-    ("Undeclared", Rules.undeclared),
-    ("RebootLine", Rules.reboot_line),
-)
+def undeclared(declared, crontab, anacrontab):
+    """Returns the places of the jobs without an entry, but for commands at startup."""
+    lines, names = ([it.job for it in found] for found in (declared.cron, declared.anacron))
+    commands = [it for it in crontab.commands if it.schedule and it.line not in lines]
+    jobs = [it for it in anacrontab.jobs if identifier_text(it) not in names]
+    return [b"line %d" % it.line for it in commands] + [b"job " + it.identifier for it in jobs]
+
+
+def faults_alone(declared):
+    """Yields the faults after NotJson and BadShape, by number, each with the places of it."""
+    groups = [it.name for it in declared.groups]
+    twice = second_times(b"group", groups)
+    twice += second_times(b"cron", [it.job for it in declared.cron])
+    yield "TwiceDeclared", twice + second_times(b"anacron", [it.job for it in declared.anacron])
+
+    def of_entries(is_wrong):
+        return places_of_entries(declared, is_wrong)
+
+    yield "BadMax", of_entries(lambda it: not 1 <= it.max <= GREATEST_MAX)
+    yield "BadWeight", of_entries(lambda it: not 1 <= it.weight <= GREATEST_WEIGHT)
+    yield "BadCapacity", [] if 1 <= declared.capacity <= GREATEST_CAPACITY else [b""]
+    lacks_group = [it.mode != "none" and it.group is None for it in declared.cron]
+    yield "ModeNeedsGroup", places(b"cron", lacks_group)
+    yield "UnknownGroup", of_entries(lambda it: it.group not in [None, *groups])
+    yield "TooManyGroups", [b"group %d" % (MOST_GROUPS + 1)] if len(groups) > MOST_GROUPS else []
+    first, past = declared.hours
+    yield "BadHours", [] if 0 <= first < past <= DAY else [b""]
+    yield "ModeOnAnacron", places(b"anacron", [it.mode for it in declared.anacron])
+    minute = declared.pass_minute
+    yield "BadPassMinute", [] if minute is None or 0 <= minute < DAY else [b""]
+
+
+def faults_of_tables(declared, crontab, anacrontab):
+    """Yields the faults of declarations that have none alone beside their tables, by number."""
+    names = {it.line for it in crontab.commands} | set(map(identifier_text, anacrontab.jobs))
+    yield "NoSuchLine", places_of_entries(declared, lambda it: it.job not in names)
+    yield "Undeclared", undeclared(declared, crontab, anacrontab)
+    yield "RebootLine", reboot_places(crontab)
 
 
 def reboot_places(crontab):
@@ -245,10 +203,10 @@ def joined(declared, crontab, anacrontab):
     jobs = []
     for of in crontab.commands:
         it = lines[of.line]
-        jobs.append(PlanJob(of, it.max, it.weight, numbers[it.group], it.mode))
+        jobs.append(Job(of, it.max, it.weight, numbers[it.group], it.mode))
     for of in anacrontab.jobs:
         it = names[identifier_text(of)]
-        jobs.append(PlanJob(of, it.max, it.weight, numbers[it.group], "none"))
+        jobs.append(Job(of, it.max, it.weight, numbers[it.group]))
     rest = declared.groups, declared.capacity, declared.hours, declared.pass_minute
     return Plan(crontab, anacrontab, jobs, *rest, declared.offset)
 
@@ -261,9 +219,9 @@ def read_plan(data, crontab, anacrontab):
         raise Fault("declarations", "NotJson") from None
     except OtherShape:
         raise Fault("declarations", "BadShape") from None
-    rules = Rules(declared, crontab, anacrontab)
-    for name, places_of in ALONE + OF_TABLES:
-        for place in places_of(rules):
+    found = faults_alone(declared), faults_of_tables(declared, crontab, anacrontab)
+    for name, places_found in itertools.chain(*found):
+        for place in places_found:
             raise Fault("declarations", name, place)
     return joined(declared, crontab, anacrontab)
 
@@ -272,6 +230,13 @@ def plain_plan(longest, crontab, anacrontab):
     """Returns the plan of tables without declarations, each job with that longest time."""
     for place in reboot_places(crontab):
         raise Fault("declarations", "RebootLine", place)
-    found = [*crontab.commands, *anacrontab.jobs]
-    jobs = [PlanJob(of, longest, 1, None, "none") for of in found]
+    jobs = [Job(of, longest) for of in (*crontab.commands, *anacrontab.jobs)]
     return Plan(crontab, anacrontab, jobs, [], GREATEST_CAPACITY, (0, DAY), None, 0)
+
+
+def plan_of(files):
+    """Returns the plan of the bytes of tables and declarations, by their names as bytes."""
+    anacrontab = NONE
+    if b"anacrontab" in files:
+        anacrontab = read_anacrontab(files[b"anacrontab"])
+    return read_plan(files[b"declarations"], read_crontab(files[b"crontab"]), anacrontab)

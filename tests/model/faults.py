@@ -1,52 +1,17 @@
 """The faults of each input by number and name, as docs/DEFINITIONS.md lists them."""
 
 NAMES = {
-    "date": ("NotADate", "OutOfRange"),
-    "crontab": (
-        "TooLong",
-        "NulByte",
-        "BadSetting",
-        "UnknownWord",
-        "MissingField",
-        "BadNumber",
-        "OutOfField",
-        "Reversed",
-        "BadStep",
-        "StepOnNumber",
-        "NoCommand",
-        "TooManyJobs",
-    ),
-    "anacrontab": (
-        "TooLong",
-        "NulByte",
-        "BadSetting",
-        "UnknownWord",
-        "MissingField",
-        "BadPeriod",
-        "BadDelay",
-        "BadIdentifier",
-        "TwiceNamed",
-        "Continued",
-        "TooManyJobs",
-    ),
-    "declarations": (
-        "NotJson",
-        "BadShape",
-        "NoSuchLine",
-        "Undeclared",
-        "TwiceDeclared",
-        "BadMax",
-        "BadWeight",
-        "BadCapacity",
-        "ModeNeedsGroup",
-        "UnknownGroup",
-        "TooManyGroups",
-        "BadHours",
-        "ModeOnAnacron",
-        "RebootLine",
-        "BadPassMinute",
-    ),
-    "script": ("TooLong", "BadLine", "BadDate", "UnknownName", "NoStart"),
+    "date": "NotADate OutOfRange",
+    "crontab": "TooLong NulByte BadSetting UnknownWord MissingField BadNumber OutOfField Reversed"
+    " BadStep StepOnNumber NoCommand TooManyJobs",
+    "anacrontab": "TooLong NulByte BadSetting UnknownWord MissingField BadPeriod BadDelay"
+    " BadIdentifier TwiceNamed Continued TooManyJobs",
+    "declarations": "NotJson BadShape NoSuchLine Undeclared TwiceDeclared BadMax BadWeight"
+    " BadCapacity ModeNeedsGroup UnknownGroup TooManyGroups BadHours ModeOnAnacron RebootLine"
+    " BadPassMinute",
+    "certificate": "TooLong NotJson BadVersion BadShape TooDeep BadSplit BadClass BadEntry"
+    " TooManyClasses LeafTooLong",
+    "script": "TooLong BadLine BadDate UnknownName NoStart",
 }
 
 
@@ -59,7 +24,7 @@ class Fault(Exception):
 
     def __init__(self, of, name, place=b""):
         self.of, self.name = of, name
-        self.number = NAMES[of].index(name) + 1
+        self.number = NAMES[of].split().index(name) + 1
         self.place = b"%d" % place if isinstance(place, int) else place
 
     def text(self):

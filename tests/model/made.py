@@ -5,9 +5,8 @@ rules to say. It has the least carries and the least reaches, so that a number o
 rule.
 """
 from model import certificate, rules
-from model.certificate import DAY
+from model.calendar import DAY, KINDS
 from model.claims import Claim, chains
-from model.plan import KINDS
 
 ROUNDS = 9
 NUMBERS = ("month", "day", "weekday")
@@ -120,8 +119,8 @@ def claim_of(plan, value):
 
 def greatest_load(claim):
     """Returns the most that may run at once: a capacity that is just enough."""
-    minutes = (it for of, _ in claim.used for it in rules.minutes_with_windows(claim, of))
-    return max((rules.load(claim.plan, windows) for _, windows in minutes), default=1)
+    loads = (rules.load(claim.plan, windows) for *_, windows in rules.minutes_in_use(claim))
+    return max(loads, default=1)
 
 
 def pieces(bound):
@@ -133,7 +132,7 @@ def pieces(bound):
 
 def class_listed(claim, number):
     """Returns what a class of version 1 and 2 lists of what version 3 stands for."""
-    due = [[job, minutes] for job, minutes in claim.due[number].items() if minutes]
+    due = [[job, list(minutes)] for job, minutes in claim.due[number].items() if minutes]
     groups = [(it, pieces(claim.bound(number, it))) for it in claim.waiting_groups()]
     return {"backlog": [[group, it] for group, it in groups if it], "due": due}
 
@@ -145,7 +144,7 @@ def minute_tree(windows, first, end, chance):
         halves = [minute_tree(windows, *it, chance) for it in ((first, at), (at, end))]
         return {"at": at, "before": halves[0], "after": halves[1]}
     held = [it for it in windows if it.start < end and it.end > first]
-    return {"list": [[it.number, -(it.start // DAY), it.start % DAY] for it in held]}
+    return {"list": [list(rules.entry_of(it)) for it in held]}
 
 
 def listed(claim, value, version, chance):

@@ -1,25 +1,17 @@
-"""What `cronsafe replay` prints: each event of a script tried in the state that those before left.
+"""The rules of histories, and what `cronsafe replay` prints: each event of a script in its turn.
 
-The rules are those of histories in docs/DEFINITIONS.md. Of refusals that document says only that
-one comes first; their numbers and names are those of the worked cases, and the smallest is told.
+The rules are those of docs/DEFINITIONS.md. Of refusals that document says only that one comes
+first; their numbers and names are those of the worked cases, and the smallest is told.
 """
+import functools
 from collections import namedtuple
+from typing import NamedTuple
 
 from model.anacrontab import MONTHLY
-from model.calendar import date_of, due_minutes, kind_of, minute_text
+from model.calendar import DAY, date_of, due_minutes, kind_of, minute_text
 
-DAY = 1_440
-REFUSALS = (
-    "NotUp",
-    "AlreadyUp",
-    "WrongMinute",
-    "NotSettled",
-    "NotDue",
-    "LockHeld",
-    "NotWaiting",
-    "NotRunning",
-    "NotCatchable",
-)
+REFUSALS = "NotUp AlreadyUp WrongMinute NotSettled NotDue LockHeld NotWaiting NotRunning".split()
+REFUSALS += ["NotCatchable"]
 
 # A run by its job and the minute that names it; it started in the other minute.
 Run = namedtuple("Run", "job named started")
@@ -31,7 +23,26 @@ class Refused(Exception):
     """The name of the refusal of an event."""
 
 
-def is_due(period, stamp, day):
+class State(NamedTuple):
+    """What the events so far have left."""
+
+    minute: int
+    is_up: bool
+    # The jobs of the anacrontab that have a stamp, each with its day.
+    stamps: tuple = ()
+    # The jobs that are due now and haven't begun, and the runs that wait or go on.
+    pending: tuple = ()
+    waiting: tuple = ()
+    running: tuple = ()
+    open_pass: Pass = None
+
+
+def first_state(script):
+    """Returns the state in which a script starts."""
+    return State(*script.start, tuple(sorted(script.stamps.items())))
+
+
+def is_owed(period, stamp, day):
     """Returns whether an anacron job with that stamp, or none, is due on a day."""
     if stamp is None or stamp > day:
         return True
@@ -40,152 +51,135 @@ def is_due(period, stamp, day):
     return day - stamp >= period
 
 
-class State:
-    """What the events so far have left."""
+def without(runs, run):
+    return tuple(it for it in runs if it is not run)
 
-    def __init__(self, plan, script):
-        self.plan, self.minute, self.is_up = plan, script.start.minute, script.start.is_up
-        self.stamps = dict(script.stamps)
-        self.pending, self.waiting, self.running, self.open_pass = [], [], [], None
-        self.first_anacron = len(plan.crontab.commands)
 
-    def need_up(self):
-        if not self.is_up:
+class Rules:
+    """Which event may come in a state of a plan, and what it leaves.
+
+    A function of an event's kind returns the state that it leaves and the reply, or raises Refused.
+    """
+
+    def __init__(self, plan):
+        self.plan, self.jobs = plan, plan.jobs
+        self.due_at = functools.cache(self.due_at)
+
+    def take(self, state, event):
+        if event.kind not in ("up", "end") and not state.is_up:
             raise Refused("NotUp")
+        return getattr(self, event.kind)(state, event)
 
-    def in_the_way(self, job):
-        """Returns the runs that keep a job from its lock."""
-        of = self.plan.jobs[job]
-        found = []
-        for run in self.running:
-            other = self.plan.jobs[run.job]
-            is_taken = "none" not in (of.mode, other.mode) and of.group == other.group
-            if is_taken and not of.mode == other.mode == "shared":
-                found.append(run)
-        return found
+    def due_at(self, minute):
+        """Returns the jobs that are due at a minute."""
+        kind, minute = kind_of(minute // DAY), minute % DAY
+        schedules = [it.schedule for it in self.plan.crontab.commands]
+        return tuple(job for job, it in enumerate(schedules) if minute in due_minutes(it, kind))
 
-    def owed(self):
-        """Returns the anacron jobs that a pass begun now is to start, by delay, then line."""
-        busy = [run.job for run in self.running]
-        found = []
-        for job in range(self.first_anacron, len(self.plan.jobs)):
-            of = self.plan.jobs[job].of
-            is_owed = is_due(of.period, self.stamps.get(job), self.minute // DAY)
-            if job not in busy and is_owed:
-                found.append((of.delay, of.line, job))
-        return [job for _, _, job in sorted(found)]
+    def is_free(self, state, job):
+        """Returns whether a job gets its lock: it takes none, or it is free, or all share it."""
+        of = self.jobs[job]
+        others = [self.jobs[it.job] for it in state.running]
+        others = [it for it in others if it.takes_lock and it.group == of.group]
+        return not of.takes_lock or all(of.shares and it.shares for it in others)
 
-    def begin_pass(self):
-        left = self.owed()
-        if self.open_pass is None and left:
-            self.open_pass = Pass(self.minute, left)
+    def is_late(self, state, run):
+        """Returns whether a run goes on, or ends, past its longest time."""
+        return state.minute >= run.started + self.jobs[run.job].max
 
-    def up(self, event):
-        if self.is_up:
+    def with_pass(self, state):
+        """Returns a state with a pass, unless none is owed: by delay, then line."""
+        stamps, busy, owed = dict(state.stamps), {it.job for it in state.running}, []
+        for job, it in enumerate(self.jobs):
+            is_idle = not it.is_cron and job not in busy
+            if is_idle and is_owed(it.of.period, stamps.get(job), state.minute // DAY):
+                owed.append((it.of.delay, it.of.line, job))
+        if state.open_pass or not owed:
+            return state
+        return state._replace(open_pass=Pass(state.minute, tuple(it[-1] for it in sorted(owed))))
+
+    def up(self, state, event):
+        if state.is_up:
             raise Refused("AlreadyUp")
-        if event.minute < self.minute:
+        if event.minute < state.minute:
             raise Refused("WrongMinute")
-        self.minute, self.is_up = event.minute, True
-        self.begin_pass()
-        return "came"
+        return self.with_pass(state._replace(minute=event.minute, is_up=True)), "came"
 
-    def down(self, _):
-        self.need_up()
-        self.is_up = False
-        self.pending, self.waiting, self.open_pass = [], [], None
-        return "went"
+    def down(self, state, _):
+        return state._replace(is_up=False, pending=(), waiting=(), open_pass=None), "went"
 
-    def clock(self, event):
+    def minute(self, state, event):
         """Takes the clock a minute on, where nothing is left to do in the present one."""
-        self.need_up()
-        if event.minute != self.minute + 1:
+        if event.minute != state.minute + 1:
             raise Refused("WrongMinute")
-        if self.pending or any(not self.in_the_way(run.job) for run in self.waiting):
+        if state.pending or any(self.is_free(state, it.job) for it in state.waiting):
             raise Refused("NotSettled")
-        self.minute = event.minute
-        kind, minute = kind_of(self.minute // DAY), self.minute % DAY
-        for job, of in enumerate(self.plan.crontab.commands):
-            if minute in due_minutes(of.schedule, kind):
-                self.pending.append(job)
-        if minute == self.plan.pass_minute:
-            self.begin_pass()
-        return "clock"
+        state = state._replace(minute=event.minute, pending=self.due_at(event.minute))
+        is_pass = event.minute % DAY == self.plan.pass_minute
+        return self.with_pass(state) if is_pass else state, "clock"
 
-    def begin(self, event):
-        self.need_up()
-        if event.job not in self.pending:
+    def begin(self, state, event):
+        if event.job not in state.pending:
             raise Refused("NotDue")
-        self.pending.remove(event.job)
-        run = Run(event.job, self.minute, self.minute)
-        if not self.in_the_way(event.job):
-            self.running.append(run)
-            return "started"
-        if self.plan.jobs[event.job].mode == "skip":
-            return "skipped"
-        self.waiting.append(run)
-        return "waiting"
+        pending = tuple(it for it in state.pending if it != event.job)
+        state, run = state._replace(pending=pending), Run(event.job, state.minute, state.minute)
+        if self.is_free(state, event.job):
+            return state._replace(running=(*state.running, run)), "started"
+        if self.jobs[event.job].mode == "skip":
+            return state, "skipped"
+        return state._replace(waiting=(*state.waiting, run)), "waiting"
 
-    def got(self, event):
+    def got(self, state, event):
         """Gives the lock to the waiting run that was due at that minute."""
-        self.need_up()
-        for run in self.waiting:
+        for run in state.waiting:
             if (run.job, run.named) == (event.job, event.minute):
-                if self.in_the_way(run.job):
+                if not self.is_free(state, run.job):
                     raise Refused("LockHeld")
-                self.waiting.remove(run)
-                self.running.append(run._replace(started=self.minute))
-                return "started"
+                running = (*state.running, run._replace(started=state.minute))
+                waiting = without(state.waiting, run)
+                return state._replace(waiting=waiting, running=running), "started"
         raise Refused("NotWaiting")
 
-    def catch(self, event):
-        """Starts the next job of the pass: they go one after the other, each behind its delay."""
-        self.need_up()
-        if self.open_pass is None or self.open_pass.left[0] != event.job:
+    def catch(self, state, event):
+        """Starts the next job of the pass: they go one after the other, each after its delay."""
+        if state.open_pass is None or state.open_pass.left[0] != event.job:
             raise Refused("NotCatchable")
-        first, past = self.plan.hours
-        begin = self.open_pass.minute + self.plan.jobs[event.job].of.delay
-        is_alone = all(run.job < self.first_anacron for run in self.running)
-        if not (is_alone and self.minute >= begin and first <= self.minute % DAY < past):
+        (first, past), (begun, left) = self.plan.hours, state.open_pass
+        is_time = state.minute >= begun + self.jobs[event.job].of.delay
+        is_alone = all(self.jobs[it.job].is_cron for it in state.running)
+        if not (is_alone and is_time and first <= state.minute % DAY < past):
             raise Refused("NotCatchable")
-        self.running.append(Run(event.job, self.minute, self.minute))
-        left = self.open_pass.left[1:]
-        self.open_pass = self.open_pass._replace(left=left) if left else None
-        return "started"
+        running = (*state.running, Run(event.job, state.minute, state.minute))
+        rest = Pass(begun, left[1:]) if left[1:] else None
+        return state._replace(running=running, open_pass=rest), "started"
 
-    def end(self, event):
-        for run in self.running:
+    def end(self, state, event):
+        """Ends a run, whether the daemon is up or not; the stamp is the day of its start."""
+        for run in state.running:
             if (run.job, run.named) == (event.job, event.minute):
-                self.running.remove(run)
-                if run.job >= self.first_anacron:
-                    self.stamps[run.job] = run.started // DAY
-                is_late = self.minute >= run.started + self.plan.jobs[run.job].max
-                return "ended late" if is_late else "ended in time"
+                stamps = dict(state.stamps)
+                if not self.jobs[run.job].is_cron:
+                    stamps[run.job] = run.started // DAY
+                rest = {"running": without(state.running, run)}
+                after = state._replace(stamps=tuple(sorted(stamps.items())), **rest)
+                return after, "ended late" if self.is_late(state, run) else "ended in time"
         raise Refused("NotRunning")
 
-    def text(self):
-        counts = [len(it) for it in (self.pending, self.waiting, self.running)]
-        told = "%s %s, pending %d, waiting %d, running %d\n"
-        return told % ("up" if self.is_up else "down", minute_text(self.minute), *counts)
+
+def state_text(state):
+    counts = [len(it) for it in (state.pending, state.waiting, state.running)]
+    told = "%s %s, pending %d, waiting %d, running %d\n"
+    return told % ("up" if state.is_up else "down", minute_text(state.minute), *counts)
 
 
 def replay_answer(plan, script):
     """Returns status and text of `replay`."""
-    state, lines, status = State(plan, script), [], 0
-    verbs = {
-        "minute": state.clock,
-        "up": state.up,
-        "down": state.down,
-        "begin": state.begin,
-        "got": state.got,
-        "catch": state.catch,
-        "end": state.end,
-    }
+    rules, state, lines, status = Rules(plan), first_state(script), [], 0
     for event in script.events:
         try:
-            reply = verbs[event.kind](event)
+            state, reply = rules.take(state, event)
         except Refused as refused:
             status = 1
-            name = str(refused)
-            reply = f"refused {REFUSALS.index(name) + 1} {name}"
+            reply = f"refused {REFUSALS.index(str(refused)) + 1} {refused}"
         lines.append(f"{event.line}: {reply}\n")
-    return status, ("".join(lines) + state.text()).encode()
+    return status, ("".join(lines) + state_text(state)).encode()

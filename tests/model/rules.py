@@ -4,16 +4,16 @@ A rule is a function of a claim, and answers the text of a refusal, or nothing w
 rules are tried in their order. Minutes of a stretch are counted from the midnight before its last
 day, so those of the days before are below zero.
 """
+import itertools
 from collections import namedtuple
 
 from model import calendar
-from model.certificate import DAY
+from model.calendar import DAY, KINDS
 from model.claims import Claim
-from model.plan import KINDS
 
 FIRST_DAY = 1  # 1970-01-02
 DAYS_LOOKED_AT = 28 * 366
-LAST_MINUTE = 1440 * (calendar.LAST_DAY + 1) - 1
+LAST_MINUTE = DAY * (calendar.LAST_DAY + 1) - 1
 
 # The minutes from the start up to, and without, the end, in which one run of a job may go on.
 Window = namedtuple("Window", "start number end job")
@@ -81,11 +81,28 @@ def splits_of(tree):
     return [at, *splits_of(before), *splits_of(after)]
 
 
-def minutes_with_windows(claim, of, tree=None):
-    """Yields the minutes that count on the last day of a stretch, each with the windows there."""
-    windows = windows_on(claim, of)
+def by_minute(windows, tree=None):
+    """Yields the minutes that count, each with the windows that hold it."""
     for minute in minutes_that_count(windows, tree):
         yield minute, [it for it in windows if it.start <= minute < it.end]
+
+
+def minutes_in_use(claim):
+    """Yields stretches in use with their trees, each minute that counts, and the windows there."""
+    for of, tree in claim.used:
+        for minute, windows in by_minute(windows_on(claim, of), tree):
+            yield of, tree, minute, windows
+
+
+def places(claim, of, minute, *windows):
+    """Returns the texts of windows of a stretch and of a minute of its last day."""
+    midnight = midnight_of(claim, of)
+    return *(window_text(it, midnight) for it in windows), minute_text(midnight + minute)
+
+
+def entry_of(window):
+    """Returns how a leaf lists a window: its job, how many days back, and the minute."""
+    return window.number, -(window.start // DAY), window.start % DAY
 
 
 # The rules.
@@ -121,8 +138,9 @@ def step_fault(claim):
         for minute in range(DAY):
             for group, arriving, bound in groups:
                 if bound[minute] + arriving[minute] - 1 > bound[minute + 1]:
+                    name = claim.plan.groups[group].name.encode()
                     at = minute_text(midnight_of(claim, of) - DAY + minute)
-                    return b"3 BacklogRises: group %s at %s" % (claim.plan.groups[group].name, at)
+                    return b"3 BacklogRises: group %s at %s" % (name, at)
     return None
 
 
@@ -160,16 +178,11 @@ def leaf_at(tree, minute):
 
 def leaf_fault(claim):
     """5: where windows are listed, the leaf of each minute lists all that hold it."""
-    for of, tree in claim.used:
-        if tree is None:
-            continue
-        for minute, windows in minutes_with_windows(claim, of, tree):
-            leaf = leaf_at(tree, minute)
-            for it in windows:
-                if (it.number, -(it.start // DAY), it.start % DAY) not in leaf:
-                    midnight = midnight_of(claim, of)
-                    place = window_text(it, midnight), minute_text(midnight + minute)
-                    return b"5 WindowMissing: %s at %s" % place
+    for of, tree, minute, windows in minutes_in_use(claim):
+        leaf = leaf_at(tree, minute)
+        for it in windows if tree is not None else ():
+            if entry_of(it) not in leaf:
+                return b"5 WindowMissing: %s at %s" % places(claim, of, minute, it)
     return None
 
 
@@ -179,10 +192,11 @@ def clash(one, other):
     return is_of_crontab and not (one.job.takes_lock and other.job.takes_lock)
 
 
-def first_clash(windows):
-    """Returns the first two windows that clash, of those of a group that hold a minute."""
-    for place, one in enumerate(windows):
-        for other in windows[place + 1 :]:
+def first_clash(plan, windows):
+    """Returns the first two windows of an exclusive group that clash, of those of a minute."""
+    for number, group in enumerate(plan.groups):
+        held = [it for it in windows if it.job.group == number]
+        for one, other in itertools.combinations(held if group.exclusive else (), 2):
             if clash(one, other):
                 return one, other
     return None
@@ -190,15 +204,10 @@ def first_clash(windows):
 
 def collision_fault(claim):
     """6: no two windows of an exclusive group clash."""
-    for of, _ in claim.used:
-        for minute, windows in minutes_with_windows(claim, of):
-            for number, group in enumerate(claim.plan.groups):
-                found = first_clash([it for it in windows if it.job.group == number])
-                if group.is_exclusive and found:
-                    midnight = midnight_of(claim, of)
-                    place = [window_text(it, midnight) for it in found]
-                    place.append(minute_text(midnight + minute))
-                    return b"6 Collision: %s and %s meet at %s" % tuple(place)
+    for of, _, minute, windows in minutes_in_use(claim):
+        found = first_clash(claim.plan, windows)
+        if found:
+            return b"6 Collision: %s and %s meet at %s" % places(claim, of, minute, *found)
     return None
 
 
@@ -214,45 +223,34 @@ def load(plan, windows):
 
 def capacity_fault(claim):
     """7: what may run together weighs no more than the capacity."""
-    for of, _ in claim.used:
-        for minute, windows in minutes_with_windows(claim, of):
-            weight = load(claim.plan, windows)
-            if weight > claim.plan.capacity:
-                place = weight, claim.plan.capacity, minute_text(midnight_of(claim, of) + minute)
-                return b"7 OverCapacity: %d of %d at %s" % place
+    for of, _, minute, windows in minutes_in_use(claim):
+        weight, most = load(claim.plan, windows), claim.plan.capacity
+        if weight > most:
+            return b"7 OverCapacity: %d of %d at %s" % (weight, most, *places(claim, of, minute))
     return None
 
 
-def blocks(other, skip):
-    """Returns whether a window is another one of a lock taker of a skip job's group."""
-    return other != skip and other.job.takes_lock and other.job.group == skip.job.group
+def first_block(minute, windows):
+    """Returns the window of a skip job that is due, and another lock taker's of its group."""
+    for skip in windows:
+        if skip.job.mode == "skip" and skip.start == minute:
+            for other in windows:
+                if other != skip and other.job.takes_lock and other.job.group == skip.job.group:
+                    return skip, other
+    return None
 
 
 def skip_fault(claim):
     """8: where a skip job is due, no other lock taker of its group may run."""
-    for of, _ in claim.used:
-        for minute, windows in minutes_with_windows(claim, of):
-            for skip in windows:
-                if skip.job.mode != "skip" or skip.start != minute:
-                    continue
-                for other in windows:
-                    if blocks(other, skip):
-                        midnight = midnight_of(claim, of)
-                        place = window_text(skip, midnight), window_text(other, midnight)
-                        return b"8 SkipBlocked: %s and %s" % place
+    for of, _, minute, windows in minutes_in_use(claim):
+        found = first_block(minute, windows)
+        if found:
+            return b"8 SkipBlocked: %s and %s" % places(claim, of, minute, *found)[:2]
     return None
 
 
-RULES = (
-    due_fault,
-    stretch_fault,
-    step_fault,
-    reach_fault,
-    leaf_fault,
-    collision_fault,
-    capacity_fault,
-    skip_fault,
-)
+RULES = (due_fault, stretch_fault, step_fault, reach_fault)
+RULES += (leaf_fault, collision_fault, capacity_fault, skip_fault)
 
 
 def verdict(plan, certificate):

@@ -1,8 +1,8 @@
-"""The bytes of a script to its start, stamps and events, or to the first fault with its line."""
+"""The bytes of a script to its start, stamps and events, or to its first fault; and its text."""
 from collections import namedtuple
 
-from model.calendar import FIRST_START_DAY, day_of_text, minute_of_text
-from model.crontab import DIGITS, lines_of
+from model.calendar import FIRST_START_DAY, day_of_text, day_text, minute_of_text, minute_text
+from model.crontab import digits_of, lines_of
 from model.faults import Fault
 
 MOST_BYTES = 16_777_216
@@ -39,7 +39,7 @@ def is_of_form(words, form):
     for word, meant in zip(words, form):
         if meant not in ANY and word != meant:
             return False
-        if meant == b"N" and any(it not in DIGITS for it in word):
+        if meant == b"N" and digits_of(word)[1]:
             return False
     return True
 
@@ -145,3 +145,23 @@ def read_script(text, plan):
     if reader.start is None:
         raise Fault("script", "NoStart", 0)
     return Script(reader.start, reader.stamps, reader.events)
+
+
+def event_text(plan, event):
+    """Returns the line of an event."""
+    words = [event.kind]
+    if event.job is not None:
+        of = plan.jobs[event.job]
+        words += [] if of.is_cron or event.kind == "catch" else ["job"]
+        words.append(of.name.decode())
+    words += [] if event.minute is None else [minute_text(event.minute)]
+    return " ".join(words)
+
+
+def script_text(plan, script):
+    """Returns the text of a script."""
+    lines = [f"start {minute_text(script.start.minute)} {'up' if script.start.is_up else 'down'}"]
+    for job, day in script.stamps.items():
+        lines.append(f"stamp {plan.jobs[job].name.decode()} {day_text(day)}")
+    lines += [event_text(plan, it) for it in script.events]
+    return "".join(f"{it}\n" for it in lines)

@@ -7,109 +7,98 @@ the plan is unsafe exactly where some minute isn't calm.
 """
 from collections import defaultdict
 
-from plans import DAY, date_of, day_of, kind_of
+from model.calendar import DAY, day_of_text, day_text, kind_of
+from model.rules import Window, by_minute, first_block, first_clash, load
 from waiting import exact_windows, least_windows
 
-# 28 years, in which each sort of day comes behind each that it can follow, and some days before
-FIRST, LAST = day_of("2023-12-22"), day_of("2052-01-11")
-# no run begun on a day goes on later than three days after it
+# 28 years, in which each kind of day comes after each that it can follow, and some days before.
+FIRST, LAST = day_of_text(b"2023-12-22"), day_of_text(b"2052-01-11")
+# No run begun on a day goes on later than three days after it.
 BACK = 3
-# where runs may wait for longer, those that are due on the days after hold what comes later
+# Where runs may wait for longer, those that are due on the days after hold what comes later.
 LONGEST_WAIT = 12
 
 
 class Calendar:
-    """The days, each with the cron jobs that are due on it."""
+    """The days, each with the numbers of the cron jobs that are due on it."""
 
     def __init__(self, plan):
-        kinds = [kind_of(day) for day in range(FIRST, LAST)]
-        due = {
-            kind: tuple(it for it in plan.cron_jobs if it.schedule.is_day_due(kind))
-            for kind in set(kinds)
-        }
-        self.due = dict(zip(range(FIRST, LAST), (due[kind] for kind in kinds)))
+        self.plan, days = plan, range(FIRST, LAST)
+        cron = [(number, it) for number, it in enumerate(plan.jobs) if it.is_cron]
+        kinds = [kind_of(day) for day in days]
+        due = {kind: tuple(number for number, it in cron if it.due[kind]) for kind in set(kinds)}
+        self.due = {day: due[kind] for day, kind in zip(days, kinds)}
+
+    def minutes(self, day, number):
+        """Returns the due minutes of a job on a day, since 1970."""
+        return [day * DAY + it for it in self.plan.jobs[number].due[kind_of(day)]]
 
     def runs_of(self, jobs):
-        """The due runs (minute since 1970, job) of these jobs over all days, by minute."""
+        """Returns the due runs (minute, job) of these jobs over all days, by minute."""
         found = []
         for day, due in self.due.items():
-            its = [(day * DAY + at, job.number) for job in due if job in jobs
-                   for at in job.schedule.minutes]
-            found += sorted(its)
+            numbers = [it for it in due if it in jobs]
+            found += sorted((at, it) for it in numbers for at in self.minutes(day, it))
         return found
 
 
-def load_of(plan, jobs):
-    """The most that windows of these jobs may weigh at once."""
-    load = sum(it.weight for it in jobs if it.is_cron and not it.takes)
-    for group in range(len(plan.exclusive)):
-        takers = [it for it in jobs if it.takes and it.group == group]
-        alone = max((it.weight for it in takers if it.mode != "shared"), default=0)
-        load += max(alone, sum(it.weight for it in takers if it.mode == "shared"))
-    return load + max((it.weight for it in jobs if not it.is_cron), default=0)
-
-
-def fault_at(plan, minute, held):
-    """What isn't calm at a minute, of the windows (job, from, end) that hold it, or None."""
-    jobs = [plan.jobs[it[0]] for it in held]
-    for group, exclusive in enumerate(plan.exclusive):
-        ours = [it for it in jobs if it.group == group and it.is_cron]
-        catch_up = [it for it in jobs if it.group == group and not it.is_cron]
-        if exclusive and ours and (catch_up or len(ours) > 1 and not all(it.takes for it in ours)):
-            return f"runs of {', '.join(str(it.place) for it in ours + catch_up)} may meet"
-    load = load_of(plan, jobs)
-    if load > plan.capacity:
-        return f"the load may be {load} of {plan.capacity}"
-    for skip in held:
-        if plan.jobs[skip[0]].mode == "skip" and skip[1] == minute:
-            for other in held:
-                its = plan.jobs[other[0]]
-                if other != skip and its.takes and its.group == plan.jobs[skip[0]].group:
-                    return f"line {its.place} may bar line {plan.jobs[skip[0]].place}"
-    return None
-
-
 def fault_of_day(plan, windows):
-    """What isn't calm at the first minute of a day that isn't, or None."""
-    held = [[] for _ in range(DAY)]
-    for it in windows:
-        for minute in range(max(0, it[1]), min(DAY, it[2])):
-            held[minute].append(it)
-    last = None
-    for minute, windows in enumerate(held):
-        # minutes that the same windows hold are alike, unless one begins at the second of them
-        if windows != last:
-            fault = fault_at(plan, minute, windows)
-            if fault is not None:
-                return f"at {minute // 60:02}:{minute % 60:02} {fault}"
-            last = windows
-    return None
+    """Returns what isn't calm at the first minute of a day that isn't; nothing on a calm day."""
+    for minute, held in by_minute(windows):
+        clash, block, weight = first_clash(plan, held), first_block(minute, held), load(plan, held)
+        names = [it.job.name.decode() for it in clash or block or ()]
+        at = f"at {minute // 60:02}:{minute % 60:02}"
+        if clash:
+            return f"{at} runs of {names[0]} and {names[1]} may meet"
+        if weight > plan.capacity:
+            return f"{at} the load may be {weight} of {plan.capacity}"
+        if block:
+            return f"{at} {names[1]} may bar {names[0]}"
+    return ""
 
 
 def waiting_windows(plan, windows):
-    """By day: the windows of runs of groups that wait, as that day sees them."""
-    # of those of a job that the day sees alike one is enough, unless they share a lock and add up
+    """Returns by day the windows of runs of groups that wait, as that day sees them."""
+    # Of those of a job that the day sees alike one is enough, unless they share a lock and add up.
     alone, shared = defaultdict(set), defaultdict(list)
-    for job, start, end in windows:
-        first = start // DAY
+    for number, start, end in windows:
+        first, job = start // DAY, plan.jobs[number]
         for day in range(first, min((end - 1) // DAY, first + LONGEST_WAIT) + 1):
-            window = job, max(start - day * DAY, -1), min(end - day * DAY, DAY)
-            if plan.jobs[job].mode == "shared":
-                shared[day].append(window)
+            seen = max(start - day * DAY, -1), number, min(end - day * DAY, DAY)
+            if job.shares:
+                shared[day].append(Window(*seen, job))
             else:
-                alone[day].add(window)
-    return {day: tuple(sorted([*alone[day], *shared[day]])) for day in {*alone, *shared}}
+                alone[day].add(Window(*seen, job))
+    return {
+        day: tuple(sorted([*alone[day], *shared[day]], key=lambda it: it[:3]))
+        for day in {*alone, *shared}
+    }
 
 
 def catch_up_windows(plan):
     first, end = plan.hours
-    for job in plan.catch_ups:
-        for back in range(BACK + 2):
-            yield job.number, first - DAY * back, end - 1 + job.max - DAY * back
+    for number, job in enumerate(plan.jobs):
+        for start in range(first - DAY * (BACK + 1), first + 1, DAY) if not job.is_cron else ():
+            yield Window(start, number, start + end - 1 - first + job.max, job)
+
+
+def waiting_groups(plan):
+    return {it.group for it in plan.jobs if it.waits}
+
+
+def cron_windows(calendar, day, groups):
+    """Yields the windows of jobs due on a day or before it, but for lock takers of groups."""
+    for back in range(BACK + 1):
+        for number in calendar.due[day - back]:
+            job = calendar.plan.jobs[number]
+            if not (job.takes_lock and job.group in groups):
+                for minute in calendar.minutes(day - back, number):
+                    start = minute - day * DAY
+                    yield Window(start, number, start + job.max, job)
 
 
 def fault_of(plan, calendar, windows=None):
-    """What isn't calm on some day, or None.
+    """Returns what isn't calm on some day; nothing where all are calm.
 
     `windows` are those of the groups in which runs may wait; without them all windows are as long
     as if no run waited.
@@ -121,31 +110,18 @@ def fault_of(plan, calendar, windows=None):
         due = tuple(calendar.due[day - back] for back in range(BACK + 1))
         key = due, waiting.get(day, ())
         if key not in known:
-            held = [*waiting.get(day, ()), *catch_up_windows(plan), *cron_windows(due, groups)]
-            known[key] = fault_of_day(plan, held)
-        if known[key] is not None:
-            return f"on {date_of(day)} {known[key]}"
-    return None
-
-
-def waiting_groups(plan):
-    return {it.group for it in plan.cron_jobs if it.waits}
-
-
-def cron_windows(due, groups):
-    """The windows of jobs due on a day and on those before it, but for lock takers of groups."""
-    for back, jobs in enumerate(due):
-        for job in jobs:
-            if not (job.takes and job.group in groups):
-                for minute in job.schedule.minutes:
-                    yield job.number, minute - DAY * back, minute - DAY * back + job.max
+            held = [*waiting.get(day, ()), *catch_up_windows(plan)]
+            known[key] = fault_of_day(plan, [*held, *cron_windows(calendar, day, groups)])
+        if known[key]:
+            return f"on {day_text(day)} {known[key]}"
+    return ""
 
 
 def windows_by(windows_of, plan, calendar, **more):
-    """The windows of the groups in which runs may wait; None where one group has none."""
+    """Returns the windows of the groups in which runs may wait; None where one group has none."""
     found = []
     for group in waiting_groups(plan):
-        takers = [it for it in plan.cron_jobs if it.takes and it.group == group]
+        takers = [at for at, it in enumerate(plan.jobs) if it.takes_lock and it.group == group]
         windows = windows_of(plan, calendar.runs_of(takers), **more)
         if windows is None:
             return None
@@ -159,22 +135,22 @@ def fault_by_bounds(plan, calendar, at_midnight):
 
 
 def allowed_answers(plan):
-    """The answers that may be given of a plan, and why."""
+    """Returns the answers that may be given of a plan, and why."""
     calendar = Calendar(plan)
     fault = fault_of(plan, calendar)
-    if fault is not None:
+    if fault:
         return {"unsafe"}, fault
-    if not any(it.waits for it in plan.jobs):
+    if not waiting_groups(plan):
         return {"safe"}, "each minute is calm"
     fault = fault_by_bounds(plan, calendar, at_midnight=0)
-    if fault is None:
+    if not fault:
         fault = fault_by_bounds(plan, calendar, at_midnight=1)
-        if fault is None:
+        if not fault:
             return {"safe"}, "each minute is calm by the least bounds"
         return {"safe", "unknown"}, f"a minute after the least bounds {fault}"
-    if any(it.mode == "shared" for it in plan.jobs):
+    if any(it.shares for it in plan.jobs):
         return {"unsafe", "unknown"}, f"by the least bounds {fault}"
     exact = fault_of(plan, calendar, windows_by(exact_windows, plan, calendar))
-    if exact is None:
+    if not exact:
         return {"unknown"}, f"by the least bounds alone {fault}"
     return {"unsafe"}, exact

@@ -1,4 +1,4 @@
-"""Random plans: the texts of a crontab, of declarations and of an anacrontab ('' for none)."""
+"""Random plans: the bytes of a crontab, of declarations and perhaps of an anacrontab, by names."""
 import json
 
 # day of the month, month, weekday
@@ -48,6 +48,12 @@ def groups_of(rng, count):
     return [{"name": f"g{it}", "exclusive": rng.random() < 0.8} for it in range(count)]
 
 
+def files_of(crontab, said, anacrontab):
+    """Returns the files of a plan; of an empty anacrontab there is none."""
+    texts = {b"crontab": crontab, b"declarations": json.dumps(said), b"anacrontab": anacrontab}
+    return {name: text.encode() for name, text in texts.items() if text or name != b"anacrontab"}
+
+
 def random_plan(rng, modes):
     """Two to six lines, due on all sorts of days, and up to three jobs of catch-up."""
     count, often = rng.choice([1, 1, 2, 3]), rng.sample(range(1440), 8)
@@ -58,7 +64,7 @@ def random_plan(rng, modes):
     said = {"capacity": rng.choice([2, 3, 4, 5, 6, 64]), "groups": groups_of(rng, count)}
     said["cron"] = cron
     anacrontab = random_catch_up(rng, said, count) if rng.random() < 0.35 else ""
-    return crontab, json.dumps(said), anacrontab
+    return files_of(crontab, said, anacrontab)
 
 
 def random_catch_up(rng, said, groups):
@@ -98,4 +104,4 @@ def tiny_plan(rng, modes, noon):
             if rng.random() < 0.6:
                 its["group"] = f"g{rng.randrange(count)}"
             said["anacron"].append(its)
-    return crontab, json.dumps(said), anacrontab
+    return files_of(crontab, said, anacrontab)

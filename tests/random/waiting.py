@@ -1,7 +1,7 @@
 """The windows of runs that may wait for the lock of a group, of all due runs (minute, job)."""
 from collections import defaultdict
 
-from plans import DAY
+from model.calendar import DAY
 
 # no reach of a certificate is longer
 MOST = 4320

@@ -1,9 +1,25 @@
-"""A call over files, and by which call an input is read."""
+"""A call over files, what the second reading answers to it, and whether a program does so too."""
+import json
+import os
+import resource
 from collections import namedtuple
+
+from harness import Fault, called, folder_with
+from model import faults
+from model.call import Answer, answer_of
+from model.declarations import plan_of
 
 START = b"start 2024-01-01 00:00 up\n"
 JOB = b"0 1 * * * a\n"
 OPTIONS = (b"anacrontab", b"declarations")
+SECONDS = 10
+MEMORY = 1 << 30
+# What begins the verdict that a window isn't listed.
+MISSED = b"refused 5 WindowMissing: "
+GREATEST_CAPACITY = 64
+MAX = 4_320
+# Of the drafts of so many calls one is made.
+DRAFTS_OF_ONE = 3
 
 # What a call is about, its words and its files; and whether the answer to it has to be that a
 # window isn't listed, where that is known before.
@@ -25,3 +41,83 @@ def call_of(what, kind, text, beside):
         if name in files and name not in words:
             words += [b"--" + name, name]
     return Call(what, words, files)
+
+
+def lints_and_drafts(calls):
+    """Yields lint of the files of each call, and of tables some drafts; each such call once."""
+    seen = set()
+    for at, it in enumerate(calls):
+        files = {name: text for name, text in it.files.items() if name != b"script"}
+        more = [b"--anacrontab", b"anacrontab"] if b"anacrontab" in files else []
+        declared = [b"declarations"] if b"declarations" in files else []
+        made = [Call(f"lint, {it.what}", [b"lint", b"crontab", *declared, *more], files)]
+        if not declared and at % DRAFTS_OF_ONE == 0:
+            words = [b"draft", b"crontab", b"--max", b"%d" % MAX, *more]
+            made.append(Call(f"draft, {it.what}", words, files))
+        for call in made:
+            key = tuple(call.words), tuple(sorted(files.items()))
+            if key not in seen:
+                seen.add(key)
+                yield call
+
+
+def limit():
+    """Limits what the process that is started may take."""
+    resource.setrlimit(resource.RLIMIT_AS, (MEMORY, MEMORY))
+    resource.setrlimit(resource.RLIMIT_CPU, (SECONDS, SECONDS))
+    resource.setrlimit(resource.RLIMIT_CORE, (0, 0))
+
+
+def run(program, call):
+    """Returns the program's answer to a call; no status: out of time."""
+    with folder_with(call.files) as folder:
+        try:
+            given = {"seconds": SECONDS, "preexec_fn": limit}
+            return Answer(*called(program, call.words, folder, **given))
+        except Fault:
+            return Answer(None, b"", b"")
+
+
+def is_met(wanted, got):
+    """Returns whether an answer is the wanted one, in what of it the second reading tells."""
+    if wanted.status is None:
+        return got.status in (0, 1) and got.err == wanted.err
+    outputs = (wanted.out, got.out), (wanted.err, got.err)
+    return got.status == wanted.status and all(it[0] in (None, it[1]) for it in outputs)
+
+
+def is_draft(call, text):
+    """Returns whether a text declares the jobs of a call's tables, but for an `@reboot`."""
+    try:
+        plan_of({**call.files, b"declarations": text})
+    except faults.Fault as fault:
+        if fault.name != "RebootLine":
+            return False
+    declared = json.loads(text)
+    entries = declared.get("cron", []) + declared.get("anacron", [])
+    has_max = all(it["max"] == MAX for it in entries)
+    return declared["capacity"] == GREATEST_CAPACITY and has_max
+
+
+def looked_at(program, call):
+    """Returns what differs in a call, as text; nothing where the answers are the same."""
+    wanted, got = answer_of(call.words, call.files), run(program, call)
+    is_missed, wrong = (wanted.out or b"").startswith(MISSED), []
+    if not is_met(wanted, got):
+        wrong.append("it is answered otherwise")
+    if call.is_missed not in (None, is_missed):
+        wrong.append(f"a window has to be missing: {call.is_missed}")
+    if call.words[0] == b"draft" and got.status == 0 and not is_draft(call, got.out):
+        wrong.append("this draft doesn't join with its tables")
+    if not wrong:
+        return ""
+    files = [f"{it.decode()} {text[:300]!r}" for it, text in call.files.items()]
+    sides = [f"wanted {printed(wanted)}", f"got {printed(got)}"]
+    words = " ".join(os.fsdecode(it) for it in call.words)
+    return "\n  ".join([f"{call.what}: {', '.join(wrong)}", words, *files, *sides])
+
+
+def printed(answer):
+    """Returns an answer as text, of long outputs the beginning."""
+    outputs = ["not told" if it is None else f"{it[:200]!r}" for it in answer[1:]]
+    return "status {}, output {}, error {}".format(answer.status, *outputs)

@@ -1,4 +1,4 @@
-"""Declarations that say something twice, or say as much as they may."""
+"""Declarations with any value anywhere, such as say something twice, are deep or at a limit."""
 from hostile_calls.calls import JOB, call_of
 
 WHOLE = (
@@ -10,6 +10,98 @@ WHOLE = (
     b'"cron":[{"line":1,"max":1,"weight":1,"group":"g","mode":"wait"}]',
     b'"anacron":[{"id":"b","max":1,"weight":1,"group":"g"}]',
 )
+VALUES = (
+    b"0 1 64 65 1439 1440 4320 4321 -1 -1439 -1440 -0 00 01 +1 1.0 1e0 1e3 1E+2 1e-1 1. .5 0.5"
+    b" 0e400 1e400 -1e400 1e-400 1e 1e+ 0x1 1_0 257 65537 4294967297"
+    b" 9223372036854775807 9223372036854775808 18446744073709551615 18446744073709551616"
+    b" -9223372036854775808 -9223372036854775809"
+    b" NaN Infinity -Infinity - true false null True nul truee"
+    b" [] {} [1] [1,] [,1] [1,2] [0,1440] [0,1441] [5,5] [1,2,3] [1.0,2] [-1,5] [1;2]"
+    b' {"a":1,} {"a"} {a:1} {1:1} {"a":1;}'
+).split(b" ")
+TEXTS = (
+    rb'"" "g" "\u0067" "\u006" "\u00G7" "\u+067" "\u0000" "\ud834\udd1e" "\uD834\uDD1E"'
+    rb' "\ud834" "\udd1e" "\ud834x" "\ud834\n" "\ud834\ud834" "\x41" "\a" "\/" "\"" "\\" "\"'
+    rb' "g g "none" "None" "wait"'
+).split(b" ")
+RAW = (
+    b'"\0"',
+    b'"\x1f"',
+    b'"\x7f"',
+    b'"\t"',
+    b'"\n"',
+    b'"\xff"',
+    b'"\xc3"',
+    b'"\xc0\xaf"',
+    b'"\xed\xa0\x80"',
+    b'"\xf4\x90\x80\x80"',
+    b'"\xe2\x82\xac"',
+    b"\xff",
+    b"\xef\xbb\xbf1",
+    b"\x0c1",
+    b"\xa01",
+    b"1" * 400,
+    b"1" * 5_000,
+    b"1" * 300 + b".5",
+    b"0." + b"0" * 400 + b"1e401",
+    b"1e" + b"9" * 50,
+    b"0e" + b"9" * 50,
+    b"1e-" + b"9" * 50,
+    b"1" + b"0" * 400 + b"e-400",
+)
+IN_AN_OBJECT = (
+    b"%s:1",
+    b'"offset":%s',
+    b'"hours":%s',
+    b'"hours":[0,%s]',
+    b'"pass":%s',
+    b'"groups":%s',
+    b'"groups":[%s]',
+    b'"groups":[{"name":%s,"exclusive":true}]',
+    b'"groups":[{"name":"g","exclusive":%s}]',
+    b'"cron":%s',
+    b'"cron":[%s]',
+    b'"cron":[{"line":%s,"max":1}]',
+    b'"cron":[{"line":1,"max":%s}]',
+    b'"cron":[{"line":1,"max":1,"weight":%s}]',
+    b'"cron":[{"line":1,"max":1,"mode":%s}]',
+    b'"groups":[{"name":"g","exclusive":true}],"cron":[{"line":1,"max":1,"group":%s}]',
+    b'"groups":[{"name":"","exclusive":true}],"cron":[{"line":1,"max":1,"group":"","mode":%s}]',
+    b'"anacron":[{"id":%s,"max":1}]',
+    b'"anacron":[{"id":"g","max":1,"mode":%s}]',
+)
+PLACES = (
+    b"%s",
+    b'{"capacity":%s}',
+    b'{"capacity":1} %s',
+    b'%s {"capacity":1}',
+    *(b'{"capacity":1,' + it + b"}" for it in IN_AN_OBJECT),
+)
+
+
+def deep():
+    """Yields lists and objects inside each other, as deep as they may be and deeper."""
+    for depth in (1, 2, 126, 127, 128, 129, 500, 100_000):
+        for opened, closed in ((b"[", b"]"), (b'{"a":', b"}"), (b"[1,", b"]"), (b" [ ", b" ] ")):
+            for inner in (b"", b"0"):
+                for count in (depth, depth - 1, 0):
+                    text = opened * depth + inner + closed * count
+                    what = f"{depth} times {opened!r}, {count} times {closed!r}"
+                    yield call_of(what, b"declarations", text, {})
+                    member = b'{"capacity":1,"groups":' + text + b"}"
+                    yield call_of(f"groups of {what}", b"declarations", member, {})
+
+
+def values():
+    """Yields declarations that have each value at each place, beside the tables named there."""
+    anacrontab = {b"crontab": b"", b"anacrontab": b"1 0 g b\n"}
+    for place in PLACES:
+        tables = {b"crontab": JOB if b"cron" in place else b""}
+        for value in (*VALUES, *TEXTS, *RAW):
+            what = f"{value[:40]!r} in {place.decode()}"
+            text = place.replace(b"%s", value)
+            beside = anacrontab if b"anacron" in place else tables
+            yield call_of(what, b"declarations", text, beside)
 
 
 def doubled_members():
@@ -32,7 +124,7 @@ def doubled_members():
                 yield call_of(f"{member!r} before {opened!r}", b"declarations", text, tables)
                 at = whole.index(b"}", whole.index(opened))
                 text = whole[:at] + b"," + member + whole[at:]
-                yield call_of(f"{member!r} behind {opened!r}", b"declarations", text, tables)
+                yield call_of(f"{member!r} after {opened!r}", b"declarations", text, tables)
     escaped = whole[:-1] + b',"\\u0063apacity":65}'
     yield call_of("a name written in two ways", b"declarations", escaped, tables)
 

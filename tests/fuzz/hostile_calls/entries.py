@@ -1,15 +1,12 @@
 """Certificates of versions 1 and 2 in which one entry of a leaf isn't there."""
 import json
 
-from model.anacrontab import NONE, read_anacrontab
-from model.certificate import DAY, Certificate
+from model.calendar import DAY
+from model.certificate import STRETCHES, Certificate, stretches_of
 from model.claims import Claim
-from model.crontab import read_crontab
-from model.declarations import read_plan
-from model.plan import Plan
-from model.rules import RULES, windows_on
+from model.declarations import plan_of
+from model.rules import RULES, entry_of, windows_on
 
-from hostile_calls.bases import STRETCHES, stretches_of
 from hostile_calls.parts import check_of, part_of, taken_out, text_of
 from hostile_calls.worked import worked_certificates
 
@@ -42,44 +39,23 @@ def all_entries(value):
     return found
 
 
-class Judged:
-    """What the rules up to that of the leaves say of a worked certificate beside its plan."""
-
-    def __init__(self, it, value):
-        crontab, anacrontab = read_crontab(it.beside[b"crontab"]), NONE
-        if b"anacrontab" in it.beside:
-            anacrontab = read_anacrontab(it.beside[b"anacrontab"])
-        plan = Plan(read_plan(it.beside[b"declarations"], crontab, anacrontab))
-        self.value, self.windows = value, {}
-        self.claim = Claim(plan, Certificate(value["version"], value))
-        self.in_use = dict(self.claim.used)
-        told = [rule(self.claim) is not None for rule in RULES[:LEAVES]]
-        self.broken = told.index(True) + 1 if True in told else None
-
-    def entries_touching(self, of, first, end):
-        """Returns the entries of the windows of a stretch in use that hold a minute of a range."""
-        if of not in self.windows:
-            self.windows[of] = windows_on(self.claim, of) if of in self.in_use else []
-        found = [it for it in self.windows[of] if max(it.start, first) < min(it.end, end)]
-        return [[it.number, -(it.start // DAY), it.start % DAY] for it in found]
-
-    def is_missed_without(self, place, of, leaf):
-        """Returns whether rule 5 is the first one broken where an entry is taken out.
-
-        An earlier rule stays broken, and a window that isn't listed before isn't then.
-        """
-        if self.broken:
-            return self.broken == LEAVES
-        listed, first, end = leaf
-        entry, others = part_of(self.value, place), part_of(self.value, listed)
-        return others.count(entry) == 1 and entry in self.entries_touching(of, first, end)
+def first_broken(claim):
+    """Returns the first rule up to that of the leaves which is broken; none where all hold."""
+    numbers = range(1, LEAVES + 1)
+    return next((it for it in numbers if RULES[it - 1](claim) is not None), None)
 
 
-def how_many(it, judged, entries_there):
-    """Returns how many entries of a certificate are taken out, one after the other."""
-    if judged.broken:
-        return min(OF_A_BROKEN_ONE, entries_there)
-    return OF_A_LONG_ONE if len(it.text) > LONG else entries_there
+def is_missed_without(value, claim, broken, place, of, leaf):
+    """Returns whether rule 5 is the first one broken where an entry is taken out.
+
+    An earlier rule stays broken, and a window that isn't listed before isn't then.
+    """
+    if broken or of not in dict(claim.used):
+        return broken == LEAVES
+    listed, first, end = leaf
+    entry, others = part_of(value, place), part_of(value, listed)
+    touching = [it for it in windows_on(claim, of) if max(it.start, first) < min(it.end, end)]
+    return others.count(entry) == 1 and tuple(entry) in map(entry_of, touching)
 
 
 def listing_ones(chance):
@@ -94,7 +70,11 @@ def entries(chance):
     """Yields worked certificates without each of their entries, of some without a few."""
     for it in listing_ones(chance):
         value = json.loads(it.text)
-        found, judged = all_entries(value), Judged(it, value)
-        for place, of, leaf in chance.sample(found, how_many(it, judged, len(found))):
+        claim = Claim(plan_of(it.beside), Certificate(value["version"], value))
+        found, broken = all_entries(value), first_broken(claim)
+        count = OF_A_LONG_ONE if len(it.text) > LONG else len(found)
+        count = min(OF_A_BROKEN_ONE, len(found)) if broken else count
+        for place, of, leaf in chance.sample(found, count):
             call = check_of(f"no {place}", it, text_of(taken_out(value, place)))
-            yield call._replace(is_missed=judged.is_missed_without(place, of, leaf))
+            is_missed = is_missed_without(value, claim, broken, place, of, leaf)
+            yield call._replace(is_missed=is_missed)

@@ -5,12 +5,10 @@ second reading, which plays each script as it is made. In the week no event is r
 """
 import json
 
-from model.anacrontab import read_anacrontab
-from model.calendar import day_text, minute_text
-from model.crontab import read_crontab
-from model.declarations import read_plan
-from model.replay import Refused, State
-from model.script import Event, Start, Script
+from model.calendar import DAY, minute_text
+from model.declarations import MODES, plan_of
+from model.replay import Refused, Rules, first_state
+from model.script import Event, Script, Start, script_text
 
 from hostile_calls.calls import call_of
 
@@ -20,8 +18,6 @@ EVENTS = 150
 LONG_ONE_IN, EVENTS_OF_A_LONG_ONE = 20, 3_000
 # 2024-09-13 00:00.
 MIDNIGHT = 28_769_760
-DAY = 1_440
-MODES = ("none", "skip", "wait", "shared")
 WEIGHTS = {"begin": 22, "minute": 12, "end": 14, "got": 6, "catch": 3, "down": 1, "up": 1}
 SERVER = b"""\
 */15 * * * * /usr/local/bin/check-disks
@@ -63,30 +59,24 @@ def files_of(chance):
         found["pass"] = chance.randint(0, 4)
     table = "".join(f"*/{chance.randint(1, 3)} * * * * a\n" for _ in range(lines))
     rows = [f"{chance.randint(1, 3)} {chance.randint(0, 3)} job{at} a\n" for at in range(jobs)]
-    return table.encode(), "".join(rows).encode(), json.dumps(found).encode()
+    texts = {b"crontab": table, b"anacrontab": "".join(rows), b"declarations": json.dumps(found)}
+    return {name: text.encode() for name, text in texts.items()}
 
 
 class History:
-    """A plan, the lines of a script so far, and the state that they leave."""
+    """A plan, a script so far, and the state that it leaves."""
 
     def __init__(self, chance, plan):
-        self.chance, self.plan, minute = chance, plan, MIDNIGHT + chance.randint(-3, 1)
-        is_up, stamps = bool(chance.randrange(3)), self.stamps()
-        start = Start(minute, is_up)
-        self.state = State(plan, Script(start, stamps, []))
-        self.lines = [f"start {minute_text(minute)} {'up' if is_up else 'down'}"]
-        self.lines += [f"stamp {self.name(job)} {day_text(day)}" for job, day in stamps.items()]
+        self.chance, self.plan, self.rules = chance, plan, Rules(plan)
+        start = Start(MIDNIGHT + chance.randint(-3, 1), bool(chance.randrange(3)))
+        self.script = Script(start, self.stamps(), [])
+        self.state = first_state(self.script)
 
     def stamps(self):
         """Returns stamps of days around midnight, for some of the jobs of the anacrontab."""
-        commands = len(self.plan.crontab.commands)
-        chosen = [it for it in range(commands, len(self.plan.jobs)) if self.chance.randrange(4)]
+        jobs = [job for job, it in enumerate(self.plan.jobs) if not it.is_cron]
+        chosen = [it for it in jobs if self.chance.randrange(4)]
         return {job: MIDNIGHT // DAY + self.chance.randint(-3, 2) for job in chosen}
-
-    def name(self, job):
-        of = self.plan.jobs[job].of
-        is_command = job < len(self.plan.crontab.commands)
-        return str(of.line) if is_command else of.identifier.decode()
 
     def any_of(self, runs):
         """Returns the job and minute of one of these runs, mostly; else such as no run may have."""
@@ -116,35 +106,25 @@ class History:
         if kind == "catch" and state.open_pass:
             likely = state.open_pass.left
         job = chance.choice(likely) if likely and chance.randrange(8) else self.any_job()
-        if kind == "got":
-            return kind, *self.any_of(state.waiting)
-        if kind == "end":
-            return kind, *self.any_of(state.running)
+        if kind in ("got", "end"):
+            return Event(0, kind, *self.any_of(state.waiting if kind == "got" else state.running))
         if kind in ("minute", "up"):
-            return kind, None, self.any_minute(kind)
-        return kind, None if kind == "down" else job, None
+            return Event(0, kind, None, self.any_minute(kind))
+        return Event(0, kind, None if kind == "down" else job, None)
 
-    def line(self, kind, job, minute):
-        """Returns the line of an event; none where a script has no such line."""
-        is_command = job is not None and job < len(self.plan.crontab.commands)
-        if job is not None and is_command == (kind == "catch"):
-            return None
-        if job is not None and not is_command and kind in ("begin", "got"):
-            return None
-        sort = {"begin": "line ", "got": "line ", "end": "line " if is_command else "job "}
-        words = [kind, "" if job is None else sort.get(kind, "") + self.name(job)]
-        words.append("" if minute is None else minute_text(minute))
-        return " ".join(it for it in words if it)
+    def has_line(self, event):
+        """Returns whether a script has a line for an event: each names a job of one table alone."""
+        if event.job is None or event.kind == "end":
+            return True
+        return self.plan.jobs[event.job].is_cron == (event.kind != "catch")
 
     def add_event(self):
-        kind, job, minute = self.any_event()
-        line = self.line(kind, job, minute)
-        if line is None:
+        event = self.any_event()
+        if not self.has_line(event):
             return
-        self.lines.append(line)
-        verb = getattr(self.state, "clock" if kind == "minute" else kind)
+        self.script.events.append(event)
         try:
-            verb(Event(len(self.lines), kind, job, minute))
+            self.state, _ = self.rules.take(self.state, event)
         except Refused:
             pass
 
@@ -187,11 +167,9 @@ def histories(chance):
     beside = {b"crontab": SERVER, b"declarations": SERVER_DECLARED}
     yield call_of("a week of a server", b"script", text, beside)
     for number in range(PLANS):
-        crontab, anacrontab, declarations = files_of(chance)
-        tables = read_crontab(crontab), read_anacrontab(anacrontab)
-        history = History(chance, read_plan(declarations, *tables))
+        files = files_of(chance)
+        history = History(chance, plan_of(files))
         for _ in range(EVENTS if number % LONG_ONE_IN else EVENTS_OF_A_LONG_ONE):
             history.add_event()
-        text = "".join(f"{it}\n" for it in history.lines).encode()
-        beside = {b"crontab": crontab, b"anacrontab": anacrontab, b"declarations": declarations}
-        yield call_of(f"history {number}", b"script", text, beside)
+        text = script_text(history.plan, history.script).encode()
+        yield call_of(f"history {number}", b"script", text, files)

@@ -1,5 +1,6 @@
-"""Certificates with members that are missing, doubled, unknown or of another name."""
+"""Certificates with other values, and members that are missing, doubled, unknown or renamed."""
 from hostile_calls.parts import MARK, check_of, part_of, places_by_sort, put, taken_out, text_of
+from hostile_calls.parts import text_with
 
 # Members of one version or another, of declarations and of nothing, with values that they may have.
 NAMES = {
@@ -14,6 +15,11 @@ NAMES = {
     "capacity": 1,
     "": None,
 }
+OTHERS = b'0 1.5 "0" null [] {} [0]'.split()
+NUMBERS = (
+    b"0 -1 1 2 3 -0 01 1.5 1e3 1e400 64 320 1440 4321 1000001 4294967296 18446744073709551615"
+    b' 18446744073709551616 "0" null []'
+).split()
 DOUBLES = (b"null", b"1", b"[]")
 RENAMED = 1
 DOUBLED = b'"%s":"%s"' % (MARK.encode(), MARK.encode())
@@ -53,7 +59,7 @@ def doubled(chance):
         for other in DOUBLES:
             it, value, (*above, name) = chance.choice(found)
             inner, member = part_of(value, above), b'"%s":%s' % (name.encode(), other)
-            both = {"before": {MARK: MARK, **inner}, "behind": {**inner, MARK: MARK}}
+            both = {"before": {MARK: MARK, **inner}, "after": {**inner, MARK: MARK}}
             for what, twice in both.items():
                 text = text_of(put(value, tuple(above), twice)).replace(DOUBLED, member)
                 yield check_of(f"{member.decode()} {what} that at {above}", it, text)
@@ -77,3 +83,13 @@ def members(chance):
     """Yields certificates in which the members aren't those that there have to be."""
     for made in (missing, unknown, doubled, renamed):
         yield from made(chance)
+
+
+def numbers(chance):
+    """Yields certificates with each value at each sort of place, each time of one by the seed."""
+    for (version, sort), found in places_by_sort().items():
+        is_number = isinstance(part_of(*found[0][1:]), int)
+        for other in NUMBERS if is_number else OTHERS:
+            it, value, place = chance.choice(found)
+            what = f"{other.decode()} at {place} of version {version}"
+            yield check_of(what, it, text_with(value, place, other))

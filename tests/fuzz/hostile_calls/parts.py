@@ -1,4 +1,4 @@
-"""The parts of a certificate's value, and values in which one part is another.
+"""The parts of a certificate's value, values in which one part is another, and which are taken.
 
 A place is the names and numbers that lead to a part. Places are of one sort where they differ only
 in how far down a list or a tree they lie, as all minutes at which a job is due.
@@ -6,6 +6,9 @@ in how far down a list or a tree they lie, as all minutes at which a job is due.
 import copy
 import functools
 import json
+
+from model.call import answer_of
+from model.certificate import STRETCHES, stretches_of
 
 from hostile_calls.calls import call_of
 from hostile_calls.worked import worked_certificates
@@ -91,3 +94,37 @@ def places_by_sort():
 def check_of(what, it, text):
     """Returns the call that checks a text in place of a worked certificate."""
     return call_of(f"{what}: {it.what}", b"certificate", text, it.beside)
+
+
+def has_leaves_alone(value):
+    """Returns whether all trees of a certificate are leaves, each minute tree with a window."""
+    is_leaf = [it["tree"].get("list") for it in stretches_of(value)]
+    return "class" in value["kinds"] and all(is_leaf)
+
+
+def is_accepted(it):
+    call = check_of("", it, it.text)
+    return answer_of(call.words, call.files).status == 0
+
+
+def as_version_2(value):
+    """Returns a value of version 1 as one of version 2 that lists the same."""
+    found = {**value, "version": 2, "stretches": value["pairs"]}
+    del found["pairs"]
+    return found
+
+
+@functools.cache
+def all_bases():
+    """Returns by version the worked certificates that are accepted and whose trees are leaves."""
+    found = {it: [] for it in STRETCHES}
+    for it, value in short_ones():
+        if has_leaves_alone(value) and is_accepted(it):
+            found[value["version"]].append((it, value))
+    found[2] += [(it, as_version_2(value)) for it, value in found[1]]
+    return found
+
+
+def bases(chance):
+    """Returns one of each version, by the seed."""
+    return [chance.choice(found) for found in all_bases().values()]

@@ -1,7 +1,8 @@
 """Certificates beside other plans, and such with other stretches, carries and reaches."""
 import itertools
 
-from hostile_calls.bases import STRETCHES, stretches_of
+from model.certificate import STRETCHES, stretches_of
+
 from hostile_calls.parts import check_of, put, short_ones, taken_out, text_of
 
 OTHER_PLANS, OTHER_DECLARATIONS, OTHER_STRETCHES = 80, 40, 1

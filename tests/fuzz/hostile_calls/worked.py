@@ -1,10 +1,11 @@
-"""The inputs of the worked cases, each with the files that it is read beside."""
+"""The inputs of the worked cases, such as end early, and such in which a byte is another."""
 import functools
 from collections import namedtuple
 
 from cases import cases_of
 from model import certificate
 from model.call import NoCall, answer_of, asked, asks_help
+from model.faults import Fault
 
 from hostile_calls.calls import call_of
 
@@ -18,13 +19,20 @@ KINDS = {
     "DECLS": b"declarations",
     "DECLARATIONS": b"declarations",
 }
-# What each kind of input is read behind.
+# What each kind of input is read after.
 BEFORE = {
     b"crontab": (),
     b"anacrontab": (),
     b"declarations": (b"crontab", b"anacrontab"),
     b"script": (b"crontab", b"anacrontab", b"declarations"),
 }
+# Of a longer input as many prefixes are taken, by the seed.
+LONG, PREFIXES_OF_A_LONG_ONE = 600, 100
+LONG_CERTIFICATE, PREFIXES_OF_A_LONG_CERTIFICATE = 122, 6
+BYTES = b"\0\t\n\r \"%',-./01:=@\\a\xff"
+BYTES_OF_CERTIFICATES = BYTES + b"29[]{}eE+"
+# Of so many changes one is made of certificates too, which take longer.
+CHANGES_OF_ONE = 5
 
 # What an input is, its kind and its bytes, and the files by their kinds that it needs beside it.
 Worked = namedtuple("Worked", "what kind text beside")
@@ -79,11 +87,12 @@ def certificate_of(case):
     text = inputs.pop(b"certificate", b"")
     try:
         certificate.read(text)
-    except certificate.Fault:
+    except Fault:
         return None
     it = Worked(case.name, b"certificate", text, inputs)
     call = call_of(it.what, it.kind, it.text, it.beside)
-    return it if answer_of(call.words, call.files).status is None else None
+    is_read = answer_of(call.words, call.files, is_judged=False).status is None
+    return it if is_read else None
 
 
 @functools.cache
@@ -94,3 +103,39 @@ def worked_certificates():
         if it:
             found.setdefault((it.text, tuple(sorted(it.beside.items()))), it)
     return list(found.values())
+
+
+def prefixes(inputs, chance, long=LONG, count=PREFIXES_OF_A_LONG_ONE):
+    """Yields each prefix of each worked input, of a long one some; each text once."""
+    seen = set()
+    for it in inputs:
+        lengths = range(len(it.text) + 1)
+        if len(it.text) > long:
+            lengths = sorted(chance.sample(lengths, count))
+        for length in lengths:
+            text = it.text[:length]
+            if (it.kind, text) not in seen:
+                seen.add((it.kind, text))
+                yield call_of(f"{length} bytes of {it.what}", it.kind, text, it.beside)
+
+
+def changes(inputs, chance, count, signs=BYTES):
+    """Yields a number of worked inputs in which one byte is another."""
+    inputs = [it for it in inputs if it.text]
+    for _ in range(count):
+        it = chance.choice(inputs)
+        at, byte = chance.randrange(len(it.text)), chance.choice(signs)
+        text = it.text[:at] + bytes([byte]) + it.text[at + 1 :]
+        yield call_of(f"byte {at} of {it.what} as {byte}", it.kind, text, it.beside)
+
+
+def prefixes_of_certificates(chance):
+    """Yields prefixes of each worked certificate, of longer ones fewer than of other inputs."""
+    long = LONG_CERTIFICATE, PREFIXES_OF_A_LONG_CERTIFICATE
+    yield from prefixes(worked_certificates(), chance, *long)
+
+
+def changes_of_certificates(chance, count):
+    """Yields worked certificates in which one byte is another, fewer than of other inputs."""
+    few = count // CHANGES_OF_ONE
+    yield from changes(worked_certificates(), chance, few, BYTES_OF_CERTIFICATES)

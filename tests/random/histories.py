@@ -1,0 +1,135 @@
+"""What a history breaks first, and all histories of a tiny plan, tried out over some minutes."""
+from itertools import combinations
+
+from model.calendar import DAY, minute_text
+from model.faults import Fault
+from model.replay import Refused, Rules, State, first_state
+from model.script import Event, Script, Start, read_script, script_text
+
+# More states than that aren't looked at.
+MOST_STATES = 300_000
+# An outage lasts up to so many minutes.
+OUTAGE = 2
+
+
+class TooMany(Exception):
+    """There are more states than are looked at."""
+
+
+def run_text(plan, job, named):
+    of = plan.jobs[job]
+    text = "{} due {}" if of.is_cron else "job {} at {}"
+    return text.format(of.name.decode(), minute_text(named))
+
+
+def may_meet(plan, one, other):
+    """Returns whether runs of two jobs may go on at once."""
+    is_exclusive = one.group is not None and plan.groups[one.group].exclusive
+    return one.group != other.group or not is_exclusive or (one.shares and other.shares)
+
+
+def breach(plan, state, event, reply):
+    """Returns what the state that an event leaves breaks, as `judge` tells it, if anything."""
+    for one, other in combinations(state.running, 2):
+        if not may_meet(plan, plan.jobs[one.job], plan.jobs[other.job]):
+            runs = " and ".join(run_text(plan, it.job, it.named) for it in (one, other))
+            return f"unsafe: {runs} run together"
+    load = sum(plan.jobs[it.job].weight for it in state.running)
+    if load > plan.capacity:
+        return f"unsafe: load {load} of {plan.capacity}"
+    if reply == "skipped":
+        return f"unsafe: {run_text(plan, event.job, state.minute)} is skipped"
+    return ""
+
+
+def is_in_time(rules, state):
+    return not any(rules.is_late(state, it) for it in state.running)
+
+
+def shown_by(plan, text):
+    """Returns what a script breaks first, as `judge` tells it, or why it shows nothing."""
+    try:
+        script = read_script(text, plan)
+    except Fault as fault:
+        return f"a script with a fault: {fault.text().decode()}"
+    if script_text(plan, script).encode() != text:
+        return "a script that isn't written as scripts are"
+    rules, state, broken = Rules(plan), first_state(script), ""
+    for event in script.events:
+        try:
+            state, reply = rules.take(state, event)
+        except Refused as refused:
+            return f"a history in which line {event.line} is refused: {refused}"
+        if not is_in_time(rules, state):
+            return f"a history in which a run goes on beyond its time at line {event.line}"
+        broken = broken or breach(plan, state, event, reply)
+    return broken or "a history that breaks nothing"
+
+
+def events_at(state):
+    """Yields the events that may come, and some that may not."""
+    for run in state.running:
+        yield Event(0, "end", run.job, run.named)
+    if not state.is_up:
+        for minute in range(state.minute, state.minute + OUTAGE + 1):
+            yield Event(0, "up", None, minute)
+        return
+    yield Event(0, "down", None, None)
+    for job in state.pending:
+        yield Event(0, "begin", job, None)
+    for run in state.waiting:
+        yield Event(0, "got", run.job, run.named)
+    if state.open_pass:
+        yield Event(0, "catch", state.open_pass.left[0], None)
+    yield Event(0, "minute", None, state.minute + 1)
+
+
+def starts(plan, minute):
+    """Returns the states in which histories begin: down, and all jobs are owed, or one of them."""
+    jobs = {job for job, it in enumerate(plan.jobs) if not it.is_cron}
+    owed = {frozenset(jobs), *(frozenset({it}) for it in jobs)}
+    stamps = [tuple((job, minute // DAY) for job in sorted(jobs - it)) for it in owed]
+    return [State(minute, False, it) for it in stamps]
+
+
+def in_any_order(state):
+    """Returns a state without what matters to no rule: the order in which runs started and wait."""
+    running, waiting = tuple(sorted(state.running)), tuple(sorted(state.waiting))
+    return state._replace(running=running, waiting=waiting)
+
+
+def next_states(rules, state, last):
+    """Yields each event that comes in time by the last minute, what it leaves, and the reply."""
+    for event in events_at(state):
+        try:
+            after, reply = rules.take(state, event)
+        except Refused:
+            continue
+        if after.minute <= last and is_in_time(rules, after):
+            yield event, in_any_order(after), reply
+
+
+def breaking_script(plan, first, last):
+    """Returns a script between two minutes that breaks the plan, none where no history does."""
+    rules = Rules(plan)
+    came = {state: None for state in starts(plan, first)}
+    left = list(came)
+    while left:
+        state = left.pop()
+        for event, after, reply in next_states(rules, state, last):
+            if breach(plan, after, event, reply):
+                return script_to(came, state, [event])
+            if after not in came:
+                came[after] = event, state
+                left.append(after)
+        if len(came) > MOST_STATES:
+            raise TooMany
+    return None
+
+
+def script_to(came, state, events):
+    """Returns the script that leads to a state, with the events that come then."""
+    while came[state] is not None:
+        event, state = came[state]
+        events.insert(0, event)
+    return Script(Start(state.minute, state.is_up), dict(state.stamps), events)

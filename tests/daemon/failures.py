@@ -14,15 +14,9 @@ ANACRONTAB = "7 0 a echo a >>ran\n"
 DECLARED = {"capacity": 1, "anacron": [{"id": "a", "max": 2}]}
 # the functions, and the error that each of their calls fails with
 FUNCTIONS = {
-    "memory": errno.ENOMEM,
-    "open": errno.EMFILE,
-    "read": errno.EIO,
-    "write": errno.ENOSPC,
-    "fsync": errno.EIO,
-    "rename": errno.EACCES,
-    "posix_spawn": errno.EAGAIN,
-    "pthread_create": errno.EAGAIN,
-    "clock_gettime": errno.EINVAL,
+    **{"memory": errno.ENOMEM, "open": errno.EMFILE, "read": errno.EIO, "write": errno.ENOSPC},
+    **{"fsync": errno.EIO, "rename": errno.EACCES, "clock_gettime": errno.EINVAL},
+    **{"posix_spawn": errno.EAGAIN, "pthread_create": errno.EAGAIN},
 }
 
 

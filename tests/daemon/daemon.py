@@ -71,8 +71,8 @@ class Room:
     def call(self, *words):
         """Returns status, standard output and standard error of a call that ends at once."""
         words = [*words, *self.options]
-        status, out, err = called(self.program, words, self.folder, seconds=SECONDS)
-        return status, out.decode("utf-8", "replace"), err.decode("utf-8", "replace")
+        status, *sides = called(self.program, words, self.folder, seconds=SECONDS)
+        return status, *(it.decode("utf-8", "replace") for it in sides)
 
     def take_tables(self, declared, crontab="", anacrontab=None):
         """Takes tables and declarations for the calls to come."""

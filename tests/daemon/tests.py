@@ -18,6 +18,18 @@ MAX = 2
 # a job of an anacrontab that says that it ran
 ONE_JOB = "7 0 a echo x >>ran\n"
 ONCE = ("--minutes", "0")
+# the table of `jobs_are_run`, above and below its shell
+TABLE = r"""# no command stands here
+FIRST = 'of two  words '
+* * * * * date +\%s >>times
+* * * * * echo "$FIRST,${LATER-none},$SHELL,$OUTSIDE" >>settings
+* * * * * cat >>input; echo : >>input%one%two\%
+* * * * * cat >>nothing; echo : >>nothing
+CRON_TZ = UTC
+FIRST = once more
+LATER =
+"""
+LAST = '* * * * * echo "$FIRST,${LATER-none},$SHELL" >>others\n'
 
 
 def declared(capacity, lines=(), identifiers=(), groups=(), offset=0, **terms):
@@ -56,21 +68,9 @@ def jobs_are_run(room):
     shell = room.folder / "shell"
     shell.write_text("#!/bin/sh\nprintf '%s\\n' \"$0 $1 $2\" >>words\nexec /bin/sh \"$@\"\n")
     shell.chmod(0o755)
-    table = (
-        "# no command stands here\n"
-        "FIRST = 'of two  words '\n"
-        "* * * * * date +\\%s >>times\n"
-        '* * * * * echo "$FIRST,${LATER-none},$SHELL,$OUTSIDE" >>settings\n'
-        "* * * * * cat >>input; echo : >>input%one%two\\%\n"
-        "* * * * * cat >>nothing; echo : >>nothing\n"
-        "CRON_TZ = UTC\n"
-        "FIRST = once more\n"
-        "LATER =\n"
-        f"SHELL = {shell}\n"
-        '* * * * * echo "$FIRST,${LATER-none},$SHELL" >>others\n'
-    )
     anacrontab = 'KIND=anacron\n7 0 a.b echo "$KIND %" >own; cat >>own\n'
     lines = (3, 4, 5, 6, 11)
+    table = f"{TABLE}SHELL = {shell}\n{LAST}"
     room.take(declared(11, lines, ["a.b"], offset=90), table, anacrontab)
     first = early_minute() + 90
     room.run("--minutes", "3", seconds=4 * MINUTE)

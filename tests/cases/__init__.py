@@ -194,25 +194,25 @@ class Reader:
 
     def __init__(self, name, text):
         self.name, self.texts, self.heads = name, {}, {}
-        self.lines = text.split(b"\n")
-        if self.lines.pop():
-            self.fail(len(self.lines) + 1, "the last line has no newline")
-        at = [number for number, line in enumerate(self.lines, 1) if self.is_head(number, line)]
-        if at[:1] != [1]:
+        *lines, last = text.split(b"\n")
+        if last:
+            self.fail(len(lines) + 1, "the last line has no newline")
+        for number, line in enumerate(lines, 1):
+            if not is_plain(line):
+                self.fail(number, "a control character, or bytes that aren't UTF-8")
+        at = [number for number, line in enumerate(lines) if line.startswith(b"--- ")]
+        if at[:1] != [0]:
             self.fail(1, "a case begins with the head of a section")
-        for number, end in zip(at, [*at[1:], len(self.lines) + 1]):
-            self.read_section(number, self.lines[number : end - 1])
+        for start, end in zip(at, [*at[1:], len(lines)]):
+            self.read_section(start + 1, lines[start].decode(), lines[start + 1 : end])
+        for key in ("call", "status", "stdout"):
+            if key not in self.texts:
+                self.fail(len(lines), f"the case ends without a section '{key}'")
 
     def fail(self, number, what):
         raise BadCase(f"{self.name}.case, line {number}: {what}")
 
-    def is_head(self, number, line):
-        if not is_plain(line):
-            self.fail(number, "a control character, or bytes that aren't UTF-8")
-        return line.startswith(b"--- ")
-
-    def read_section(self, number, lines):
-        head = self.lines[number - 1].decode()
+    def read_section(self, number, head, lines):
         found = HEAD.fullmatch(head)
         if not found:
             self.fail(number, f"there is no section '{head[4:]}'")
@@ -247,9 +247,6 @@ class Reader:
             return self.fail(self.heads[key] + 1, error)
 
     def case(self):
-        for key in ("call", "status", "stdout"):
-            if key not in self.texts:
-                self.fail(len(self.lines), f"the case ends without a section '{key}'")
         then, outputs = self.words("then"), (b"stdout", b"script")
         texts = {key: self.texts.get(key, b"") for key in ("stdin", "status", "stdout", "stderr")}
         case = Case(self.name, self.words("call"), then=then, **texts)

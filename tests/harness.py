@@ -99,6 +99,25 @@ def called(program, words, folder, stdin=b"", seconds=10, **more):
     return ran.returncode, out, err
 
 
+def compiled(folder):
+    """Returns the library of failing.c, which lets calls of the C library fail."""
+    library, source = folder / "failing.so", TOP / "tests/failing.c"
+    words = [os.environ.get("CC", "cc"), "-shared", "-fPIC", "-o", library, source, "-ldl"]
+    try:
+        subprocess.run(words, check=True)
+    except (OSError, subprocess.SubprocessError) as error:
+        raise BadUse(f"{source.name} isn't compiled: {error}") from error
+    return library
+
+
+def failing(library, name, which, error, told):
+    """Returns the variables by which a call of a function fails; `told` is made when one does.
+
+    It is the call of the number `which`; that one and all after it where the number is negative.
+    """
+    return {"LD_PRELOAD": library, "FAILING": f"{name} {which} {error}", "FAILED": told}
+
+
 def outcome(test):
     """Returns what is wrong, nothing where the test passes, and the text that it returns."""
     try:

@@ -28,7 +28,7 @@ from harness import BadUse
 FOLDER = Path(__file__).resolve().parent
 NAME = r"[^\s()/](?:[^()/]*[^\s()/])?"
 HEAD = re.compile(
-    rf"--- (?:(call|stdin|stdout|stderr|then)|status (\d{{1,3}})|file ({NAME}))"
+    rf"--- (call|stdin|stdout|stderr|then|status (\d{{1,3}})|file ({NAME}))"
     r"(?: \((escaped|no newline|escaped, no newline)\))?"
 )
 ESCAPE = re.compile(rb"\\(x[0-9a-f]{2}|\\|)")
@@ -54,13 +54,13 @@ class Case:
 
     def text(self):
         """Returns the file of the case; a status or standard output of None is left out."""
-        parts = {"call": call_line(self.words)}
-        parts.update({f"file {it.decode()}": self.files[it] for it in sorted(self.files)})
-        parts["stdin"] = self.stdin or None
-        parts[f"status {self.status}"] = None if self.status is None else b""
-        parts.update({"stdout": self.stdout, "stderr": self.stderr or None})
-        parts["then"] = call_line(self.then) if self.then else None
-        return b"".join(section(head, it) for head, it in parts.items() if it is not None)
+        parts = [("call", call_line(self.words))]
+        parts += [(f"file {it.decode()}", self.files[it]) for it in sorted(self.files)]
+        parts.append(("stdin", self.stdin or None))
+        parts.append((f"status {self.status}", None if self.status is None else b""))
+        parts += [("stdout", self.stdout), ("stderr", self.stderr or None)]
+        parts.append(("then", call_line(self.then) if self.then else None))
+        return b"".join(section(head, it) for head, it in parts if it is not None)
 
     def is_met(self, out, err):
         """Returns whether these outputs are the wanted ones."""
@@ -79,8 +79,9 @@ def cases_of(names=()):
     """
     cases, wrong = [], []
     for path in paths_of(names):
+        name = str(path.relative_to(FOLDER).with_suffix(""))
         try:
-            cases.append(read(str(path.relative_to(FOLDER).with_suffix("")), path.read_bytes()))
+            cases.append(Reader(name, path.read_bytes()).case())
         except BadCase as error:
             wrong.append(str(error))
     if wrong:
@@ -113,12 +114,10 @@ def is_plain(line):
 
 def escaped(line):
     """Returns a line as an escaped text has it."""
-    if line.startswith(b"--- "):
-        return b"\\x2d" + escaped(line[1:])
     line = line.replace(b"\\", b"\\\\")
-    if is_plain(line):
-        return line
-    return b"".join(b"%c" % it if 32 <= it < 127 or it == 9 else b"\\x%02x" % it for it in line)
+    if not is_plain(line):
+        line = re.sub(rb"[^\t -~]", lambda it: b"\\x%02x" % ord(it[0]), line)
+    return re.sub(rb"^-(?=-- )", rb"\\x2d", line)
 
 
 def section(head, text):
@@ -150,8 +149,8 @@ def words_of(line):
     if words[:1] != [b"cronsafe"]:
         raise BadCase("the call doesn't begin with 'cronsafe'")
     if line != call_line(words[1:]):
-        line = call_line(words[1:]).decode("utf-8", "backslashreplace").rstrip()
-        raise BadCase(f"the call is to be written as: {line}")
+        right = call_line(words[1:]).decode("utf-8", "backslashreplace").rstrip()
+        raise BadCase(f"the call is to be written as: {right}")
     return words[1:]
 
 
@@ -190,38 +189,35 @@ def pattern_of(line):
     return pattern
 
 
-def read(name, text):
-    """Returns the case that a file holds."""
-    return Reader(name, text).case()
-
-
 class Reader:
-    """The sections of a file: the text of each, and the line of its head."""
+    """The sections of a file: the text of each by its head, and the line of that."""
 
     def __init__(self, name, text):
         self.name, self.texts, self.heads = name, {}, {}
-        self.lines = text.split(b"\n")
-        if self.lines.pop():
-            self.fail(len(self.lines) + 1, "the last line has no newline")
-        for number, line in enumerate(self.lines, 1):
+        *lines, last = text.split(b"\n")
+        if last:
+            self.fail(len(lines) + 1, "the last line has no newline")
+        for number, line in enumerate(lines, 1):
             if not is_plain(line):
                 self.fail(number, "a control character, or bytes that aren't UTF-8")
-        at = [number for number, line in enumerate(self.lines, 1) if line.startswith(b"--- ")]
-        if at[:1] != [1]:
+        at = [number for number, line in enumerate(lines) if line.startswith(b"--- ")]
+        if at[:1] != [0]:
             self.fail(1, "a case begins with the head of a section")
-        for number, end in zip(at, [*at[1:], len(self.lines) + 1]):
-            self.read_section(number, self.lines[number : end - 1])
+        for start, end in zip(at, [*at[1:], len(lines)]):
+            self.read_section(start + 1, lines[start].decode(), lines[start + 1 : end])
+        for key in ("call", "status", "stdout"):
+            if key not in self.texts:
+                self.fail(len(lines), f"the case ends without a section '{key}'")
 
     def fail(self, number, what):
         raise BadCase(f"{self.name}.case, line {number}: {what}")
 
-    def read_section(self, number, lines):
-        head = self.lines[number - 1].decode()
+    def read_section(self, number, head, lines):
         found = HEAD.fullmatch(head)
         if not found:
             self.fail(number, f"there is no section '{head[4:]}'")
-        kind, status, file, marks = found.groups("")
-        key = ("file", file) if file else kind or "status"
+        key, status, _, marks = found.groups("")
+        key = "status" if status else key
         if key in self.heads:
             self.fail(number, "this section is there already")
         if status and (lines or marks or int(status) > 255):
@@ -240,12 +236,9 @@ class Reader:
         return text[:-1]
 
     def unescaped(self, number, line):
-        def byte(found):
-            if not found[1]:
-                self.fail(number, r"a backslash begins neither \xNN nor \\")
-            return bytes.fromhex(found[1][1:].decode()) or b"\\"
-
-        return ESCAPE.sub(byte, line)
+        if any(not it for it in ESCAPE.findall(line)):
+            self.fail(number, r"a backslash begins neither \xNN nor \\")
+        return ESCAPE.sub(lambda it: bytes.fromhex(it[1][1:].decode()) or b"\\", line)
 
     def words(self, key):
         try:
@@ -254,21 +247,16 @@ class Reader:
             return self.fail(self.heads[key] + 1, error)
 
     def case(self):
-        for key in ("call", "status", "stdout"):
-            if key not in self.texts:
-                self.fail(len(self.lines), f"the case ends without a section '{key}'")
-        files = {it[1]: self.texts[it] for it in self.texts if it[0] == "file"}
-        case = Case(self.name, self.words("call"), status=self.texts["status"])
-        case.files = {it.encode(): text for it, text in files.items()}
-        for key in ("stdin", "stdout", "stderr"):
-            setattr(case, key, self.texts.get(key, b""))
-        case.then = self.words("then")
-        words = case.words + case.then
-        for it in files:
-            if not is_named(it.encode(), words) or case.then and it in ("stdout", "script"):
-                self.fail(self.heads["file", it], "no word of the calls names this file")
+        then, outputs = self.words("then"), (b"stdout", b"script")
+        texts = {key: self.texts.get(key, b"") for key in ("stdin", "status", "stdout", "stderr")}
+        case = Case(self.name, self.words("call"), then=then, **texts)
+        for key in [it for it in self.texts if it.startswith("file ")]:
+            name = key[5:].encode()
+            if not is_named(name, case.words + then) or then and name in outputs:
+                self.fail(self.heads[key], "no word of the calls names this file")
+            case.files[name] = self.texts[key]
         if "then" in self.texts:
-            if not any(is_named(it, case.then) for it in (b"stdout", b"script")):
+            if not any(is_named(it, then) for it in outputs):
                 self.fail(self.heads["then"], "no word of this call is 'stdout' or 'script'")
         elif set(case.stdout.split(b"\n")) - {b""} == {b"*"}:
             self.fail(self.heads["stdout"], "this takes any text")

@@ -16,17 +16,17 @@ LAST_SECOND = 40
 INPUT = "what the daemon itself is given to read\n"
 
 
-def minute_now(offset=0):
-    """Returns the civil minute of the machine's clock, at an offset from UTC in minutes."""
-    return int(time.time()) // 60 + offset
+def minute_now():
+    """Returns the civil minute of the machine's clock in UTC."""
+    return int(time.time()) // 60
 
 
-def early_minute(offset=0):
+def early_minute():
     """Returns the minute that it is, of which there is time left; waits for the next if need be."""
     second = time.time() % 60
     if second > LAST_SECOND:
         time.sleep(60.5 - second)
-    return minute_now(offset)
+    return minute_now()
 
 
 def date_text(minute):
@@ -37,122 +37,50 @@ def stamp_text(minute):
     return time.strftime("%Y%m%d\n", time.gmtime(60 * minute))
 
 
-def daily(minute):
-    """Returns the five fields of a line that is due at that minute of each day."""
-    return f"{minute % 60} {minute // 60 % 24} * * *"
-
-
-class Daemon:
-    """A call of `run` that goes on; what it prints is in files of the room.
-
-    It has the environment of this process, with OUTSIDE in it and what `more` says.
-    """
-
-    def __init__(self, room, words, output=None, given=INPUT, more=None):
-        self.printed, self.said = (lambda: room.read("printed")), (lambda: room.read("said"))
-        for name, text in (("given", given), ("printed", ""), ("said", "")):
-            room.write(name, text)
-        with (
-            open(room.folder / "given", "rb") as given,
-            open(room.folder / "printed", "wb") as printed,
-            open(room.folder / "said", "wb") as said,
-        ):
-            self.process = subprocess.Popen(
-                words,
-                cwd=room.folder,
-                stdin=given,
-                stdout=printed if output is None else output,
-                stderr=said,
-                env={**os.environ, "OUTSIDE": "inherited", **(more or {})},
-                start_new_session=True,
-            )
-
-    def status(self):
-        """Returns how it ended, minus the number of a signal; None while it goes on.
-
-        It is kept as a process that has ended, so that nothing else gets its number.
-        """
-        options = os.WEXITED | os.WNOHANG | os.WNOWAIT
-        ended = os.waitid(os.P_PID, self.process.pid, options)
-        if ended is None:
-            return None
-        return ended.si_status if ended.si_code == os.CLD_EXITED else -ended.si_status
-
-    def wait_for(self, what, is_so, seconds):
-        """Waits until something is so, while the daemon goes on."""
-        end = time.monotonic() + seconds
-        while not is_so():
-            status = self.status()
-            if status is not None and not is_so():
-                raise Fault(f"it ended with status {status} before {what}; {self.told()}")
-            if time.monotonic() > end:
-                raise Fault(f"after {seconds} seconds there wasn't {what}; {self.told()}")
-            time.sleep(0.1)
-
-    def wait_for_line(self, line, seconds, times=1):
-        """Waits until it has printed a line so often."""
-        what = f"the line '{line}' {times} times"
-        self.wait_for(what, lambda: self.printed().splitlines().count(line) >= times, seconds)
-
-    def wait(self, seconds):
-        """Returns how it ended by itself."""
-        self.wait_for("its end", lambda: self.status() is not None, seconds)
-        return self.status()
-
-    def told(self):
-        return f"it had printed {self.printed()!r} and said {self.said()!r}"
-
-    def end(self):
-        """Ends it by the signal by which an operator does."""
-        self.send(signal.SIGTERM)
-        wanted("status after SIGTERM", -signal.SIGTERM, self.wait(SOON))
-
-    def send(self, number):
-        """Sends it a signal, and doesn't look whether it has ended, as `send_signal` would."""
-        os.kill(self.process.pid, number)
-
-    def close(self):
-        """Ends what is left of it and its jobs."""
-        os.killpg(self.process.pid, signal.SIGKILL)
-        self.process.wait()
+def runs(*names):
+    """Returns the lines of runs that exit with status 0."""
+    return [line for it in names for line in (f"started {it}", f"ended {it} status 0")]
 
 
 class Room:
-    """A folder with tables, declarations, a certificate and stamps, and the program over them."""
+    """A folder with tables, declarations, a certificate and stamps, and the last daemon over them.
+
+    What that prints is in the files `printed` and `said`.
+    """
 
     def __init__(self, program, folder, library):
         self.program, self.folder, self.library = program, folder, library
-        self.daemons, self.has_anacrontab = [], False
-        (folder / "stamps").mkdir()
+        self.daemons, self.options = [], []
+        (folder / "stamps").mkdir(parents=True)
 
     def write(self, name, text):
         (self.folder / name).write_bytes(text if isinstance(text, bytes) else text.encode())
 
     def read(self, name):
-        """Returns the text of a file; '' where there is none."""
+        """Returns the text of a file, '' where there is none, or of each file of a folder."""
         path = self.folder / name
+        if path.is_dir():
+            return {it.name: self.read(it) for it in path.iterdir()}
         return path.read_text("utf-8", "replace") if path.is_file() else ""
 
-    def stamps(self):
-        """Returns the texts of the files in the folder of stamps by their names."""
-        return {it.name: self.read(it) for it in (self.folder / "stamps").iterdir()}
+    def holds(self, **texts):
+        """Holds files, and the folder of stamps, against these texts."""
+        for name, text in texts.items():
+            wanted(name, text, self.read(name))
 
     def call(self, *words):
         """Returns status, standard output and standard error of a call that ends at once."""
-        words = [*words, *self.options()]
-        status, out, err = called(self.program, words, self.folder, seconds=SECONDS)
-        return status, out.decode("utf-8", "replace"), err.decode("utf-8", "replace")
-
-    def options(self):
-        return ["--anacrontab", "anacrontab"] if self.has_anacrontab else []
+        words = [*words, *self.options]
+        status, *sides = called(self.program, words, self.folder, seconds=SECONDS)
+        return status, *(it.decode("utf-8", "replace") for it in sides)
 
     def take_tables(self, declared, crontab="", anacrontab=None):
         """Takes tables and declarations for the calls to come."""
-        self.write("crontab", crontab)
-        self.write("declarations", json.dumps(declared))
-        self.has_anacrontab = anacrontab is not None
-        if self.has_anacrontab:
-            self.write("anacrontab", anacrontab)
+        files = {"crontab": crontab, "declarations": json.dumps(declared)}
+        if anacrontab is not None:
+            files["anacrontab"], self.options = anacrontab, ["--anacrontab", "anacrontab"]
+        for it in files.items():
+            self.write(*it)
 
     def take(self, declared, crontab="", anacrontab=None):
         """Takes them, and the certificate that `make` prints for them."""
@@ -165,20 +93,86 @@ class Room:
     def words(self, *options, table="crontab", stamps="stamps"):
         """Returns the words of a call of `run`."""
         files = [table, "declarations", "certificate", stamps]
-        return [self.program, "run", *files, *self.options(), *options]
+        return [self.program, "run", *files, *self.options, *options]
 
-    def start(self, words, **streams):
-        self.daemons.append(Daemon(self, words, **streams))
-        return self.daemons[-1]
-
-    def run(self, *options, seconds=SECONDS):
-        """Returns a daemon that has ended by itself with status 0."""
-        daemon = self.start(self.words(*options))
-        status = daemon.wait(seconds)
-        if status != 0:
-            raise Fault(f"it ended with status {status}; {daemon.told()}")
+    def start(self, words, output=None, given=INPUT, **variables):
+        """Starts and returns a daemon with OUTSIDE and these variables in its environment."""
+        self.write("given", given)
+        env = {**os.environ, "OUTSIDE": "inherited", **variables}
+        with (
+            open(self.folder / "given", "rb") as given,
+            open(self.folder / "printed", "wb") as printed,
+            open(self.folder / "said", "wb") as said,
+        ):
+            how = {"stdin": given, "stdout": output or printed, "stderr": said, "env": env}
+            daemon = subprocess.Popen(words, cwd=self.folder, start_new_session=True, **how)
+        self.daemons.append(daemon)
         return daemon
 
+    def status(self):
+        """Returns how the daemon ended, minus the number of a signal; None while it goes on.
+
+        It is kept as a process that has ended, so that nothing else gets its number.
+        """
+        options = os.WEXITED | os.WNOHANG | os.WNOWAIT
+        ended = os.waitid(os.P_PID, self.daemons[-1].pid, options)
+        if ended is None:
+            return None
+        return ended.si_status if ended.si_code == os.CLD_EXITED else -ended.si_status
+
+    def wait_for(self, what, is_so, seconds=SOON):
+        """Waits until something is so, while the daemon goes on."""
+        end = time.monotonic() + seconds
+        while not is_so():
+            status = self.status()
+            if status is not None and not is_so():
+                raise Fault(f"it ended with status {status} before {what}; {self.told()}")
+            if time.monotonic() > end:
+                raise Fault(f"after {seconds} seconds there wasn't {what}; {self.told()}")
+            time.sleep(0.1)
+
+    def wait_for_line(self, line, seconds=SOON, times=1):
+        """Waits until the daemon has printed a line so often."""
+        what = f"the line '{line}' {times} times"
+        self.wait_for(what, lambda: self.read("printed").splitlines().count(line) >= times, seconds)
+
+    def ends(self, status, seconds=SOON):
+        """Waits for the daemon to end by itself, with this status."""
+        self.wait_for("its end", lambda: self.status() is not None, seconds)
+        if self.status() != status:
+            raise Fault(f"it ended with status {self.status()}, not {status}; {self.told()}")
+
+    def run(self, *options, seconds=SECONDS):
+        """Runs a daemon that ends by itself with status 0."""
+        self.start(self.words(*options))
+        self.ends(0, seconds)
+
+    def told(self):
+        return f"it had printed {self.read('printed')!r} and said {self.read('said')!r}"
+
+    def holds_log(self, lines):
+        """Holds what was printed against these lines.
+
+        Their order isn't promised, but a run is told as started before it is told as ended.
+        """
+        printed = self.read("printed").splitlines()
+        wanted("lines of the log", sorted(lines), sorted(printed))
+        for place, line in enumerate(printed):
+            start = f"started {line[6:].rpartition(' status ')[0]}"
+            if line.startswith("ended ") and start not in printed[:place]:
+                raise Fault(f"'{line}' isn't after '{start}': {printed}")
+
+    def send(self, number):
+        """Sends the daemon a signal, without a look whether it has ended, unlike `send_signal`."""
+        os.kill(self.daemons[-1].pid, number)
+
+    def end(self):
+        """Ends the daemon by the signal by which an operator does."""
+        self.send(signal.SIGTERM)
+        self.ends(-signal.SIGTERM)
+
     def close(self):
+        """Ends what is left of the daemons and their jobs."""
         for it in self.daemons:
-            it.close()
+            os.killpg(it.pid, signal.SIGKILL)
+            it.wait()

@@ -1,14 +1,10 @@
-"""`run` where calls of the C library fail: each call that the program makes, one at a time.
-
-The program is run with a library in front of the C library, which is compiled of tests/failing.c.
-"""
+"""`run` where calls of the C library fail: each call that the program makes, one at a time."""
 import errno
 from concurrent.futures import ThreadPoolExecutor
 
-from failing import failing
-from harness import Fault, wanted
+from harness import Fault, failing, wanted
 
-from daemon import SOON, Room, date_text, early_minute, minute_now, stamp_text
+from daemon import Room, date_text, early_minute, minute_now, runs, stamp_text
 
 # how many daemons go on side by side
 AT_ONCE = 12
@@ -18,74 +14,65 @@ ANACRONTAB = "7 0 a echo a >>ran\n"
 DECLARED = {"capacity": 1, "anacron": [{"id": "a", "max": 2}]}
 # the functions, and the error that each of their calls fails with
 FUNCTIONS = {
-    "memory": errno.ENOMEM,
-    "open": errno.EMFILE,
-    "read": errno.EIO,
-    "write": errno.ENOSPC,
-    "fsync": errno.EIO,
-    "rename": errno.EACCES,
-    "posix_spawn": errno.EAGAIN,
-    "pthread_create": errno.EAGAIN,
-    "clock_gettime": errno.EINVAL,
+    **{"memory": errno.ENOMEM, "open": errno.EMFILE, "read": errno.EIO, "write": errno.ENOSPC},
+    **{"fsync": errno.EIO, "rename": errno.EACCES, "clock_gettime": errno.EINVAL},
+    **{"posix_spawn": errno.EAGAIN, "pthread_create": errno.EAGAIN},
 }
 
 
 def look_at_call(room, name, which):
     """Runs a daemon of which one call of a function fails; returns whether it made that call."""
     folder = room.folder / f"{name} {which}"
-    folder.mkdir()
     own = Room(room.program, folder, room.library)
-    own.has_anacrontab = True
+    own.options = room.options
     for it in ("crontab", "anacrontab", "declarations", "certificate"):
         own.write(it, room.read(it))
     failed, day = folder / "failed", early_minute()
-    more = failing(room.library, name, which, FUNCTIONS[name], failed)
+    variables = failing(room.library, name, which, FUNCTIONS[name], failed)
     try:
-        daemon = own.start(own.words("--minutes", "0"), more=more)
-        status = daemon.wait(SOON)
-        has_failed = failed.exists()
-        look_at_end(daemon, status, has_failed)
-        look_at_log(daemon.printed().splitlines(), day, len(own.read("ran").split()))
+        own.start(own.words("--minutes", "0"), **variables)
+        own.wait_for("its end", lambda: own.status() is not None)
+        look_at_end(own, failed.exists())
+        look_at_log(own.read("printed").splitlines(), day, len(own.read("ran").split()))
         look_at_second_call(own, day)
     except Fault as fault:
         raise Fault(f"call {which} of {name}: {fault}") from None
     finally:
         own.close()
-    return has_failed
+    return failed.exists()
 
 
-def look_at_end(daemon, status, has_failed):
+def look_at_end(room, has_failed):
     """Holds the status against what may come of a call that fails, or of none."""
+    status, said = room.status(), room.read("said")
     if not has_failed:
-        wanted("status with nothing that fails", (0, ""), (status, daemon.said()))
-    if status not in (0, 5, 6):
-        raise Fault(f"status {status}; {daemon.told()}")
-    if status == 5 and daemon.said() != "cronsafe: out of memory\n":
-        raise Fault(f"status 5 without its line; {daemon.told()}")
+        wanted("status with nothing that fails", (0, ""), (status, said))
+    if status not in (0, 5, 6) or status == 5 and said != "cronsafe: out of memory\n":
+        raise Fault(f"status {status}; {room.told()}")
 
 
 def look_at_log(lines, day, times):
     """Holds the log against whether the job ran: at most once, and not told otherwise."""
     run = f"job a at {date_text(day)}"
-    not_started, ends = f"not started {run}", [f"ended {run} status {it}" for it in ("0", "none")]
-    allowed = {f"started {run}", not_started, *ends, "stamp not read a", "stamp not written a"}
+    lost, ends = f"not started {run}", [runs(run)[1], f"ended {run} status none"]
+    allowed = {f"started {run}", lost, *ends, "stamp not read a", "stamp not written a"}
     if times > 1 or len(lines) != len(set(lines)) or not set(lines) <= allowed:
         raise Fault(f"the job ran {times} times, and the log is {lines}")
     if ends[0] in lines and times != 1:
         raise Fault(f"the job is told as ended, and hasn't run: {lines}")
-    if not_started in lines and (times != 0 or any(it in lines for it in ends)):
+    if lost in lines and (times != 0 or set(ends) & set(lines)):
         raise Fault(f"the job is told as not started, and ran: {lines}")
 
 
 def look_at_second_call(room, day):
     """Runs what is left to run from the stamp that the first call has left."""
-    stamp, ran = room.stamps().get("a", ""), room.read("ran").count("a")
+    stamp, ran = room.read("stamps").get("a", ""), room.read("ran").count("a")
     if stamp not in ("", stamp_text(day)):
         raise Fault(f"the stamp is {stamp!r}")
-    wanted("status of a second call", 0, room.start(room.words("--minutes", "0")).wait(SOON))
+    room.run("--minutes", "0")
     wanted("runs of a second call", 0 if stamp else 1, room.read("ran").count("a") - ran)
     if minute_now() // 1440 == day // 1440:
-        wanted("stamp of a second call", stamp_text(day), room.stamps().get("a"))
+        wanted("stamp of a second call", stamp_text(day), room.read("stamps").get("a"))
 
 
 def test_of(name):

@@ -6,11 +6,10 @@ tests with such jobs alone take some seconds; a command of a crontab waits for i
 import os
 import signal
 import time
-from collections import Counter
 
 from harness import Fault, wanted
 
-from daemon import SOON, daily, date_text, early_minute, minute_now, stamp_text
+from daemon import SOON, date_text, early_minute, minute_now, runs, stamp_text
 
 MINUTE = 60
 DAY = 1440
@@ -18,6 +17,19 @@ DAY = 1440
 MAX = 2
 # a job of an anacrontab that says that it ran
 ONE_JOB = "7 0 a echo x >>ran\n"
+ONCE = ("--minutes", "0")
+# the table of `jobs_are_run`, above and below its shell
+TABLE = r"""# no command stands here
+FIRST = 'of two  words '
+* * * * * date +\%s >>times
+* * * * * echo "$FIRST,${LATER-none},$SHELL,$OUTSIDE" >>settings
+* * * * * cat >>input; echo : >>input%one%two\%
+* * * * * cat >>nothing; echo : >>nothing
+CRON_TZ = UTC
+FIRST = once more
+LATER =
+"""
+LAST = '* * * * * echo "$FIRST,${LATER-none},$SHELL" >>others\n'
 
 
 def declared(capacity, lines=(), identifiers=(), groups=(), offset=0, **terms):
@@ -34,25 +46,16 @@ def declared(capacity, lines=(), identifiers=(), groups=(), offset=0, **terms):
     }
 
 
-def runs(*names):
-    """Returns the lines of runs that exit with status 0."""
-    return [line for it in names for line in (f"started {it}", f"ended {it} status 0")]
+def take_job(room, command="echo x >>ran", **terms):
+    """Takes a job of an anacrontab; returns the minute that it is, and the job's run in it."""
+    room.take(declared(1, [], ["a"], a=terms), "", f"7 0 a {command}\n")
+    minute = early_minute()
+    return minute, f"job a at {date_text(minute)}"
 
 
-def look_at_log(daemon, lines):
-    """Holds what was printed against these lines.
-
-    Their order isn't promised, but a run is told as started before it is told as ended.
-    """
-    printed = daemon.printed().splitlines()
-    missing, more = Counter(lines) - Counter(printed), Counter(printed) - Counter(lines)
-    if missing or more:
-        raise Fault(f"lines missing: {list(missing.elements())}, wrong: {list(more.elements())}")
-    for place, line in enumerate(printed):
-        if line.startswith("ended "):
-            start = f"started {line[6:].rpartition(' status ')[0]}"
-            if start not in printed[:place]:
-                raise Fault(f"'{line}' doesn't stand behind '{start}': {printed}")
+def due_at(minute):
+    """Returns the five fields of a line that is due at that minute of each day."""
+    return f"{minute % 60} {minute // 60 % 24} * * *"
 
 
 def jobs_are_run(room):
@@ -65,38 +68,27 @@ def jobs_are_run(room):
     shell = room.folder / "shell"
     shell.write_text("#!/bin/sh\nprintf '%s\\n' \"$0 $1 $2\" >>words\nexec /bin/sh \"$@\"\n")
     shell.chmod(0o755)
-    table = (
-        "# no command stands here\n"
-        "FIRST = 'of two  words '\n"
-        "* * * * * date +\\%s >>times\n"
-        '* * * * * echo "$FIRST,${LATER-none},$SHELL,$OUTSIDE" >>settings\n'
-        "* * * * * cat >>input; echo : >>input%one%two\\%\n"
-        "* * * * * cat >>nothing; echo : >>nothing\n"
-        "CRON_TZ = UTC\n"
-        "FIRST = once more\n"
-        "LATER =\n"
-        f"SHELL = {shell}\n"
-        '* * * * * echo "$FIRST,${LATER-none},$SHELL" >>others\n'
-    )
     anacrontab = 'KIND=anacron\n7 0 a.b echo "$KIND %" >own; cat >>own\n'
     lines = (3, 4, 5, 6, 11)
+    table = f"{TABLE}SHELL = {shell}\n{LAST}"
     room.take(declared(11, lines, ["a.b"], offset=90), table, anacrontab)
-    first = early_minute(90)
-    daemon = room.run("--minutes", "3", seconds=4 * MINUTE)
+    first = early_minute() + 90
+    room.run("--minutes", "3", seconds=4 * MINUTE)
     minutes = [first + 1, first + 2]
     names = [f"line {it} due {date_text(minute)}" for it in lines for minute in minutes]
-    look_at_log(daemon, runs(f"job a.b at {date_text(first)}", *names))
-    wanted("warnings", "warning: CRON_TZ on line 7 of the crontab has no effect\n", daemon.said())
+    room.holds_log(runs(f"job a.b at {date_text(first)}", *names))
     started = [int(it) // MINUTE + 90 for it in room.read("times").split()]
     wanted("minutes of the runs", minutes, started)
-    wanted("settings", "of two  words ,none,/bin/sh,inherited\n" * 2, room.read("settings"))
-    wanted("input", "one\ntwo%:\n" * 2, room.read("input"))
-    wanted("no input", ":\n" * 2, room.read("nothing"))
-    wanted("other settings", f"once more,,{shell}\n" * 2, room.read("others"))
-    words = f'{shell} -c echo "$FIRST,${{LATER-none}},$SHELL" >>others\n'
-    wanted("words of the shell", words * 2, room.read("words"))
-    wanted("output of the job of the anacrontab", "anacron %\n", room.read("own"))
-    wanted("stamps", {"a.b": stamp_text(first)}, room.stamps())
+    room.holds(
+        said="warning: CRON_TZ on line 7 of the crontab has no effect\n",
+        settings="of two  words ,none,/bin/sh,inherited\n" * 2,
+        input="one\ntwo%:\n" * 2,
+        nothing=":\n" * 2,
+        others=f"once more,,{shell}\n" * 2,
+        words=f'{shell} -c echo "$FIRST,${{LATER-none}},$SHELL" >>others\n' * 2,
+        own="anacron %\n",
+        stamps={"a.b": stamp_text(first)},
+    )
 
 
 def no_minutes(room):
@@ -108,48 +100,33 @@ def no_minutes(room):
     table, stamp = "* * * * * echo x >>ran\n", stamp_text(minute_now() - DAY)
     room.take(declared(3, [1], ["a"]), table, ONE_JOB)
     room.write("stamps/a", stamp)
-    daemon = room.start(room.words("--minutes", "0", table="-"), given=table)
-    wanted("status", 0, daemon.wait(SOON))
-    wanted("output", ("", ""), (daemon.printed(), daemon.said()))
-    wanted("ran", "", room.read("ran"))
-    wanted("stamps", {"a": stamp}, room.stamps())
+    room.start(room.words(*ONCE, table="-"), given=table)
+    room.ends(0)
+    room.holds(printed="", said="", ran="", stamps={"a": stamp})
 
 
-def stamps_are_kept(room):
-    """Calls one after the other: without a stamp, with that of the first, with other days.
+def test_of_stamp(name, stamp, is_run, *more):
+    """Returns a test of a job with a stamp: so many days old, of another text, or none.
 
-    For a daemon that writes no stamp, another day or text, or leaves files beside; that runs a job
+    For a daemon that writes no stamp, another day or text, or leaves more files; that runs a job
     again on the same day, a day too early or late, or never again, also where its stamp is of a day
-    that is still to come.
+    that is still to come; that gives up at a stamp that isn't one, doesn't run the job, doesn't
+    tell, or tells of an empty file, which is no stamp.
     """
-    room.take(declared(1, [], ["a"]), "", ONE_JOB)
-    day = early_minute()
-    run = f"job a at {date_text(day)}"
-    look_at_log(room.run("--minutes", "0"), runs(run))
-    wanted("stamps", {"a": stamp_text(day)}, room.stamps())
-    look_at_log(room.run("--minutes", "0"), [])
-    for days, lines in ((6, []), (7, runs(run)), (-1, runs(run))):
-        room.write("stamps/a", stamp_text(day - days * DAY))
-        look_at_log(room.run("--minutes", "0"), lines)
-    wanted("ran", "x\n" * 3, room.read("ran"))
-    wanted("stamps", {"a": stamp_text(day)}, room.stamps())
 
+    def test(room):
+        minute, run = take_job(room)
+        text = stamp_text(minute - stamp * DAY) if isinstance(stamp, int) else stamp
+        if text is not None:
+            room.write("stamps/a", text)
+        left = {"a": stamp_text(minute) if is_run else text}
+        for lines in [*more, *(runs(run) if is_run else [])], []:
+            room.run(*ONCE)
+            room.holds_log(lines)
+            room.holds(ran="x\n" if is_run else "", stamps=left)
 
-def unreadable_stamps(room):
-    """A stamp file that holds something else, and an empty one.
-
-    For a daemon that gives up there, doesn't run the job, doesn't tell, or tells of an empty file,
-    which is no stamp.
-    """
-    room.take(declared(1, [], ["a"]), "", ONE_JOB)
-    room.write("stamps/a", "yesterday\n")
-    day = early_minute()
-    run = f"job a at {date_text(day)}"
-    look_at_log(room.run("--minutes", "0"), ["stamp not read a", *runs(run)])
-    wanted("stamps", {"a": stamp_text(day)}, room.stamps())
-    room.write("stamps/a", "")
-    look_at_log(room.run("--minutes", "0"), runs(run))
-    wanted("stamps", {"a": stamp_text(day)}, room.stamps())
+    test.__name__ = name
+    return test
 
 
 def unwritable_folder(room):
@@ -160,12 +137,12 @@ def unwritable_folder(room):
     room.take(declared(1, [], ["not-written"]), "", "1 0 not-written echo x >>ran\n")
     run = f"job not-written at {date_text(early_minute())}"
     # (not even the superuser makes files there)
-    daemon = room.start(room.words("--minutes", "0", stamps="/proc"))
-    wanted("status", 0, daemon.wait(SOON))
-    lost = daemon.printed().splitlines().count("stamp not written not-written")
+    room.start(room.words(*ONCE, stamps="/proc"))
+    room.ends(0)
+    lost = room.read("printed").splitlines().count("stamp not written not-written")
     # one try at the end, and one more where the run had ended at the clock's second answer
-    look_at_log(daemon, [*runs(run), *["stamp not written not-written"] * min(max(lost, 1), 2)])
-    wanted("ran", "x\n", room.read("ran"))
+    room.holds_log([*runs(run), *["stamp not written not-written"] * min(max(lost, 1), 2)])
+    room.holds(ran="x\n")
 
 
 def unwritable_stamps(room):
@@ -174,21 +151,19 @@ def unwritable_stamps(room):
     For a daemon that gives up, tries once alone, doesn't tell of each try, writes on and on, or
     ends by itself though it has no number of minutes.
     """
-    room.take(declared(1, [], ["a"]), "", ONE_JOB)
     in_the_way = room.folder / "stamps/a"
     in_the_way.mkdir()
-    day = early_minute()
-    daemon = room.start(room.words())
-    daemon.wait_for_line("stamp not written a", 2 * SOON, times=3)
+    minute, run = take_job(room)
+    room.start(room.words())
+    room.wait_for_line("stamp not written a", 2 * SOON, times=3)
     in_the_way.rmdir()
-    daemon.wait_for("the stamp", in_the_way.is_file, SOON)
+    room.wait_for("the stamp", in_the_way.is_file)
     written = os.stat(in_the_way).st_mtime_ns
-    tries = daemon.printed().splitlines().count("stamp not written a")
+    tries = room.read("printed").splitlines().count("stamp not written a")
     time.sleep(3)
-    daemon.end()
-    told = ["stamp not read a", *["stamp not written a"] * tries]
-    look_at_log(daemon, [*runs(f"job a at {date_text(day)}"), *told])
-    wanted("stamps", {"a": stamp_text(day)}, room.stamps())
+    room.end()
+    room.holds_log([*runs(run), "stamp not read a", *["stamp not written a"] * tries])
+    room.holds(stamps={"a": stamp_text(minute)})
     wanted("time of the stamp file", written, os.stat(in_the_way).st_mtime_ns)
 
 
@@ -197,13 +172,12 @@ def no_folder(room):
 
     For a daemon that goes on without stamps, makes a folder, or ends with another status or text.
     """
-    room.take(declared(1, [], ["a"]), "", ONE_JOB)
+    take_job(room)
     room.write("file", "")
     for path in ("none", "file"):
-        daemon = room.start(room.words("--minutes", "0", stamps=path))
-        wanted("status", 6, daemon.wait(SOON))
-        wanted("output", ("", f"cronsafe: no folder {path}\n"), (daemon.printed(), daemon.said()))
-    wanted("ran", "", room.read("ran"))
+        room.start(room.words(*ONCE, stamps=path))
+        room.ends(6)
+        room.holds(printed="", said=f"cronsafe: no folder {path}\n", ran="")
     wanted("a folder was made", False, (room.folder / "none").exists())
 
 
@@ -220,30 +194,21 @@ def refused_certificate(room):
     )
     window = "catch-up of a from 1970-01-02 00:00 at 1970-01-03 00:00"
     plan = declared(1, [], ["a"])
-    cases = [
+    for table, declarations, certificate, answer in (
         ("", plan, empty_leaf, (1, f"refused 5 WindowMissing: {window}\n", "")),
         ("", plan, empty_leaf[:-1], (3, "", "cronsafe: certificate: 2 NotJson\n")),
         ("", plan, None, (6, "", absent)),
         ("", declared(1), empty_leaf, (3, "", "cronsafe: declarations: 4 Undeclared at job a\n")),
         ("60 * * * * x\n", plan, empty_leaf, (3, "", "cronsafe: crontab line 1: 7 OutOfField\n")),
-    ]
-    for table, declarations, certificate, answer in cases:
+    ):
         room.take_tables(declarations, table, ONE_JOB)
         (room.folder / "certificate").unlink(missing_ok=True)
         if certificate is not None:
             room.write("certificate", certificate)
         wanted("check", answer, room.call("check", "crontab", "declarations", "certificate"))
-        daemon = room.start(room.words("--minutes", "0"))
-        wanted("run", answer, (daemon.wait(SOON), daemon.printed(), daemon.said()))
-    wanted("ran", "", room.read("ran"))
-    wanted("stamps", {}, room.stamps())
-
-
-def time_of(room, name):
-    """Returns the seconds at which a job that wrote them began and ended."""
-    times = [int(it) for it in room.read(name).split()]
-    wanted(f"number of times in {name}", 2, len(times))
-    return times
+        room.start(room.words(*ONCE))
+        room.ends(answer[0])
+        room.holds(printed=answer[1], said=answer[2], ran="", stamps={})
 
 
 def runs_that_wait(room):
@@ -257,12 +222,13 @@ def runs_that_wait(room):
     terms = {"line1": wait, "line2": wait, "line3": share, "line4": share}
     due = early_minute() + 1
     write = "date +\\%s >>"
-    table = "".join(f"{daily(due)} {write}{it}; sleep 8; {write}{it}\n" for it in names)
+    table = "".join(f"{due_at(due)} {write}{it}; sleep 8; {write}{it}\n" for it in names)
     room.take(declared(4, (1, 2, 3, 4), groups=["g", "h"], **terms), table)
-    daemon = room.run("--minutes", "2", seconds=3 * MINUTE)
+    room.run("--minutes", "2", seconds=3 * MINUTE)
     told = runs(*[f"line {it} due {date_text(due)}" for it in (1, 2, 3, 4)])
-    look_at_log(daemon, [*told, f"waiting line 2 due {date_text(due)}"])
-    times = {it: time_of(room, it) for it in names}
+    room.holds_log([*told, f"waiting line 2 due {date_text(due)}"])
+    times = {it: [int(second) for second in room.read(it).split()] for it in names}
+    wanted("number of times", [2] * 4, [len(it) for it in times.values()])
     if times["wait2"][0] < times["wait1"][1]:
         raise Fault(f"the second waiting run began before the first had ended: {times}")
     if not max(times[it][0] for it in names[2:]) < min(times[it][1] for it in names[2:]):
@@ -277,16 +243,16 @@ def skipped_run(room):
     """
     due = early_minute() + 1
     lock = {"max": 1, "group": "g", "mode": "skip"}
-    table = f"{daily(due)} sleep 64; echo x >>first\n{daily(due + 1)} echo x >>second\n"
+    table = f"{due_at(due)} sleep 64; echo x >>first\n{due_at(due + 1)} echo x >>second\n"
     room.take(declared(2, (1, 2), groups=["g"], line1=lock, line2=lock), table)
-    daemon = room.start(room.words())
+    room.start(room.words())
     first, second = (f"line {it + 1} due {date_text(due + it)}" for it in (0, 1))
-    daemon.wait_for_line(f"ended {first} status 0", 3 * MINUTE)
+    room.wait_for_line(f"ended {first} status 0", 3 * MINUTE)
     # (the second would get its turn now, had it waited)
     time.sleep(3)
-    daemon.end()
-    look_at_log(daemon, [*runs(first), f"overrun {first}", f"skipped {second}"])
-    wanted("what ran", ("x\n", ""), (room.read("first"), room.read("second")))
+    room.end()
+    room.holds_log([*runs(first), f"overrun {first}", f"skipped {second}"])
+    room.holds(first="x\n", second="")
 
 
 def lost_log(room):
@@ -295,22 +261,19 @@ def lost_log(room):
     For a daemon that ends there, by a status or a signal, that doesn't run the job, or whose log
     goes into another file.
     """
-    room.take(declared(1, [], ["a"]), "", ONE_JOB)
-    table, words, ran = room.read("anacrontab"), room.words("--minutes", "0"), ""
+    take_job(room)
+    words = room.words(*ONCE)
     read_end, write_end = os.pipe()
     os.close(read_end)
     with open("/dev/full", "wb") as full, open(write_end, "wb") as broken:
-        for what, output, call in (
-            ("a full device", full, words),
-            ("a broken pipe", broken, words),
-            ("a closed output", None, ["/bin/sh", "-c", 'exec "$@" >&-', "sh", *words]),
-        ):
+        calls = [(full, words), (broken, words)]
+        calls.append((None, ["/bin/sh", "-c", 'exec "$@" >&-', "sh", *words]))
+        for number, (output, call) in enumerate(calls, 1):
             (room.folder / "stamps/a").unlink(missing_ok=True)
-            day, ran = early_minute(), ran + "x\n"
-            wanted(f"status with {what}", 0, room.start(call, output=output).wait(SOON))
-            wanted(f"ran with {what}", ran, room.read("ran"))
-            wanted(f"stamps with {what}", {"a": stamp_text(day)}, room.stamps())
-            wanted(f"table with {what}", table, room.read("anacrontab"))
+            stamps = {"a": stamp_text(early_minute())}
+            room.start(call, output=output)
+            room.ends(0)
+            room.holds(ran="x\n" * number, stamps=stamps, anacrontab=ONE_JOB)
 
 
 def ended_by_a_signal(room):
@@ -319,14 +282,11 @@ def ended_by_a_signal(room):
     For a daemon that doesn't end at the signal or only once the job has ended, or writes a stamp of
     a run that hasn't ended; and for a log that isn't written until the end.
     """
-    room.take(declared(1, [], ["a"]), "", "1 0 a sleep 100; echo x >>ran\n")
-    run = f"job a at {date_text(early_minute())}"
-    daemon = room.start(room.words())
-    daemon.wait_for_line(f"started {run}", SOON)
-    daemon.send(signal.SIGTERM)
-    wanted("status", -signal.SIGTERM, daemon.wait(SOON))
-    wanted("output", (f"started {run}\n", ""), (daemon.printed(), daemon.said()))
-    wanted("stamps", {}, room.stamps())
+    _, run = take_job(room, "sleep 100; echo x >>ran")
+    room.start(room.words())
+    room.wait_for_line(f"started {run}")
+    room.end()
+    room.holds(printed=f"started {run}\n", said="", stamps={})
 
 
 def overruns(room):
@@ -334,19 +294,15 @@ def overruns(room):
 
     For a daemon that tells it never, each second or each minute, ends the run, or gives up.
     """
-    day = early_minute()
-    command = f"sleep $(({MINUTE * (day + 2) + 3} - $(date +%s))); echo x >>ran"
-    room.take(declared(1, [], ["a"], a={"max": 1}), "", f"1 0 a {command}\n")
-    daemon = room.start(room.words())
-    run = f"job a at {date_text(day)}"
-    daemon.wait_for_line(f"overrun {run}", 2 * MINUTE)
-    wanted("ran at the overrun", "", room.read("ran"))
-    daemon.wait_for_line(f"ended {run} status 0", 2 * MINUTE)
-    daemon.wait_for("the stamp", (room.folder / "stamps/a").is_file, SOON)
-    daemon.end()
-    look_at_log(daemon, [*runs(run), f"overrun {run}"])
-    wanted("ran", "x\n", room.read("ran"))
-    wanted("stamps", {"a": stamp_text(day)}, room.stamps())
+    minute, run = take_job(room, "sleep $((123 - $(date +%s) % 60)); echo x >>ran", max=1)
+    room.start(room.words())
+    room.wait_for_line(f"overrun {run}", 2 * MINUTE)
+    room.holds(ran="")
+    room.wait_for_line(f"ended {run} status 0", 2 * MINUTE)
+    room.wait_for("the stamp", (room.folder / "stamps/a").is_file)
+    room.end()
+    room.holds_log([*runs(run), f"overrun {run}"])
+    room.holds(ran="x\n", stamps={"a": stamp_text(minute)})
 
 
 def job_not_started(room):
@@ -361,12 +317,11 @@ def job_not_started(room):
     )
     room.take(declared(1, [], ["a", "b", "c"]), "", anacrontab)
     day = early_minute()
-    daemon = room.run("--minutes", "1", seconds=2 * MINUTE)
+    room.run("--minutes", "1", seconds=2 * MINUTE)
     names = [f"job {it} at {date_text(day)}" for it in "abc"]
     lost = [f"{word} {it}" for it in names[:2] for word in ("started", "not started")]
-    look_at_log(daemon, [*lost, *runs(names[2])])
-    wanted("ran", "c\n", room.read("ran"))
-    wanted("stamps", dict.fromkeys("abc", stamp_text(day)), room.stamps())
+    room.holds_log([*lost, *runs(names[2])])
+    room.holds(ran="c\n", stamps=dict.fromkeys("abc", stamp_text(day)))
 
 
 def ways_to_end(room):
@@ -382,21 +337,18 @@ def ways_to_end(room):
         "7 0 killed echo killed >>order; kill -9 $$\n"
         "7 0 unknown echo unknown >>order; /no/such/command\n"
     )
-    names = ("fine", "failed", "killed", "unknown", "later")
-    room.take(declared(1, [], names), "", anacrontab)
-    first = early_minute()
-    daemon = room.run("--minutes", "2", seconds=3 * MINUTE)
     statuses = {"fine": 0, "failed": 3, "killed": "none", "unknown": 127, "later": 0}
+    room.take(declared(1, [], statuses), "", anacrontab)
+    first = early_minute()
+    room.run("--minutes", "2", seconds=3 * MINUTE)
     lines = ["told"]
     for name, status in statuses.items():
         run = f"job {name} at {date_text(first + (name == 'later'))}"
         lines += [f"started {run}", f"ended {run} status {status}"]
-    look_at_log(daemon, lines)
-    said = daemon.said().splitlines()
-    wanted("first line on standard error", "wrong", said[0] if said else "")
-    wanted("order", ["fine", *names], room.read("order").split())
-    day = {it: stamp_text(first) for it in names}
-    wanted("stamps", {**day, "later": stamp_text(first + 1)}, room.stamps())
+    room.holds_log(lines)
+    wanted("first line on standard error", "wrong", room.read("said").partition("\n")[0])
+    stamps = {**dict.fromkeys(statuses, stamp_text(first)), "later": stamp_text(first + 1)}
+    room.holds(order="\n".join(["fine", *statuses, ""]), stamps=stamps)
 
 
 def outage(room):
@@ -407,35 +359,28 @@ def outage(room):
     """
     room.take(declared(3, [1], ["a"]), "* * * * * echo x >>line\n", ONE_JOB)
     first = early_minute()
-    daemon = room.start(room.words())
-    daemon.wait_for("the stamp", (room.folder / "stamps/a").is_file, SOON)
-    daemon.send(signal.SIGSTOP)
+    room.start(room.words())
+    room.wait_for("the stamp", (room.folder / "stamps/a").is_file)
+    room.send(signal.SIGSTOP)
     time.sleep(max(0, MINUTE * (first + 2) + 3 - time.time()))
-    daemon.send(signal.SIGCONT)
+    room.send(signal.SIGCONT)
     line = f"outage {date_text(first)} to {date_text(first + 2)}"
-    daemon.wait_for_line(line, SOON)
+    room.wait_for_line(line)
     run = f"line 1 due {date_text(first + 3)}"
-    daemon.wait_for_line(f"ended {run} status 0", 2 * MINUTE)
-    daemon.end()
-    look_at_log(daemon, [line, *runs(f"job a at {date_text(first)}", run)])
-    wanted("ran", ("x\n", "x\n"), (room.read("line"), room.read("ran")))
+    room.wait_for_line(f"ended {run} status 0", 2 * MINUTE)
+    room.end()
+    room.holds_log([line, *runs(f"job a at {date_text(first)}", run)])
+    room.holds(line="x\n", ran="x\n")
 
 
 TESTS = [
-    jobs_are_run,
-    no_minutes,
-    stamps_are_kept,
-    unreadable_stamps,
-    unwritable_folder,
-    unwritable_stamps,
-    no_folder,
-    refused_certificate,
-    runs_that_wait,
-    skipped_run,
-    lost_log,
-    ended_by_a_signal,
-    overruns,
-    job_not_started,
-    ways_to_end,
-    outage,
+    *(jobs_are_run, no_minutes, unwritable_folder, unwritable_stamps, no_folder),
+    *(refused_certificate, runs_that_wait, skipped_run, lost_log, ended_by_a_signal, overruns),
+    *(job_not_started, ways_to_end, outage),
+    test_of_stamp("no_stamp", None, True),
+    test_of_stamp("stamp_of_six_days", 6, False),
+    test_of_stamp("stamp_of_seven_days", 7, True),
+    test_of_stamp("stamp_to_come", -1, True),
+    test_of_stamp("unreadable_stamp", "yesterday\n", True, "stamp not read a"),
+    test_of_stamp("empty_stamp", "", True),
 ]

@@ -1,8 +1,8 @@
-"""loop.py TABLE DECLS: goes through the minutes of 28 years as one would without a checker; prints the
-milliseconds that it took and the greatest weight at once.
+"""loop.py TABLE DECLS: goes through the minutes of 28 years as one would without a checker.
 
-For each day it adds the weight of each run's window to the minutes that it holds and looks for the
-greatest sum. It knows nothing of locks, of jobs that wait or of catch-up, so it does less than `judge`.
+Prints the milliseconds that it took and the greatest weight at once. For each day it adds the
+weight of each run's window to the minutes that it holds and looks for the greatest sum. It knows
+nothing of locks, of jobs that wait or of catch-up, so it does less than `judge`.
 """
 import json
 import sys

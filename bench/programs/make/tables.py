@@ -1,10 +1,12 @@
-"""tables.py FOLDER SHAPE LINES: writes a crontab 'table' and its declarations 'jobs', always the same ones.
+"""tables.py FOLDER SHAPE LINES: always writes the same crontab 'table' and declarations 'jobs'.
 
-varied   half of the lines daily, the others on one of 22 patterns of days; 3 % minutely, 9 % each five minutes, 8 % each 10 to 30;
-         a quarter of the others wait for the lock of one of 16 groups
-distinct a line for each month, one for each day of a month and one for each weekday, so that no two of the 2,562 kinds of days have
-         the same lines due; the others are due each day, 5 of them minutely, 18 each five minutes, 16 each twenty. Every run takes
-         one minute and none waits; at most 40 run at once
+varied   half of the lines daily, the others on one of 22 patterns of days; 3 % minutely, 9 % each
+         five minutes, 8 % each 10 to 30; a quarter of the others wait for the lock of one of 16
+         groups
+distinct a line for each month, one for each day of a month and one for each weekday, so that no two
+         of the 2,562 kinds of days have the same lines due; the others are due each day, 5 of them
+         minutely, 18 each five minutes, 16 each twenty. Every run takes one minute and none waits;
+         at most 40 run at once
 waiting  every line waits for the lock of one of 16 groups
 months   each line is due daily in one month
 """
@@ -21,6 +23,14 @@ PATTERNS = (
     + [f"* {it} *" for it in ("1", "1-6", "3,6,9,12", "12")]
     + ["1 */3 *", "1-7 * 1"]
 )
+# the fields of the lines of `distinct`: the first 50 are restricted in one field each
+DISTINCT = (
+    [f"{it} 0 * {it + 1} *" for it in range(12)]
+    + [f"{it} 1 {it + 1} * *" for it in range(31)]
+    + [f"{it} 2 * * {it}" for it in range(7)]
+    + ["* * * * *"] * 5 + ["*/5 * * * *"] * 18 + ["*/20 * * * *"] * 16
+    + [f"{it % 60} {it // 60} * * *" for it in range(180, 1440, 6)]
+)
 
 
 def daily():
@@ -28,7 +38,7 @@ def daily():
 
 
 def varied():
-    """A line's fields, its longest time, and whether it may wait."""
+    """Returns a line's fields, its longest time, and whether it waits."""
     days = "* * *" if rng.random() < 0.5 else rng.choice(PATTERNS)
     often = rng.random()
     if often < 0.03:
@@ -37,36 +47,18 @@ def varied():
         return f"*/5 * {days}", rng.randint(1, 4), False
     if often < 0.2:
         return f"*/{rng.choice([10, 15, 20, 30])} * {days}", rng.randint(1, 9), False
-    return f"{daily()} {days}", rng.randint(1, 30), True
-
-
-def distinct(number):
-    """A line's fields: the first 50 are restricted in one field each."""
-    for hour, count, days in ((0, 12, "* {} *"), (1, 31, "{} * *")):
-        if number < count:
-            return f"{number} {hour} {days.format(number + 1)}"
-        number -= count
-    if number < 7:
-        return f"{number} 2 * * {number}"
-    number -= 7
-    for count, minutes in ((5, "*"), (18, "*/5"), (16, "*/20")):
-        if number < count:
-            return f"{minutes} * * * *"
-        number -= count
-    minute = 180 + 6 * number
-    return f"{minute % 60} {minute // 60} * * *"
+    return f"{daily()} {days}", rng.randint(1, 30), rng.random() < 0.25
 
 
 def line_of(number):
+    """Returns a line and its declaration."""
     if shape == "varied":
-        fields, most, may_wait = varied()
-        waits = may_wait and rng.random() < 0.25
+        fields, most, waits = varied()
     elif shape == "distinct":
-        fields, most, waits = distinct(number), 1, False
-    elif shape == "waiting":
-        fields, most, waits = f"{daily()} * * *", rng.randint(1, 30), True
+        fields, most, waits = DISTINCT[number], 1, False
     else:
-        fields, most, waits = f"{daily()} * {number % 12 + 1} *", rng.randint(1, 30), False
+        months = "*" if shape == "waiting" else number % 12 + 1
+        fields, most, waits = f"{daily()} * {months} *", rng.randint(1, 30), shape == "waiting"
     said = {"line": number + 1, "max": most}
     if waits:
         said |= {"group": f"g{rng.randrange(GROUPS)}", "mode": "wait"}

@@ -31,7 +31,7 @@ LONG, PREFIXES_OF_A_LONG_ONE = 600, 100
 LONG_CERTIFICATE, PREFIXES_OF_A_LONG_CERTIFICATE = 122, 6
 BYTES = b"\0\t\n\r \"%',-./01:=@\\a\xff"
 BYTES_OF_CERTIFICATES = BYTES + b"29[]{}eE+"
-# Of so many changes one is made of certificates too, which take longer.
+# Of so many changes one is made of certificates too, and one of a random plan: these take longer.
 CHANGES_OF_ONE = 5
 
 # What an input is, its kind and its bytes, and the files by their kinds that it needs beside it.

@@ -176,6 +176,8 @@ class Call:
         read_plan(self.bytes_of(found["DECLS"]), *tables)
         return None, None
 
+    make = judge
+
     def check(self, found):
         tables = self.read_tables(found)
         plan = read_plan(self.bytes_of(found["DECLS"]), *tables)
@@ -197,12 +199,9 @@ class Call:
         return replay_answer(plan, script.read_script(self.bytes_of(found["SCRIPT"]), plan))
 
     def answer(self):
-        verbs = {
-            **{b"day": self.day, b"check": self.check, b"replay": self.replay},
-            **{b"lint": self.lint, b"draft": self.draft},
-        }
         try:
-            status, out = verbs.get(self.words[0], self.judge)(asked(self.words))
+            found = asked(self.words)
+            status, out = getattr(self, self.words[0].decode())(found)
             return Answer(status, out, self.warned)
         except Fault as fault:
             return Answer(3, b"", self.warned + b"cronsafe: %s\n" % fault.text())
@@ -224,6 +223,4 @@ def answer_of(words, files, stdin=b"", is_judged=True):
 
     Unless it is judged, of `check` too only faults of what is read before the certificate.
     """
-    if not words:
-        return Answer(4, b"", None)
     return Call(words, files, stdin, is_judged).answer()

@@ -21,7 +21,7 @@ def kinds_after(kind):
     next_one = calendar.Kind(kind.month, kind.day + 1, weekday)
     if kind.month == 2 and kind.day == 28:
         return [next_one, first]
-    return [next_one] if kind.day < calendar.days_in(2000, kind.month) else [first]
+    return [next_one] if kind.day < calendar.DAYS_IN[kind.month] else [first]
 
 
 @functools.cache

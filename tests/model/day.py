@@ -33,10 +33,11 @@ def command_text(command, day, longest):
     """Returns the lines of a command."""
     if command.schedule is None:
         return f"line {command.line}: at reboot\n"
-    starts = []
-    for back in range(DAYS_BEFORE, -1, -1):
-        minutes = due_minutes(command.schedule, kind_of(day - back))
-        starts += [minute - back * DAY for minute in minutes]
+    starts = [
+        minute - back * DAY
+        for back in range(DAYS_BEFORE, -1, -1)
+        for minute in due_minutes(command.schedule, kind_of(day - back))
+    ]
     count = sum(start >= 0 for start in starts)
     return f"line {command.line}: due {count}\n" + windows_text(starts, longest)
 

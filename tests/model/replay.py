@@ -47,7 +47,7 @@ def is_owed(period, stamp, day):
     if stamp is None or stamp > day:
         return True
     if period == MONTHLY:
-        return date_of(stamp)[:2] != date_of(day)[:2]
+        return date_of(stamp).replace(day=1) != date_of(day).replace(day=1)
     return day - stamp >= period
 
 
@@ -83,9 +83,9 @@ class Rules:
         others = [it for it in others if it.takes_lock and it.group == of.group]
         return not of.takes_lock or all(of.shares and it.shares for it in others)
 
-    def is_late(self, state, run):
-        """Returns whether a run goes on, or ends, past its longest time."""
-        return state.minute >= run.started + self.jobs[run.job].max
+    def late_runs(self, state):
+        """Returns the runs that go on past their longest times."""
+        return [it for it in state.running if state.minute >= it.started + self.jobs[it.job].max]
 
     def with_pass(self, state):
         """Returns a state with a pass, unless none is owed: by delay, then line."""
@@ -162,7 +162,7 @@ class Rules:
                     stamps[run.job] = run.started // DAY
                 rest = {"running": without(state.running, run)}
                 after = state._replace(stamps=tuple(sorted(stamps.items())), **rest)
-                return after, "ended late" if self.is_late(state, run) else "ended in time"
+                return after, "ended late" if run in self.late_runs(state) else "ended in time"
         raise Refused("NotRunning")
 
 

@@ -61,7 +61,6 @@ def parts_of(line):
 
 
 def job_of(number, line, settings, jobs):
-    """Returns the job of a line that is no setting."""
     period, delay, identifier, command = parts_of(line)
     if any(job.identifier == identifier for job in jobs):
         raise Wrong("TwiceNamed")

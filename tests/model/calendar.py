@@ -82,7 +82,6 @@ def minute_text(minute):
 
 
 def is_day_due(schedule, kind):
-    """Returns whether a schedule is due on a day of that kind."""
     by_day, by_weekday = kind.day in schedule.day.numbers, kind.weekday in schedule.weekday.numbers
     is_due = by_day and by_weekday
     if not schedule.day.is_star and not schedule.weekday.is_star:
@@ -97,5 +96,4 @@ def minutes_of(schedule):
 
 
 def due_minutes(schedule, kind):
-    """Returns the minutes of a day of that kind at which a schedule is due, rising."""
     return minutes_of(schedule) if is_day_due(schedule, kind) else []

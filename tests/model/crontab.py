@@ -78,7 +78,6 @@ def part_of(line):
 
 
 def setting_of(line):
-    """Returns the name and the value of a setting."""
     found = NAME.match(line)
     if not found:
         raise Wrong("BadSetting")
@@ -134,7 +133,6 @@ def item_of(text, field):
 
 
 def choice_of(text, field):
-    """Returns the numbers of a field and whether its text begins with `*`."""
     numbers = {number for item in text.split(b",") for number in item_of(item, field)}
     is_weekday = field is FIELDS[4]
     return Choice({it % 7 if is_weekday else it for it in numbers}, text.startswith(b"*"))
@@ -179,7 +177,6 @@ def environment_of(settings):
 
 
 def command_of(number, line, settings, commands):
-    """Returns the command of a line that is no setting."""
     schedule, text = schedule_of(line)
     if not text:
         raise Wrong("NoCommand")

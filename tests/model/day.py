@@ -30,7 +30,6 @@ def windows_text(starts, reach):
 
 
 def command_text(command, day, longest):
-    """Returns the lines of a command."""
     if command.schedule is None:
         return f"line {command.line}: at reboot\n"
     starts = [
@@ -51,7 +50,6 @@ def job_text(job, longest, hours):
 
 
 def day_answer(crontab, anacrontab, day, longest, hours):
-    """Returns the text of `day`."""
     text = f"{day_text(day)} {WEEKDAYS[weekday_of(day)]}\n"
     text += "".join(command_text(it, day, longest) for it in crontab.commands)
     return text.encode() + b"".join(job_text(it, longest, hours) for it in anacrontab.jobs)

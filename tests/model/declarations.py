@@ -113,7 +113,6 @@ DECLARATIONS = {
 
 
 def declared_of(value):
-    """Returns what a JSON value declares."""
     found = members(value, DECLARATIONS)
     return Declared(pass_minute=found.pop("pass"), **found)
 
@@ -179,7 +178,6 @@ def faults_of_tables(declared, crontab, anacrontab):
 
 
 def reboot_places(crontab):
-    """Returns the places of the commands at startup."""
     return [b"line %d" % it.line for it in crontab.commands if it.schedule is None]
 
 

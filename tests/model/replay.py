@@ -38,7 +38,6 @@ class State(NamedTuple):
 
 
 def first_state(script):
-    """Returns the state in which a script starts."""
     return State(*script.start, tuple(sorted(script.stamps.items())))
 
 
@@ -71,7 +70,6 @@ class Rules:
         return getattr(self, event.kind)(state, event)
 
     def due_at(self, minute):
-        """Returns the jobs that are due at a minute."""
         kind, minute = kind_of(minute // DAY), minute % DAY
         schedules = [it.schedule for it in self.plan.crontab.commands]
         return tuple(job for job, it in enumerate(schedules) if minute in due_minutes(it, kind))

@@ -119,7 +119,6 @@ def read_script(text, plan):
 
 
 def event_text(plan, event):
-    """Returns the line of an event."""
     words = [event.kind]
     if event.job is not None:
         of = plan.jobs[event.job]
@@ -130,7 +129,6 @@ def event_text(plan, event):
 
 
 def script_text(plan, script):
-    """Returns the text of a script."""
     lines = [f"start {minute_text(script.start.minute)} {'up' if script.start.is_up else 'down'}"]
     for job, day in script.stamps.items():
         lines.append(f"stamp {plan.jobs[job].name.decode()} {day_text(day)}")

@@ -27,7 +27,6 @@ def minute_and_hour(rng, often):
 
 
 def declared(rng, modes, groups, longest):
-    """What is declared of a cron job but its line."""
     said = {"max": longest}
     mode = rng.choice(modes)
     if mode != "none":

@@ -23,7 +23,6 @@ def run_text(plan, job, named):
 
 
 def may_meet(plan, one, other):
-    """Returns whether runs of two jobs may go on at once."""
     is_exclusive = one.group is not None and plan.groups[one.group].exclusive
     return one.group != other.group or not is_exclusive or (one.shares and other.shares)
 

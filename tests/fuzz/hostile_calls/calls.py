@@ -62,7 +62,6 @@ def lints_and_drafts(calls):
 
 
 def limit():
-    """Limits what the process that is started may take."""
     resource.setrlimit(resource.RLIMIT_AS, (MEMORY, MEMORY))
     resource.setrlimit(resource.RLIMIT_CPU, (SECONDS, SECONDS))
     resource.setrlimit(resource.RLIMIT_CORE, (0, 0))

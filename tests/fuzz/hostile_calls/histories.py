@@ -19,6 +19,8 @@ LONG_ONE_IN, EVENTS_OF_A_LONG_ONE = 20, 3_000
 # 2024-09-13 00:00.
 MIDNIGHT = 28_769_760
 WEIGHTS = {"begin": 22, "minute": 12, "end": 14, "got": 6, "catch": 3, "down": 1, "up": 1}
+# By how many minutes the clock goes on.
+AHEAD = {"minute": (0, 2, *[1] * 10), "up": (-1, 0, 0, 1, 2, 3, 3, DAY, 2 * DAY, 3 * DAY)}
 SERVER = b"""\
 */15 * * * * /usr/local/bin/check-disks
 17 * * * * /usr/sbin/logrotate /etc/logrotate.conf
@@ -79,14 +81,7 @@ class History:
         job = self.chance.randrange(len(self.plan.jobs))
         return job, self.state.minute - self.chance.randint(0, 3)
 
-    def any_minute(self, kind):
-        ahead = (0, 2, 1, 1, 1, 1, 1, 1, 1, 1, 1, 1)
-        if kind == "up":
-            ahead = (-1, 0, 0, 1, 2, 3, 3, DAY, 2 * DAY, 3 * DAY)
-        return self.state.minute + self.chance.choice(ahead)
-
     def any_event(self):
-        """Returns an event of any kind."""
         state, chance = self.state, self.chance
         kind = chance.choices(list(WEIGHTS), list(WEIGHTS.values()))[0]
         if not state.is_up and chance.randrange(2):
@@ -101,7 +96,7 @@ class History:
         if kind in ("got", "end"):
             return Event(0, kind, *self.any_of(state.waiting if kind == "got" else state.running))
         if kind in ("minute", "up"):
-            return Event(0, kind, None, self.any_minute(kind))
+            return Event(0, kind, None, state.minute + chance.choice(AHEAD[kind]))
         return Event(0, kind, None if kind == "down" else job, None)
 
     def add_event(self):
@@ -118,7 +113,6 @@ class History:
 
 
 def is_due(line, minute):
-    """Returns whether the command of a line is due at a minute of the week."""
     in_hour, in_day = minute % 60, minute % DAY
     return (in_hour % 15 == 0, in_hour == 17, in_day == 150, minute == 6 * DAY + 180)[line - 1]
 

@@ -132,10 +132,9 @@ def changes(inputs, chance, count, signs=BYTES):
 def prefixes_of_certificates(chance):
     """Yields prefixes of each worked certificate, of longer ones fewer than of other inputs."""
     long = LONG_CERTIFICATE, PREFIXES_OF_A_LONG_CERTIFICATE
-    yield from prefixes(worked_certificates(), chance, *long)
+    return prefixes(worked_certificates(), chance, *long)
 
 
 def changes_of_certificates(chance, count):
     """Yields worked certificates in which one byte is another, fewer than of other inputs."""
-    few = count // CHANGES_OF_ONE
-    yield from changes(worked_certificates(), chance, few, BYTES_OF_CERTIFICATES)
+    return changes(worked_certificates(), chance, count // CHANGES_OF_ONE, BYTES_OF_CERTIFICATES)

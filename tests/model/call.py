@@ -36,6 +36,12 @@ WITHOUT_EFFECT = (b"CRON_TZ", b"RANDOM_DELAY", b"START_HOURS_RANGE")
 Answer = namedtuple("Answer", "status out err")
 
 
+def agrees(told, answer):
+    """Returns whether an answer is as told, in what of it is told."""
+    outputs = (told.out, answer.out), (told.err, answer.err)
+    return told.status == answer.status and all(it in (None, got) for it, got in outputs)
+
+
 class NoCall(Exception):
     """The words are no call."""
 

@@ -164,12 +164,6 @@ class Rules:
         raise Refused("NotRunning")
 
 
-def state_text(state):
-    counts = [len(it) for it in (state.pending, state.waiting, state.running)]
-    told = "%s %s, pending %d, waiting %d, running %d\n"
-    return told % ("up" if state.is_up else "down", minute_text(state.minute), *counts)
-
-
 def replay_answer(plan, script):
     """Returns status and text of `replay`."""
     rules, state, lines, status = Rules(plan), first_state(script), [], 0
@@ -180,4 +174,7 @@ def replay_answer(plan, script):
             status = 1
             reply = f"refused {REFUSALS.index(str(refused)) + 1} {refused}"
         lines.append(f"{event.line}: {reply}\n")
-    return status, ("".join(lines) + state_text(state)).encode()
+    told = "%s %s, pending %d, waiting %d, running %d\n"
+    counts = [len(it) for it in (state.pending, state.waiting, state.running)]
+    lines.append(told % ("up" if state.is_up else "down", minute_text(state.minute), *counts))
+    return status, "".join(lines).encode()

@@ -55,6 +55,19 @@ def asks_help(words):
     return any(it in HELP or it == b"--version" for it in words)
 
 
+def words_of_check(words):
+    """Returns the words that check the certificate of a call, which `made` is of one of `make`."""
+    command, *words = [it for it in words if it != b"--compact"]
+    if b"--minutes" in words:
+        at = words.index(b"--minutes")
+        del words[at : at + 2]
+    if command == b"make":
+        words.insert(2, b"made")
+    if command == b"run":
+        del words[3:4]
+    return [b"check", *words]
+
+
 def number_of(word):
     """Returns the number that a word holds: digits below 2^64, leading zeros too."""
     digits, behind = crontab.digits_of(word)

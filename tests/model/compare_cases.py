@@ -25,7 +25,7 @@ sys.path[0] = str(Path(__file__).resolve().parent.parent)
 
 from cases import cases_of  # noqa: E402
 from harness import Fault, count, end_with, words_of  # noqa: E402
-from model.call import CALLS, Answer, agrees, answer_of, asks_help  # noqa: E402
+from model.call import CALLS, Answer, agrees, answer_of, asks_help, words_of_check  # noqa: E402
 
 SAFE = b"safe\n"
 # What standard error says after the warnings where the text of a certificate holds a fault.
@@ -50,20 +50,6 @@ def look_at_reading(case):
         raise Fault(f"\n  wanted: {wanted}\n  read:   {got}")
 
 
-def words_of_check(case):
-    """Returns the words that check the certificate of a case, which `made` is of one of `make`."""
-    command, *words = case.words
-    words = [it for it in words if it != b"--compact"]
-    if b"--minutes" in words:
-        at = words.index(b"--minutes")
-        del words[at : at + 2]
-    if command == b"make":
-        words.insert(2, b"made")
-    if command == b"run":
-        del words[3:4]
-    return [b"check", *words]
-
-
 def is_judged(case):
     """Returns whether a case says what `check` of its certificate answers."""
     if b"*" in case.stdout + case.stderr:
@@ -82,7 +68,7 @@ def look_at_verdict(case):
         warnings = [it for it in case.stderr.splitlines(True) if it.startswith(b"warning: ")]
         wanted = Answer(0, SAFE, b"".join(warnings))
     files = {**case.files, b"made": case.stdout}
-    got = answer_of(words_of_check(case), files, case.stdin)
+    got = answer_of(words_of_check(case.words), files, case.stdin)
     if got != wanted:
         raise Fault(f"\n  wanted: {wanted}\n  judged: {got}")
 

@@ -4,7 +4,7 @@ from collections import namedtuple
 
 from cases import cases_of
 from model import certificate
-from model.call import NoCall, answer_of, asked, asks_help
+from model.call import NoCall, answer_of, asked, asks_help, words_of_check
 from model.faults import Fault
 
 from hostile_calls.calls import call_of
@@ -68,22 +68,10 @@ def worked_inputs():
     return list(found.values())
 
 
-def checked_words(words):
-    """Returns the words that check the certificate of a case, be it one that is run or made."""
-    options = []
-    if b"--anacrontab" in words:
-        at = words.index(b"--anacrontab")
-        options = words[at : at + 2]
-    if words[:1] == [b"make"]:
-        plain = [it for it in words[1:] if it != b"--compact"]
-        return [b"check", *plain[:2], b"stdout", *options]
-    return [b"check", *words[1:4], *options]
-
-
 def certificate_of(case):
     """Returns the certificate of a case with what is beside it; none where it doesn't read well."""
-    files = {**case.files, b"-": case.stdin, b"stdout": case.stdout}
-    inputs = found_in(files, checked_words(case.words), {**KINDS, "CERT": b"certificate"})
+    files = {**case.files, b"-": case.stdin, b"made": case.stdout}
+    inputs = found_in(files, words_of_check(case.words), {**KINDS, "CERT": b"certificate"})
     text = inputs.pop(b"certificate", b"")
     try:
         certificate.read(text)

@@ -17,40 +17,32 @@ Anacrontab = namedtuple("Anacrontab", "settings jobs")
 NONE = Anacrontab([], [])
 
 
-def is_number_from(least, text):
-    """Returns whether a text is digits with a value from the least one to 100,000."""
-    digits, behind = crontab.digits_of(text)
-    return digits != b"" and behind == b"" and least <= int(digits) <= GREATEST
+def number_from(least, text, fault):
+    """Returns the value of digits, which is from the least one to 100,000."""
+    if not text.isdigit() or not least <= int(text) <= GREATEST:
+        raise Wrong(fault)
+    return int(text)
 
 
 def period_of(text):
-    if text.startswith(b"@"):
-        if text not in WORDS:
-            raise Wrong("UnknownWord")
-        return WORDS[text]
-    if not is_number_from(1, text):
-        raise Wrong("BadPeriod")
-    return int(text)
+    if not text.startswith(b"@"):
+        return number_from(1, text, "BadPeriod")
+    if text not in WORDS:
+        raise Wrong("UnknownWord")
+    return WORDS[text]
 
 
 def delay_of(text):
-    if not is_number_from(0, text):
-        raise Wrong("BadDelay")
-    return int(text)
-
-
-def is_utf8(text):
-    try:
-        text.decode("utf-8", "strict")
-    except UnicodeDecodeError:
-        return False
-    return True
+    return number_from(0, text, "BadDelay")
 
 
 def identifier_of(text):
     """Returns a text as an identifier, which no blank can be in here."""
-    is_short = len(text) <= MOST_BYTES_OF_AN_IDENTIFIER
-    if not is_short or not is_utf8(text) or b"/" in text or text in (b".", b".."):
+    try:
+        name = text.decode()
+    except UnicodeDecodeError:
+        raise Wrong("BadIdentifier") from None
+    if len(text) > MOST_BYTES_OF_AN_IDENTIFIER or "/" in name or name in (".", ".."):
         raise Wrong("BadIdentifier")
     return text
 
@@ -69,14 +61,12 @@ def parts_of(line):
 
 
 def job_of(number, line, settings, jobs):
-    """Returns the job of a line that is no setting."""
     period, delay, identifier, command = parts_of(line)
     if any(job.identifier == identifier for job in jobs):
         raise Wrong("TwiceNamed")
     if len(jobs) == MOST_JOBS:
         raise Wrong("TooManyJobs")
-    environment = crontab.environment_of(settings)
-    return Job(number, period, delay, identifier, command, environment)
+    return Job(number, period, delay, identifier, command, crontab.environment_of(settings))
 
 
 def read_anacrontab(text):
@@ -86,7 +76,7 @@ def read_anacrontab(text):
         try:
             if line.endswith(b"\\"):
                 raise Wrong("Continued")
-            if crontab.begins_as_setting(line):
+            if crontab.SETTING.match(line):
                 settings.append(Setting(number, *crontab.setting_of(line)))
             else:
                 jobs.append(job_of(number, line, settings, jobs))

@@ -36,6 +36,12 @@ WITHOUT_EFFECT = (b"CRON_TZ", b"RANDOM_DELAY", b"START_HOURS_RANGE")
 Answer = namedtuple("Answer", "status out err")
 
 
+def agrees(told, answer):
+    """Returns whether an answer is as told, in what of it is told."""
+    outputs = (told.out, answer.out), (told.err, answer.err)
+    return told.status == answer.status and all(it in (None, got) for it, got in outputs)
+
+
 class NoCall(Exception):
     """The words are no call."""
 
@@ -47,6 +53,19 @@ class Unread(Exception):
 def asks_help(words):
     """Returns whether the answer is help or the version, of which this reading knows nothing."""
     return any(it in HELP or it == b"--version" for it in words)
+
+
+def words_of_check(words):
+    """Returns the words that check the certificate of a call, which `made` is of one of `make`."""
+    command, *words = [it for it in words if it != b"--compact"]
+    if b"--minutes" in words:
+        at = words.index(b"--minutes")
+        del words[at : at + 2]
+    if command == b"make":
+        words.insert(2, b"made")
+    if command == b"run":
+        del words[3:4]
+    return [b"check", *words]
 
 
 def number_of(word):
@@ -176,6 +195,8 @@ class Call:
         read_plan(self.bytes_of(found["DECLS"]), *tables)
         return None, None
 
+    make = judge
+
     def check(self, found):
         tables = self.read_tables(found)
         plan = read_plan(self.bytes_of(found["DECLS"]), *tables)
@@ -197,12 +218,9 @@ class Call:
         return replay_answer(plan, script.read_script(self.bytes_of(found["SCRIPT"]), plan))
 
     def answer(self):
-        verbs = {
-            **{b"day": self.day, b"check": self.check, b"replay": self.replay},
-            **{b"lint": self.lint, b"draft": self.draft},
-        }
         try:
-            status, out = verbs.get(self.words[0], self.judge)(asked(self.words))
+            found = asked(self.words)
+            status, out = getattr(self, self.words[0].decode())(found)
             return Answer(status, out, self.warned)
         except Fault as fault:
             return Answer(3, b"", self.warned + b"cronsafe: %s\n" % fault.text())
@@ -224,6 +242,4 @@ def answer_of(words, files, stdin=b"", is_judged=True):
 
     Unless it is judged, of `check` too only faults of what is read before the certificate.
     """
-    if not words:
-        return Answer(4, b"", None)
     return Call(words, files, stdin, is_judged).answer()

@@ -63,16 +63,12 @@ def class_said(value, version):
         [carry] = object_said(value, "carry")
         pairs = [numbers_of(it, 2) for it in items_of(carry)]
         return [], [(group, [[0, minutes]]) for group, minutes in pairs]
-    due, backlog = object_said(value, "due", "backlog")
-    jobs = [items_of(it, 2) for it in items_of(due)]
-    groups = [items_of(it, 2) for it in items_of(backlog)]
-    return (
-        [(whole(job), numbers_of(minutes)) for job, minutes in jobs],
-        [
-            (whole(group), [numbers_of(it, 2) for it in items_of(pieces)])
-            for group, pieces in groups
-        ],
+    jobs, groups = (
+        [items_of(it, 2) for it in items_of(of)] for of in object_said(value, "due", "backlog")
     )
+    jobs = [(whole(job), numbers_of(minutes)) for job, minutes in jobs]
+    groups = [(whole(group), items_of(pieces)) for group, pieces in groups]
+    return jobs, [(group, [numbers_of(it, 2) for it in pieces]) for group, pieces in groups]
 
 
 def day_tree_said(value):
@@ -128,9 +124,8 @@ def is_day_tree_split_well(tree, left):
     others = [it for it in left[field] if it not in numbers]
     if not numbers or not rises(numbers) or not set(numbers) <= set(left[field]) or not others:
         return False
-    return is_day_tree_split_well(yes, {**left, field: numbers}) and is_day_tree_split_well(
-        no, {**left, field: others}
-    )
+    halves = (yes, numbers), (no, others)
+    return all(is_day_tree_split_well(half, {**left, field: its}) for half, its in halves)
 
 
 def is_minute_tree_split_well(tree, first, end):
@@ -138,21 +133,18 @@ def is_minute_tree_split_well(tree, first, end):
     if not isinstance(tree, tuple):
         return True
     at, before, after = tree
-    return (
-        first < at < end
-        and is_minute_tree_split_well(before, first, at)
-        and is_minute_tree_split_well(after, at, end)
-    )
+    halves = (before, first, at), (after, at, end)
+    return first < at < end and all(is_minute_tree_split_well(*it) for it in halves)
 
 
-def has_deep_tree(it):
-    return any(depth(tree) > DEEPEST for tree in [it.kinds, *(tree for _, tree in it.stretches)])
+def trees_of(it):
+    return [it.kinds, *(tree for _, tree in it.stretches)]
 
 
 def has_bad_split(it):
-    return not is_day_tree_split_well(it.kinds, NUMBERS_OF) or any(
-        not is_minute_tree_split_well(tree, 0, DAY) for _, tree in it.stretches
-    )
+    kinds, *others = trees_of(it)
+    are_split_well = (is_minute_tree_split_well(tree, 0, DAY) for tree in others)
+    return not (is_day_tree_split_well(kinds, NUMBERS_OF) and all(are_split_well))
 
 
 def has_bad_class(it):
@@ -181,35 +173,26 @@ def has_bad_entry(it):
         return True
     if not are_within(reaches, 1, GREATEST_REACH[it.version]):
         return True
-    listed = [entry for _, tree in it.stretches for leaf in leaves(tree) for entry in leaf]
     return not all(
         0 <= job < JOBS and 0 <= back <= DAYS_BACK[it.version] and 0 <= minute < DAY
-        for job, back, minute in listed
+        for leaf in leaves_of(it)
+        for job, back, minute in leaf
     )
 
 
-def has_too_many_classes(it):
-    return len(it.classes) > MOST_CLASSES[it.version]
-
-
-def has_long_leaf(it):
-    return any(len(leaf) > MOST_ENTRIES for _, tree in it.stretches for leaf in leaves(tree))
+def leaves_of(it):
+    """Returns the lists of the minute trees."""
+    return [leaf for _, tree in it.stretches for leaf in leaves(tree)]
 
 
 RULES = (
-    ("TooDeep", has_deep_tree),
+    ("TooDeep", lambda it: any(depth(tree) > DEEPEST for tree in trees_of(it))),
     ("BadSplit", has_bad_split),
     ("BadClass", has_bad_class),
     ("BadEntry", has_bad_entry),
-    ("TooManyClasses", has_too_many_classes),
-    ("LeafTooLong", has_long_leaf),
+    ("TooManyClasses", lambda it: len(it.classes) > MOST_CLASSES[it.version]),
+    ("LeafTooLong", lambda it: any(len(leaf) > MOST_ENTRIES for leaf in leaves_of(it))),
 )
-
-
-def members_of(version):
-    """Returns the names of a certificate's members."""
-    listed = STRETCHES[version]
-    return ["version", "classes", "kinds", "reach", *([listed] if listed else [])]
 
 
 def certificate_of(value):
@@ -219,7 +202,7 @@ def certificate_of(value):
     version = value["version"]
     if version not in (1, 2, 3):
         raise Fault("certificate", "BadVersion")
-    object_said(value, *members_of(version))
+    object_said(value, "version", "classes", "kinds", "reach", *filter(None, [STRETCHES[version]]))
     return Certificate(version, value)
 
 

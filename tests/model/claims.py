@@ -21,7 +21,7 @@ def kinds_after(kind):
     next_one = calendar.Kind(kind.month, kind.day + 1, weekday)
     if kind.month == 2 and kind.day == 28:
         return [next_one, first]
-    return [next_one] if kind.day < calendar.days_in(2000, kind.month) else [first]
+    return [next_one] if kind.day < calendar.DAYS_IN[kind.month] else [first]
 
 
 @functools.cache
@@ -84,7 +84,6 @@ class Claim:
         return tuple(self.classes_of_kinds[kind] for kind in kinds)
 
     def window_length(self, number):
-        """Returns how long a window of a job lasts."""
         job = self.plan.jobs[number]
         if not job.is_cron:
             first, end = self.plan.hours
@@ -95,15 +94,12 @@ class Claim:
         """Returns the smallest of 2, 3 and 4 days after which no window ends that begins on one."""
         end = 0
         for number, job in enumerate(self.plan.jobs):
-            if job.is_cron:
-                starts = {minute for kind in KINDS for minute in job.due[kind]}
-            else:
-                starts = {self.plan.hours[0]}
+            due = job.due.values() if job.is_cron else [self.plan.hours[:1]]
+            starts = {minute for minutes in due for minute in minutes}
             end = max([end, *(start + self.window_length(number) for start in starts)])
         return next(it for it in range(FIRST_LENGTH, LAST_LENGTH + 1) if end <= it * DAY)
 
     def due_listed(self):
-        """Returns the due minutes of each class of versions 1 and 2."""
         return [
             {number: dict(map(tuple, due)).get(number, []) for number in self.cron}
             for due, _ in self.certificate.classes
@@ -125,7 +121,6 @@ class Claim:
         return [(of, tree) for of, tree in self.certificate.stretches if of in met]
 
     def waiting_groups(self):
-        """Returns the groups with a job that waits, in order."""
         return sorted({job.group for job in self.plan.jobs if job.waits})
 
     def arrivals(self, number, group):

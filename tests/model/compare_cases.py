@@ -25,7 +25,7 @@ sys.path[0] = str(Path(__file__).resolve().parent.parent)
 
 from cases import cases_of  # noqa: E402
 from harness import Fault, count, end_with, words_of  # noqa: E402
-from model.call import CALLS, Answer, answer_of, asks_help  # noqa: E402
+from model.call import CALLS, Answer, agrees, answer_of, asks_help, words_of_check  # noqa: E402
 
 SAFE = b"safe\n"
 # What standard error says after the warnings where the text of a certificate holds a fault.
@@ -40,32 +40,14 @@ def is_met(wanted, got):
         if wanted.status == 3:
             return is_warned and rest.startswith(OF_CERTIFICATES)
         return is_warned and rest == b"" and wanted.status in (0, 1, 2)
-    outputs = (got.out, wanted.out), (got.err, wanted.err)
-    return got.status == wanted.status and all(it[0] in (None, it[1]) for it in outputs)
-
-
-def wanted_of(case):
-    return Answer(case.status, case.stdout, case.stderr)
+    return agrees(got, wanted)
 
 
 def look_at_reading(case):
-    wanted, got = wanted_of(case), answer_of(case.words, case.files, case.stdin, is_judged=False)
+    wanted = Answer(case.status, case.stdout, case.stderr)
+    got = answer_of(case.words, case.files, case.stdin, is_judged=False)
     if not is_met(wanted, got):
         raise Fault(f"\n  wanted: {wanted}\n  read:   {got}")
-
-
-def words_of_check(case):
-    """Returns the words that check the certificate of a case, which `made` is of one of `make`."""
-    command, *words = case.words
-    words = [it for it in words if it != b"--compact"]
-    if b"--minutes" in words:
-        at = words.index(b"--minutes")
-        del words[at : at + 2]
-    if command == b"make":
-        words.insert(2, b"made")
-    if command == b"run":
-        del words[3:4]
-    return [b"check", *words]
 
 
 def is_judged(case):
@@ -81,11 +63,12 @@ def is_judged(case):
 
 
 def look_at_verdict(case):
-    wanted, files = wanted_of(case), {**case.files, b"made": case.stdout}
+    wanted = Answer(case.status, case.stdout, case.stderr)
     if case.words[0] != b"check" and case.status == 0:
         warnings = [it for it in case.stderr.splitlines(True) if it.startswith(b"warning: ")]
         wanted = Answer(0, SAFE, b"".join(warnings))
-    got = answer_of(words_of_check(case), files, case.stdin)
+    files = {**case.files, b"made": case.stdout}
+    got = answer_of(words_of_check(case.words), files, case.stdin)
     if got != wanted:
         raise Fault(f"\n  wanted: {wanted}\n  judged: {got}")
 

@@ -31,8 +31,8 @@ FIELDS = (
     Field(0, 59, {}),
     Field(0, 23, {}),
     Field(1, 31, {}),
-    Field(1, 12, {name: at for at, name in enumerate(MONTHS, 1)}),
-    Field(0, 7, {name: at for at, name in enumerate(WEEKDAYS)}),
+    Field(1, 12, dict(zip(MONTHS, range(1, 13)))),
+    Field(0, 7, dict(zip(WEEKDAYS, range(7)))),
 )
 
 # The numbers of a field, and whether its text begins with `*`.
@@ -77,12 +77,7 @@ def part_of(line):
     return part, b"".join(rest)
 
 
-def begins_as_setting(line):
-    return SETTING.match(line) is not None
-
-
 def setting_of(line):
-    """Returns the name and the value of a setting."""
     found = NAME.match(line)
     if not found:
         raise Wrong("BadSetting")
@@ -138,13 +133,9 @@ def item_of(text, field):
 
 
 def choice_of(text, field):
-    """Returns the numbers of a field and whether its text begins with `*`."""
-    numbers = set()
-    for item in text.split(b","):
-        numbers.update(item_of(item, field))
-    if field is FIELDS[4]:
-        numbers = {number % 7 for number in numbers}
-    return Choice(numbers, text.startswith(b"*"))
+    numbers = {number for item in text.split(b",") for number in item_of(item, field)}
+    is_weekday = field is FIELDS[4]
+    return Choice({it % 7 if is_weekday else it for it in numbers}, text.startswith(b"*"))
 
 
 def fields_of(line):
@@ -176,20 +167,16 @@ def parts_of(text):
     A zero byte, which no line holds, keeps the place of a `%` that a backslash escapes.
     """
     parts = text.replace(b"\\%", b"\0").split(b"%", 1)
-    parts = [part.replace(b"%", b"\n").replace(b"\0", b"%") for part in parts]
-    return (parts[0], parts[1]) if len(parts) == 2 else (parts[0], None)
+    command, *told = [it.replace(b"%", b"\n").replace(b"\0", b"%") for it in parts]
+    return command, told[0] if told else None
 
 
 def environment_of(settings):
     """Returns the settings above a line as pairs: each name in its first place, its last value."""
-    values = {}
-    for setting in settings:
-        values[setting.name] = setting.value
-    return list(values.items())
+    return list({it.name: it.value for it in settings}.items())
 
 
 def command_of(number, line, settings, commands):
-    """Returns the command of a line that is no setting."""
     schedule, text = schedule_of(line)
     if not text:
         raise Wrong("NoCommand")
@@ -203,7 +190,7 @@ def read_crontab(text):
     settings, commands = [], []
     for number, line in lines_that_count(text, "crontab"):
         try:
-            if begins_as_setting(line):
+            if SETTING.match(line):
                 settings.append(Setting(number, *setting_of(line)))
             else:
                 commands.append(command_of(number, line, settings, commands))

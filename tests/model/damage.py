@@ -1,9 +1,15 @@
-"""Small changes of certificates, declarations and tables: by values of JSON and by bytes."""
+"""Small changes of certificates, declarations and tables: any ones, and such as break a known rule.
+
+A change alters a value of JSON. One that breaks a rule also returns the number of the rule; where
+the certificate has nothing of its sort it raises IndexError or ValueError.
+"""
 import copy
 import json
 import re
 
-from model.certificate import stretches_of
+from model.calendar import DAY, KINDS
+from model.certificate import day_tree_said, stretches_of
+from model.claims import class_in
 
 NUMBERS = (0, -1, 64, 320, 512, 1440, 4320, 4321, 1_000_000, 1_000_001, 2**32, 2**64 - 1, 2**64)
 OTHERS = (1.0, None, True, "0", [], {})
@@ -13,9 +19,22 @@ NUMBER = re.compile(rb"(?<![\w.\"\\-])-?\d+")
 MEMBER = re.compile(rb'"(\w+)" ?: ?(\d+|\[\]|"\w+")')
 
 
-def places_in(value):
-    """Returns the places in a list or an object: indices or names."""
-    return list(value) if isinstance(value, dict) else list(range(len(value)))
+def parts_in(value):
+    """Yields a value and all parts of it, each before its own."""
+    yield value
+    inner = value.values() if isinstance(value, dict) else value
+    for it in inner if isinstance(value, (list, dict)) else ():
+        yield from parts_in(it)
+
+
+def trees_in(value, name):
+    """Returns all objects in a value that have a member of that name."""
+    return [it for it in parts_in(value) if isinstance(it, dict) and name in it]
+
+
+def place_in(chance, value):
+    """Returns any place in a list or an object: an index or a name."""
+    return chance.choice(list(value) if isinstance(value, dict) else range(len(value)))
 
 
 def is_inner(value):
@@ -24,27 +43,24 @@ def is_inner(value):
 
 def place(chance, value):
     """Returns a list or an object with a place in it, found by going down at random."""
-    inner, at = value, chance.choice(places_in(value))
+    inner, at = value, place_in(chance, value)
     while is_inner(inner[at]) and chance.random() < 0.85:
         inner = inner[at]
-        at = chance.choice(places_in(inner))
+        at = place_in(chance, inner)
     return inner, at
-
-
-def changed_number(chance, number):
-    if chance.random() < 0.9:
-        return number + chance.choice((-1, 1))
-    return chance.choice(NUMBERS + OTHERS)
 
 
 def change_number(chance, value):
     """Changes a number somewhere, mostly by one; something else becomes a number or is left."""
     inner, at = place(chance, value)
     while is_inner(inner[at]):
-        inner, at = inner[at], chance.choice(places_in(inner[at]))
-    is_number = isinstance(inner[at], int) and not isinstance(inner[at], bool)
-    if is_number or chance.random() < 0.1:
-        inner[at] = changed_number(chance, inner[at]) if is_number else chance.choice(OTHERS)
+        inner, at = inner[at], place_in(chance, inner[at])
+    if isinstance(inner[at], int) and not isinstance(inner[at], bool):
+        is_near = chance.random() < 0.9
+        near = (inner[at] - 1, inner[at] + 1)
+        inner[at] = chance.choice(near if is_near else NUMBERS + OTHERS)
+    elif chance.random() < 0.1:
+        inner[at] = chance.choice(OTHERS)
 
 
 def take_out(chance, value):
@@ -62,33 +78,30 @@ def double(chance, value):
 
 
 def swap(chance, value):
-    """Swaps an item of a list with that behind it."""
+    """Swaps an item of a list with the next one."""
     inner, at = place(chance, value)
     if isinstance(inner, list) and at + 1 < len(inner):
         inner[at], inner[at + 1] = inner[at + 1], inner[at]
 
 
-def lists_in(value):
-    """Returns all lists in a value that aren't empty."""
-    inner = [value[at] for at in places_in(value)] if isinstance(value, (list, dict)) else []
-    found = [it for one in inner for it in lists_in(one)]
-    return [value, *found] if isinstance(value, list) and value else found
+def take_item(chance, items):
+    """Takes any item out of a list."""
+    del items[chance.randrange(len(items))]
 
 
 def take_out_part(chance, value):
     """Takes out a class, a stretch, a reach or an entry of declarations."""
     lists = [it for it in value.values() if isinstance(it, list) and it]
     if lists:
-        it = chance.choice(lists)
-        del it[chance.randrange(len(it))]
+        take_item(chance, chance.choice(lists))
 
 
 def take_out_entry(chance, value):
-    """Takes out what stands in some list that holds lists: a window, a piece, due minutes."""
-    lists = [it for it in lists_in(value) if isinstance(it[0], list)]
+    """Takes an item out of some list that holds lists: a window, a piece, due minutes."""
+    lists = [it for it in parts_in(value) if isinstance(it, list)]
+    lists = [it for it in lists if it and isinstance(it[0], list)]
     if lists:
-        it = chance.choice(lists)
-        del it[chance.randrange(len(it))]
+        take_item(chance, chance.choice(lists))
 
 
 def add_stretch(chance, value):
@@ -97,13 +110,6 @@ def add_stretch(chance, value):
     of = [chance.randrange(count) for _ in range(chance.choice((2, 2, 3, 4)))]
     found.append({"of": of, "tree": {"list": []}})
     found.sort(key=lambda it: (len(it["of"]), it["of"]))
-
-
-def trees_in(value, name):
-    """Returns all objects in a value that have a member of that name."""
-    inner = [value[at] for at in places_in(value)] if isinstance(value, (list, dict)) else []
-    found = [it for one in inner for it in trees_in(one, name)]
-    return [value, *found] if isinstance(value, dict) and name in value else found
 
 
 def move_split(chance, value):
@@ -125,8 +131,7 @@ def deepen(chance, value):
     elif "class" in value["kinds"]:
         leaf = value["kinds"]
         for day in reversed(range(1, depth + 1)):
-            halves = {"yes": leaf, "no": value["kinds"]}
-            value["kinds"] = {"split": "day", "in": [day], **halves}
+            value["kinds"] = {"split": "day", "in": [day], "yes": leaf, "no": value["kinds"]}
 
 
 def lengthen(chance, value):
@@ -158,7 +163,7 @@ LIMITS = (deepen, lengthen)
 DECLARED_CHANGES = (change_number,) * 10 + (change_mode,) * 8 + (take_out,)
 
 
-def changed_value(chance, value, changes=VALUE_CHANGES):
+def changed_value(chance, value, changes):
     """Returns a value with one thing changed."""
     value = copy.deepcopy(value)
     chance.choice(changes)(chance, value)
@@ -174,19 +179,13 @@ def text_of(chance, value):
 
 def changed_form(chance, text):
     """Writes a number in another form."""
-    found = list(NUMBER.finditer(text))
-    if not found:
-        return text + b" "
-    it = chance.choice(found)
+    it = chance.choice(list(NUMBER.finditer(text)))
     return text[: it.start()] + chance.choice(FORMS) + text[it.end() :]
 
 
 def doubled_member(chance, text):
     """Names a member twice, the second time or the first with another value."""
-    found = list(MEMBER.finditer(text))
-    if not found:
-        return text + b"\n"
-    it = chance.choice(found)
+    it = chance.choice(list(MEMBER.finditer(text)))
     other = b'"%s":%s' % (it[1], chance.choice((b"0", b"1", b"9", b"null", b"[]", b"1.5")))
     pair = [it[0], other] if chance.random() < 0.5 else [other, it[0]]
     return text[: it.start()] + b",".join(pair) + text[it.end() :]
@@ -200,8 +199,104 @@ def changed_byte(chance, text):
     return text[:at] + chance.choice((sign + behind, text[at + 1 :], b"" if at % 4 == 0 else sign))
 
 
-TEXT_CHANGES = (changed_form, doubled_member, changed_byte)
-
-
 def changed_text(chance, text):
-    return chance.choice(TEXT_CHANGES)(chance, text)
+    return chance.choice((changed_form, doubled_member, changed_byte))(chance, text)
+
+
+# Changes that break a rule.
+
+
+def due_lists(value):
+    """Returns the pairs of a job and its due minutes, of all classes."""
+    return [it for one in value["classes"] for it in one["due"]]
+
+
+def without_stretch(chance, value):
+    take_item(chance, stretches_of(value))
+    return 2
+
+
+def without_entry(chance, value):
+    leaves = [it["list"] for it in trees_in(stretches_of(value), "list")]
+    take_item(chance, chance.choice([leaf for leaf in leaves for _ in leaf]))
+    return 5
+
+
+def without_due_minute(chance, value):
+    take_item(chance, chance.choice(due_lists(value))[1])
+    for one in value["classes"]:
+        one["due"] = [it for it in one["due"] if it[1]]
+    return 1
+
+
+def with_due_minute(chance, value):
+    due = chance.choice(due_lists(value))
+    due[1] = sorted([*due[1], chance.choice([it for it in range(DAY) if it not in due[1]])])
+    return 1
+
+
+def lower(chance, lists):
+    """Makes the last number of an item of these lists a minute less."""
+    items, it = chance.choice([(items, it) for items in lists for it in items])
+    it[1] -= 1
+    if not it[1]:
+        items.remove(it)
+
+
+def with_lower_bound(chance, value):
+    lower(chance, [pieces for one in value["classes"] for _, pieces in one["backlog"]])
+    for one in value["classes"]:
+        one["backlog"] = [it for it in one["backlog"] if it[1]]
+    return 3
+
+
+def with_lower_carry(chance, value):
+    lower(chance, [one["carry"] for one in value["classes"]])
+    return 3
+
+
+def without_reach(chance, value):
+    take_item(chance, value["reach"])
+    return 4
+
+
+def with_shorter_reach(chance, value):
+    due = {job for job, _ in due_lists(value)}
+    chance.choice([it for it in value["reach"] if it[0] in due and it[1] > 1])[1] -= 1
+    return 4
+
+
+def without_split(chance, value):
+    """Puts one half of a split in place of both, so that a class may have other days too."""
+    split = chance.choice(trees_in(value["kinds"], "split"))
+    half = split[chance.choice(["yes", "no"])]
+    split.clear()
+    split.update(half)
+    return 1
+
+
+def are_due_alike(plan, kinds):
+    """Returns whether on the days of each class the same jobs are due, by a day tree."""
+    tree, cron = day_tree_said(kinds), [it for it in plan.jobs if it.is_cron]
+    due = {(class_in(tree, it), tuple(bool(job.due[it]) for job in cron)) for it in KINDS}
+    return len(due) == len({number for number, _ in due})
+
+
+WAYS = (without_stretch, without_entry, without_due_minute, with_due_minute, with_lower_bound)
+WAYS += (without_reach, with_shorter_reach)
+COMPACT_WAYS = (with_lower_carry, without_reach, without_split)
+
+
+def damaged(text, plan, chance):
+    """Returns what was done, the spoilt text and the number of the rule that refuses it; None where
+    nothing can be spoilt."""
+    ways = COMPACT_WAYS if json.loads(text)["version"] == 3 else WAYS
+    for way in chance.sample(ways, len(ways)):
+        value = json.loads(text)
+        try:
+            rule = way(chance, value)
+        except (IndexError, ValueError):
+            continue
+        if way is not without_split or not are_due_alike(plan, value["kinds"]):
+            return way.__name__.replace("_", " "), json.dumps(value).encode(), rule
+    return None

@@ -30,13 +30,13 @@ def windows_text(starts, reach):
 
 
 def command_text(command, day, longest):
-    """Returns the lines of a command."""
     if command.schedule is None:
         return f"line {command.line}: at reboot\n"
-    starts = []
-    for back in range(DAYS_BEFORE, -1, -1):
-        minutes = due_minutes(command.schedule, kind_of(day - back))
-        starts += [minute - back * DAY for minute in minutes]
+    starts = [
+        minute - back * DAY
+        for back in range(DAYS_BEFORE, -1, -1)
+        for minute in due_minutes(command.schedule, kind_of(day - back))
+    ]
     count = sum(start >= 0 for start in starts)
     return f"line {command.line}: due {count}\n" + windows_text(starts, longest)
 
@@ -50,7 +50,6 @@ def job_text(job, longest, hours):
 
 
 def day_answer(crontab, anacrontab, day, longest, hours):
-    """Returns the text of `day`."""
     text = f"{day_text(day)} {WEEKDAYS[weekday_of(day)]}\n"
     text += "".join(command_text(it, day, longest) for it in crontab.commands)
     return text.encode() + b"".join(job_text(it, longest, hours) for it in anacrontab.jobs)

@@ -41,36 +41,25 @@ class Job:
         return {kind: minutes if is_day_due(schedule, kind) else [] for kind in KINDS}
 
 
-def boolean(value):
-    if not isinstance(value, bool):
-        raise OtherShape
-    return value
+def such_that(is_right):
+    """Returns the reader of values that a test is true of."""
+
+    def read(value):
+        if not is_right(value):
+            raise OtherShape
+        return value
+
+    return read
 
 
-def text(value):
-    if not isinstance(value, str):
-        raise OtherShape
-    return value
-
-
-def mode(value):
-    if value not in MODES or not isinstance(value, str):
-        raise OtherShape
-    return value
-
-
-def offset(value):
-    if not -GREATEST_OFFSET <= whole(value) <= GREATEST_OFFSET:
-        raise OtherShape
-    return value
+boolean = such_that(lambda value: isinstance(value, bool))
+text = such_that(lambda value: isinstance(value, str))
+mode = such_that(lambda value: isinstance(value, str) and value in MODES)
+offset = such_that(lambda value: -GREATEST_OFFSET <= whole(value) <= GREATEST_OFFSET)
 
 
 def hours(value):
     return tuple(numbers_of(value, 2))
-
-
-def anything(_):
-    return True
 
 
 def list_of(read):
@@ -83,7 +72,7 @@ REQUIRED = object()
 GROUP = {"name": (text, REQUIRED), "exclusive": (boolean, REQUIRED)}
 COMMON = {"max": (whole, REQUIRED), "weight": (whole, 1), "group": (text, None)}
 CRON = {"line": (whole, REQUIRED), "mode": (mode, "none"), **COMMON}
-ANACRON = {"id": (text, REQUIRED), "mode": (anything, False), **COMMON}
+ANACRON = {"id": (text, REQUIRED), "mode": (lambda _: True, False), **COMMON}
 
 
 def members(value, shape):
@@ -124,7 +113,6 @@ DECLARATIONS = {
 
 
 def declared_of(value):
-    """Returns what a JSON value declares."""
     found = members(value, DECLARATIONS)
     return Declared(pass_minute=found.pop("pass"), **found)
 
@@ -139,7 +127,7 @@ def places(word, are_wrong):
 
 
 def second_times(word, keys):
-    """Returns the places at which a key stands that stood before."""
+    """Returns the places of keys that come earlier too."""
     return places(word, (key in keys[:at] for at, key in enumerate(keys)))
 
 
@@ -190,23 +178,17 @@ def faults_of_tables(declared, crontab, anacrontab):
 
 
 def reboot_places(crontab):
-    """Returns the places of the commands at startup."""
     return [b"line %d" % it.line for it in crontab.commands if it.schedule is None]
 
 
 def joined(declared, crontab, anacrontab):
     """Returns the plan of tables and declarations in which no fault stands."""
-    numbers = {it.name: at for at, it in enumerate(declared.groups)}
-    numbers[None] = None
-    lines = {it.job: it for it in declared.cron}
-    names = {it.job: it for it in declared.anacron}
+    numbers = {it.name: at for at, it in enumerate(declared.groups)} | {None: None}
+    entries = {it.job: it for it in (*declared.cron, *declared.anacron)}
     jobs = []
-    for of in crontab.commands:
-        it = lines[of.line]
-        jobs.append(Job(of, it.max, it.weight, numbers[it.group], it.mode))
-    for of in anacrontab.jobs:
-        it = names[identifier_text(of)]
-        jobs.append(Job(of, it.max, it.weight, numbers[it.group]))
+    for of in (*crontab.commands, *anacrontab.jobs):
+        it = entries[of.line if isinstance(of, Command) else identifier_text(of)]
+        jobs.append(Job(of, it.max, it.weight, numbers[it.group], it.mode or "none"))
     rest = declared.groups, declared.capacity, declared.hours, declared.pass_minute
     return Plan(crontab, anacrontab, jobs, *rest, declared.offset)
 

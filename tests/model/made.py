@@ -57,22 +57,13 @@ def carries(claim):
         before = dict(found)
         for group in claim.waiting_groups():
             for one, other in pairs:
-                left = 0
-                arriving = claim.arrivals(one, group)
-                for minute in range(DAY):
-                    left = found.get((one, group), 0) if minute == 0 else left
-                    left = max(0, left + arriving[minute] - 1)
+                left = found.get((one, group), 0)
+                for arriving in claim.arrivals(one, group):
+                    left = max(0, left + arriving - 1)
                 found[other, group] = max(found.get((other, group), 0), left)
         if found == before:
             break
     return found
-
-
-def with_carries(value, found):
-    """Writes the carries into the classes of a compact certificate."""
-    for number, it in enumerate(value["classes"]):
-        groups = sorted(group for one, group in found if one == number)
-        it["carry"] = [[it, found[number, it]] for it in groups if found[number, it]]
 
 
 def reaches(claim):
@@ -98,7 +89,6 @@ def reaches(claim):
 
 
 def compact(plan, chance):
-    """Returns a certificate of version 3 of a plan."""
     classes = classes_of_kinds(plan, chance)
     fields = list(NUMBERS)
     chance.shuffle(fields)
@@ -108,7 +98,9 @@ def compact(plan, chance):
         "kinds": day_tree(classes, KINDS, fields),
         "reach": [],
     }
-    with_carries(value, carries(claim_of(plan, value)))
+    for (number, group), carry in sorted(carries(claim_of(plan, value)).items()):
+        if carry:
+            value["classes"][number]["carry"].append([group, carry])
     value["reach"] = reaches(claim_of(plan, value))
     return value
 
@@ -151,17 +143,15 @@ def listed(claim, value, version, chance):
     """Returns the certificate of version 1 or 2 that lists what one of version 3 stands for."""
     length = 2 if version == 1 else claim.length
     lists = sorted({claim.classes_of(chain) for chain in chains(length)})
-    stretches = []
-    for of in lists:
-        tree = minute_tree(rules.windows_on(claim, of), 0, DAY, chance)
-        stretches.append({"of": list(of), "tree": tree})
+    trees = [minute_tree(rules.windows_on(claim, of), 0, DAY, chance) for of in lists]
+    stretches = [{"of": list(of), "tree": tree} for of, tree in zip(lists, trees)]
     most = certificate.GREATEST_REACH[version]
     return {
         "version": version,
         "classes": [class_listed(claim, number) for number in range(len(value["classes"]))],
         "kinds": value["kinds"],
         "reach": [[job, min(reach, most)] for job, reach in value["reach"]],
-        "pairs" if version == 1 else "stretches": stretches,
+        certificate.STRETCHES[version]: stretches,
     }
 
 

@@ -38,7 +38,6 @@ class State(NamedTuple):
 
 
 def first_state(script):
-    """Returns the state in which a script starts."""
     return State(*script.start, tuple(sorted(script.stamps.items())))
 
 
@@ -47,7 +46,7 @@ def is_owed(period, stamp, day):
     if stamp is None or stamp > day:
         return True
     if period == MONTHLY:
-        return date_of(stamp)[:2] != date_of(day)[:2]
+        return date_of(stamp).replace(day=1) != date_of(day).replace(day=1)
     return day - stamp >= period
 
 
@@ -71,7 +70,6 @@ class Rules:
         return getattr(self, event.kind)(state, event)
 
     def due_at(self, minute):
-        """Returns the jobs that are due at a minute."""
         kind, minute = kind_of(minute // DAY), minute % DAY
         schedules = [it.schedule for it in self.plan.crontab.commands]
         return tuple(job for job, it in enumerate(schedules) if minute in due_minutes(it, kind))
@@ -83,9 +81,9 @@ class Rules:
         others = [it for it in others if it.takes_lock and it.group == of.group]
         return not of.takes_lock or all(of.shares and it.shares for it in others)
 
-    def is_late(self, state, run):
-        """Returns whether a run goes on, or ends, past its longest time."""
-        return state.minute >= run.started + self.jobs[run.job].max
+    def late_runs(self, state):
+        """Returns the runs that go on past their longest times."""
+        return [it for it in state.running if state.minute >= it.started + self.jobs[it.job].max]
 
     def with_pass(self, state):
         """Returns a state with a pass, unless none is owed: by delay, then line."""
@@ -162,14 +160,8 @@ class Rules:
                     stamps[run.job] = run.started // DAY
                 rest = {"running": without(state.running, run)}
                 after = state._replace(stamps=tuple(sorted(stamps.items())), **rest)
-                return after, "ended late" if self.is_late(state, run) else "ended in time"
+                return after, "ended late" if run in self.late_runs(state) else "ended in time"
         raise Refused("NotRunning")
-
-
-def state_text(state):
-    counts = [len(it) for it in (state.pending, state.waiting, state.running)]
-    told = "%s %s, pending %d, waiting %d, running %d\n"
-    return told % ("up" if state.is_up else "down", minute_text(state.minute), *counts)
 
 
 def replay_answer(plan, script):
@@ -182,4 +174,7 @@ def replay_answer(plan, script):
             status = 1
             reply = f"refused {REFUSALS.index(str(refused)) + 1} {refused}"
         lines.append(f"{event.line}: {reply}\n")
-    return status, ("".join(lines) + state_text(state)).encode()
+    told = "%s %s, pending %d, waiting %d, running %d\n"
+    counts = [len(it) for it in (state.pending, state.waiting, state.running)]
+    lines.append(told % ("up" if state.is_up else "down", minute_text(state.minute), *counts))
+    return status, "".join(lines).encode()

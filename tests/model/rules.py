@@ -15,15 +15,13 @@ FIRST_DAY = 1  # 1970-01-02
 DAYS_LOOKED_AT = 28 * 366
 LAST_MINUTE = DAY * (calendar.LAST_DAY + 1) - 1
 
+KIND = b"month %d day %d weekday %d"
+
 # The minutes from the start up to, and without, the end, in which one run of a job may go on.
 Window = namedtuple("Window", "start number end job")
 
 
 # Places, and how they are told.
-
-
-def kind_text(kind):
-    return b"month %d day %d weekday %d" % kind
 
 
 def midnight_of(claim, of):
@@ -67,14 +65,7 @@ def windows_on(claim, of):
     return sorted(windows, key=lambda it: (it.start, it.number))
 
 
-def minutes_that_count(windows, tree=None):
-    """Returns the minutes of a day at which other windows hold than before, or a leaf begins."""
-    ends = [it for window in windows for it in (window.start, window.end)]
-    return sorted({0} | {it for it in [*ends, *splits_of(tree)] if 0 <= it < DAY})
-
-
 def splits_of(tree):
-    """Returns the minutes at which a minute tree is split."""
     if not isinstance(tree, tuple):
         return []
     at, before, after = tree
@@ -82,8 +73,9 @@ def splits_of(tree):
 
 
 def by_minute(windows, tree=None):
-    """Yields the minutes that count, each with the windows that hold it."""
-    for minute in minutes_that_count(windows, tree):
+    """Yields the minutes at which other windows hold or a leaf begins, each with its windows."""
+    ends = [it for window in windows for it in (window.start, window.end)]
+    for minute in sorted({0} | {it for it in [*ends, *splits_of(tree)] if 0 <= it < DAY}):
         yield minute, [it for it in windows if it.start <= minute < it.end]
 
 
@@ -114,7 +106,7 @@ def due_fault(claim):
         due = claim.due[claim.class_of(kind)]
         for number in claim.cron:
             if due[number] != claim.plan.jobs[number].due[kind]:
-                return b"1 ClassNotDue: " + kind_text(kind)
+                return b"1 ClassNotDue: " + KIND % kind
     return None
 
 
@@ -123,7 +115,7 @@ def stretch_fault(claim):
     listed = {of for of, _ in claim.used}
     for chain in claim.chains:
         if claim.classes_of(chain) not in listed:
-            return b"2 MissingPair: " + b" then ".join(kind_text(kind) for kind in chain)
+            return b"2 MissingPair: " + b" then ".join(KIND % kind for kind in chain)
     return None
 
 
@@ -186,18 +178,12 @@ def leaf_fault(claim):
     return None
 
 
-def clash(one, other):
-    """Returns whether two windows of an exclusive group may not meet."""
-    is_of_crontab = one.job.is_cron or other.job.is_cron
-    return is_of_crontab and not (one.job.takes_lock and other.job.takes_lock)
-
-
 def first_clash(plan, windows):
-    """Returns the first two windows of an exclusive group that clash, of those of a minute."""
     for number, group in enumerate(plan.groups):
         held = [it for it in windows if it.job.group == number]
         for one, other in itertools.combinations(held if group.exclusive else (), 2):
-            if clash(one, other):
+            has_cron = one.job.is_cron or other.job.is_cron
+            if has_cron and not (one.job.takes_lock and other.job.takes_lock):
                 return one, other
     return None
 
@@ -232,11 +218,10 @@ def capacity_fault(claim):
 
 def first_block(minute, windows):
     """Returns the window of a skip job that is due, and another lock taker's of its group."""
-    for skip in windows:
-        if skip.job.mode == "skip" and skip.start == minute:
-            for other in windows:
-                if other != skip and other.job.takes_lock and other.job.group == skip.job.group:
-                    return skip, other
+    for skip, other in itertools.product(windows, repeat=2):
+        if skip.job.mode == "skip" and skip.start == minute and other != skip:
+            if other.job.takes_lock and other.job.group == skip.job.group:
+                return skip, other
     return None
 
 

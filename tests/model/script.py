@@ -1,101 +1,70 @@
 """The bytes of a script to its start, stamps and events, or to its first fault; and its text."""
+import re
 from collections import namedtuple
 
-from model.calendar import FIRST_START_DAY, day_of_text, day_text, minute_of_text, minute_text
-from model.crontab import digits_of, lines_of
+from model.calendar import DAY, FIRST_START_DAY, day_of_text, day_text, minute_of_text, minute_text
+from model.crontab import Wrong, lines_of
 from model.faults import Fault
 
 MOST_BYTES = 16_777_216
-# The forms of a line; a word in capitals stands for any word there.
-FORMS = {
-    "start": (b"start DATE TIME up", b"start DATE TIME down"),
-    "stamp": (b"stamp ID DAY",),
-    "minute": (b"minute DATE TIME",),
-    "up": (b"up DATE TIME",),
-    "down": (b"down",),
-    "begin": (b"begin line N",),
-    "got": (b"got line N DATE TIME",),
-    "catch": (b"catch ID",),
-    "end": (b"end line N DATE TIME", b"end job ID DATE TIME"),
+# The forms of a line, whose first word is its kind; a name in capitals takes other words.
+FORMS = (
+    "start TIME WAY",
+    "stamp ID DAY",
+    "minute TIME",
+    "up TIME",
+    "down",
+    "begin line N",
+    "got line N TIME",
+    "catch ID",
+    "end line N TIME",
+    "end job ID TIME",
+)
+ANY = {
+    "TIME": "(?P<time>[^ ]+ [^ ]+)",
+    "DAY": "(?P<day>[^ ]+)",
+    "ID": "(?P<id>[^ ]+)",
+    "WAY": "(?P<way>up|down)",
+    "N": "0*(?P<n>[0-9]+)",
 }
-ANY = (b"DATE", b"TIME", b"DAY", b"ID", b"N")
+PATTERNS = [re.compile(re.sub("[A-Z]+", lambda it: ANY[it[0]], f).encode(), re.S) for f in FORMS]
 
-# A line by its kind, the words that its form leaves open by name, and its last word.
-Line = namedtuple("Line", "kind words last")
 # An event with the number of its line; job and minute are none where it has none.
 Event = namedtuple("Event", "line kind job minute")
 Start = namedtuple("Start", "minute is_up")
 Script = namedtuple("Script", "start stamps events")
 
 
-class Wrong(Exception):
-    """The name of the fault that stands in the line which is looked at."""
+def said_by(line):
+    """Returns the words that the form of a line leaves open, by name, and its kind."""
+    for found in filter(None, (it.fullmatch(line) for it in PATTERNS)):
+        return {**found.groupdict(), "kind": line.split(b" ")[0].decode()}
+    raise Wrong("BadLine")
 
 
-def is_of_form(words, form):
-    """Returns whether words are those of a form: of N any digits, else none of them empty."""
-    if len(words) != len(form) or b"" in words:
-        return False
-    for word, meant in zip(words, form):
-        if meant not in ANY and word != meant:
-            return False
-        if meant == b"N" and digits_of(word)[1]:
-            return False
-    return True
-
-
-def form_of(line):
-    """Returns what a line says by its words alone; none where it has no form."""
-    words = line.split(b" ")
-    for kind, forms in FORMS.items():
-        for form in (it.split(b" ") for it in forms):
-            if is_of_form(words, form):
-                found = {meant: word for word, meant in zip(words, form) if meant in ANY}
-                return Line(kind, found, words[-1])
-    return None
-
-
-def minute_in(line):
-    """Returns the minute that a line names, none where it names none."""
-    if b"DATE" not in line.words:
-        return None
+def dated(read, text, first):
+    """Returns the day or minute that a line names, which is the first one or later."""
     try:
-        minute = minute_of_text(line.words[b"DATE"] + b" " + line.words[b"TIME"])
+        found = read(text)
     except Fault:
         raise Wrong("BadDate") from None
-    if line.kind == "start" and minute < 1440 * FIRST_START_DAY:
+    if found < first:
         raise Wrong("BadDate")
-    return minute
+    return found
 
 
-def day_in(line):
-    """Returns the day that a line names, none where it names none."""
-    if b"DAY" not in line.words:
-        return None
-    try:
-        day = day_of_text(line.words[b"DAY"])
-    except Fault:
-        raise Wrong("BadDate") from None
-    if day < 1:
-        raise Wrong("BadDate")
-    return day
-
-
-def job_in(line, plan):
+def job_in(said, plan):
     """Returns the number of the job that a line names, none where it names none."""
-    commands, jobs = plan.crontab.commands, plan.anacrontab.jobs
-    if b"N" in line.words:
-        number = line.words[b"N"].lstrip(b"0")
-        for at, it in enumerate(commands):
-            if number == b"%d" % it.line:
-                return at
+    names = [(it.is_cron, it.name) for it in plan.jobs]
+    if "n" in said:
+        name = True, b"line " + said["n"]
+    elif "id" in said:
+        name = False, said["id"]
+    else:
+        return None
+    if name not in names:
         raise Wrong("UnknownName")
-    if b"ID" in line.words:
-        for at, it in enumerate(jobs):
-            if line.words[b"ID"] == it.identifier:
-                return len(commands) + at
-        raise Wrong("UnknownName")
-    return None
+    return names.index(name)
 
 
 class Reader:
@@ -105,29 +74,32 @@ class Reader:
         self.plan, self.start, self.stamps, self.events = plan, None, {}, []
         self.stamped = set()
 
-    def is_misplaced(self, line):
-        """Returns whether a start or a stamp may not stand here, whatever else it says."""
-        if line.kind == "start":
+    def is_misplaced(self, said):
+        """Returns whether a start or a stamp may not be here, whatever else it says."""
+        if said["kind"] == "start":
             return self.start is not None
-        if line.kind == "stamp":
-            return bool(self.events) or line.words[b"ID"] in self.stamped
-        return False
+        is_late = bool(self.events) or said.get("id") in self.stamped
+        return said["kind"] == "stamp" and is_late
 
     def read(self, number, text):
-        line = form_of(text)
-        if line is None or self.is_misplaced(line):
+        said, minute, day = said_by(text), None, None
+        if self.is_misplaced(said):
             raise Wrong("BadLine")
-        minute, day = minute_in(line), day_in(line)
-        job = job_in(line, self.plan)
-        if self.start is None and line.kind != "start":
+        if "time" in said:
+            first = DAY * FIRST_START_DAY if said["kind"] == "start" else 0
+            minute = dated(minute_of_text, said["time"], first)
+        if "day" in said:
+            day = dated(day_of_text, said["day"], 1)
+        job = job_in(said, self.plan)
+        if self.start is None and said["kind"] != "start":
             raise Wrong("NoStart")
-        if line.kind == "start":
-            self.start = Start(minute, line.last == b"up")
-        elif line.kind == "stamp":
-            self.stamped.add(line.words[b"ID"])
+        if said["kind"] == "start":
+            self.start = Start(minute, said["way"] == b"up")
+        elif said["kind"] == "stamp":
+            self.stamped.add(said["id"])
             self.stamps[job] = day
         else:
-            self.events.append(Event(number, line.kind, job, minute))
+            self.events.append(Event(number, said["kind"], job, minute))
 
 
 def read_script(text, plan):
@@ -136,10 +108,9 @@ def read_script(text, plan):
         raise Fault("script", "TooLong", 0)
     reader = Reader(plan)
     for number, line in enumerate(lines_of(text), 1):
-        if not line or line.startswith(b"#"):
-            continue
         try:
-            reader.read(number, line)
+            if line and not line.startswith(b"#"):
+                reader.read(number, line)
         except Wrong as wrong:
             raise Fault("script", str(wrong), number) from None
     if reader.start is None:
@@ -148,7 +119,6 @@ def read_script(text, plan):
 
 
 def event_text(plan, event):
-    """Returns the line of an event."""
     words = [event.kind]
     if event.job is not None:
         of = plan.jobs[event.job]
@@ -159,7 +129,6 @@ def event_text(plan, event):
 
 
 def script_text(plan, script):
-    """Returns the text of a script."""
     lines = [f"start {minute_text(script.start.minute)} {'up' if script.start.is_up else 'down'}"]
     for job, day in script.stamps.items():
         lines.append(f"stamp {plan.jobs[job].name.decode()} {day_text(day)}")

@@ -33,14 +33,6 @@ class Calendar:
         """Returns the due minutes of a job on a day, since 1970."""
         return [day * DAY + it for it in self.plan.jobs[number].due[kind_of(day)]]
 
-    def runs_of(self, jobs):
-        """Returns the due runs (minute, job) of these jobs over all days, by minute."""
-        found = []
-        for day, due in self.due.items():
-            numbers = [it for it in due if it in jobs]
-            found += sorted((at, it) for it in numbers for at in self.minutes(day, it))
-        return found
-
 
 def fault_of_day(plan, windows):
     """Returns what isn't calm at the first minute of a day that isn't; nothing on a calm day."""
@@ -122,7 +114,11 @@ def windows_by(windows_of, plan, calendar, **more):
     found = []
     for group in waiting_groups(plan):
         takers = [at for at, it in enumerate(plan.jobs) if it.takes_lock and it.group == group]
-        windows = windows_of(plan, calendar.runs_of(takers), **more)
+        runs = []
+        for day, due in calendar.due.items():
+            numbers = [it for it in due if it in takers]
+            runs += sorted((at, it) for it in numbers for at in calendar.minutes(day, it))
+        windows = windows_of(plan, runs, **more)
         if windows is None:
             return None
         found += windows

@@ -27,7 +27,6 @@ def minute_and_hour(rng, often):
 
 
 def declared(rng, modes, groups, longest):
-    """What is declared of a cron job but its line."""
     said = {"max": longest}
     mode = rng.choice(modes)
     if mode != "none":
@@ -39,13 +38,15 @@ def declared(rng, modes, groups, longest):
     return said
 
 
-def longest_time(rng):
-    most = rng.choice([20, 90, 90, 600, 4320])
-    return rng.randint(1, most)
-
-
-def groups_of(rng, count):
-    return [{"name": f"g{it}", "exclusive": rng.random() < 0.8} for it in range(count)]
+def with_lines(rng, modes, groups, schedules, longest_times, capacities):
+    """Returns a crontab of these schedules, and its declarations."""
+    crontab, cron = "", []
+    for line, schedule in enumerate(schedules, 1):
+        crontab += f"{schedule} /bin/job\n"
+        cron.append({"line": line, **declared(rng, MODES[modes], groups, next(longest_times))})
+    said = {"capacity": rng.choice(capacities)}
+    said["groups"] = [{"name": f"g{it}", "exclusive": rng.random() < 0.8} for it in range(groups)]
+    return crontab, {**said, "cron": cron}
 
 
 def files_of(crontab, said, anacrontab):
@@ -57,12 +58,10 @@ def files_of(crontab, said, anacrontab):
 def random_plan(rng, modes):
     """Two to six lines, due on all sorts of days, and up to three jobs of catch-up."""
     count, often = rng.choice([1, 1, 2, 3]), rng.sample(range(1440), 8)
-    crontab, cron = "", []
-    for line in range(1, rng.randint(2, 6) + 1):
-        crontab += f"{minute_and_hour(rng, often)} {' '.join(rng.choice(DAYS))} /bin/job\n"
-        cron.append({"line": line, **declared(rng, MODES[modes], count, longest_time(rng))})
-    said = {"capacity": rng.choice([2, 3, 4, 5, 6, 64]), "groups": groups_of(rng, count)}
-    said["cron"] = cron
+    lines = range(rng.randint(2, 6))
+    schedules = (f"{minute_and_hour(rng, often)} {' '.join(rng.choice(DAYS))}" for _ in lines)
+    longest = (rng.randint(1, rng.choice([20, 90, 90, 600, 4320])) for _ in lines)
+    crontab, said = with_lines(rng, modes, count, schedules, longest, [2, 3, 4, 5, 6, 64])
     anacrontab = random_catch_up(rng, said, count) if rng.random() < 0.35 else ""
     return files_of(crontab, said, anacrontab)
 
@@ -88,12 +87,10 @@ def random_catch_up(rng, said, groups):
 def tiny_plan(rng, modes, noon):
     """Two to four lines due within six minutes after noon of every day, with runs of minutes."""
     count = rng.choice([1, 1, 2])
-    crontab, cron = "", []
-    for line in range(1, rng.randint(2, 4) + 1):
-        crontab += f"{rng.randint(0, 6)} {noon // 60} * * * /bin/job\n"
-        cron.append({"line": line, **declared(rng, MODES[modes], count, rng.randint(1, 4))})
-    said = {"capacity": rng.choice([1, 2, 2, 3, 4, 64]), "groups": groups_of(rng, count)}
-    said["cron"] = cron
+    lines = range(rng.randint(2, 4))
+    schedules = (f"{rng.randint(0, 6)} {noon // 60} * * *" for _ in lines)
+    longest = (rng.randint(1, 4) for _ in lines)
+    crontab, said = with_lines(rng, modes, count, schedules, longest, [1, 2, 2, 3, 4, 64])
     anacrontab = ""
     if rng.random() < 0.3:
         first = noon + rng.randint(0, 6)

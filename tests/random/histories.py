@@ -23,7 +23,6 @@ def run_text(plan, job, named):
 
 
 def may_meet(plan, one, other):
-    """Returns whether runs of two jobs may go on at once."""
     is_exclusive = one.group is not None and plan.groups[one.group].exclusive
     return one.group != other.group or not is_exclusive or (one.shares and other.shares)
 
@@ -42,10 +41,6 @@ def breach(plan, state, event, reply):
     return ""
 
 
-def is_in_time(rules, state):
-    return not any(rules.is_late(state, it) for it in state.running)
-
-
 def shown_by(plan, text):
     """Returns what a script breaks first, as `judge` tells it, or why it shows nothing."""
     try:
@@ -60,7 +55,7 @@ def shown_by(plan, text):
             state, reply = rules.take(state, event)
         except Refused as refused:
             return f"a history in which line {event.line} is refused: {refused}"
-        if not is_in_time(rules, state):
+        if rules.late_runs(state):
             return f"a history in which a run goes on beyond its time at line {event.line}"
         broken = broken or breach(plan, state, event, reply)
     return broken or "a history that breaks nothing"
@@ -92,21 +87,19 @@ def starts(plan, minute):
     return [State(minute, False, it) for it in stamps]
 
 
-def in_any_order(state):
-    """Returns a state without what matters to no rule: the order in which runs started and wait."""
-    running, waiting = tuple(sorted(state.running)), tuple(sorted(state.waiting))
-    return state._replace(running=running, waiting=waiting)
-
-
 def next_states(rules, state, last):
-    """Yields each event that comes in time by the last minute, what it leaves, and the reply."""
+    """Yields each event that comes in time by the last minute, what it leaves, and the reply.
+
+    The order in which runs started and wait matters to no rule, so that they are sorted.
+    """
     for event in events_at(state):
         try:
             after, reply = rules.take(state, event)
         except Refused:
             continue
-        if after.minute <= last and is_in_time(rules, after):
-            yield event, in_any_order(after), reply
+        if after.minute <= last and not rules.late_runs(after):
+            running, waiting = tuple(sorted(after.running)), tuple(sorted(after.waiting))
+            yield event, after._replace(running=running, waiting=waiting), reply
 
 
 def breaking_script(plan, first, last):
@@ -118,7 +111,11 @@ def breaking_script(plan, first, last):
         state = left.pop()
         for event, after, reply in next_states(rules, state, last):
             if breach(plan, after, event, reply):
-                return script_to(came, state, [event])
+                events = [event]
+                while came[state] is not None:
+                    event, state = came[state]
+                    events.insert(0, event)
+                return Script(Start(state.minute, state.is_up), dict(state.stamps), events)
             if after not in came:
                 came[after] = event, state
                 left.append(after)
@@ -127,9 +124,3 @@ def breaking_script(plan, first, last):
     return None
 
 
-def script_to(came, state, events):
-    """Returns the script that leads to a state, with the events that come then."""
-    while came[state] is not None:
-        event, state = came[state]
-        events.insert(0, event)
-    return Script(Start(state.minute, state.is_up), dict(state.stamps), events)

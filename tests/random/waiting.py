@@ -37,18 +37,14 @@ def clear_minutes(plan, runs):
 
     What is left falls by one a minute, and each due run brings its declared time.
     """
-    found, clear = [0] * len(runs), -1
-    chain = []
-    for place, (due, job) in enumerate(runs):
+    found, chain, clear = [], 0, -1
+    for due, job in runs:
         if due >= clear:
-            for it in chain:
-                found[it] = clear
-            chain, clear = [], due
-        chain.append(place)
+            found += [clear] * chain
+            chain, clear = 0, due
+        chain += 1
         clear += plan.jobs[job].max
-    for it in chain:
-        found[it] = clear
-    return found
+    return found + [clear] * chain
 
 
 def least_windows(plan, runs, at_midnight):

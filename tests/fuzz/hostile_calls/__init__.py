@@ -12,4 +12,5 @@ Certificates:
   members       any value at any place, and members missing, doubled, unknown or renamed
   entries       certificates without one of their entries
   plans         certificates of other plans, other stretches, carries and reaches
+  made          certificates of random plans
 """

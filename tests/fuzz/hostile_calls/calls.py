@@ -6,7 +6,7 @@ from collections import namedtuple
 
 from harness import Fault, called, folder_with
 from model import faults
-from model.call import Answer, answer_of
+from model.call import Answer, agrees, answer_of
 from model.declarations import plan_of
 
 START = b"start 2024-01-01 00:00 up\n"
@@ -62,7 +62,6 @@ def lints_and_drafts(calls):
 
 
 def limit():
-    """Limits what the process that is started may take."""
     resource.setrlimit(resource.RLIMIT_AS, (MEMORY, MEMORY))
     resource.setrlimit(resource.RLIMIT_CPU, (SECONDS, SECONDS))
     resource.setrlimit(resource.RLIMIT_CORE, (0, 0))
@@ -82,8 +81,7 @@ def is_met(wanted, got):
     """Returns whether an answer is the wanted one, in what of it the second reading tells."""
     if wanted.status is None:
         return got.status in (0, 1) and got.err == wanted.err
-    outputs = (wanted.out, got.out), (wanted.err, got.err)
-    return got.status == wanted.status and all(it[0] in (None, it[1]) for it in outputs)
+    return agrees(wanted, got)
 
 
 def is_draft(call, text):

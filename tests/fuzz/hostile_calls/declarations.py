@@ -2,13 +2,9 @@
 from hostile_calls.calls import JOB, call_of
 
 WHOLE = (
-    b'"capacity":1',
-    b'"offset":0',
-    b'"hours":[0,1440]',
-    b'"pass":0',
-    b'"groups":[{"name":"g","exclusive":true}]',
-    b'"cron":[{"line":1,"max":1,"weight":1,"group":"g","mode":"wait"}]',
-    b'"anacron":[{"id":"b","max":1,"weight":1,"group":"g"}]',
+    b'{"capacity":1,"offset":0,"hours":[0,1440],"pass":0,"groups":[{"name":"g","exclusive":true}],'
+    b'"cron":[{"line":1,"max":1,"weight":1,"group":"g","mode":"wait"}],'
+    b'"anacron":[{"id":"b","max":1,"weight":1,"group":"g"}]}'
 )
 VALUES = (
     b"0 1 64 65 1439 1440 4320 4321 -1 -1439 -1440 -0 00 01 +1 1.0 1e0 1e3 1E+2 1e-1 1. .5 0.5"
@@ -25,29 +21,10 @@ TEXTS = (
     rb' "g g "none" "None" "wait"'
 ).split(b" ")
 RAW = (
-    b'"\0"',
-    b'"\x1f"',
-    b'"\x7f"',
-    b'"\t"',
-    b'"\n"',
-    b'"\xff"',
-    b'"\xc3"',
-    b'"\xc0\xaf"',
-    b'"\xed\xa0\x80"',
-    b'"\xf4\x90\x80\x80"',
-    b'"\xe2\x82\xac"',
-    b"\xff",
-    b"\xef\xbb\xbf1",
-    b"\x0c1",
-    b"\xa01",
-    b"1" * 400,
-    b"1" * 5_000,
-    b"1" * 300 + b".5",
-    b"0." + b"0" * 400 + b"1e401",
-    b"1e" + b"9" * 50,
-    b"0e" + b"9" * 50,
-    b"1e-" + b"9" * 50,
-    b"1" + b"0" * 400 + b"e-400",
+    *(b'"%s"' % it for it in b"\0 \x1f \x7f \t \n \xff \xc3 \xc0\xaf \xed\xa0\x80".split(b" ")),
+    *(b'"\xf4\x90\x80\x80"', b'"\xe2\x82\xac"', b"\xff", b"\xef\xbb\xbf1", b"\x0c1", b"\xa01"),
+    *(b"1" * 400, b"1" * 5_000, b"1" * 300 + b".5", b"0." + b"0" * 400 + b"1e401"),
+    *(b"1e" + b"9" * 50, b"0e" + b"9" * 50, b"1e-" + b"9" * 50, b"1" + b"0" * 400 + b"e-400"),
 )
 IN_AN_OBJECT = (
     b"%s:1",
@@ -108,24 +85,23 @@ def doubled_members():
     """Yields declarations in which a member comes twice, in the object or in one inside it."""
     tables = {b"crontab": JOB, b"anacrontab": b"1 0 b c\n"}
     others = (b"0", b"null", b"[]", b'"x"', b"true", b"2", b"[5,5]", b"{}")
-    whole = b"{" + b",".join(WHOLE) + b"}"
-    yield call_of("no member twice", b"declarations", whole, tables)
+    yield call_of("no member twice", b"declarations", WHOLE, tables)
     for name in b"capacity offset hours pass groups cron anacron".split():
         for other in others:
             member = b'"' + name + b'":' + other
-            texts = whole[:-1] + b"," + member + b"}", b"{" + member + b"," + whole[1:]
+            texts = WHOLE[:-1] + b"," + member + b"}", b"{" + member + b"," + WHOLE[1:]
             for text in texts:
                 yield call_of(f"{member!r} too", b"declarations", text, tables)
     for name in b"name exclusive line max weight group mode id".split():
         for other in (*others, b'"g"', b'"b"', b"1"):
             member = b'"' + name + b'":' + other
             for opened in (b'{"name"', b'{"line"', b'{"id"'):
-                text = whole.replace(opened, b"{" + member + b"," + opened[1:])
+                text = WHOLE.replace(opened, b"{" + member + b"," + opened[1:])
                 yield call_of(f"{member!r} before {opened!r}", b"declarations", text, tables)
-                at = whole.index(b"}", whole.index(opened))
-                text = whole[:at] + b"," + member + whole[at:]
+                at = WHOLE.index(b"}", WHOLE.index(opened))
+                text = WHOLE[:at] + b"," + member + WHOLE[at:]
                 yield call_of(f"{member!r} after {opened!r}", b"declarations", text, tables)
-    escaped = whole[:-1] + b',"\\u0063apacity":65}'
+    escaped = WHOLE[:-1] + b',"\\u0063apacity":65}'
     yield call_of("a name written in two ways", b"declarations", escaped, tables)
 
 

@@ -39,12 +39,6 @@ def all_entries(value):
     return found
 
 
-def first_broken(claim):
-    """Returns the first rule up to that of the leaves which is broken; none where all hold."""
-    numbers = range(1, LEAVES + 1)
-    return next((it for it in numbers if RULES[it - 1](claim) is not None), None)
-
-
 def is_missed_without(value, claim, broken, place, of, leaf):
     """Returns whether rule 5 is the first one broken where an entry is taken out.
 
@@ -58,20 +52,16 @@ def is_missed_without(value, claim, broken, place, of, leaf):
     return others.count(entry) == 1 and tuple(entry) in map(entry_of, touching)
 
 
-def listing_ones(chance):
-    """Returns the worked certificates that list entries, of the very long ones one by the seed."""
-    found = [it for it in worked_certificates() if all_entries(json.loads(it.text))]
-    very_long = [it for it in found if len(it.text) > VERY_LONG]
-    one = chance.sample(very_long, min(1, len(very_long)))
-    return [it for it in found if it not in very_long] + one
-
-
 def entries(chance):
     """Yields worked certificates without each of their entries, of some without a few."""
-    for it in listing_ones(chance):
+    listing = [it for it in worked_certificates() if all_entries(json.loads(it.text))]
+    very_long = [it for it in listing if len(it.text) > VERY_LONG]
+    one = chance.sample(very_long, min(1, len(very_long)))
+    for it in [it for it in listing if it not in very_long] + one:
         value = json.loads(it.text)
         claim = Claim(plan_of(it.beside), Certificate(value["version"], value))
-        found, broken = all_entries(value), first_broken(claim)
+        found, rules = all_entries(value), enumerate(RULES[:LEAVES], 1)
+        broken = next((number for number, rule in rules if rule(claim) is not None), None)
         count = OF_A_LONG_ONE if len(it.text) > LONG else len(found)
         count = min(OF_A_BROKEN_ONE, len(found)) if broken else count
         for place, of, leaf in chance.sample(found, count):

@@ -19,6 +19,8 @@ LONG_ONE_IN, EVENTS_OF_A_LONG_ONE = 20, 3_000
 # 2024-09-13 00:00.
 MIDNIGHT = 28_769_760
 WEIGHTS = {"begin": 22, "minute": 12, "end": 14, "got": 6, "catch": 3, "down": 1, "up": 1}
+# By how many minutes the clock goes on.
+AHEAD = {"minute": (0, 2, *[1] * 10), "up": (-1, 0, 0, 1, 2, 3, 3, DAY, 2 * DAY, 3 * DAY)}
 SERVER = b"""\
 */15 * * * * /usr/local/bin/check-disks
 17 * * * * /usr/sbin/logrotate /etc/logrotate.conf
@@ -36,6 +38,11 @@ TAKES = {1: 1, 2: 2, 3: 40, 4: 35}
 MONDAY, DOWN, UP = 28_501_920, 2 * DAY + 160, 2 * DAY + 320
 
 
+def cron_entry(chance, line):
+    said = {"line": line, "max": chance.randint(1, 5), "group": chance.choice(("g0", "g1"))}
+    return {**said, "mode": chance.choice(MODES)}
+
+
 def files_of(chance):
     """Returns tables and declarations of jobs that are due often, in one of two groups."""
     lines, jobs = chance.randint(2, 5), chance.randint(0, 3)
@@ -44,15 +51,7 @@ def files_of(chance):
         "capacity": 64,
         "hours": [first, chance.choice((DAY, first + 10))],
         "groups": [{"name": "g0", "exclusive": True}, {"name": "g1", "exclusive": False}],
-        "cron": [
-            {
-                "line": at + 1,
-                "max": chance.randint(1, 5),
-                "group": chance.choice(("g0", "g1")),
-                "mode": chance.choice(MODES),
-            }
-            for at in range(lines)
-        ],
+        "cron": [cron_entry(chance, at) for at in range(1, lines + 1)],
         "anacron": [{"id": f"job{at}", "max": chance.randint(1, 5)} for at in range(jobs)],
     }
     if chance.randrange(5):
@@ -69,33 +68,20 @@ class History:
     def __init__(self, chance, plan):
         self.chance, self.plan, self.rules = chance, plan, Rules(plan)
         start = Start(MIDNIGHT + chance.randint(-3, 1), bool(chance.randrange(3)))
-        self.script = Script(start, self.stamps(), [])
+        jobs = [job for job, it in enumerate(plan.jobs) if not it.is_cron and chance.randrange(4)]
+        # Days around midnight, for some of the jobs of the anacrontab.
+        stamps = {job: MIDNIGHT // DAY + chance.randint(-3, 2) for job in jobs}
+        self.script = Script(start, stamps, [])
         self.state = first_state(self.script)
-
-    def stamps(self):
-        """Returns stamps of days around midnight, for some of the jobs of the anacrontab."""
-        jobs = [job for job, it in enumerate(self.plan.jobs) if not it.is_cron]
-        chosen = [it for it in jobs if self.chance.randrange(4)]
-        return {job: MIDNIGHT // DAY + self.chance.randint(-3, 2) for job in chosen}
 
     def any_of(self, runs):
         """Returns the job and minute of one of these runs, mostly; else such as no run may have."""
         if runs and self.chance.randrange(8):
-            run = self.chance.choice(runs)
-            return run.job, run.named
-        return self.any_job(), self.state.minute - self.chance.randint(0, 3)
-
-    def any_job(self):
-        return self.chance.randrange(len(self.plan.jobs))
-
-    def any_minute(self, kind):
-        ahead = (0, 2, 1, 1, 1, 1, 1, 1, 1, 1, 1, 1)
-        if kind == "up":
-            ahead = (-1, 0, 0, 1, 2, 3, 3, DAY, 2 * DAY, 3 * DAY)
-        return self.state.minute + self.chance.choice(ahead)
+            return self.chance.choice(runs)[:2]
+        job = self.chance.randrange(len(self.plan.jobs))
+        return job, self.state.minute - self.chance.randint(0, 3)
 
     def any_event(self):
-        """Returns an event of any kind."""
         state, chance = self.state, self.chance
         kind = chance.choices(list(WEIGHTS), list(WEIGHTS.values()))[0]
         if not state.is_up and chance.randrange(2):
@@ -105,23 +91,20 @@ class History:
         likely = state.pending if kind == "begin" else []
         if kind == "catch" and state.open_pass:
             likely = state.open_pass.left
-        job = chance.choice(likely) if likely and chance.randrange(8) else self.any_job()
+        is_likely = likely and chance.randrange(8)
+        job = chance.choice(likely if is_likely else range(len(self.plan.jobs)))
         if kind in ("got", "end"):
             return Event(0, kind, *self.any_of(state.waiting if kind == "got" else state.running))
         if kind in ("minute", "up"):
-            return Event(0, kind, None, self.any_minute(kind))
+            return Event(0, kind, None, state.minute + chance.choice(AHEAD[kind]))
         return Event(0, kind, None if kind == "down" else job, None)
 
-    def has_line(self, event):
-        """Returns whether a script has a line for an event: each names a job of one table alone."""
-        if event.job is None or event.kind == "end":
-            return True
-        return self.plan.jobs[event.job].is_cron == (event.kind != "catch")
-
     def add_event(self):
+        """Adds an event that a script has a line for: each but an end names a job of one table."""
         event = self.any_event()
-        if not self.has_line(event):
-            return
+        if event.job is not None and event.kind != "end":
+            if self.plan.jobs[event.job].is_cron == (event.kind == "catch"):
+                return
         self.script.events.append(event)
         try:
             self.state, _ = self.rules.take(self.state, event)
@@ -130,7 +113,6 @@ class History:
 
 
 def is_due(line, minute):
-    """Returns whether the command of a line is due at a minute of the week."""
     in_hour, in_day = minute % 60, minute % DAY
     return (in_hour % 15 == 0, in_hour == 17, in_day == 150, minute == 6 * DAY + 180)[line - 1]
 

@@ -1,7 +1,7 @@
 """Certificates that are as deep, as full and as long as they may be, and more."""
 from model.calendar import DAY
 from model.certificate import GROUPS, JOBS, LONGEST, MOST_CLASSES, MOST_ENTRIES, NUMBERS_OF
-from model.certificate import STRETCHES, stretches_of
+from model.certificate import STRETCHES
 
 from hostile_calls.parts import bases, check_of, part_of, put, text_of, text_with
 
@@ -43,19 +43,12 @@ def minute_tree(depth, leaf, deepest, way):
     return tree
 
 
-def places_of_trees(value):
-    """Returns the places of trees in a value, each with how to make one and other leaves."""
-    found = [(("kinds",), day_tree, CLASSES)]
-    name = STRETCHES[value["version"]]
-    if name:
-        found.append(((name, 0, "tree"), minute_tree, LISTS))
-    return found
-
-
 def deep_trees(chance):
     """Yields certificates with trees as deep as they may be and deeper, also with other faults."""
     for it, value in bases(chance):
-        for place, make, others in places_of_trees(value):
+        name = STRETCHES[value["version"]]
+        minutes = [((name, 0, "tree"), minute_tree, LISTS)] if name else []
+        for place, make, others in ((("kinds",), day_tree, CLASSES), *minutes):
             leaf = part_of(value, place)
             for depth in DEPTHS:
                 for way in WAYS:
@@ -104,24 +97,17 @@ def full_classes(chance):
                 yield check_of(f"{count} classes{what}", it, text_of(changed))
 
 
-def leaves_of(value, entries):
-    """Yields trees with these entries in a leaf, alone and at either side of a split."""
-    own = stretches_of(value)[0]["tree"]
-    leaf = {"list": entries}
-    yield leaf
-    yield {"at": 720, "before": leaf, "after": own}
-    yield {"at": 720, "before": own, "after": leaf}
-
-
 def full_leaves(chance):
     """Yields certificates with leaves as long as they may be, and longer."""
     for it, value in bases(chance):
         name = STRETCHES[value["version"]]
         if name is None:
             continue
-        entries = value[name][0]["tree"]["list"]
+        own = value[name][0]["tree"]
         for count in (MOST_ENTRIES - 1, MOST_ENTRIES, MOST_ENTRIES + 1):
-            for tree in leaves_of(value, (entries * count)[:count]):
+            leaf = {"list": (own["list"] * count)[:count]}
+            halves = (leaf, own), (own, leaf)
+            for tree in (leaf, *({"at": 720, "before": it, "after": to} for it, to in halves)):
                 full = put(value, (name, 0, "tree"), tree)
                 what = f"a leaf of {count} entries"
                 yield check_of(what, it, text_of(full))

@@ -3,18 +3,8 @@ from hostile_calls.parts import MARK, check_of, part_of, places_by_sort, put, ta
 from hostile_calls.parts import text_with
 
 # Members of one version or another, of declarations and of nothing, with values that they may have.
-NAMES = {
-    "version": 3,
-    "pairs": [],
-    "stretches": [],
-    "due": [],
-    "backlog": [],
-    "carry": [],
-    "class": 0,
-    "list": [],
-    "capacity": 1,
-    "": None,
-}
+NAMES = {"version": 3, "pairs": [], "stretches": [], "due": [], "backlog": [], "carry": []}
+NAMES |= {"class": 0, "list": [], "capacity": 1, "": None}
 OTHERS = b'0 1.5 "0" null [] {} [0]'.split()
 NUMBERS = (
     b"0 -1 1 2 3 -0 01 1.5 1e3 1e400 64 320 1440 4321 1000001 4294967296 18446744073709551615"
@@ -26,7 +16,6 @@ DOUBLED = b'"%s":"%s"' % (MARK.encode(), MARK.encode())
 
 
 def sorts_of_members():
-    """Returns for each sort of places that are members those that there are."""
     sorts = places_by_sort().values()
     return [it for it in sorts if it[0][2] and isinstance(it[0][2][-1], str)]
 

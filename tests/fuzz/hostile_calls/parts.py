@@ -102,26 +102,18 @@ def has_leaves_alone(value):
     return "class" in value["kinds"] and all(is_leaf)
 
 
-def is_accepted(it):
-    call = check_of("", it, it.text)
-    return answer_of(call.words, call.files).status == 0
-
-
-def as_version_2(value):
-    """Returns a value of version 1 as one of version 2 that lists the same."""
-    found = {**value, "version": 2, "stretches": value["pairs"]}
-    del found["pairs"]
-    return found
-
-
 @functools.cache
 def all_bases():
     """Returns by version the worked certificates that are accepted and whose trees are leaves."""
     found = {it: [] for it in STRETCHES}
     for it, value in short_ones():
-        if has_leaves_alone(value) and is_accepted(it):
-            found[value["version"]].append((it, value))
-    found[2] += [(it, as_version_2(value)) for it, value in found[1]]
+        if has_leaves_alone(value):
+            call = check_of("", it, it.text)
+            if answer_of(call.words, call.files).status == 0:
+                found[value["version"]].append((it, value))
+    for it, value in found[1]:
+        same = {**value, "version": 2, "stretches": value["pairs"]}
+        found[2].append((it, taken_out(same, ("pairs",))))
     return found
 
 

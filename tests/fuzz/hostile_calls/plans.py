@@ -1,12 +1,11 @@
 """Certificates beside other plans, and such with other stretches, carries and reaches."""
 import itertools
 
-from model.certificate import STRETCHES, stretches_of
+from model.certificate import STRETCH_DAYS, STRETCHES, stretches_of
 
 from hostile_calls.parts import check_of, put, short_ones, taken_out, text_of
 
 OTHER_PLANS, OTHER_DECLARATIONS, OTHER_STRETCHES = 80, 40, 1
-LENGTHS = {1: (2,), 2: (2, 3, 4)}
 GROUPS = 1
 
 
@@ -24,10 +23,9 @@ def other_plans(chance):
 
 def unlisted(value):
     """Returns the lists of classes that could be stretches and aren't, one class more there."""
-    own = [it["of"] for it in stretches_of(value)]
-    numbers = range(len(value["classes"]) + 1)
-    lengths = LENGTHS[value["version"]]
+    numbers, lengths = range(len(value["classes"]) + 1), STRETCH_DAYS[value["version"]]
     found = [list(of) for length in lengths for of in itertools.product(numbers, repeat=length)]
+    own = [it["of"] for it in stretches_of(value)]
     return [of for of in found if of not in own]
 
 
@@ -48,13 +46,6 @@ def other_stretches(chance):
             yield check_of(f"stretch {of} last", it, text_of({**more, name: last}))
 
 
-def with_carry(value, number, group, minutes):
-    """Returns a value with another carry of a group; of no minutes it has none."""
-    carry = {**dict(value["classes"][number]["carry"]), group: minutes}
-    pairs = [[group, minutes] for group, minutes in sorted(carry.items()) if minutes is not None]
-    return put(value, ("classes", number, "carry"), pairs)
-
-
 def other_carries():
     """Yields certificates of version 3 with carries of 0, without one, and with any other."""
     for it, value in short_ones():
@@ -63,16 +54,11 @@ def other_carries():
             for group in {*own, *range(GROUPS)}:
                 around = (None, own[group] - 1, own[group] + 1) if group in own else ()
                 for minutes in (0, 1, *around):
-                    changed = with_carry(value, number, group, minutes)
+                    pairs = sorted({**own, group: minutes}.items())
+                    pairs = [list(pair) for pair in pairs if pair[1] is not None]
+                    changed = put(value, ("classes", number, "carry"), pairs)
                     what = f"carry of group {group} of class {number} {minutes}"
                     yield check_of(what, it, text_of(changed))
-
-
-def other_reaches():
-    """Yields certificates without one of their reaches."""
-    for it, value in short_ones():
-        for at, (job, _) in enumerate(value["reach"]):
-            yield check_of(f"no reach of job {job}", it, text_of(taken_out(value, ("reach", at))))
 
 
 def plans(chance):
@@ -80,4 +66,6 @@ def plans(chance):
     yield from other_plans(chance)
     yield from other_stretches(chance)
     yield from other_carries()
-    yield from other_reaches()
+    for it, value in short_ones():
+        for at, (job, _) in enumerate(value["reach"]):
+            yield check_of(f"no reach of job {job}", it, text_of(taken_out(value, ("reach", at))))

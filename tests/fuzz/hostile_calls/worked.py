@@ -4,7 +4,7 @@ from collections import namedtuple
 
 from cases import cases_of
 from model import certificate
-from model.call import NoCall, answer_of, asked, asks_help
+from model.call import NoCall, answer_of, asked, asks_help, words_of_check
 from model.faults import Fault
 
 from hostile_calls.calls import call_of
@@ -31,7 +31,7 @@ LONG, PREFIXES_OF_A_LONG_ONE = 600, 100
 LONG_CERTIFICATE, PREFIXES_OF_A_LONG_CERTIFICATE = 122, 6
 BYTES = b"\0\t\n\r \"%',-./01:=@\\a\xff"
 BYTES_OF_CERTIFICATES = BYTES + b"29[]{}eE+"
-# Of so many changes one is made of certificates too, which take longer.
+# Of so many changes one is made of certificates too, and one of a random plan: these take longer.
 CHANGES_OF_ONE = 5
 
 # What an input is, its kind and its bytes, and the files by their kinds that it needs beside it.
@@ -68,22 +68,10 @@ def worked_inputs():
     return list(found.values())
 
 
-def checked_words(words):
-    """Returns the words that check the certificate of a case, be it one that is run or made."""
-    options = []
-    if b"--anacrontab" in words:
-        at = words.index(b"--anacrontab")
-        options = words[at : at + 2]
-    if words[:1] == [b"make"]:
-        plain = [it for it in words[1:] if it != b"--compact"]
-        return [b"check", *plain[:2], b"stdout", *options]
-    return [b"check", *words[1:4], *options]
-
-
 def certificate_of(case):
     """Returns the certificate of a case with what is beside it; none where it doesn't read well."""
-    files = {**case.files, b"-": case.stdin, b"stdout": case.stdout}
-    inputs = found_in(files, checked_words(case.words), {**KINDS, "CERT": b"certificate"})
+    files = {**case.files, b"-": case.stdin, b"made": case.stdout}
+    inputs = found_in(files, words_of_check(case.words), {**KINDS, "CERT": b"certificate"})
     text = inputs.pop(b"certificate", b"")
     try:
         certificate.read(text)
@@ -132,10 +120,9 @@ def changes(inputs, chance, count, signs=BYTES):
 def prefixes_of_certificates(chance):
     """Yields prefixes of each worked certificate, of longer ones fewer than of other inputs."""
     long = LONG_CERTIFICATE, PREFIXES_OF_A_LONG_CERTIFICATE
-    yield from prefixes(worked_certificates(), chance, *long)
+    return prefixes(worked_certificates(), chance, *long)
 
 
 def changes_of_certificates(chance, count):
     """Yields worked certificates in which one byte is another, fewer than of other inputs."""
-    few = count // CHANGES_OF_ONE
-    yield from changes(worked_certificates(), chance, few, BYTES_OF_CERTIFICATES)
+    return changes(worked_certificates(), chance, count // CHANGES_OF_ONE, BYTES_OF_CERTIFICATES)

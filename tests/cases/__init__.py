@@ -35,10 +35,6 @@ ESCAPE = re.compile(rb"\\(x[0-9a-f]{2}|\\|)")
 ANY = {rb"YYYY\-MM\-DD": rb"\d{4}-\d\d-\d\d", b"HH:": rb"\d\d:", b":MM": rb":\d\d"}
 
 
-class BadCase(BadUse):
-    """What is wrong with cases, or with a name that is no case's: a line for each fault."""
-
-
 @dataclass
 class Case:
     """A case. Words, names of files and texts are bytes; the words leave out `cronsafe`."""
@@ -54,13 +50,13 @@ class Case:
 
     def text(self):
         """Returns the file of the case; a status or standard output of None is left out."""
-        parts = [("call", call_line(self.words))]
-        parts += [(f"file {it.decode()}", self.files[it]) for it in sorted(self.files)]
-        parts.append(("stdin", self.stdin or None))
-        parts.append((f"status {self.status}", None if self.status is None else b""))
-        parts += [("stdout", self.stdout), ("stderr", self.stderr or None)]
-        parts.append(("then", call_line(self.then) if self.then else None))
-        return b"".join(section(head, it) for head, it in parts if it is not None)
+        parts = {"call": call_line(self.words)}
+        parts |= {f"file {it.decode()}": self.files[it] for it in sorted(self.files)}
+        parts["stdin"] = self.stdin or None
+        parts[f"status {self.status}"] = None if self.status is None else b""
+        parts |= {"stdout": self.stdout, "stderr": self.stderr or None}
+        parts["then"] = call_line(self.then) if self.then else None
+        return b"".join(section(head, it) for head, it in parts.items() if it is not None)
 
     def is_met(self, out, err):
         """Returns whether these outputs are the wanted ones."""
@@ -68,24 +64,23 @@ class Case:
 
 
 def path_of(name):
-    """Returns the path of the case SUBCOMMAND/NAME."""
     return FOLDER / f"{name}.case"
 
 
 def cases_of(names=()):
     """Returns the cases of these names, which may be subcommands; all cases where none is given.
 
-    A BadCase tells all that is wrong with them.
+    A BadUse tells all that is wrong with them, a line for each fault.
     """
     cases, wrong = [], []
     for path in paths_of(names):
         name = str(path.relative_to(FOLDER).with_suffix(""))
         try:
             cases.append(Reader(name, path.read_bytes()).case())
-        except BadCase as error:
+        except BadUse as error:
             wrong.append(str(error))
     if wrong:
-        raise BadCase("\n".join(wrong))
+        raise BadUse("\n".join(wrong))
     return cases
 
 
@@ -94,13 +89,13 @@ def paths_of(names):
     for name in names or sorted(folders):
         name = name.removeprefix("tests/").removeprefix("cases/").removesuffix(".case").rstrip("/")
         if name not in folders and not path_of(name).is_file():
-            raise BadCase(f"there is no case {name}")
+            raise BadUse(f"there is no case {name}")
         found += sorted((FOLDER / name).iterdir()) if name in folders else [path_of(name)]
     for path in found:
         if path.suffix != ".case" or not path.is_file():
-            raise BadCase(f"{path.relative_to(FOLDER)} is no case")
+            raise BadUse(f"{path.relative_to(FOLDER)} is no case")
     if not found:
-        raise BadCase("there is no case")
+        raise BadUse("there is no case")
     return found
 
 
@@ -144,13 +139,13 @@ def words_of(line):
     try:
         words = shlex.split(line.decode("utf-8", "surrogateescape"))
     except ValueError as error:
-        raise BadCase(f"the call is no line of a shell: {error}") from error
+        raise BadUse(f"the call is no line of a shell: {error}") from error
     words = [it.encode("utf-8", "surrogateescape") for it in words]
     if words[:1] != [b"cronsafe"]:
-        raise BadCase("the call doesn't begin with 'cronsafe'")
+        raise BadUse("the call doesn't begin with 'cronsafe'")
     if line != call_line(words[1:]):
         right = call_line(words[1:]).decode("utf-8", "backslashreplace").rstrip()
-        raise BadCase(f"the call is to be written as: {right}")
+        raise BadUse(f"the call is to be written as: {right}")
     return words[1:]
 
 
@@ -210,7 +205,7 @@ class Reader:
                 self.fail(len(lines), f"the case ends without a section '{key}'")
 
     def fail(self, number, what):
-        raise BadCase(f"{self.name}.case, line {number}: {what}")
+        raise BadUse(f"{self.name}.case, line {number}: {what}")
 
     def read_section(self, number, head, lines):
         found = HEAD.fullmatch(head)
@@ -243,7 +238,7 @@ class Reader:
     def words(self, key):
         try:
             return words_of(self.texts[key]) if key in self.texts else []
-        except BadCase as error:
+        except BadUse as error:
             return self.fail(self.heads[key] + 1, error)
 
     def case(self):

@@ -63,8 +63,18 @@ class Room:
             return {it.name: self.read(it) for it in path.iterdir()}
         return path.read_text("utf-8", "replace") if path.is_file() else ""
 
-    def holds(self, **texts):
-        """Holds files, and the folder of stamps, against these texts."""
+    def holds(self, lines=None, **texts):
+        """Holds files, the folder of stamps, and what was printed against texts and lines.
+
+        The order of lines isn't promised, but a run is told as started before it is told as ended.
+        """
+        printed = self.read("printed").splitlines()
+        if lines is not None:
+            wanted("lines of the log", sorted(lines), sorted(printed))
+        for place, line in enumerate(printed if lines else []):
+            start = f"started {line[6:].rpartition(' status ')[0]}"
+            if line.startswith("ended ") and start not in printed[:place]:
+                raise Fault(f"'{line}' isn't after '{start}': {printed}")
         for name, text in texts.items():
             wanted(name, text, self.read(name))
 
@@ -76,11 +86,11 @@ class Room:
 
     def take_tables(self, declared, crontab="", anacrontab=None):
         """Takes tables and declarations for the calls to come."""
-        files = {"crontab": crontab, "declarations": json.dumps(declared)}
+        self.write("crontab", crontab)
+        self.write("declarations", json.dumps(declared))
         if anacrontab is not None:
-            files["anacrontab"], self.options = anacrontab, ["--anacrontab", "anacrontab"]
-        for it in files.items():
-            self.write(*it)
+            self.write("anacrontab", anacrontab)
+            self.options = ["--anacrontab", "anacrontab"]
 
     def take(self, declared, crontab="", anacrontab=None):
         """Takes them, and the certificate that `make` prints for them."""
@@ -92,8 +102,8 @@ class Room:
 
     def words(self, *options, table="crontab", stamps="stamps"):
         """Returns the words of a call of `run`."""
-        files = [table, "declarations", "certificate", stamps]
-        return [self.program, "run", *files, *self.options, *options]
+        words = [self.program, "run", table, "declarations", "certificate", stamps]
+        return [*words, *self.options, *options]
 
     def start(self, words, output=None, given=INPUT, **variables):
         """Starts and returns a daemon with OUTSIDE and these variables in its environment."""
@@ -125,10 +135,8 @@ class Room:
         end = time.monotonic() + seconds
         while not is_so():
             status = self.status()
-            if status is not None and not is_so():
-                raise Fault(f"it ended with status {status} before {what}; {self.told()}")
-            if time.monotonic() > end:
-                raise Fault(f"after {seconds} seconds there wasn't {what}; {self.told()}")
+            if status is not None and not is_so() or time.monotonic() > end:
+                raise Fault(f"there wasn't {what}, with status {status}; {self.told()}")
             time.sleep(0.1)
 
     def wait_for_line(self, line, seconds=SOON, times=1):
@@ -139,35 +147,21 @@ class Room:
     def ends(self, status, seconds=SOON):
         """Waits for the daemon to end by itself, with this status."""
         self.wait_for("its end", lambda: self.status() is not None, seconds)
-        if self.status() != status:
-            raise Fault(f"it ended with status {self.status()}, not {status}; {self.told()}")
+        wanted(f"status, where {self.told()}", status, self.status())
 
-    def run(self, *options, seconds=SECONDS):
-        """Runs a daemon that ends by itself with status 0."""
-        self.start(self.words(*options))
-        self.ends(0, seconds)
+    def run(self, *options, status=0, seconds=SECONDS, given=INPUT, **paths):
+        """Runs a daemon that ends by itself, with this status."""
+        self.start(self.words(*options, **paths), given=given)
+        self.ends(status, seconds)
 
     def told(self):
         return f"it had printed {self.read('printed')!r} and said {self.read('said')!r}"
 
-    def holds_log(self, lines):
-        """Holds what was printed against these lines.
-
-        Their order isn't promised, but a run is told as started before it is told as ended.
-        """
-        printed = self.read("printed").splitlines()
-        wanted("lines of the log", sorted(lines), sorted(printed))
-        for place, line in enumerate(printed):
-            start = f"started {line[6:].rpartition(' status ')[0]}"
-            if line.startswith("ended ") and start not in printed[:place]:
-                raise Fault(f"'{line}' isn't after '{start}': {printed}")
-
     def send(self, number):
-        """Sends the daemon a signal, without a look whether it has ended, unlike `send_signal`."""
+        # unlike `send_signal`, without a look whether it has ended
         os.kill(self.daemons[-1].pid, number)
 
     def end(self):
-        """Ends the daemon by the signal by which an operator does."""
         self.send(signal.SIGTERM)
         self.ends(-signal.SIGTERM)
 

@@ -24,15 +24,18 @@ def look_at_call(room, name, which):
     """Runs a daemon of which one call of a function fails; returns whether it made that call."""
     folder = room.folder / f"{name} {which}"
     own = Room(room.program, folder, room.library)
-    own.options = room.options
-    for it in ("crontab", "anacrontab", "declarations", "certificate"):
-        own.write(it, room.read(it))
+    own.take_tables(DECLARED, "", ANACRONTAB)
+    own.write("certificate", room.read("certificate"))
     failed, day = folder / "failed", early_minute()
     variables = failing(room.library, name, which, FUNCTIONS[name], failed)
     try:
         own.start(own.words("--minutes", "0"), **variables)
         own.wait_for("its end", lambda: own.status() is not None)
-        look_at_end(own, failed.exists())
+        status, said = own.status(), own.read("said")
+        if not failed.exists():
+            wanted("status with nothing that fails", (0, ""), (status, said))
+        if status not in (0, 5, 6) or status == 5 and said != "cronsafe: out of memory\n":
+            raise Fault(f"status {status}; {own.told()}")
         look_at_log(own.read("printed").splitlines(), day, len(own.read("ran").split()))
         look_at_second_call(own, day)
     except Fault as fault:
@@ -40,15 +43,6 @@ def look_at_call(room, name, which):
     finally:
         own.close()
     return failed.exists()
-
-
-def look_at_end(room, has_failed):
-    """Holds the status against what may come of a call that fails, or of none."""
-    status, said = room.status(), room.read("said")
-    if not has_failed:
-        wanted("status with nothing that fails", (0, ""), (status, said))
-    if status not in (0, 5, 6) or status == 5 and said != "cronsafe: out of memory\n":
-        raise Fault(f"status {status}; {room.told()}")
 
 
 def look_at_log(lines, day, times):

@@ -76,10 +76,10 @@ def jobs_are_run(room):
     room.run("--minutes", "3", seconds=4 * MINUTE)
     minutes = [first + 1, first + 2]
     names = [f"line {it} due {date_text(minute)}" for it in lines for minute in minutes]
-    room.holds_log(runs(f"job a.b at {date_text(first)}", *names))
     started = [int(it) // MINUTE + 90 for it in room.read("times").split()]
     wanted("minutes of the runs", minutes, started)
     room.holds(
+        runs(f"job a.b at {date_text(first)}", *names),
         said="warning: CRON_TZ on line 7 of the crontab has no effect\n",
         settings="of two  words ,none,/bin/sh,inherited\n" * 2,
         input="one\ntwo%:\n" * 2,
@@ -100,8 +100,7 @@ def no_minutes(room):
     table, stamp = "* * * * * echo x >>ran\n", stamp_text(minute_now() - DAY)
     room.take(declared(3, [1], ["a"]), table, ONE_JOB)
     room.write("stamps/a", stamp)
-    room.start(room.words(*ONCE, table="-"), given=table)
-    room.ends(0)
+    room.run(*ONCE, table="-", given=table, seconds=SOON)
     room.holds(printed="", said="", ran="", stamps={"a": stamp})
 
 
@@ -122,8 +121,7 @@ def test_of_stamp(name, stamp, is_run, *more):
         left = {"a": stamp_text(minute) if is_run else text}
         for lines in [*more, *(runs(run) if is_run else [])], []:
             room.run(*ONCE)
-            room.holds_log(lines)
-            room.holds(ran="x\n" if is_run else "", stamps=left)
+            room.holds(lines, ran="x\n" if is_run else "", stamps=left)
 
     test.__name__ = name
     return test
@@ -137,12 +135,11 @@ def unwritable_folder(room):
     room.take(declared(1, [], ["not-written"]), "", "1 0 not-written echo x >>ran\n")
     run = f"job not-written at {date_text(early_minute())}"
     # (not even the superuser makes files there)
-    room.start(room.words(*ONCE, stamps="/proc"))
-    room.ends(0)
-    lost = room.read("printed").splitlines().count("stamp not written not-written")
+    room.run(*ONCE, stamps="/proc", seconds=SOON)
+    lost = "stamp not written not-written"
     # one try at the end, and one more where the run had ended at the clock's second answer
-    room.holds_log([*runs(run), *["stamp not written not-written"] * min(max(lost, 1), 2)])
-    room.holds(ran="x\n")
+    times = min(max(room.read("printed").splitlines().count(lost), 1), 2)
+    room.holds([*runs(run), *[lost] * times], ran="x\n")
 
 
 def unwritable_stamps(room):
@@ -162,8 +159,8 @@ def unwritable_stamps(room):
     tries = room.read("printed").splitlines().count("stamp not written a")
     time.sleep(3)
     room.end()
-    room.holds_log([*runs(run), "stamp not read a", *["stamp not written a"] * tries])
-    room.holds(stamps={"a": stamp_text(minute)})
+    lines = [*runs(run), "stamp not read a", *["stamp not written a"] * tries]
+    room.holds(lines, stamps={"a": stamp_text(minute)})
     wanted("time of the stamp file", written, os.stat(in_the_way).st_mtime_ns)
 
 
@@ -175,8 +172,7 @@ def no_folder(room):
     take_job(room)
     room.write("file", "")
     for path in ("none", "file"):
-        room.start(room.words(*ONCE, stamps=path))
-        room.ends(6)
+        room.run(*ONCE, stamps=path, status=6, seconds=SOON)
         room.holds(printed="", said=f"cronsafe: no folder {path}\n", ran="")
     wanted("a folder was made", False, (room.folder / "none").exists())
 
@@ -206,8 +202,7 @@ def refused_certificate(room):
         if certificate is not None:
             room.write("certificate", certificate)
         wanted("check", answer, room.call("check", "crontab", "declarations", "certificate"))
-        room.start(room.words(*ONCE))
-        room.ends(answer[0])
+        room.run(*ONCE, status=answer[0], seconds=SOON)
         room.holds(printed=answer[1], said=answer[2], ran="", stamps={})
 
 
@@ -226,7 +221,7 @@ def runs_that_wait(room):
     room.take(declared(4, (1, 2, 3, 4), groups=["g", "h"], **terms), table)
     room.run("--minutes", "2", seconds=3 * MINUTE)
     told = runs(*[f"line {it} due {date_text(due)}" for it in (1, 2, 3, 4)])
-    room.holds_log([*told, f"waiting line 2 due {date_text(due)}"])
+    room.holds([*told, f"waiting line 2 due {date_text(due)}"])
     times = {it: [int(second) for second in room.read(it).split()] for it in names}
     wanted("number of times", [2] * 4, [len(it) for it in times.values()])
     if times["wait2"][0] < times["wait1"][1]:
@@ -251,8 +246,8 @@ def skipped_run(room):
     # (the second would get its turn now, had it waited)
     time.sleep(3)
     room.end()
-    room.holds_log([*runs(first), f"overrun {first}", f"skipped {second}"])
-    room.holds(first="x\n", second="")
+    lines = [*runs(first), f"overrun {first}", f"skipped {second}"]
+    room.holds(lines, first="x\n", second="")
 
 
 def lost_log(room):
@@ -265,9 +260,9 @@ def lost_log(room):
     words = room.words(*ONCE)
     read_end, write_end = os.pipe()
     os.close(read_end)
+    closed = ["/bin/sh", "-c", 'exec "$@" >&-', "sh", *words]
     with open("/dev/full", "wb") as full, open(write_end, "wb") as broken:
-        calls = [(full, words), (broken, words)]
-        calls.append((None, ["/bin/sh", "-c", 'exec "$@" >&-', "sh", *words]))
+        calls = (full, words), (broken, words), (None, closed)
         for number, (output, call) in enumerate(calls, 1):
             (room.folder / "stamps/a").unlink(missing_ok=True)
             stamps = {"a": stamp_text(early_minute())}
@@ -301,8 +296,7 @@ def overruns(room):
     room.wait_for_line(f"ended {run} status 0", 2 * MINUTE)
     room.wait_for("the stamp", (room.folder / "stamps/a").is_file)
     room.end()
-    room.holds_log([*runs(run), f"overrun {run}"])
-    room.holds(ran="x\n", stamps={"a": stamp_text(minute)})
+    room.holds([*runs(run), f"overrun {run}"], ran="x\n", stamps={"a": stamp_text(minute)})
 
 
 def job_not_started(room):
@@ -320,8 +314,8 @@ def job_not_started(room):
     room.run("--minutes", "1", seconds=2 * MINUTE)
     names = [f"job {it} at {date_text(day)}" for it in "abc"]
     lost = [f"{word} {it}" for it in names[:2] for word in ("started", "not started")]
-    room.holds_log([*lost, *runs(names[2])])
-    room.holds(ran="c\n", stamps=dict.fromkeys("abc", stamp_text(day)))
+    stamps = dict.fromkeys("abc", stamp_text(day))
+    room.holds([*lost, *runs(names[2])], ran="c\n", stamps=stamps)
 
 
 def ways_to_end(room):
@@ -345,10 +339,9 @@ def ways_to_end(room):
     for name, status in statuses.items():
         run = f"job {name} at {date_text(first + (name == 'later'))}"
         lines += [f"started {run}", f"ended {run} status {status}"]
-    room.holds_log(lines)
     wanted("first line on standard error", "wrong", room.read("said").partition("\n")[0])
     stamps = {**dict.fromkeys(statuses, stamp_text(first)), "later": stamp_text(first + 1)}
-    room.holds(order="\n".join(["fine", *statuses, ""]), stamps=stamps)
+    room.holds(lines, order="\n".join(["fine", *statuses, ""]), stamps=stamps)
 
 
 def outage(room):
@@ -369,8 +362,7 @@ def outage(room):
     run = f"line 1 due {date_text(first + 3)}"
     room.wait_for_line(f"ended {run} status 0", 2 * MINUTE)
     room.end()
-    room.holds_log([line, *runs(f"job a at {date_text(first)}", run)])
-    room.holds(line="x\n", ran="x\n")
+    room.holds([line, *runs(f"job a at {date_text(first)}", run)], line="x\n", ran="x\n")
 
 
 TESTS = [

@@ -13,6 +13,7 @@ months   each line is due daily in one month
 import json
 import random
 import sys
+from pathlib import Path
 
 folder, shape, lines = sys.argv[1], sys.argv[2], int(sys.argv[3])
 rng = random.Random(f"{shape} {lines}")
@@ -66,8 +67,7 @@ def line_of(number):
 
 
 made = [line_of(number) for number in range(lines)]
-with open(f"{folder}/table", "w", encoding="utf-8") as file:
-    file.writelines(line for line, _ in made)
-with open(f"{folder}/jobs", "w", encoding="utf-8") as file:
-    groups = [{"name": f"g{it}", "exclusive": True} for it in range(GROUPS)]
-    json.dump({"capacity": 64, "groups": groups, "cron": [said for _, said in made]}, file)
+groups = [{"name": f"g{it}", "exclusive": True} for it in range(GROUPS)]
+declared = {"capacity": 64, "groups": groups, "cron": [said for _, said in made]}
+Path(folder, "table").write_text("".join(line for line, _ in made), "utf-8")
+Path(folder, "jobs").write_text(json.dumps(declared), "utf-8")

@@ -1,5 +1,5 @@
 //! Runs of checked tables on this machine.
-ghost use Rattle.std.specs.Prelude.{◌≡◌, IfOk, vec_len};
+ghost use Rattle.std.specs.Prelude.{◌≡◌};
 ghost use Rattle.cs_reads.specs.Response.{status_of};
 ghost use Rattle.cs_program.specs.Ending.{sink};
 ghost use Rattle.cs_program.specs.Serve.{Serves, cause_status, farewell};
@@ -10,7 +10,7 @@ use cs_daemon::{Cause, run_daemon};
 use cs_device::{Gate, Point, Runner};
 use cs_history::Run;
 use cs_io::Output;
-use cs_machine::{MachineClock, StampsFolder};
+use cs_machine::{MachineClock, StampsFolder, runners_by};
 use cs_reads::Status;
 use std::alloc::{AllocError, Global};
 use std::io::Write;
@@ -24,22 +24,6 @@ struct OpenGate;
 
 impl Gate for OpenGate {
     fn pass(&self, _run: Run, _point: Point) {}
-}
-
-/// So many runners, as a function makes them.
-fn runners_by<W: Drop, F: Fn() -> W + Drop>(
-    alloc: Global,
-    number: u8,
-    new_runner: F,
-) -> Result<Vec<W>, AllocError>
-    requires { F.IsAlwaysCallable new_runner }
-    ensures { IfOk result (λ runners. vec_len runners ≡ number) }
-{
-    let mut runners = Vec::new(alloc);
-    for _ in 0..number {
-        runners.push(new_runner())?;
-    }
-    Ok(runners)
 }
 
 /// The status of a run that ended so.

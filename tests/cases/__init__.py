@@ -48,16 +48,6 @@ class Case:
     stderr: bytes = b""
     then: list = field(default_factory=list)
 
-    def text(self):
-        """Returns the file of the case; a status or standard output of None is left out."""
-        parts = {"call": call_line(self.words)}
-        parts |= {f"file {it.decode()}": self.files[it] for it in sorted(self.files)}
-        parts["stdin"] = self.stdin or None
-        parts[f"status {self.status}"] = None if self.status is None else b""
-        parts |= {"stdout": self.stdout, "stderr": self.stderr or None}
-        parts["then"] = call_line(self.then) if self.then else None
-        return b"".join(section(head, it) for head, it in parts.items() if it is not None)
-
     def is_met(self, out, err):
         """Returns whether these outputs are the wanted ones."""
         return is_met(self.stdout, out) and is_met(self.stderr, err)
@@ -105,27 +95,6 @@ def is_plain(line):
         return line.decode().replace("\t", "").isprintable()
     except UnicodeDecodeError:
         return False
-
-
-def escaped(line):
-    """Returns a line as an escaped text has it."""
-    line = line.replace(b"\\", b"\\\\")
-    if not is_plain(line):
-        line = re.sub(rb"[^\t -~]", lambda it: b"\\x%02x" % ord(it[0]), line)
-    return re.sub(rb"^-(?=-- )", rb"\\x2d", line)
-
-
-def section(head, text):
-    """Returns a section of a case."""
-    marks, lines = [], text.split(b"\n")
-    if not all(is_plain(it) and not it.startswith(b"--- ") for it in lines):
-        marks.append("escaped")
-        lines = [escaped(it) for it in lines]
-    if lines[-1]:
-        marks.append("no newline")
-        lines.append(b"")
-    mark = f" ({', '.join(marks)})" if marks else ""
-    return f"--- {head}{mark}\n".encode() + b"\n".join(lines)
 
 
 def call_line(words):

@@ -20,7 +20,7 @@ no newline)': \\xNN is the byte of these two hexadecimal digits, and \\\\ a back
 """
 import re
 import shlex
-from dataclasses import dataclass, field
+from collections import namedtuple
 from pathlib import Path
 
 from harness import BadUse
@@ -33,24 +33,8 @@ HEAD = re.compile(
 )
 ESCAPE = re.compile(rb"\\(x[0-9a-f]{2}|\\|)")
 ANY = {rb"YYYY\-MM\-DD": rb"\d{4}-\d\d-\d\d", b"HH:": rb"\d\d:", b":MM": rb":\d\d"}
-
-
-@dataclass
-class Case:
-    """A case. Words, names of files and texts are bytes; the words leave out `cronsafe`."""
-
-    name: str
-    words: list
-    files: dict = field(default_factory=dict)
-    stdin: bytes = b""
-    status: int = None
-    stdout: bytes = None
-    stderr: bytes = b""
-    then: list = field(default_factory=list)
-
-    def is_met(self, out, err):
-        """Returns whether these outputs are the wanted ones."""
-        return is_met(self.stdout, out) and is_met(self.stderr, err)
+# Words, names of files and texts are bytes; the words leave out `cronsafe`.
+Case = namedtuple("Case", "name words then stdin status stdout stderr files")
 
 
 def path_of(name):
@@ -213,7 +197,7 @@ class Reader:
     def case(self):
         then, outputs = self.words("then"), (b"stdout", b"script")
         texts = {key: self.texts.get(key, b"") for key in ("stdin", "status", "stdout", "stderr")}
-        case = Case(self.name, self.words("call"), then=then, **texts)
+        case = Case(self.name, self.words("call"), then, **texts, files={})
         for key in [it for it in self.texts if it.startswith("file ")]:
             name = key[5:].encode()
             if not is_named(name, case.words + then) or then and name in outputs:

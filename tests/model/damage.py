@@ -176,9 +176,6 @@ def changed_text(chance, text):
     return chance.choice((changed_form, doubled_member, changed_byte))(chance, text)
 
 
-# Changes that break a rule.
-
-
 def due_lists(value):
     """Returns the pairs of a job and its due minutes, of all classes."""
     return [it for one in value["classes"] for it in one["due"]]

@@ -21,9 +21,6 @@ KIND = b"month %d day %d weekday %d"
 Window = namedtuple("Window", "start number end job")
 
 
-# Places, and how they are told.
-
-
 def midnight_of(claim, of):
     """Returns the civil minute at which the first day begins that ends days of these classes.
 
@@ -47,9 +44,6 @@ def window_text(window, midnight):
     if window.job.is_cron:
         return b"%s due %s" % (window.job.name, start)
     return b"catch-up of %s from %s" % (window.job.name, start)
-
-
-# Windows.
 
 
 def windows_on(claim, of):
@@ -95,9 +89,6 @@ def places(claim, of, minute, *windows):
 def entry_of(window):
     """Returns how a leaf lists a window: its job, how many days back, and the minute."""
     return window.number, -(window.start // DAY), window.start % DAY
-
-
-# The rules.
 
 
 def due_fault(claim):

@@ -182,8 +182,7 @@ def first_clash(plan, windows):
 def collision_fault(claim):
     """6: no two windows of an exclusive group clash."""
     for of, _, minute, windows in minutes_in_use(claim):
-        found = first_clash(claim.plan, windows)
-        if found:
+        if found := first_clash(claim.plan, windows):
             return b"6 Collision: %s and %s meet at %s" % places(claim, of, minute, *found)
     return None
 
@@ -219,8 +218,7 @@ def first_block(minute, windows):
 def skip_fault(claim):
     """8: where a skip job is due, no other lock taker of its group may run."""
     for of, _, minute, windows in minutes_in_use(claim):
-        found = first_block(minute, windows)
-        if found:
+        if found := first_block(minute, windows):
             return b"8 SkipBlocked: %s and %s" % places(claim, of, minute, *found)[:2]
     return None
 
@@ -233,7 +231,6 @@ def verdict(plan, certificate):
     """Returns what `check` prints of a plan and a certificate."""
     claim = Claim(plan, certificate)
     for rule in RULES:
-        fault = rule(claim)
-        if fault:
+        if fault := rule(claim):
             return b"refused " + fault + b"\n"
     return b"safe\n"

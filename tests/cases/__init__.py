@@ -20,7 +20,7 @@ no newline)': \\xNN is the byte of these two hexadecimal digits, and \\\\ a back
 """
 import re
 import shlex
-from dataclasses import dataclass, field
+from collections import namedtuple
 from pathlib import Path
 
 from harness import BadUse
@@ -33,34 +33,8 @@ HEAD = re.compile(
 )
 ESCAPE = re.compile(rb"\\(x[0-9a-f]{2}|\\|)")
 ANY = {rb"YYYY\-MM\-DD": rb"\d{4}-\d\d-\d\d", b"HH:": rb"\d\d:", b":MM": rb":\d\d"}
-
-
-@dataclass
-class Case:
-    """A case. Words, names of files and texts are bytes; the words leave out `cronsafe`."""
-
-    name: str
-    words: list
-    files: dict = field(default_factory=dict)
-    stdin: bytes = b""
-    status: int = None
-    stdout: bytes = None
-    stderr: bytes = b""
-    then: list = field(default_factory=list)
-
-    def text(self):
-        """Returns the file of the case; a status or standard output of None is left out."""
-        parts = {"call": call_line(self.words)}
-        parts |= {f"file {it.decode()}": self.files[it] for it in sorted(self.files)}
-        parts["stdin"] = self.stdin or None
-        parts[f"status {self.status}"] = None if self.status is None else b""
-        parts |= {"stdout": self.stdout, "stderr": self.stderr or None}
-        parts["then"] = call_line(self.then) if self.then else None
-        return b"".join(section(head, it) for head, it in parts.items() if it is not None)
-
-    def is_met(self, out, err):
-        """Returns whether these outputs are the wanted ones."""
-        return is_met(self.stdout, out) and is_met(self.stderr, err)
+# Words, names of files and texts are bytes; the words leave out `cronsafe`.
+Case = namedtuple("Case", "name words then stdin status stdout stderr files")
 
 
 def path_of(name):
@@ -105,27 +79,6 @@ def is_plain(line):
         return line.decode().replace("\t", "").isprintable()
     except UnicodeDecodeError:
         return False
-
-
-def escaped(line):
-    """Returns a line as an escaped text has it."""
-    line = line.replace(b"\\", b"\\\\")
-    if not is_plain(line):
-        line = re.sub(rb"[^\t -~]", lambda it: b"\\x%02x" % ord(it[0]), line)
-    return re.sub(rb"^-(?=-- )", rb"\\x2d", line)
-
-
-def section(head, text):
-    """Returns a section of a case."""
-    marks, lines = [], text.split(b"\n")
-    if not all(is_plain(it) and not it.startswith(b"--- ") for it in lines):
-        marks.append("escaped")
-        lines = [escaped(it) for it in lines]
-    if lines[-1]:
-        marks.append("no newline")
-        lines.append(b"")
-    mark = f" ({', '.join(marks)})" if marks else ""
-    return f"--- {head}{mark}\n".encode() + b"\n".join(lines)
 
 
 def call_line(words):
@@ -244,7 +197,7 @@ class Reader:
     def case(self):
         then, outputs = self.words("then"), (b"stdout", b"script")
         texts = {key: self.texts.get(key, b"") for key in ("stdin", "status", "stdout", "stderr")}
-        case = Case(self.name, self.words("call"), then=then, **texts)
+        case = Case(self.name, self.words("call"), then, **texts, files={})
         for key in [it for it in self.texts if it.startswith("file ")]:
             name = key[5:].encode()
             if not is_named(name, case.words + then) or then and name in outputs:

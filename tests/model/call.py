@@ -114,10 +114,7 @@ def asked(words):
     found.update(zip(plain, values))
     if sum(value == b"-" for name, value in found.items() if name.isupper()) > 1:
         raise NoCall
-    for name in NUMBERS:
-        if name in found:
-            found[name] = number_of(found[name])
-    return found
+    return {**found, **{it: number_of(found[it]) for it in NUMBERS if it in found}}
 
 
 def warnings_of_settings(table, of):

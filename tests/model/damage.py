@@ -1,7 +1,7 @@
 """Small changes of certificates, declarations and tables: any ones, and such as break a known rule.
 
-A change alters a value of JSON. One that breaks a rule also returns the number of the rule; where
-the certificate has nothing of its sort it raises IndexError or ValueError.
+A change alters a value of JSON. One that breaks a rule raises IndexError or ValueError where the
+certificate has nothing of its sort.
 """
 import copy
 import json
@@ -120,32 +120,6 @@ def move_split(chance, value):
         chance.choice(splits)["at"] = chance.choice((0, 1, 1439, 1440, *others))
 
 
-def deepen(chance, value):
-    """Makes a leaf of the root a tree that is about as deep as it may be."""
-    depth, found = chance.choice((23, 24, 25)), stretches_of(value)
-    if found and "list" in found[0]["tree"]:
-        it = chance.choice(found)
-        leaf, at = it["tree"], chance.choice((1, 100, 1439 - depth, 1440 - depth))
-        for minute in reversed(range(at, at + depth)):
-            it["tree"] = {"at": minute, "before": leaf, "after": it["tree"]}
-    elif "class" in value["kinds"]:
-        leaf = value["kinds"]
-        for day in reversed(range(1, depth + 1)):
-            value["kinds"] = {"split": "day", "in": [day], "yes": leaf, "no": value["kinds"]}
-
-
-def lengthen(chance, value):
-    """Makes a leaf or the list of classes about as long as it may be."""
-    leaves = [it["list"] for it in trees_in(stretches_of(value), "list") if it["list"]]
-    if leaves and chance.random() < 0.5:
-        leaf, most = chance.choice(leaves), chance.choice((4096, 4097))
-        leaf[:] = (leaf * most)[:most]
-    elif value["classes"]:
-        most = 2562 if value["version"] == 3 else 512
-        it = {"carry": []} if value["version"] == 3 else {"backlog": [], "due": []}
-        value["classes"] += [it] * (most + chance.choice((0, 1)) - len(value["classes"]))
-
-
 def change_mode(chance, value):
     """Gives a job of declarations another mode or a group another sort."""
     entries = value.get("groups", []) + value.get("cron", [])
@@ -159,7 +133,6 @@ def change_mode(chance, value):
 
 VALUE_CHANGES = (change_number,) * 8 + (take_out_part,) * 2 + (take_out_entry,) * 4
 VALUE_CHANGES += (take_out, double, swap, add_stretch, add_stretch, move_split)
-LIMITS = (deepen, lengthen)
 DECLARED_CHANGES = (change_number,) * 10 + (change_mode,) * 8 + (take_out,)
 
 
@@ -203,9 +176,6 @@ def changed_text(chance, text):
     return chance.choice((changed_form, doubled_member, changed_byte))(chance, text)
 
 
-# Changes that break a rule.
-
-
 def due_lists(value):
     """Returns the pairs of a job and its due minutes, of all classes."""
     return [it for one in value["classes"] for it in one["due"]]
@@ -213,26 +183,22 @@ def due_lists(value):
 
 def without_stretch(chance, value):
     take_item(chance, stretches_of(value))
-    return 2
 
 
 def without_entry(chance, value):
     leaves = [it["list"] for it in trees_in(stretches_of(value), "list")]
     take_item(chance, chance.choice([leaf for leaf in leaves for _ in leaf]))
-    return 5
 
 
 def without_due_minute(chance, value):
     take_item(chance, chance.choice(due_lists(value))[1])
     for one in value["classes"]:
         one["due"] = [it for it in one["due"] if it[1]]
-    return 1
 
 
 def with_due_minute(chance, value):
     due = chance.choice(due_lists(value))
     due[1] = sorted([*due[1], chance.choice([it for it in range(DAY) if it not in due[1]])])
-    return 1
 
 
 def lower(chance, lists):
@@ -247,23 +213,19 @@ def with_lower_bound(chance, value):
     lower(chance, [pieces for one in value["classes"] for _, pieces in one["backlog"]])
     for one in value["classes"]:
         one["backlog"] = [it for it in one["backlog"] if it[1]]
-    return 3
 
 
 def with_lower_carry(chance, value):
     lower(chance, [one["carry"] for one in value["classes"]])
-    return 3
 
 
 def without_reach(chance, value):
     take_item(chance, value["reach"])
-    return 4
 
 
 def with_shorter_reach(chance, value):
     due = {job for job, _ in due_lists(value)}
     chance.choice([it for it in value["reach"] if it[0] in due and it[1] > 1])[1] -= 1
-    return 4
 
 
 def without_split(chance, value):
@@ -272,7 +234,6 @@ def without_split(chance, value):
     half = split[chance.choice(["yes", "no"])]
     split.clear()
     split.update(half)
-    return 1
 
 
 def are_due_alike(plan, kinds):
@@ -282,21 +243,22 @@ def are_due_alike(plan, kinds):
     return len(due) == len({number for number, _ in due})
 
 
-WAYS = (without_stretch, without_entry, without_due_minute, with_due_minute, with_lower_bound)
-WAYS += (without_reach, with_shorter_reach)
-COMPACT_WAYS = (with_lower_carry, without_reach, without_split)
+# Each way with the number of the rule that it breaks.
+WAYS = {without_stretch: 2, without_entry: 5, without_due_minute: 1, with_due_minute: 1}
+WAYS |= {with_lower_bound: 3, without_reach: 4, with_shorter_reach: 4}
+COMPACT_WAYS = {with_lower_carry: 3, without_reach: 4, without_split: 1}
 
 
 def damaged(text, plan, chance):
     """Returns what was done, the spoilt text and the number of the rule that refuses it; None where
     nothing can be spoilt."""
     ways = COMPACT_WAYS if json.loads(text)["version"] == 3 else WAYS
-    for way in chance.sample(ways, len(ways)):
+    for way in chance.sample([*ways], len(ways)):
         value = json.loads(text)
         try:
-            rule = way(chance, value)
+            way(chance, value)
         except (IndexError, ValueError):
             continue
         if way is not without_split or not are_due_alike(plan, value["kinds"]):
-            return way.__name__.replace("_", " "), json.dumps(value).encode(), rule
+            return way.__name__.replace("_", " "), json.dumps(value).encode(), ways[way]
     return None

@@ -21,9 +21,6 @@ KIND = b"month %d day %d weekday %d"
 Window = namedtuple("Window", "start number end job")
 
 
-# Places, and how they are told.
-
-
 def midnight_of(claim, of):
     """Returns the civil minute at which the first day begins that ends days of these classes.
 
@@ -47,9 +44,6 @@ def window_text(window, midnight):
     if window.job.is_cron:
         return b"%s due %s" % (window.job.name, start)
     return b"catch-up of %s from %s" % (window.job.name, start)
-
-
-# Windows.
 
 
 def windows_on(claim, of):
@@ -95,9 +89,6 @@ def places(claim, of, minute, *windows):
 def entry_of(window):
     """Returns how a leaf lists a window: its job, how many days back, and the minute."""
     return window.number, -(window.start // DAY), window.start % DAY
-
-
-# The rules.
 
 
 def due_fault(claim):
@@ -191,8 +182,7 @@ def first_clash(plan, windows):
 def collision_fault(claim):
     """6: no two windows of an exclusive group clash."""
     for of, _, minute, windows in minutes_in_use(claim):
-        found = first_clash(claim.plan, windows)
-        if found:
+        if found := first_clash(claim.plan, windows):
             return b"6 Collision: %s and %s meet at %s" % places(claim, of, minute, *found)
     return None
 
@@ -228,8 +218,7 @@ def first_block(minute, windows):
 def skip_fault(claim):
     """8: where a skip job is due, no other lock taker of its group may run."""
     for of, _, minute, windows in minutes_in_use(claim):
-        found = first_block(minute, windows)
-        if found:
+        if found := first_block(minute, windows):
             return b"8 SkipBlocked: %s and %s" % places(claim, of, minute, *found)[:2]
     return None
 
@@ -242,7 +231,6 @@ def verdict(plan, certificate):
     """Returns what `check` prints of a plan and a certificate."""
     claim = Claim(plan, certificate)
     for rule in RULES:
-        fault = rule(claim)
-        if fault:
+        if fault := rule(claim):
             return b"refused " + fault + b"\n"
     return b"safe\n"

@@ -17,8 +17,8 @@ def changed(chance, files, value):
     """Returns files and the text of a certificate with one change in one of them."""
     which = chance.random()
     if which < 0.55:
-        changes = damage.LIMITS if which < 0.02 else damage.VALUE_CHANGES
-        return files, damage.text_of(chance, damage.changed_value(chance, value, changes))
+        value = damage.changed_value(chance, value, damage.VALUE_CHANGES)
+        return files, damage.text_of(chance, value)
     text = damage.text_of(chance, value)
     if which < 0.7:
         return files, damage.changed_text(chance, text)

@@ -1,9 +1,15 @@
-//! The program `cronsafe`.
+//! The program `cronsafe`, over its words, its inputs and two outputs, and over the machine.
 #![tactic(auto)]
 
+mod ending;
+mod program;
+mod responding;
+mod run;
+mod serve;
+
+use crate::program::run_program;
 use cs_io::Printer;
 use cs_machine::ShellRunner;
-use cs_program::run_program;
 use std::process::ExitCode;
 
 fn main(rt: HostRuntime) -> ExitCode {

@@ -1,53 +1,58 @@
 -- Lines: what is read is written so, and what is written so is read.
-use Rattle.std.proofs.Common.{◌≡◌, ◌≢◌, ℕ, ◌⊎◌, Bool, true, false, cond, not, nat_eq, nat_lt, List, [], ◌∷◌, ◌++◌, length, Option, Some, None, Result, Ok, Err, refl, sym, ap, subst, ◌∙◌, arith, inl, inr}
+use Rattle.std.proofs.Common.{◌≡◌, ◌≢◌, ℕ, ◌⊎◌, Bool, true, false, cond, not, nat_eq, nat_lt, List, [], ◌∷◌, ◌++◌, length, drop, Option, Some, None, Result, Ok, Err, refl, sym, ap, subst, ◌∙◌, arith, inl, inr}
 use Rattle.std.specs.List.{list_any}
 use Rattle.std.proofs.lemmas.Bool.{le-ltb, ltb-false, eqb-true}
 use Rattle.std.proofs.lemmas.Bool.Decides.{nat_tests}
-use Rattle.cs_crontab.specs.declared.limits.TheConstants.{MAX_LINE}
-use Rattle.cs_crontab.specs.Format.{begins_setting, begins_as_setting}
-use Rattle.cs_crontab.specs.Setting.{IsSetting}
-use Rattle.cs_crontab.specs.SettingReading.{setting_of}
-use Rattle.cs_crontab.specs.Text.{front, after, is_blank, StopsAt}
-use Rattle.cs_crontab.proofs.Items.{some_from, some_to}
-use Rattle.cs_crontab.proofs.Settings.{setting_takes, setting_again}
-use Rattle.cs_crontab.proofs.Spans.{after_again, parts_joined, front_passes, after_stops}
+use Rattle.cs_table.specs.declared.limits.TheConstants.{MAX_LINE}
+use Rattle.cs_table.specs.Setting.{begins_setting, begins_as_setting, IsSetting}
+use Rattle.cs_table.specs.SettingReading.{setting_of}
+use Rattle.cs_table.specs.Text.{front, after, is_blank, StopsAt, is_nothing}
+use Rattle.cs_table.proofs.Spans.{some_from, some_to, after_again, parts_joined, front_passes, after_stops}
+use Rattle.cs_table.proofs.Settings.{setting_takes, setting_again}
 use Rattle.cs_anacrontab.specs.declared.limits.TheConstants.{MAX_DELAY}
 use Rattle.cs_anacrontab.specs.declared.period.Period.{Period}
 use Rattle.cs_anacrontab.specs.declared.fault.JobFault.{JobFault}
 use Rattle.cs_anacrontab.specs.declared.fault.JobFault.TheVariants as faults
 use Rattle.cs_anacrontab.specs.Anacrontab.{Entry, Nothing, Setting, Job}
-use Rattle.cs_anacrontab.specs.Reading.{◌>>=◌, number_of, or_fault, period_of, is_identifier, is_continued, word_at, completed, job_of, set, entry_of, line_of, is_nothing}
+use Rattle.cs_anacrontab.specs.Reading.{number_of, or_fault, period_of, is_identifier, is_continued, word_at, completed, job_of, set, entry_of, line_of}
+use Rattle.cs_table.specs.declared.fault.Wrong.{Wrong}
+use Rattle.cs_table.specs.Wrong.{◌>>=◌, at_end, at_front, at_nul, last_byte, whole, marked}
+use Rattle.cs_table.proofs.Results.{bind_ok, guard_ok, ok_is, marked_ok}
 use Rattle.cs_anacrontab.specs.Grammar.{IsIdentifier, IsJob, IsContinued, TextSays, Says}
-use Rattle.cs_anacrontab.proofs.Parts.{ok_is, guard_ok, fault_some, number_takes, number_again, begins_job, Begins, period_begins, period_takes, period_again, identifier_takes, identifier_again, word_some, word_takes, word_again, ends_elsewhere, elsewhere_ends}
+use Rattle.cs_anacrontab.proofs.Parts.{fault_some, number_takes, number_again, begins_job, Begins, period_begins, period_takes, period_again, identifier_takes, identifier_again, word_some, word_takes, word_again, ends_elsewhere, elsewhere_ends}
 
-abbrev said : Entry → Result Entry JobFault
+abbrev said : Entry → Result Entry (Wrong JobFault)
 said x = Ok x
-
-bind_ok : {A B : Type 0} (r : Result A JobFault) (f : A → Result B JobFault) (y : B) → (r >>= f) ≡ Ok y → (x : A) × (r ≡ Ok x) × (f x ≡ Ok y)
-bind_ok (Ok x) f y e = (x, refl, e)
-bind_ok (Err d) f y e = absurd cc
 
 -- ---- jobs
 
-completed_takes : (period : Period) (delay : ℕ) (identifier command : List ℕ) (x : Entry) → completed period delay identifier command ≡ Ok x → IsIdentifier identifier × (command ≢ []) × (Job period delay identifier command ≡ x)
-completed_takes period delay identifier command x e =
-    let one = guard_ok (not (is_identifier identifier)) faults.BadIdentifier (cond (is_nothing command) (Err faults.MissingField) (Ok (Job period delay identifier command))) x e in
-    let two = guard_ok (is_nothing command) faults.MissingField (Ok (Job period delay identifier command)) x one.1 in
+completed_takes : (period : Period) (delay : ℕ) (text identifier command : List ℕ) (x : Entry) → completed period delay text identifier command ≡ Ok x → IsIdentifier identifier × (command ≢ []) × (Job period delay identifier command ≡ x)
+completed_takes period delay text identifier command x e =
+    let one = guard_ok (not (is_identifier identifier)) (at_front faults.BadIdentifier text identifier) (cond (is_nothing command) (Err (at_end faults.MissingField)) (Ok (Job period delay identifier command))) x e in
+    let two = guard_ok (is_nothing command) (at_end faults.MissingField) (Ok (Job period delay identifier command)) x one.1 in
     (identifier_takes identifier (not_false (is_identifier identifier) one.0), some_from command two.0, ok_is (Job period delay identifier command) x two.1)
   where
     not_false : (t : Bool) → not t ≡ false → t ≡ true
     not_false true e = refl
     not_false false e = absurd cc
 
+abbrev pub identified : Period → ℕ → List ℕ → Result Entry (Wrong JobFault)
+identified period delay text = word_at text >>= λ third. completed period delay text third.0 third.1
+
+abbrev pub delayed : Period → List ℕ → Result Entry (Wrong JobFault)
+delayed period text = word_at text >>= λ second. marked (length text) (length second.0) (or_fault faults.BadDelay (number_of MAX_DELAY second.0)) >>= λ delay. identified period delay second.1
+
 job_takes : (text : List ℕ) (x : Entry) → StopsAt is_blank text → ¬ (IsContinued text) → job_of text ≡ Ok x → TextSays text x
 unfolding job_of
 job_takes text x stop ended e =
-    let a = bind_ok (word_at text) (λ first. period_of first.0 >>= λ period. word_at first.1 >>= λ second. or_fault faults.BadDelay (number_of MAX_DELAY second.0) >>= λ delay. word_at second.1 >>= λ third. completed period delay third.0 third.1) x e in
-    let b = bind_ok (period_of a.0.0) (λ period. word_at a.0.1 >>= λ second. or_fault faults.BadDelay (number_of MAX_DELAY second.0) >>= λ delay. word_at second.1 >>= λ third. completed period delay third.0 third.1) x a.2 in
-    let c = bind_ok (word_at a.0.1) (λ second. or_fault faults.BadDelay (number_of MAX_DELAY second.0) >>= λ delay. word_at second.1 >>= λ third. completed b.0 delay third.0 third.1) x b.2 in
-    let d = bind_ok (or_fault faults.BadDelay (number_of MAX_DELAY c.0.0)) (λ delay. word_at c.0.1 >>= λ third. completed b.0 delay third.0 third.1) x c.2 in
-    let f = bind_ok (word_at c.0.1) (λ third. completed b.0 d.0 third.0 third.1) x d.2 in
-    let g = completed_takes b.0 d.0 f.0.0 f.0.1 x f.2 in
+    let a = bind_ok (word_at text) (λ first. marked (length text) (length first.0) (period_of first.0) >>= λ period. delayed period first.1) x e in
+    let b = bind_ok (marked (length text) (length a.0.0) (period_of a.0.0)) (λ period. delayed period a.0.1) x a.2 in
+    let c = bind_ok (word_at a.0.1) (λ second. marked (length a.0.1) (length second.0) (or_fault faults.BadDelay (number_of MAX_DELAY second.0)) >>= λ delay. identified b.0 delay second.1) x b.2 in
+    let d = bind_ok (marked (length a.0.1) (length c.0.0) (or_fault faults.BadDelay (number_of MAX_DELAY c.0.0))) (λ delay. identified b.0 delay c.0.1) x c.2 in
+    let f = bind_ok (word_at c.0.1) (λ third. completed b.0 d.0 c.0.1 third.0 third.1) x d.2 in
+    let g = completed_takes b.0 d.0 c.0.1 f.0.0 f.0.1 x f.2 in
+    let dated = marked_ok (length text) (length a.0.0) (period_of a.0.0) b.0 b.1 in
+    let late = marked_ok (length a.0.1) (length c.0.0) (or_fault faults.BadDelay (number_of MAX_DELAY c.0.0)) d.0 d.1 in
     let first = word_takes text a.0 stop a.1 (word_some a.0.1 c.0 c.1) in
     let second = word_takes a.0.1 c.0 first.stops c.1 (word_some c.0.1 f.0 f.1) in
     let made : IsJob text b.0 d.0 f.0.0 f.0.1 =
@@ -59,8 +64,8 @@ job_takes text x stop ended e =
       first = first;
       second = second;
       third = word_takes c.0.1 f.0 second.stops f.1 g.1;
-      period_is = period_takes a.0.0 b.0 b.1;
-      delay_is = number_takes MAX_DELAY c.0.0 d.0 (fault_some faults.BadDelay (number_of MAX_DELAY c.0.0) d.0 d.1);
+      period_is = period_takes a.0.0 b.0 dated;
+      delay_is = number_takes MAX_DELAY c.0.0 d.0 (fault_some faults.BadDelay (number_of MAX_DELAY c.0.0) d.0 late);
       identifier_is = g.0;
       some = g.1;
     }
@@ -88,10 +93,10 @@ plain_setting b h = (grind (arith, nat_tests), grind (arith, nat_tests))
 
 -- ---- a line without its indent
 
-set_takes : (text : List ℕ) (x : Entry) → ¬ (IsContinued text) → begins_as_setting text ≡ true → set (setting_of text) ≡ Ok x → TextSays text x
+set_takes : (text : List ℕ) (x : Entry) → ¬ (IsContinued text) → begins_as_setting text ≡ true → set text (setting_of text) ≡ Ok x → TextSays text x
 set_takes text x ended begins e = by_found (setting_of text) refl e
   where
-    by_found : (o : Option (List ℕ × List ℕ)) → setting_of text ≡ o → set o ≡ Ok x → TextSays text x
+    by_found : (o : Option (List ℕ × List ℕ)) → setting_of text ≡ o → set text o ≡ Ok x → TextSays text x
     by_found None is e = absurd cc
     by_found (Some found) is e = subst (TextSays text) (ok_is (Setting found.0 found.1) x e) (ended, begins, setting_takes text found.0 found.1 is)
 
@@ -100,17 +105,17 @@ unfolding entry_of
 entry_takes [] x stop e = subst (TextSays []) (ok_is Nothing x e) (inl refl)
 entry_takes (b ∷ bs) x stop e = by_hash (nat_eq b 35) refl e
   where
-    by_setting : (t : Bool) → ¬ (IsContinued (b ∷ bs)) → begins_setting b ≡ t → cond t (set (setting_of (b ∷ bs))) (job_of (b ∷ bs)) ≡ said x → TextSays (b ∷ bs) x
+    by_setting : (t : Bool) → ¬ (IsContinued (b ∷ bs)) → begins_setting b ≡ t → cond t (set (b ∷ bs) (setting_of (b ∷ bs))) (job_of (b ∷ bs)) ≡ said x → TextSays (b ∷ bs) x
     by_setting true ended is e = set_takes (b ∷ bs) x ended is e
     by_setting false ended is e = job_takes (b ∷ bs) x stop ended e
 
-    by_hash : (t : Bool) → nat_eq b 35 ≡ t → cond t (Ok Nothing) (cond (is_continued (b ∷ bs)) (Err faults.Continued) (cond (begins_setting b) (set (setting_of (b ∷ bs))) (job_of (b ∷ bs)))) ≡ said x → TextSays (b ∷ bs) x
+    by_hash : (t : Bool) → nat_eq b 35 ≡ t → cond t (Ok Nothing) (cond (is_continued (b ∷ bs)) (Err (last_byte faults.Continued)) (cond (begins_setting b) (set (b ∷ bs) (setting_of (b ∷ bs))) (job_of (b ∷ bs)))) ≡ said x → TextSays (b ∷ bs) x
     by_hash true is e = subst (TextSays (b ∷ bs)) (ok_is Nothing x e) (a_comment (ap (λ (c : ℕ). c ∷ bs) (eqb-true b 35 is)))
       where
         a_comment : b ∷ bs ≡ 35 ∷ bs → (b ∷ bs ≡ []) ⊎ ((comment : List ℕ) × (b ∷ bs ≡ 35 ∷ comment))
         a_comment is = inr (bs, is)
     by_hash false is e =
-        let g = guard_ok (is_continued (b ∷ bs)) faults.Continued (cond (begins_setting b) (set (setting_of (b ∷ bs))) (job_of (b ∷ bs))) x e in
+        let g = guard_ok (is_continued (b ∷ bs)) (last_byte faults.Continued) (cond (begins_setting b) (set (b ∷ bs) (setting_of (b ∷ bs))) (job_of (b ∷ bs))) x e in
         by_setting (begins_setting b) (ends_elsewhere (b ∷ bs) g.0) refl g.1
 
 set_again : (text name value : List ℕ) → ¬ (IsContinued text) → begins_as_setting text ≡ true → IsSetting text name value → entry_of text ≡ Ok (Setting name value)
@@ -152,8 +157,8 @@ pub line_takes : (line : List ℕ) (x : Entry) → line_of line ≡ Ok x → Say
 unfolding line_of
 line_takes line x e =
     let text : List ℕ = after is_blank line in
-    let g = guard_ok (nat_lt MAX_LINE (length line)) faults.TooLong (cond (list_any (λ b. nat_eq b 0) line) (Err faults.NulByte) (entry_of text)) x e in
-    let h = guard_ok (list_any (λ b. nat_eq b 0) line) faults.NulByte (entry_of text) x g.1 in
+    let g = guard_ok (nat_lt MAX_LINE (length line)) (whole faults.TooLong (drop MAX_LINE line)) (cond (list_any (λ b. nat_eq b 0) line) (Err (at_nul faults.NulByte line)) (entry_of text)) x e in
+    let h = guard_ok (list_any (λ b. nat_eq b 0) line) (at_nul faults.NulByte line) (entry_of text) x g.1 in
     record {
       short = ltb-false MAX_LINE (length line) g.0;
       clean = h.0;
@@ -164,8 +169,10 @@ line_takes line x e =
       says = entry_takes text x (after_stops is_blank line) h.1;
     }
 
+-- the text of a line that says something begins after its blanks
+pub line_text : (line : List ℕ) (x : Entry) (is : Says line x) → after is_blank line ≡ is.text
+line_text line x is = ap (after is_blank) is.parts ∙ after_again is_blank is.indent is.text is.blank (text_stops is.text x is.says)
+
 pub line_again : (line : List ℕ) (x : Entry) → Says line x → line_of line ≡ Ok x
 unfolding line_of
-line_again line x is =
-    let trimmed : after is_blank line ≡ is.text = ap (after is_blank) is.parts ∙ after_again is_blank is.indent is.text is.blank (text_stops is.text x is.says) in
-    rw (le-ltb MAX_LINE (length line) is.short, is.clean, trimmed) (entry_again is.text x is.says)
+line_again line x is = rw (le-ltb MAX_LINE (length line) is.short, is.clean, line_text line x is) (entry_again is.text x is.says)

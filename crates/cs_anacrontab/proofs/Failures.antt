@@ -1,45 +1,34 @@
 -- Faults of a line: those that are read are its faults, and its faults are read.
-use Rattle.std.proofs.Common.{◌≡◌, ◌≢◌, ℕ, ◌⊎◌, Bool, true, false, cond, not, nat_eq, nat_lt, List, [], ◌∷◌, ◌++◌, length, Option, Some, None, Result, Ok, Err, refl, sym, ap, subst, ◌∙◌, inl, inr}
+use Rattle.std.proofs.Common.{◌≡◌, ◌≢◌, ℕ, ◌⊎◌, Bool, true, false, cond, not, nat_eq, nat_lt, List, [], ◌∷◌, ◌++◌, length, drop, Option, Some, None, Result, Ok, Err, refl, sym, ap, subst, ◌∙◌, arith, inl, inr}
 use Rattle.std.specs.List.{list_any}
 use Rattle.std.proofs.lemmas.Bool.{le-ltb, lt-ltb, ltb-true, ltb-false, eqb-false, ne_eqb, false_from_ne_true}
-use Rattle.cs_crontab.specs.declared.limits.TheConstants.{MAX_LINE}
-use Rattle.cs_crontab.specs.Format.{begins_with, begins_setting}
-use Rattle.cs_crontab.specs.SettingReading.{setting_of}
-use Rattle.cs_crontab.specs.Text.{front, after, is_blank, is_solid, StopsAt}
-use Rattle.cs_crontab.proofs.Items.{some_from, some_to}
-use Rattle.cs_crontab.proofs.Settings.{setting_takes, setting_again}
-use Rattle.cs_crontab.proofs.Spans.{front_again, after_again, parts_joined, front_passes, after_stops}
-use Rattle.cs_crontab.proofs.Whole.{front_some}
+use Rattle.std.proofs.lemmas.List.{length-append, length-drop}
+use Rattle.cs_table.specs.declared.limits.TheConstants.{MAX_LINE}
+use Rattle.cs_table.specs.Text.{begins_with, front, after, is_blank, is_solid, StopsAt, is_nothing}
+use Rattle.cs_table.specs.Setting.{begins_setting}
+use Rattle.cs_table.specs.SettingReading.{setting_of}
+use Rattle.cs_table.proofs.Spans.{some_from, some_to, front_again, after_again, parts_joined, front_passes, after_stops, front_some, joined_some}
+use Rattle.cs_table.proofs.Settings.{setting_takes, setting_again}
 use Rattle.cs_anacrontab.specs.declared.limits.TheConstants.{MAX_PERIOD, MAX_DELAY}
 use Rattle.cs_anacrontab.specs.declared.period.Period.{Period}
 use Rattle.cs_anacrontab.specs.declared.fault.JobFault.{JobFault}
 use Rattle.cs_anacrontab.specs.declared.fault.JobFault.TheVariants as faults
 use Rattle.cs_anacrontab.specs.Anacrontab.{Entry, Nothing, Setting, Job}
-use Rattle.cs_anacrontab.specs.Reading.{◌>>=◌, number_of, period_of_word, or_fault, days_of, period_of, is_identifier, is_continued, word_at, completed, job_of, set, entry_of, line_of, is_nothing}
+use Rattle.cs_anacrontab.specs.Reading.{number_of, period_of_word, or_fault, days_of, period_of, is_identifier, is_continued, word_at, completed, job_of, set, entry_of, line_of}
+use Rattle.cs_table.specs.declared.fault.Wrong.{Wrong}
+use Rattle.cs_table.specs.Wrong.{◌>>=◌, IsWithin, at_end, at_front, at_nul, last_byte, whole, marked}
+use Rattle.cs_table.proofs.Results.{bind_err, guard_ok, guard_err, ok_is, err_is, ok_no_err, marked_ok, marked_err, empty_is, same_wrong}
+use Rattle.cs_table.proofs.Places.{nul_takes, nul_again, nul_within, whole_within, within_longer}
 use Rattle.cs_anacrontab.specs.Grammar.{IsNumber, IsIdentifier}
 use Rattle.cs_anacrontab.specs.Faults.{HasNext, PeriodFails, IsMissing, IdentifierFails, DelayFails, JobFails, SettingFails, TextFails, LineFails}
-use Rattle.cs_anacrontab.proofs.Parts.{ok_is, guard_ok, fault_some, number_takes, number_again, period_takes, period_again, identifier_takes, identifier_again, ends_elsewhere, elsewhere_ends, continued_takes, continued_again}
-use Rattle.cs_anacrontab.proofs.Words.{nothing_from}
+use Rattle.cs_anacrontab.proofs.Parts.{fault_some, number_takes, number_again, period_takes, period_again, identifier_takes, identifier_again, ends_elsewhere, elsewhere_ends, continued_takes, continued_again}
+use Rattle.cs_anacrontab.proofs.Entries.{identified, delayed}
 
-abbrev failed : {A : Type 0} → JobFault → Result A JobFault
+abbrev failed : {A F : Type 0} → F → Result A F
 failed f = Err f
-
-err_is : {A : Type 0} (g d : JobFault) → failed {A = A} g ≡ failed d → g ≡ d
-err_is g d e = cc
-
-bind_err : {A B : Type 0} (r : Result A JobFault) (f : A → Result B JobFault) (d : JobFault) → (r >>= f) ≡ Err d → (r ≡ Err d) ⊎ ((x : A) × (r ≡ Ok x) × (f x ≡ Err d))
-bind_err (Ok x) f d e = inr (x, refl, e)
-bind_err (Err g) f d e = inl cc
-
-ok_no_err : {A : Type 0} (x : A) (d : JobFault) → ◌≡◌ {A = Result A JobFault} (Ok x) (Err d) → ⊥
-ok_no_err x d e = cc
 
 some_none : {A : Type 0} (x : A) → ◌≡◌ {A = Option A} (Some x) None → ⊥
 some_none x e = cc
-
-guard_err : {A : Type 0} (t : Bool) (g : JobFault) (r : Result A JobFault) (d : JobFault) → cond t (Err g) r ≡ Err d → ((t ≡ true) × (g ≡ d)) ⊎ ((t ≡ false) × (r ≡ Err d))
-guard_err true g r d e = inl (refl, cc)
-guard_err false g r d e = inr (refl, e)
 
 fault_none : {A : Type 0} (g d : JobFault) (o : Option A) → or_fault g o ≡ Err d → (o ≡ None) × (d ≡ g)
 fault_none g d None e = (refl, sym (err_is g d e))
@@ -47,23 +36,23 @@ fault_none g d (Some x) e = absurd (ok_no_err x d e)
 
 -- ---- words
 
-missing_is : (text : List ℕ) (fault : JobFault) → word_at text ≡ Err fault → IsMissing text fault
+missing_is : (text : List ℕ) (wrong : Wrong JobFault) → word_at text ≡ Err wrong → IsMissing text wrong
 unfolding word_at
-missing_is text fault e =
-    elim (guard_err (is_nothing text) faults.MissingField (Ok (front is_solid text, after is_blank (after is_solid text))) fault e) [
-      | inl none ↦ (nothing_from text none.0, sym none.1)
-      | inr wrong ↦ absurd (ok_no_err (front is_solid text, after is_blank (after is_solid text)) fault wrong.1)
+missing_is text wrong e =
+    elim (guard_err (is_nothing text) (at_end faults.MissingField) (Ok (front is_solid text, after is_blank (after is_solid text))) wrong e) [
+      | inl none ↦ (empty_is text none.0, sym none.1)
+      | inr some ↦ absurd (ok_no_err (front is_solid text, after is_blank (after is_solid text)) wrong some.1)
     ]
 
-missing_again : (text : List ℕ) (fault : JobFault) → IsMissing text fault → word_at text ≡ Err fault
+missing_again : (text : List ℕ) (wrong : Wrong JobFault) → IsMissing text wrong → word_at text ≡ Err wrong
 unfolding word_at
-missing_again text fault (empty, is) = ap word_at empty ∙ ap (λ (f : JobFault). failed f) (sym is)
+missing_again text wrong (empty, is) = ap word_at empty ∙ ap (λ (f : Wrong JobFault). failed f) (sym is)
 
 next_takes : (text : List ℕ) (x : List ℕ × List ℕ) → StopsAt is_blank text → word_at text ≡ Ok x → HasNext text x.0 x.1
 unfolding word_at
 next_takes text x stop e =
     let rest : List ℕ = after is_solid text in
-    let g = guard_ok (is_nothing text) faults.MissingField (Ok (front is_solid text, after is_blank rest)) x e in
+    let g = guard_ok (is_nothing text) (at_end faults.MissingField) (Ok (front is_solid text, after is_blank rest)) x e in
     let is : (front is_solid text, after is_blank rest) ≡ x = ok_is (front is_solid text, after is_blank rest) x g.1 in
     let ends : StopsAt is_solid (front is_blank rest ++ after is_blank rest) = subst (StopsAt is_solid) (sym (parts_joined is_blank rest)) (after_stops is_solid text) in
     let made : HasNext text (front is_solid text) (after is_blank rest) =
@@ -77,10 +66,6 @@ next_takes text x stop e =
     }
     in
     subst (λ (p : List ℕ × List ℕ). HasNext text p.0 p.1) is made
-
-joined_some : (word more : List ℕ) → word ≢ [] → word ++ more ≢ []
-joined_some [] more some e = some refl
-joined_some (b ∷ bs) more some e = cc
 
 next_again : (text word rest : List ℕ) → HasNext text word rest → word_at text ≡ Ok (word, rest)
 unfolding word_at
@@ -151,144 +136,189 @@ not_false false e = absurd cc
 
 -- ---- the parts of a job, from the last to the first
 
-module _ (period : Period) where
-  abbrev identified : ℕ → List ℕ → Result Entry JobFault
-  identified delay text = word_at text >>= λ third. completed period delay third.0 third.1
+front_is : (text word : List ℕ) (fault : JobFault) (wrong : Wrong JobFault) → wrong.fault ≡ fault → wrong.left ≡ length text → wrong.length ≡ length word → wrong ≡ at_front fault text word
+front_is text word fault wrong is left size = same_wrong wrong (at_front fault text word) is left size
 
-  identifier_fails : (delay : ℕ) (text : List ℕ) (fault : JobFault) → StopsAt is_blank text → identified delay text ≡ Err fault → IdentifierFails text fault
-  identifier_fails delay text fault stop e =
-      elim (bind_err (word_at text) (λ third. completed period delay third.0 third.1) fault e) [
-        | inl none ↦ inl (missing_is text fault none)
+module _ (period : Period) where
+  identifier_fails : (delay : ℕ) (text : List ℕ) (wrong : Wrong JobFault) → StopsAt is_blank text → identified period delay text ≡ Err wrong → IdentifierFails text wrong
+  identifier_fails delay text wrong stop e =
+      elim (bind_err (word_at text) (λ third. completed period delay text third.0 third.1) wrong e) [
+        | inl none ↦ inl (missing_is text wrong none)
         | inr third ↦
             let word : List ℕ = third.0.0 in
             let command : List ℕ = third.0.1 in
             let next = next_takes text third.0 stop third.1 in
-            elim (guard_err (not (is_identifier word)) faults.BadIdentifier (cond (is_nothing command) (Err faults.MissingField) (Ok (Job period delay word command))) fault third.2) [
+            elim (guard_err (not (is_identifier word)) (at_front faults.BadIdentifier text word) (cond (is_nothing command) (Err (at_end faults.MissingField)) (Ok (Job period delay word command))) wrong third.2) [
               | inl bad ↦ inr (word, command, next, inl (no_identifier word (not_true (is_identifier word) bad.0), sym bad.1))
               | inr good ↦
-                  elim (guard_err (is_nothing command) faults.MissingField (Ok (Job period delay word command)) fault good.1) [
-                    | inl none ↦ inr (word, command, next, inr (identifier_takes word (not_false (is_identifier word) good.0), (nothing_from command none.0, sym none.1)))
-                    | inr wrong ↦ absurd (ok_no_err (Job period delay word command) fault wrong.1)
+                  elim (guard_err (is_nothing command) (at_end faults.MissingField) (Ok (Job period delay word command)) wrong good.1) [
+                    | inl none ↦ inr (word, command, next, inr (identifier_takes word (not_false (is_identifier word) good.0), (empty_is command none.0, sym none.1)))
+                    | inr some ↦ absurd (ok_no_err (Job period delay word command) wrong some.1)
                   ]
             ]
       ]
 
-  identifier_fails_again : (delay : ℕ) (text : List ℕ) (fault : JobFault) → IdentifierFails text fault → identified delay text ≡ Err fault
-  identifier_fails_again delay text fault (inl missing) = rw (missing_again text fault missing) refl
-  identifier_fails_again delay text fault (inr (word, rest, next, inl (bad, is))) = rw (next_again text word rest next, identifier_false word bad) (ap (λ (f : JobFault). failed f) (sym is))
-  identifier_fails_again delay text fault (inr (word, rest, next, inr (good, missing))) =
-      rw (next_again text word rest next, identifier_again word good, missing.0) (ap (λ (f : JobFault). failed f) (sym missing.1))
+  identifier_fails_again : (delay : ℕ) (text : List ℕ) (wrong : Wrong JobFault) → IdentifierFails text wrong → identified period delay text ≡ Err wrong
+  identifier_fails_again delay text wrong (inl missing) = rw (missing_again text wrong missing) refl
+  identifier_fails_again delay text wrong (inr (word, rest, next, inl (bad, is))) = rw (next_again text word rest next, identifier_false word bad) (ap (λ (f : Wrong JobFault). failed f) (sym is))
+  identifier_fails_again delay text wrong (inr (word, rest, next, inr (good, missing))) =
+      rw (next_again text word rest next, identifier_again word good, missing.0) (ap (λ (f : Wrong JobFault). failed f) (sym missing.1))
 
-  abbrev delayed : List ℕ → Result Entry JobFault
-  delayed text = word_at text >>= λ second. or_fault faults.BadDelay (number_of MAX_DELAY second.0) >>= λ delay. identified delay second.1
-
-  delay_fails : (text : List ℕ) (fault : JobFault) → StopsAt is_blank text → delayed text ≡ Err fault → DelayFails text fault
-  delay_fails text fault stop e =
-      elim (bind_err (word_at text) (λ second. or_fault faults.BadDelay (number_of MAX_DELAY second.0) >>= λ delay. identified delay second.1) fault e) [
-        | inl none ↦ inl (missing_is text fault none)
+  delay_fails : (text : List ℕ) (wrong : Wrong JobFault) → StopsAt is_blank text → delayed period text ≡ Err wrong → DelayFails text wrong
+  delay_fails text wrong stop e =
+      elim (bind_err (word_at text) (λ second. marked (length text) (length second.0) (or_fault faults.BadDelay (number_of MAX_DELAY second.0)) >>= λ delay. identified period delay second.1) wrong e) [
+        | inl none ↦ inl (missing_is text wrong none)
         | inr second ↦
             let word : List ℕ = second.0.0 in
             let rest : List ℕ = second.0.1 in
             let next = next_takes text second.0 stop second.1 in
-            elim (bind_err (or_fault faults.BadDelay (number_of MAX_DELAY word)) (λ delay. identified delay rest) fault second.2) [
-              | inl bad ↦ let none = fault_none faults.BadDelay fault (number_of MAX_DELAY word) bad in inr (word, rest, next, inl (no_number MAX_DELAY word none.0, none.1))
+            let read : Result ℕ JobFault = or_fault faults.BadDelay (number_of MAX_DELAY word) in
+            elim (bind_err (marked (length text) (length word) read) (λ delay. identified period delay rest) wrong second.2) [
+              | inl bad ↦
+                  let m = marked_err (length text) (length word) read wrong bad in
+                  let none = fault_none faults.BadDelay wrong.fault (number_of MAX_DELAY word) m.0 in
+                  inr (word, rest, next, inl (no_number MAX_DELAY word none.0, front_is text word faults.BadDelay wrong none.1 m.1 m.2))
               | inr good ↦
-                  let is : IsNumber MAX_DELAY word good.0 = number_takes MAX_DELAY word good.0 (fault_some faults.BadDelay (number_of MAX_DELAY word) good.0 good.1) in
-                  inr (word, rest, next, inr (good.0, is, identifier_fails good.0 rest fault next.stops good.2))
+                  let is : IsNumber MAX_DELAY word good.0 = number_takes MAX_DELAY word good.0 (fault_some faults.BadDelay (number_of MAX_DELAY word) good.0 (marked_ok (length text) (length word) read good.0 good.1)) in
+                  inr (word, rest, next, inr (good.0, is, identifier_fails good.0 rest wrong next.stops good.2))
             ]
       ]
 
-  delay_fails_again : (text : List ℕ) (fault : JobFault) → DelayFails text fault → delayed text ≡ Err fault
-  delay_fails_again text fault (inl missing) = rw (missing_again text fault missing) refl
-  delay_fails_again text fault (inr (word, rest, next, inl (bad, is))) = rw (next_again text word rest next, number_none MAX_DELAY word bad) (ap (λ (f : JobFault). failed f) (sym is))
-  delay_fails_again text fault (inr (word, rest, next, inr (n, is, fails))) = rw (next_again text word rest next, number_again MAX_DELAY word n is) (identifier_fails_again n rest fault fails)
+  delay_fails_again : (text : List ℕ) (wrong : Wrong JobFault) → DelayFails text wrong → delayed period text ≡ Err wrong
+  delay_fails_again text wrong (inl missing) = rw (missing_again text wrong missing) refl
+  delay_fails_again text wrong (inr (word, rest, next, inl (bad, is))) = rw (next_again text word rest next, number_none MAX_DELAY word bad) (ap (λ (f : Wrong JobFault). failed f) (sym is))
+  delay_fails_again text wrong (inr (word, rest, next, inr (n, is, fails))) = rw (next_again text word rest next, number_again MAX_DELAY word n is) (identifier_fails_again n rest wrong fails)
 
-job_fails : (text : List ℕ) (fault : JobFault) → text ≢ [] → StopsAt is_blank text → job_of text ≡ Err fault → JobFails text fault
+job_fails : (text : List ℕ) (wrong : Wrong JobFault) → text ≢ [] → StopsAt is_blank text → job_of text ≡ Err wrong → JobFails text wrong
 unfolding job_of
-job_fails text fault some stop e =
-    elim (bind_err (word_at text) (λ first. period_of first.0 >>= λ period. delayed period first.1) fault e) [
-      | inl none ↦ absurd (some (missing_is text fault none).0)
+job_fails text wrong some stop e =
+    elim (bind_err (word_at text) (λ first. marked (length text) (length first.0) (period_of first.0) >>= λ period. delayed period first.1) wrong e) [
+      | inl none ↦ absurd (some (missing_is text wrong none).0)
       | inr first ↦
           let word : List ℕ = first.0.0 in
           let rest : List ℕ = first.0.1 in
           let next = next_takes text first.0 stop first.1 in
-          elim (bind_err (period_of word) (λ period. delayed period rest) fault first.2) [
-            | inl bad ↦ (word, rest, next, inl (period_fails word fault bad))
-            | inr good ↦ (word, rest, next, inr (good.0, period_takes word good.0 good.1, delay_fails good.0 rest fault next.stops good.2))
+          elim (bind_err (marked (length text) (length word) (period_of word)) (λ period. delayed period rest) wrong first.2) [
+            | inl bad ↦
+                let m = marked_err (length text) (length word) (period_of word) wrong bad in
+                (word, rest, next, inl (wrong.fault, period_fails word wrong.fault m.0, front_is text word wrong.fault wrong refl m.1 m.2))
+            | inr good ↦ (word, rest, next, inr (good.0, period_takes word good.0 (marked_ok (length text) (length word) (period_of word) good.0 good.1), delay_fails good.0 rest wrong next.stops good.2))
           ]
     ]
 
-job_fails_again : (text : List ℕ) (fault : JobFault) → JobFails text fault → job_of text ≡ Err fault
+job_fails_again : (text : List ℕ) (wrong : Wrong JobFault) → JobFails text wrong → job_of text ≡ Err wrong
 unfolding job_of
-job_fails_again text fault (word, rest, next, inl bad) = rw (next_again text word rest next, period_fails_again word fault bad) refl
-job_fails_again text fault (word, rest, next, inr (period, is, fails)) = rw (next_again text word rest next, period_again word period is) (delay_fails_again period rest fault fails)
+job_fails_again text wrong (word, rest, next, inl (fault, bad, is)) = rw (next_again text word rest next, period_fails_again word fault bad) (ap (λ (f : Wrong JobFault). failed f) (sym is))
+job_fails_again text wrong (word, rest, next, inr (period, is, fails)) = rw (next_again text word rest next, period_again word period is) (delay_fails_again period rest wrong fails)
 
 -- ---- settings
 
-setting_fails : (text : List ℕ) (fault : JobFault) → set (setting_of text) ≡ Err fault → SettingFails text fault
-setting_fails text fault e = by_found (setting_of text) refl e
+setting_fails : (text : List ℕ) (wrong : Wrong JobFault) → set text (setting_of text) ≡ Err wrong → SettingFails text wrong
+setting_fails text wrong e = by_found (setting_of text) refl e
   where
-    by_found : (o : Option (List ℕ × List ℕ)) → setting_of text ≡ o → set o ≡ Err fault → SettingFails text fault
-    by_found None is e = (λ name value setting. some_none (name, value) (sym (setting_again text name value setting) ∙ is), sym (err_is {A = Entry} faults.BadSetting fault e))
-    by_found (Some found) is e = absurd (ok_no_err (Setting found.0 found.1) fault e)
+    by_found : (o : Option (List ℕ × List ℕ)) → setting_of text ≡ o → set text o ≡ Err wrong → SettingFails text wrong
+    by_found None is e = (λ name value setting. some_none (name, value) (sym (setting_again text name value setting) ∙ is), sym (err_is {A = Entry} (whole faults.BadSetting text) wrong e))
+    by_found (Some found) is e = absurd (ok_no_err (Setting found.0 found.1) wrong e)
 
-setting_fails_again : (text : List ℕ) (fault : JobFault) → SettingFails text fault → set (setting_of text) ≡ Err fault
-setting_fails_again text fault (none, bad) = by_found (setting_of text) refl
+setting_fails_again : (text : List ℕ) (wrong : Wrong JobFault) → SettingFails text wrong → set text (setting_of text) ≡ Err wrong
+setting_fails_again text wrong (none, bad) = by_found (setting_of text) refl
   where
-    by_found : (o : Option (List ℕ × List ℕ)) → setting_of text ≡ o → set o ≡ Err fault
-    by_found None is = ap (λ (f : JobFault). failed f) (sym bad)
+    by_found : (o : Option (List ℕ × List ℕ)) → setting_of text ≡ o → set text o ≡ Err wrong
+    by_found None is = ap (λ (f : Wrong JobFault). failed f) (sym bad)
     by_found (Some found) is = absurd (none found.0 found.1 (setting_takes text found.0 found.1 is))
 
 -- ---- a line without its indent
 
-text_fails : (text : List ℕ) (fault : JobFault) → StopsAt is_blank text → entry_of text ≡ Err fault → TextFails text fault
+text_fails : (text : List ℕ) (wrong : Wrong JobFault) → StopsAt is_blank text → entry_of text ≡ Err wrong → TextFails text wrong
 unfolding entry_of
-text_fails [] fault stop e = absurd (ok_no_err Nothing fault e)
-text_fails (b ∷ bs) fault stop e = by_hash (nat_eq b 35) refl e
+text_fails [] wrong stop e = absurd (ok_no_err Nothing wrong e)
+text_fails (b ∷ bs) wrong stop e = by_hash (nat_eq b 35) refl e
   where
-    by_setting : (t : Bool) → begins_setting b ≡ t → nat_eq b 35 ≡ false → is_continued (b ∷ bs) ≡ false → cond t (set (setting_of (b ∷ bs))) (job_of (b ∷ bs)) ≡ failed {A = Entry} fault → TextFails (b ∷ bs) fault
-    by_setting true is hash ended e = (eqb-false b 35 hash, inr (ends_elsewhere (b ∷ bs) ended, inl (is, setting_fails (b ∷ bs) fault e)))
-    by_setting false is hash ended e = (eqb-false b 35 hash, inr (ends_elsewhere (b ∷ bs) ended, inr (is, job_fails (b ∷ bs) fault (λ q. cc) stop e)))
+    by_setting : (t : Bool) → begins_setting b ≡ t → nat_eq b 35 ≡ false → is_continued (b ∷ bs) ≡ false → cond t (set (b ∷ bs) (setting_of (b ∷ bs))) (job_of (b ∷ bs)) ≡ failed {A = Entry} wrong → TextFails (b ∷ bs) wrong
+    by_setting true is hash ended e = (eqb-false b 35 hash, inr (ends_elsewhere (b ∷ bs) ended, inl (is, setting_fails (b ∷ bs) wrong e)))
+    by_setting false is hash ended e = (eqb-false b 35 hash, inr (ends_elsewhere (b ∷ bs) ended, inr (is, job_fails (b ∷ bs) wrong (λ q. cc) stop e)))
 
-    by_hash : (t : Bool) → nat_eq b 35 ≡ t → cond t (Ok Nothing) (cond (is_continued (b ∷ bs)) (Err faults.Continued) (cond (begins_setting b) (set (setting_of (b ∷ bs))) (job_of (b ∷ bs)))) ≡ failed {A = Entry} fault → TextFails (b ∷ bs) fault
-    by_hash true is e = absurd (ok_no_err Nothing fault e)
+    by_hash : (t : Bool) → nat_eq b 35 ≡ t → cond t (Ok Nothing) (cond (is_continued (b ∷ bs)) (Err (last_byte faults.Continued)) (cond (begins_setting b) (set (b ∷ bs) (setting_of (b ∷ bs))) (job_of (b ∷ bs)))) ≡ failed {A = Entry} wrong → TextFails (b ∷ bs) wrong
+    by_hash true is e = absurd (ok_no_err Nothing wrong e)
     by_hash false is e =
-        elim (guard_err (is_continued (b ∷ bs)) faults.Continued (cond (begins_setting b) (set (setting_of (b ∷ bs))) (job_of (b ∷ bs))) fault e) [
+        elim (guard_err (is_continued (b ∷ bs)) (last_byte faults.Continued) (cond (begins_setting b) (set (b ∷ bs) (setting_of (b ∷ bs))) (job_of (b ∷ bs))) wrong e) [
           | inl continued ↦ (eqb-false b 35 is, inl (continued_takes (b ∷ bs) continued.0, sym continued.1))
           | inr ended ↦ by_setting (begins_setting b) refl is ended.0 ended.1
         ]
 
-text_fails_again : (text : List ℕ) (fault : JobFault) → TextFails text fault → entry_of text ≡ Err fault
+text_fails_again : (text : List ℕ) (wrong : Wrong JobFault) → TextFails text wrong → entry_of text ≡ Err wrong
 unfolding entry_of
-text_fails_again [] fault none = absurd none
-text_fails_again (b ∷ bs) fault (hash, inl (continued, is)) = rw (ne_eqb b 35 hash, continued_again (b ∷ bs) continued) (ap (λ (f : JobFault). failed f) (sym is))
-text_fails_again (b ∷ bs) fault (hash, inr (ended, inl (begins, fails))) = rw (ne_eqb b 35 hash, elsewhere_ends (b ∷ bs) ended, begins) (setting_fails_again (b ∷ bs) fault fails)
-text_fails_again (b ∷ bs) fault (hash, inr (ended, inr (plain, fails))) = rw (ne_eqb b 35 hash, elsewhere_ends (b ∷ bs) ended, plain) (job_fails_again (b ∷ bs) fault fails)
+text_fails_again [] wrong none = absurd none
+text_fails_again (b ∷ bs) wrong (hash, inl (continued, is)) = rw (ne_eqb b 35 hash, continued_again (b ∷ bs) continued) (ap (λ (f : Wrong JobFault). failed f) (sym is))
+text_fails_again (b ∷ bs) wrong (hash, inr (ended, inl (begins, fails))) = rw (ne_eqb b 35 hash, elsewhere_ends (b ∷ bs) ended, begins) (setting_fails_again (b ∷ bs) wrong fails)
+text_fails_again (b ∷ bs) wrong (hash, inr (ended, inr (plain, fails))) = rw (ne_eqb b 35 hash, elsewhere_ends (b ∷ bs) ended, plain) (job_fails_again (b ∷ bs) wrong fails)
 
 -- ---- a line
 
-pub line_fails : (line : List ℕ) (fault : JobFault) → line_of line ≡ Err fault → LineFails line fault
+pub line_fails : (line : List ℕ) (wrong : Wrong JobFault) → line_of line ≡ Err wrong → LineFails line wrong
 unfolding line_of
-line_fails line fault e =
+line_fails line wrong e =
     let text : List ℕ = after is_blank line in
-    elim (guard_err (nat_lt MAX_LINE (length line)) faults.TooLong (cond (list_any (λ b. nat_eq b 0) line) (Err faults.NulByte) (entry_of text)) fault e) [
+    elim (guard_err (nat_lt MAX_LINE (length line)) (whole faults.TooLong (drop MAX_LINE line)) (cond (list_any (λ b. nat_eq b 0) line) (Err (at_nul faults.NulByte line)) (entry_of text)) wrong e) [
       | inl long ↦ inl (ltb-true MAX_LINE (length line) long.0, sym long.1)
       | inr short ↦
-          elim (guard_err (list_any (λ b. nat_eq b 0) line) faults.NulByte (entry_of text) fault short.1) [
-            | inl nul ↦ inr (inl (ltb-false MAX_LINE (length line) short.0, nul.0, sym nul.1))
+          elim (guard_err (list_any (λ b. nat_eq b 0) line) (at_nul faults.NulByte line) (entry_of text) wrong short.1) [
+            | inl nul ↦ inr (inl (ltb-false MAX_LINE (length line) short.0, nul_takes faults.NulByte line wrong nul.0 (sym nul.1)))
             | inr clean ↦
                 inr (inr (
                   ltb-false MAX_LINE (length line) short.0,
                   clean.0,
-                  (front is_blank line, text, sym (parts_joined is_blank line), front_passes is_blank line, after_stops is_blank line, text_fails text fault (after_stops is_blank line) clean.1),
+                  (front is_blank line, text, sym (parts_joined is_blank line), front_passes is_blank line, after_stops is_blank line, text_fails text wrong (after_stops is_blank line) clean.1),
                 ))
           ]
     ]
 
-pub line_fails_again : (line : List ℕ) (fault : JobFault) → LineFails line fault → line_of line ≡ Err fault
+pub line_fails_again : (line : List ℕ) (wrong : Wrong JobFault) → LineFails line wrong → line_of line ≡ Err wrong
 unfolding line_of
-line_fails_again line fault (inl (long, is)) = rw (lt-ltb MAX_LINE (length line) long) (ap (λ (f : JobFault). failed f) (sym is))
-line_fails_again line fault (inr (inl (short, nul, is))) = rw (le-ltb MAX_LINE (length line) short, nul) (ap (λ (f : JobFault). failed f) (sym is))
-line_fails_again line fault (inr (inr (short, clean, (indent, text, parts, blank, stop, fails)))) =
+line_fails_again line wrong (inl (long, is)) = rw (lt-ltb MAX_LINE (length line) long) (ap (λ (f : Wrong JobFault). failed f) (sym is))
+line_fails_again line wrong (inr (inl (short, nul))) =
+    let n = nul_again faults.NulByte line wrong nul in
+    rw (le-ltb MAX_LINE (length line) short, n.0) (ap (λ (f : Wrong JobFault). failed f) (sym n.1))
+line_fails_again line wrong (inr (inr (short, clean, (indent, text, parts, blank, stop, fails)))) =
     let trimmed : after is_blank line ≡ text = ap (after is_blank) parts ∙ after_again is_blank indent text blank stop in
-    rw (le-ltb MAX_LINE (length line) short, clean, trimmed) (text_fails_again text fault fails)
+    rw (le-ltb MAX_LINE (length line) short, clean, trimmed) (text_fails_again text wrong fails)
+
+-- ---- what is wrong is a part of the line
+
+missing_within : (text : List ℕ) (wrong : Wrong JobFault) → wrong ≡ at_end faults.MissingField → IsWithin text wrong
+missing_within text wrong is = (omega (arith, ap (λ (w : Wrong JobFault). w.left) is), omega (arith, ap (λ (w : Wrong JobFault). w.length) is))
+
+front_within : (text word rest : List ℕ) (fault : JobFault) (wrong : Wrong JobFault) → HasNext text word rest → wrong ≡ at_front fault text word → IsWithin text wrong
+front_within text word rest fault wrong next is =
+    let left = ap (λ (w : Wrong JobFault). w.left) is in
+    let size = ap (λ (w : Wrong JobFault). w.length) is in
+    let whole = ap (length {A = ℕ}) next.parts ∙ length-append word (next.gap ++ rest) in
+    (omega (arith, left), omega (arith, left, size, whole))
+
+rest_within : (text word rest : List ℕ) (wrong : Wrong JobFault) → HasNext text word rest → IsWithin rest wrong → IsWithin text wrong
+rest_within text word rest wrong next within = within_longer word (next.gap ++ rest) text wrong next.parts (within_longer next.gap rest (next.gap ++ rest) wrong refl within)
+
+identifier_within : (text : List ℕ) (wrong : Wrong JobFault) → IdentifierFails text wrong → IsWithin text wrong
+identifier_within text wrong (inl missing) = missing_within text wrong missing.1
+identifier_within text wrong (inr (word, rest, next, inl (bad, is))) = front_within text word rest faults.BadIdentifier wrong next is
+identifier_within text wrong (inr (word, rest, next, inr (good, missing))) = missing_within text wrong missing.1
+
+delay_within : (text : List ℕ) (wrong : Wrong JobFault) → DelayFails text wrong → IsWithin text wrong
+delay_within text wrong (inl missing) = missing_within text wrong missing.1
+delay_within text wrong (inr (word, rest, next, inl (bad, is))) = front_within text word rest faults.BadDelay wrong next is
+delay_within text wrong (inr (word, rest, next, inr (n, is, fails))) = rest_within text word rest wrong next (identifier_within rest wrong fails)
+
+job_within : (text : List ℕ) (wrong : Wrong JobFault) → JobFails text wrong → IsWithin text wrong
+job_within text wrong (word, rest, next, inl (fault, bad, is)) = front_within text word rest fault wrong next is
+job_within text wrong (word, rest, next, inr (period, is, fails)) = rest_within text word rest wrong next (delay_within rest wrong fails)
+
+text_within : (text : List ℕ) (wrong : Wrong JobFault) → TextFails text wrong → IsWithin text wrong
+text_within [] wrong none = absurd none
+text_within (b ∷ bs) wrong (hash, inl (continued, is)) = (omega (arith, ap (λ (w : Wrong JobFault). w.left) is), omega (arith, ap (λ (w : Wrong JobFault). w.left) is, ap (λ (w : Wrong JobFault). w.length) is))
+text_within (b ∷ bs) wrong (hash, inr (ended, inl (begins, (none, bad)))) = whole_within faults.BadSetting (b ∷ bs) wrong (b ∷ bs) (omega arith) bad
+text_within (b ∷ bs) wrong (hash, inr (ended, inr (plain, fails))) = job_within (b ∷ bs) wrong fails
+
+pub line_within : (line : List ℕ) (wrong : Wrong JobFault) → LineFails line wrong → IsWithin line wrong
+line_within line wrong (inl (long, is)) = whole_within faults.TooLong line wrong (drop MAX_LINE line) (omega (arith, length-drop MAX_LINE line)) is
+line_within line wrong (inr (inl (short, nul))) = nul_within faults.NulByte line wrong nul
+line_within line wrong (inr (inr (short, clean, (indent, text, parts, blank, stop, fails)))) = within_longer indent text line wrong parts (text_within text wrong fails)

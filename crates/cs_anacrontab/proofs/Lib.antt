@@ -1,6 +1,5 @@
 pub mod Stamps
 pub mod Words
-pub mod Loop
 pub mod Parts
 pub mod Entries
 pub mod Failures

@@ -40,15 +40,3 @@ unnamed_takes identifier lines e = λ k d below same.
 
 pub distinct_push : (lines : List JobLine) (job : JobLine) → AreDistinct lines → All (λ before. before.identifier ≢ job.identifier) lines → AreDistinct (lines ++ job ∷ [])
 distinct_push lines job distinct all = all_pairs_push Differ lines job distinct (λ k d below. all k d below)
-
--- the first jobs of some that are distinct
-pub distinct_part : (lines more : List JobLine) → AreDistinct (lines ++ more) → AreDistinct lines
-distinct_part lines more distinct = λ i j d low high same.
-    distinct i j d low (omega (arith, high, length-append lines more))
-    (ap (λ (x : JobLine). x.identifier) (get_or_append_left lines more d i (omega (arith, low, high))) ∙ same ∙ sym (ap (λ (x : JobLine). x.identifier) (get_or_append_left lines more d j high)))
-
--- the job after them is none of them
-pub distinct_last : (lines : List JobLine) (job : JobLine) (more : List JobLine) → AreDistinct (lines ++ job ∷ more) → All (λ before. before.identifier ≢ job.identifier) lines
-distinct_last lines job more distinct = λ k d below same.
-    distinct k (length lines) d below (omega (arith, length-append lines (job ∷ more)))
-    (ap (λ (x : JobLine). x.identifier) (get_or_append_left lines (job ∷ more) d k below) ∙ same ∙ sym (ap (λ (x : JobLine). x.identifier) (get_or-append_seam lines job more d)))

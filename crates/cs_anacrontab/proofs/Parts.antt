@@ -8,29 +8,23 @@ use Rattle.std.proofs.lemmas.Bool.{le-ltb, ltb-false, eqb-true, false_from_ne_tr
 use Rattle.std.proofs.lemmas.Bool.Decides.{nat_tests}
 use Rattle.std.proofs.lemmas.Slice.Eq.{bytes_eq-Decides, ends_is}
 use Rattle.std.proofs.lemmas.Str.{is_utf8-from_IsUtf8, IsUtf8-from_is_utf8}
-use Rattle.cs_crontab.specs.Text.{front, after, is_blank, is_solid, is_digit, decimal, Are, StopsAt}
-use Rattle.cs_crontab.proofs.Items.{some_from, some_to}
-use Rattle.cs_crontab.proofs.Spans.{front_again, after_again, parts_joined, front_passes, after_stops, and_left, and_right}
-use Rattle.cs_crontab.proofs.Whole.{front_some, gap_some, gap_stops}
+use Rattle.cs_table.specs.Text.{front, after, is_blank, is_solid, is_digit, decimal, Are, StopsAt}
+use Rattle.cs_table.proofs.Spans.{some_from, some_to, front_again, after_again, parts_joined, front_passes, after_stops, and_left, and_right, front_some, gap_some, gap_stops, joined_some}
+use Rattle.cs_table.specs.Wrong.{at_end}
+use Rattle.cs_table.proofs.Results.{ok_is, guard_ok}
 use Rattle.cs_anacrontab.specs.declared.limits.TheConstants.{MAX_PERIOD, MAX_IDENTIFIER}
 use Rattle.cs_anacrontab.specs.declared.period.Period.{Period}
 use Rattle.cs_anacrontab.specs.declared.period.Period.TheVariants.{Days, Monthly}
 use Rattle.cs_anacrontab.specs.declared.fault.JobFault.{JobFault}
 use Rattle.cs_anacrontab.specs.declared.fault.JobFault.TheVariants as faults
-use Rattle.cs_anacrontab.specs.Reading.{number_of, period_of_word, or_fault, days_of, period_of, is_folder, is_identifier, is_continued, word_at, is_nothing}
+use Rattle.cs_anacrontab.specs.Reading.{number_of, period_of_word, or_fault, days_of, period_of, is_folder, is_identifier, is_continued, behind_word, word_at}
+use Rattle.cs_table.specs.Text.{is_nothing}
 use Rattle.cs_anacrontab.specs.Grammar.{IsNumber, IsPeriod, IsIdentifier, HasWord, IsContinued}
 
 -- ---- tests and steps that did not fail
 
 abbrev done : {A : Type 0} → A → Result A JobFault
 done x = Ok x
-
-pub ok_is : {A : Type 0} (x y : A) → done x ≡ done y → x ≡ y
-ok_is x y e = cc
-
-pub guard_ok : {A : Type 0} (b : Bool) (d : JobFault) (r : Result A JobFault) (y : A) → cond b (Err d) r ≡ Ok y → (b ≡ false) × (r ≡ Ok y)
-guard_ok true d r y e = absurd cc
-guard_ok false d r y e = (refl, e)
 
 pub fault_some : {A : Type 0} (d : JobFault) (o : Option A) (x : A) → or_fault d o ≡ Ok x → o ≡ Some x
 fault_some d None x e = absurd cc
@@ -188,13 +182,13 @@ identifier_again word is =
 
 pub word_some : (text : List ℕ) (x : List ℕ × List ℕ) → word_at text ≡ Ok x → text ≢ []
 unfolding word_at
-word_some text x e = some_from text (guard_ok (is_nothing text) faults.MissingField (Ok (front is_solid text, after is_blank (after is_solid text))) x e).0
+word_some text x e = some_from text (guard_ok (is_nothing text) (at_end faults.MissingField) (Ok (front is_solid text, after is_blank (after is_solid text))) x e).0
 
 pub word_takes : (text : List ℕ) (x : List ℕ × List ℕ) → StopsAt is_blank text → word_at text ≡ Ok x → x.1 ≢ [] → HasWord text x.0 x.1
 unfolding word_at
 word_takes text x stop e some =
     let rest : List ℕ = after is_solid text in
-    let g = guard_ok (is_nothing text) faults.MissingField (Ok (front is_solid text, after is_blank rest)) x e in
+    let g = guard_ok (is_nothing text) (at_end faults.MissingField) (Ok (front is_solid text, after is_blank rest)) x e in
     let is : (front is_solid text, after is_blank rest) ≡ x = ok_is (front is_solid text, after is_blank rest) x g.1 in
     let follows : after is_blank rest ≢ [] = λ empty. some (sym (ap (λ (p : List ℕ × List ℕ). p.1) is) ∙ empty) in
     let made : HasWord text (front is_solid text) (after is_blank rest) =
@@ -208,16 +202,18 @@ word_takes text x stop e some =
     in
     subst (λ (p : List ℕ × List ℕ). HasWord text p.0 p.1) is made
 
-joined_some : (word more : List ℕ) → word ≢ [] → word ++ more ≢ []
-joined_some [] more some e = some refl
-joined_some (b ∷ bs) more some e = cc
-
 pub word_again : (text word rest : List ℕ) → HasWord text word rest → word_at text ≡ Ok (word, rest)
 unfolding word_at
 word_again text word rest is =
     let stop = gap_stops is.gap rest is.blank in
     ap word_at is.parts
     ∙ rw (some_to (word ++ (is.gap ++ rest)) (joined_some word (is.gap ++ rest) is.solid.1), front_again is_solid word (is.gap ++ rest) is.solid.0 stop, after_again is_solid word (is.gap ++ rest) is.solid.0 stop, after_again is_blank is.gap rest is.blank.0 is.stops) refl
+
+-- the text behind a word
+pub word_behind : (text word rest : List ℕ) → HasWord text word rest → behind_word text ≡ rest
+word_behind text word rest is =
+    let stop = gap_stops is.gap rest is.blank in
+    ap behind_word is.parts ∙ ap (after is_blank) (after_again is_solid word (is.gap ++ rest) is.solid.0 stop) ∙ after_again is_blank is.gap rest is.blank.0 is.stops
 
 -- ---- a backslash at the end
 

@@ -6,19 +6,11 @@ use Rattle.std.specs.Str.{is_utf8, IsUtf8}
 use Rattle.std.proofs.lemmas.Str.{is_utf8-from_IsUtf8, IsUtf8-from_is_utf8}
 use Rattle.std.proofs.lemmas.Bool.{lt-ltb, le-ltb, eqb-true, false_from_ne_true}
 use Rattle.std.proofs.lemmas.List.{append-nil, nil_from_length}
-use Rattle.cs_crontab.specs.Text.{front, after, is_digit, decimal}
-use Rattle.cs_crontab.proofs.Items.{some_to}
-use Rattle.cs_crontab.proofs.Spans.{front_again, after_again, parts_joined, front_passes}
-use Rattle.cs_anacrontab.specs.Reading.{number_of, is_nothing}
-
-pub nothing_from : (xs : List ℕ) → is_nothing xs ≡ true → xs ≡ []
-nothing_from xs e = nil_from_length xs (eqb-true (length xs) 0 e)
+use Rattle.cs_table.specs.Text.{front, after, is_digit, decimal, is_nothing}
+use Rattle.cs_table.proofs.Spans.{some_to, front_again, after_again, parts_joined, front_passes}
+use Rattle.cs_anacrontab.specs.Reading.{number_of}
 
 -- ---- digits
-
--- a word of digits is its front
-pub front_whole : (p : ℕ → Bool) (w : List ℕ) → list_all p w ≡ true → front p w ≡ w
-front_whole p w all = ap (front p) (sym (append-nil w)) ∙ front_again p w [] all tt
 
 pub after_whole : (p : ℕ → Bool) (w : List ℕ) → list_all p w ≡ true → after p w ≡ []
 after_whole p w all = ap (after p) (sym (append-nil w)) ∙ after_again p w [] all tt

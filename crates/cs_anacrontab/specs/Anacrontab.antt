@@ -1,6 +1,6 @@
 -- The content of an anacrontab.
-use Rattle.std.specs.Prelude.{ℕ, List, [], ◌∷◌, length, All, AllPairs, ◌<◌, ◌≤◌, ◌≢◌}
-use Rattle.cs_crontab.specs.Crontab.{SettingLine}
+use Rattle.std.specs.Prelude.{ℕ, List, [], ◌∷◌, ◌++◌, length, All, AllPairs, ◌<◌, ◌≤◌, ◌≢◌}
+use Rattle.cs_table.specs.Setting.{SettingLine}
 use Rattle.cs_anacrontab.specs.declared.period.Period.{Period}
 use Rattle.cs_anacrontab.specs.declared.period.Period.TheVariants.{Days, Monthly}
 use Rattle.cs_anacrontab.specs.declared.limits.TheConstants.{MAX_JOBS, MAX_PERIOD, MAX_DELAY}
@@ -26,28 +26,32 @@ pub record Table : Type 0 where
 abbrev pub no_lines : Table
 no_lines = record { settings = []; lines = [] }
 
--- a table with the content of a line before it
-abbrev pub with_entry : ℕ → Entry → Table → Table
-with_entry number Nothing table = table
-with_entry number (Setting name value) table = record {
-  settings = record {
-    number = number;
-    name = name;
-    value = value;
-  } ∷ table.settings;
+-- a table with a setting, a job, or the content of a line at its end
+abbrev pub with_setting : ℕ → List ℕ → List ℕ → Table → Table
+with_setting number name value table = record {
+  settings = table.settings ++ (record { number = number; name = name; value = value } ∷ []);
   lines = table.lines;
 }
-with_entry number (Job period delay identifier command) table =
+
+abbrev pub with_job : ℕ → Period → ℕ → List ℕ → List ℕ → Table → Table
+with_job number period delay identifier command table =
     record {
       settings = table.settings;
-      lines = record {
-        number = number;
-        period = period;
-        delay = delay;
-        identifier = identifier;
-        command = command;
-      } ∷ table.lines;
+      lines = table.lines
+          ++ (record {
+            number = number;
+            period = period;
+            delay = delay;
+            identifier = identifier;
+            command = command;
+          } ∷ []);
     }
+
+abbrev pub with_entry : ℕ → Entry → Table → Table
+with_entry number Nothing table = table
+with_entry number (Setting name value) table = with_setting number name value table
+with_entry number (Job period delay identifier command) table =
+    with_job number period delay identifier command table
 
 -- no two jobs have one identifier
 abbrev pub AreDistinct : List JobLine → Type 0

@@ -1,18 +1,20 @@
 -- Which fault of an anacrontab is the first: of its lines, and in a line from left to right.
-use Rattle.std.specs.Prelude.{◌≡◌, ◌≢◌, ℕ, ◌+◌, ◌<◌, ◌≤◌, ◌⊎◌, true, false, nat_eq, List, [], ◌∷◌, ◌++◌, length, All, Contains, Result, Ok, Err}
+use Rattle.std.specs.Prelude.{◌≡◌, ◌≢◌, ℕ, ◌+◌, ◌<◌, ◌≤◌, ◌⊎◌, true, false, nat_eq, List, [], ◌∷◌, ◌++◌, length, drop, All, Contains, Result, Ok, Err}
 use Rattle.std.specs.List.{list_all, list_any}
-use Rattle.cs_crontab.specs.declared.limits.TheConstants.{MAX_TABLE, MAX_LINE}
-use Rattle.cs_crontab.specs.Format.{begins_with, begins_setting}
-use Rattle.cs_crontab.specs.Setting.{IsSetting}
-use Rattle.cs_crontab.specs.Text.{lines_of, is_blank, is_solid, Are, StopsAt}
+use Rattle.cs_table.specs.declared.limits.TheConstants.{MAX_LINE}
+use Rattle.cs_table.specs.Text.{begins_with, lines_of, is_blank, is_solid, Are, StopsAt}
+use Rattle.cs_table.specs.Setting.{begins_setting, IsSetting}
+use Rattle.cs_table.specs.declared.fault.Wrong.{Wrong}
+use Rattle.cs_table.specs.declared.fault.TableFault.{TableFault}
+use Rattle.cs_table.specs.Wrong.{at_end, at_front, last_byte, whole, IsNul, IsWhole}
+use Rattle.cs_table.specs.Table as tables
+use Rattle.cs_table.specs.Table.{Kind, IsTable}
 use Rattle.cs_anacrontab.specs.declared.limits.TheConstants.{MAX_JOBS, MAX_DELAY}
 use Rattle.cs_anacrontab.specs.declared.period.Period.{Period}
 use Rattle.cs_anacrontab.specs.declared.fault.JobFault.{JobFault}
 use Rattle.cs_anacrontab.specs.declared.fault.JobFault.TheVariants as faults
-use Rattle.cs_anacrontab.specs.declared.fault.AnacronFault.{AnacronFault}
-use Rattle.cs_anacrontab.specs.declared.fault.AnacronFault.TheVariants.{At, OutOfMemory}
-use Rattle.cs_anacrontab.specs.Anacrontab.{Job, JobLine, Table, AreDistinct}
-use Rattle.cs_anacrontab.specs.Grammar.{IsNumber, IsPeriod, IsIdentifier, IsContinued, Says, AreLines, IsAnacrontab}
+use Rattle.cs_anacrontab.specs.Anacrontab.{Job, JobLine, Table, no_lines}
+use Rattle.cs_anacrontab.specs.Grammar.{IsNumber, IsPeriod, IsIdentifier, IsContinued, Says, Adds}
 
 -- the first word of a text, and what follows it after blanks, if anything does
 pub record HasNext (text word rest : List ℕ) : Type 0 where
@@ -31,100 +33,93 @@ PeriodFails word fault =
     ⊎ ((begins_with 64 word ≡ false) × (fault ≡ faults.BadPeriod)))
 
 -- The text ends where a part should begin.
-abbrev pub IsMissing : List ℕ → JobFault → Type 0
-IsMissing text fault = (text ≡ []) × (fault ≡ faults.MissingField)
+abbrev pub IsMissing : List ℕ → Wrong JobFault → Type 0
+IsMissing text wrong = (text ≡ []) × (wrong ≡ at_end faults.MissingField)
 
 -- After the delay, the identifier is missing or is none, or the command is missing.
-abbrev pub IdentifierFails : List ℕ → JobFault → Type 0
-IdentifierFails text fault =
-    IsMissing text fault
+abbrev pub IdentifierFails : List ℕ → Wrong JobFault → Type 0
+IdentifierFails text wrong =
+    IsMissing text wrong
     ⊎ ((word rest : List ℕ) × HasNext text word rest
-    × ((¬ (IsIdentifier word) × (fault ≡ faults.BadIdentifier))
-    ⊎ (IsIdentifier word × IsMissing rest fault)))
+    × ((¬ (IsIdentifier word) × (wrong ≡ at_front faults.BadIdentifier text word))
+    ⊎ (IsIdentifier word × IsMissing rest wrong)))
 
 -- After the period, the delay is missing or is none, or what follows has the fault.
-abbrev pub DelayFails : List ℕ → JobFault → Type 0
-DelayFails text fault =
-    IsMissing text fault
+abbrev pub DelayFails : List ℕ → Wrong JobFault → Type 0
+DelayFails text wrong =
+    IsMissing text wrong
     ⊎ ((word rest : List ℕ) × HasNext text word rest
-    × ((((n : ℕ) → IsNumber MAX_DELAY word n → ⊥) × (fault ≡ faults.BadDelay))
-    ⊎ ((n : ℕ) × IsNumber MAX_DELAY word n × IdentifierFails rest fault)))
+    × ((((n : ℕ) → IsNumber MAX_DELAY word n → ⊥) × (wrong ≡ at_front faults.BadDelay text word))
+    ⊎ ((n : ℕ) × IsNumber MAX_DELAY word n × IdentifierFails rest wrong)))
 
 -- The first word is no period, or what follows has the fault.
-abbrev pub JobFails : List ℕ → JobFault → Type 0
-JobFails text fault = (word rest : List ℕ) × HasNext text word rest
-    × (PeriodFails word fault ⊎ ((period : Period) × IsPeriod word period × DelayFails rest fault))
+abbrev pub JobFails : List ℕ → Wrong JobFault → Type 0
+JobFails text wrong = (word rest : List ℕ) × HasNext text word rest
+    × (((fault : JobFault) × PeriodFails word fault × (wrong ≡ at_front fault text word))
+    ⊎ ((period : Period) × IsPeriod word period × DelayFails rest wrong))
 
-abbrev pub SettingFails : List ℕ → JobFault → Type 0
-SettingFails text fault =
-    ((name value : List ℕ) → IsSetting text name value → ⊥) × (fault ≡ faults.BadSetting)
+abbrev pub SettingFails : List ℕ → Wrong JobFault → Type 0
+SettingFails text wrong =
+    ((name value : List ℕ) → IsSetting text name value → ⊥) × (wrong ≡ whole faults.BadSetting text)
 
 -- A text without leading blanks, and no comment, ends with a backslash; or, by its first byte, it
 -- is a setting or a job with the fault.
-abbrev pub TextFails : List ℕ → JobFault → Type 0
-TextFails [] fault = ⊥
-TextFails (b ∷ bs) fault =
+abbrev pub TextFails : List ℕ → Wrong JobFault → Type 0
+TextFails [] wrong = ⊥
+TextFails (b ∷ bs) wrong =
     (b ≢ 35)
-    × ((IsContinued (b ∷ bs) × (fault ≡ faults.Continued))
+    × ((IsContinued (b ∷ bs) × (wrong ≡ last_byte faults.Continued))
     ⊎ (¬ (IsContinued (b ∷ bs))
-    × (((begins_setting b ≡ true) × SettingFails (b ∷ bs) fault)
-    ⊎ ((begins_setting b ≡ false) × JobFails (b ∷ bs) fault))))
+    × (((begins_setting b ≡ true) × SettingFails (b ∷ bs) wrong)
+    ⊎ ((begins_setting b ≡ false) × JobFails (b ∷ bs) wrong))))
 
 -- The line is too long, or holds a zero byte, or its text after leading blanks has the fault.
-abbrev pub LineFails : List ℕ → JobFault → Type 0
-LineFails line fault =
-    ((MAX_LINE < length line) × (fault ≡ faults.TooLong))
-    ⊎ (((length line ≤ MAX_LINE) × (list_any (λ b. nat_eq b 0) line ≡ true)
-    × (fault ≡ faults.NulByte))
+abbrev pub LineFails : List ℕ → Wrong JobFault → Type 0
+LineFails line wrong =
+    ((MAX_LINE < length line) × (wrong ≡ whole faults.TooLong (drop MAX_LINE line)))
+    ⊎ (((length line ≤ MAX_LINE) × IsNul faults.NulByte line wrong)
     ⊎ ((length line ≤ MAX_LINE) × (list_any (λ b. nat_eq b 0) line ≡ false)
     × ((indent text : List ℕ) × (line ≡ indent ++ text) × (list_all is_blank indent ≡ true)
-    × StopsAt is_blank text × TextFails text fault)))
+    × StopsAt is_blank text × TextFails text wrong)))
 
--- a job with the identifier of one of those before it
-abbrev pub IsTwiceNamed : Table → List ℕ → Type 0
-IsTwiceNamed table line =
+-- a job with the identifier of one of those before it: that identifier, which follows the delay, is
+-- wrong
+abbrev pub IsTwiceNamed : Table → List ℕ → Wrong JobFault → Type 0
+IsTwiceNamed table line wrong =
     (period : Period) × (delay : ℕ) × (identifier command : List ℕ) × (before : JobLine)
-    × Says line (Job period delay identifier command) × Contains table.lines before
-    × (before.identifier ≡ identifier)
+    × Contains table.lines before × (before.identifier ≡ identifier)
+    × (job : Says line (Job period delay identifier command))
+    × (wrong ≡ at_front faults.TwiceNamed job.says.1.behind_delay identifier)
 
 -- a job with an identifier of its own after as many as there may be
 abbrev pub IsOneTooMany : Table → List ℕ → Type 0
 IsOneTooMany table line =
     (period : Period) × (delay : ℕ) × (identifier command : List ℕ)
     × Says line (Job period delay identifier command)
-    × All (λ before. before.identifier ≢ identifier) table.lines × (length table.lines ≡ MAX_JOBS)
+    × All (λ before. before.identifier ≢ identifier) table.lines × (MAX_JOBS ≤ length table.lines)
 
--- The first line with a fault: the lines before it have none. An identifier that stood before and a
--- job above the limit, in this order, are faults after all others of their line.
-pub record IsFirstFault (text : List ℕ) (number : ℕ) (fault : JobFault) : Type 0 where
-  pub short : length text ≤ MAX_TABLE
-  pub before : List (List ℕ)
-  pub line : List ℕ
-  pub later : List (List ℕ)
-  pub parts : lines_of text ≡ before ++ (line ∷ later)
-  pub place : number ≡ length before + 1
-  pub table : Table
-  pub fine : AreLines 1 before table
-  pub few : length table.lines ≤ MAX_JOBS
-  pub distinct : AreDistinct table.lines
-  pub stands : LineFails line fault
-      ⊎ (((fault ≡ faults.TwiceNamed) × IsTwiceNamed table line)
-      ⊎ ((fault ≡ faults.TooManyJobs) × IsOneTooMany table line))
+-- A line has a fault; after all its own faults come an identifier that stood before and a job above
+-- the limit, in this order.
+abbrev pub Fails : Table → List ℕ → Wrong JobFault → Type 0
+Fails table line wrong = LineFails line wrong
+    ⊎ (IsTwiceNamed table line wrong
+    ⊎ (IsOneTooMany table line × IsWhole faults.TooManyJobs line wrong))
 
--- the text's fault, with the number of its line: the table's own length has line 0
-abbrev pub IsFault : List ℕ → ℕ → JobFault → Type 0
-IsFault text number fault = ((MAX_TABLE < length text) × (number ≡ 0) × (fault ≡ faults.TooLong))
-    ⊎ IsFirstFault text number fault
+-- An anacrontab is read line by line.
+abbrev pub anacrontab : Kind Table JobFault
+anacrontab = record { empty = no_lines; too_long = faults.TooLong; Adds = Adds; Fails = Fails }
+
+-- The text is written as this table.
+abbrev pub IsAnacrontab : List ℕ → Table → Type 0
+IsAnacrontab text table = IsTable anacrontab text table
 
 -- A text is written as a table, or it has a fault.
 abbrev pub Meaning : Type 0
-Meaning = Result Table (ℕ × JobFault)
+Meaning = tables.Meaning Table JobFault
 
 abbrev pub Means : List ℕ → Meaning → Type 0
-Means text (Ok table) = IsAnacrontab text table
-Means text (Err fault) = IsFault text fault.0 fault.1
+Means text meaning = tables.Means anacrontab text meaning
 
--- What a call answered is what the text means, unless memory ran out.
-abbrev pub IsFaultOf : List ℕ → AnacronFault → Type 0
-IsFaultOf text OutOfMemory = Unit {0}
-IsFaultOf text (At line fault) = IsFault text line fault
+-- The fault that a call answered is the text's, unless memory ran out.
+abbrev pub IsFaultOf : List ℕ → TableFault JobFault → Type 0
+IsFaultOf text fault = tables.IsFaultOf anacrontab text fault

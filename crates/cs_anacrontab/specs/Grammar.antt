@@ -1,11 +1,10 @@
 -- The grammar of an anacrontab: how each value is written. Nothing here reads from left to right.
-use Rattle.std.specs.Prelude.{◌≡◌, ◌≢◌, ℕ, ◌+◌, ◌≤◌, ◌⊎◌, true, false, nat_eq, List, [], ◌∷◌, ◌++◌, length, codes}
+use Rattle.std.specs.Prelude.{◌≡◌, ◌≢◌, ℕ, ◌+◌, ◌<◌, ◌≤◌, ◌⊎◌, true, false, nat_eq, List, [], ◌∷◌, ◌++◌, length, codes, All}
 use Rattle.std.specs.List.{list_all, list_any}
 use Rattle.std.specs.Str.{IsUtf8}
-use Rattle.cs_crontab.specs.declared.limits.TheConstants.{MAX_TABLE, MAX_LINE}
-use Rattle.cs_crontab.specs.Format.{begins_as_setting}
-use Rattle.cs_crontab.specs.Text.{lines_of, is_blank, is_solid, is_digit, decimal, Are, StopsAt}
-use Rattle.cs_crontab.specs.Setting.{IsSetting}
+use Rattle.cs_table.specs.declared.limits.TheConstants.{MAX_TABLE, MAX_LINE}
+use Rattle.cs_table.specs.Setting.{begins_as_setting, IsSetting}
+use Rattle.cs_table.specs.Text.{lines_of, is_blank, is_solid, is_digit, decimal, Are, StopsAt}
 use Rattle.cs_anacrontab.specs.declared.limits.TheConstants.{MAX_JOBS, MAX_PERIOD, MAX_DELAY, MAX_IDENTIFIER}
 use Rattle.cs_anacrontab.specs.declared.period.Period.{Period}
 use Rattle.cs_anacrontab.specs.declared.period.Period.TheVariants.{Days, Monthly}
@@ -77,15 +76,14 @@ pub record Says (line : List ℕ) (entry : Entry) : Type 0 where
   pub blank : list_all is_blank indent ≡ true
   pub says : TextSays text entry
 
--- the content of lines, of which the first has this number
-abbrev pub AreLines : ℕ → List (List ℕ) → Table → Type 0
-AreLines number [] table = table ≡ no_lines
-AreLines number (line ∷ lines) table = (entry : Entry) × (others : Table) × Says line entry
-    × AreLines (number + 1) lines others × (table ≡ with_entry number entry others)
+-- A job has an identifier of its own, and there is room for it in the table.
+abbrev pub HasRoom : Table → Entry → Type 0
+HasRoom table Nothing = Unit {0}
+HasRoom table (Setting name value) = Unit {0}
+HasRoom table (Job period delay identifier command) =
+    All (λ before. before.identifier ≢ identifier) table.lines × (length table.lines < MAX_JOBS)
 
--- the text is written as this table
-pub record IsAnacrontab (text : List ℕ) (table : Table) : Type 0 where
-  pub short : length text ≤ MAX_TABLE
-  pub few : length table.lines ≤ MAX_JOBS
-  pub distinct : AreDistinct table.lines
-  pub lines : AreLines 1 (lines_of text) table
+-- The line with this number makes one table into the other.
+abbrev pub Adds : ℕ → Table → List ℕ → Table → Type 0
+Adds number table line more = (entry : Entry) × Says line entry × HasRoom table entry
+    × (more ≡ with_entry number entry table)

@@ -1,30 +1,19 @@
 -- What a line denotes, or its first fault from left to right.
-use Rattle.std.specs.Prelude.{◌≡◌, ℕ, Bool, false, not, ◌&&◌, ◌||◌, ◌==◌, nat_eq, nat_lt, if◌then◌else◌, List, [], ◌∷◌, length, codes, Option, Some, None, Result, Ok, Err}
+use Rattle.std.specs.Prelude.{◌≡◌, ℕ, Bool, false, not, ◌&&◌, ◌||◌, ◌==◌, nat_eq, nat_lt, if◌then◌else◌, List, [], ◌∷◌, length, drop, codes, Option, Some, None, Result, Ok, Err}
 use Rattle.std.specs.List.{list_any, list_all, ends_with}
 use Rattle.std.specs.Str.{bytes_eq, is_utf8}
-use Rattle.cs_crontab.specs.declared.limits.TheConstants.{MAX_LINE}
-use Rattle.cs_crontab.specs.Format.{begins_setting}
-use Rattle.cs_crontab.specs.Text.{front, after, is_blank, is_solid, is_digit, decimal}
-use Rattle.cs_crontab.specs.SettingReading.{setting_of}
+use Rattle.cs_table.specs.declared.limits.TheConstants.{MAX_LINE}
+use Rattle.cs_table.specs.Setting.{begins_setting}
+use Rattle.cs_table.specs.Text.{front, after, is_blank, is_solid, is_digit, decimal, is_nothing}
+use Rattle.cs_table.specs.SettingReading.{setting_of}
+use Rattle.cs_table.specs.declared.fault.Wrong.{Wrong}
+use Rattle.cs_table.specs.Wrong.{◌>>=◌, at_end, at_front, at_nul, last_byte, whole, marked}
 use Rattle.cs_anacrontab.specs.declared.limits.TheConstants.{MAX_PERIOD, MAX_DELAY, MAX_IDENTIFIER}
 use Rattle.cs_anacrontab.specs.declared.period.Period.{Period}
 use Rattle.cs_anacrontab.specs.declared.period.Period.TheVariants.{Days, Monthly}
 use Rattle.cs_anacrontab.specs.declared.fault.JobFault.{JobFault}
 use Rattle.cs_anacrontab.specs.declared.fault.JobFault.TheVariants as faults
 use Rattle.cs_anacrontab.specs.Anacrontab.{Entry, Nothing, Setting, Job}
-
-infixl 10 ◌>>=◌
-abbrev pub ◌>>=◌ : {A B : Type 0} → Result A JobFault → (A → Result B JobFault) → Result B JobFault
-(Ok x) >>= f = f x
-(Err e) >>= f = Err e
-
--- What a function answered, seen by view, is what reading gives.
-abbrev pub Gives : {X Y : Type 0} → (X → Y) → Result X JobFault → Result Y JobFault → Type 0
-Gives view (Ok x) read = read ≡ Ok (view x)
-Gives view (Err e) read = read ≡ Err e
-
-abbrev pub is_nothing : List ℕ → Bool
-is_nothing text = length text == 0
 
 -- the number that a word of digits is, up to the highest
 unfoldable pub number_of : ℕ → List ℕ → Option ℕ
@@ -65,47 +54,52 @@ is_identifier word =
     if nat_lt MAX_IDENTIFIER (length word) || list_any (λ b. b == 47) word then false
     else not (is_folder word) && is_utf8 word
 
--- the next word, and the text from the word after it on
-unfoldable pub word_at : List ℕ → Result (List ℕ × List ℕ) JobFault
-word_at text = if is_nothing text then Err faults.MissingField
-    else Ok (front is_solid text, after is_blank (after is_solid text))
+-- the text behind the first word and the blanks after it
+abbrev pub behind_word : List ℕ → List ℕ
+behind_word text = after is_blank (after is_solid text)
 
--- a job with a good identifier and a command
-abbrev pub completed : Period → ℕ → List ℕ → List ℕ → Result Entry JobFault
-completed period delay identifier command =
-    if not (is_identifier identifier) then Err faults.BadIdentifier
-    else if is_nothing command then Err faults.MissingField
+-- the next word, and the text from the word after it on
+unfoldable pub word_at : List ℕ → Result (List ℕ × List ℕ) (Wrong JobFault)
+word_at text = if is_nothing text then Err (at_end faults.MissingField)
+    else Ok (front is_solid text, behind_word text)
+
+-- a job with a good identifier, which begins the text, and a command
+abbrev pub completed : Period → ℕ → List ℕ → List ℕ → List ℕ → Result Entry (Wrong JobFault)
+completed period delay text identifier command =
+    if not (is_identifier identifier) then Err (at_front faults.BadIdentifier text identifier)
+    else if is_nothing command then Err (at_end faults.MissingField)
     else Ok (Job period delay identifier command)
 
 -- a period, a delay, an identifier and a command
-unfoldable pub job_of : List ℕ → Result Entry JobFault
+unfoldable pub job_of : List ℕ → Result Entry (Wrong JobFault)
 job_of text = do
   first ← word_at text
-  period ← period_of first.0
+  period ← marked (length text) (length first.0) (period_of first.0)
   second ← word_at first.1
-  delay ← or_fault faults.BadDelay (number_of MAX_DELAY second.0)
+  delay ← marked (length first.1) (length second.0)
+      (or_fault faults.BadDelay (number_of MAX_DELAY second.0))
   third ← word_at second.1
-  completed period delay third.0 third.1
+  completed period delay second.1 third.0 third.1
 
-abbrev pub set : Option (List ℕ × List ℕ) → Result Entry JobFault
-set None = Err faults.BadSetting
-set (Some setting) = Ok (Setting setting.0 setting.1)
+abbrev pub set : List ℕ → Option (List ℕ × List ℕ) → Result Entry (Wrong JobFault)
+set text None = Err (whole faults.BadSetting text)
+set text (Some setting) = Ok (Setting setting.0 setting.1)
 
 -- whether the last byte is a backslash
 abbrev pub is_continued : List ℕ → Bool
 is_continued text = ends_with nat_eq text (92 ∷ [])
 
 -- the content of a line without its leading blanks
-unfoldable pub entry_of : List ℕ → Result Entry JobFault
+unfoldable pub entry_of : List ℕ → Result Entry (Wrong JobFault)
 entry_of [] = Ok Nothing
 entry_of (b ∷ bs) =
     if b == 35 then Ok Nothing
-    else if is_continued (b ∷ bs) then Err faults.Continued
-    else if begins_setting b then set (setting_of (b ∷ bs))
+    else if is_continued (b ∷ bs) then Err (last_byte faults.Continued)
+    else if begins_setting b then set (b ∷ bs) (setting_of (b ∷ bs))
     else job_of (b ∷ bs)
 
-unfoldable pub line_of : List ℕ → Result Entry JobFault
+unfoldable pub line_of : List ℕ → Result Entry (Wrong JobFault)
 line_of line =
-    if nat_lt MAX_LINE (length line) then Err faults.TooLong
-    else if list_any (λ b. b == 0) line then Err faults.NulByte
+    if nat_lt MAX_LINE (length line) then Err (whole faults.TooLong (drop MAX_LINE line))
+    else if list_any (λ b. b == 0) line then Err (at_nul faults.NulByte line)
     else entry_of (after is_blank line)

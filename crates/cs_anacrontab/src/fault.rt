@@ -1,16 +1,14 @@
 ghost use Rattle.std.specs.Prelude.{◌≡◌};
 ghost use Rattle.cs_anacrontab.specs.Printed.{fault_text};
-ghost use Rattle.cs_anacrontab.specs.declared.fault.AnacronFault.TheVariants.{OutOfMemory};
 
-use std::alloc::{AllocError, AllocFailed};
 use thiserror::Error;
 
 /// What is wrong with a line or its length, printed as number and name: `7 BadDelay`.
 #[derive(Clone, Copy, Debug, PartialEq, Eq, Error)]
 #[error("{}", self.text())]
 pub enum JobFault {
-    /// The table or the line exceeds [`MAX_TABLE`](cs_crontab::MAX_TABLE) or
-    /// [`MAX_LINE`](cs_crontab::MAX_LINE).
+    /// The table or the line exceeds [`MAX_TABLE`](cs_table::MAX_TABLE) or
+    /// [`MAX_LINE`](cs_table::MAX_LINE).
     TooLong,
     /// The line holds a zero byte.
     NulByte,
@@ -57,28 +55,4 @@ impl JobFault {
 }
 
 /// Why an anacrontab could not be read.
-#[derive(Clone, Copy, Debug, PartialEq, Eq, Error)]
-pub enum AnacronFault {
-    /// The first line with a fault, from 1, or 0 if the table is too long; and the fault.
-    #[error("line {line}: {fault}")]
-    At { line: u32, fault: JobFault },
-    /// Memory ran out.
-    #[error("out of memory")]
-    OutOfMemory,
-}
-
-impl From<AllocError> for AnacronFault {
-    ghost from_gives = { λ _ e. e ≡ OutOfMemory };
-
-    fn from(_e: AllocError) -> AnacronFault {
-        AnacronFault::OutOfMemory
-    }
-}
-
-impl<T: Drop> From<AllocFailed<T>> for AnacronFault {
-    ghost from_gives = { λ _ e. e ≡ OutOfMemory };
-
-    fn from(_e: AllocFailed<T>) -> AnacronFault {
-        AnacronFault::OutOfMemory
-    }
-}
+pub type AnacronFault = cs_table::TableFault<JobFault>;

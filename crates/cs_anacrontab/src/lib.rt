@@ -11,6 +11,7 @@ mod table;
 
 pub use fault::{AnacronFault, JobFault};
 pub use limits::{MAX_DELAY, MAX_IDENTIFIER, MAX_JOBS, MAX_PERIOD};
+pub use line::{Entry, is_identifier, read_delay, read_line, read_period};
 pub use period::{DayCount, Period, is_due};
 pub use reader::read_anacrontab;
 pub use stamp::{read_stamp, stamp_text};

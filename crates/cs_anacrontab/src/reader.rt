@@ -1,31 +1,29 @@
-ghost use Rattle.std.specs.Prelude.{◌≡◌, ◌≤◌, length, IfOk, IfErr};
-ghost use Rattle.cs_crontab.specs.declared.limits.TheConstants.{MAX_TABLE};
-ghost use Rattle.cs_crontab.specs.Text.{lines_of};
-ghost use Rattle.cs_anacrontab.specs.Anacrontab.{no_lines};
-ghost use Rattle.cs_anacrontab.specs.Reading.{line_of};
-ghost use Rattle.cs_anacrontab.specs.Faults.{IsFaultOf, Means, Meaning};
-ghost use Rattle.cs_anacrontab.specs.Grammar.{IsAnacrontab};
-ghost use Rattle.cs_anacrontab.specs.Table.{Denotes, is_named, with_setting, with_job, added, lines_from, anacrontab_of};
+ghost use Rattle.std.specs.Prelude.{◌≡◌, IfOk, IfErr};
+ghost use Rattle.cs_table.specs.Table.{Denotes, table_of};
+ghost use Rattle.cs_anacrontab.specs.Anacrontab.{no_lines, with_setting, with_job};
+ghost use Rattle.cs_anacrontab.specs.Faults.{IsAnacrontab, IsFaultOf, Means, Meaning};
+ghost use Rattle.cs_anacrontab.specs.Table.{is_named, added};
+ghost use Rattle.cs_anacrontab.specs.declared.fault.JobFault.TheVariants.{TooLong};
 
 use crate::fault::{AnacronFault, JobFault};
 use crate::limits::MAX_JOBS;
-use crate::line::{Entry, read_line};
+use crate::line::{Entry, from_identifier, read_line};
 use crate::period::Period;
 use crate::table::{Anacrontab, Job};
 use cs_civil::{Bytes, Sequence};
-use cs_crontab::text::first_line;
-use cs_crontab::{MAX_TABLE, Setting};
+use cs_table::text::skip_blanks;
+use cs_table::{Draft, Setting, Wrong, read_table};
 use std::alloc::{AllocError, Global};
 use std::marker::Model;
 
 /// The lines read so far.
 #[derive(Drop)]
-struct Draft {
+struct AnacrontabDraft {
     variables: Sequence<Setting>,
     jobs: Sequence<Job>,
 }
 
-impl Model for Draft {
+impl Model for AnacrontabDraft {
     ghost use Rattle.cs_anacrontab.specs.Anacrontab.{Table};
 
     ghost Value = { Table };
@@ -33,11 +31,11 @@ impl Model for Draft {
     ghost view = { λ a. record { settings = a.variables; lines = a.jobs } };
 }
 
-impl Draft {
-    fn new(alloc: Global) -> Draft
+impl AnacrontabDraft {
+    fn new(alloc: Global) -> AnacrontabDraft
         ensures { result ≡ no_lines }
     {
-        Draft {
+        AnacrontabDraft {
             variables: Sequence::new(alloc),
             jobs: Sequence::new(alloc),
         }
@@ -83,63 +81,45 @@ impl Draft {
         self.jobs
             .push(Job::new(number, period, delay, identifier, command))
     }
+}
 
-    /// Adds the content of the line with that number.
-    fn add(&mut self, alloc: Global, number: u32, line: &[u8]) -> Result<(), AnacronFault>
-        ensures { Denotes (λ _. self.new) (added number self.old (line_of line.now)) result }
-    {
-        let fault = match read_line(line) {
-            Err(fault) => fault,
-            Ok(Entry::Nothing) => return Ok(()),
+impl Draft for AnacrontabDraft {
+    type Fault = JobFault;
+
+    ghost added = { added };
+
+    fn add(
+        &mut self,
+        alloc: Global,
+        number: u32,
+        line: &[u8],
+    ) -> Result<Result<(), Wrong<JobFault>>, AllocError> {
+        match read_line(line) {
+            Err(wrong) => Ok(Err(wrong)),
+            Ok(Entry::Nothing) => Ok(Ok(())),
             Ok(Entry::Setting(name, value)) => {
                 self.add_setting(alloc, number, name, value)?;
-                return Ok(());
+                Ok(Ok(()))
             }
             Ok(Entry::Job(period, delay, identifier, command)) => {
                 if self.is_named(identifier) {
-                    JobFault::TwiceNamed
-                } else if self.jobs.len() < MAX_JOBS {
-                    self.add_job(alloc, number, period, delay, identifier, command)?;
-                    return Ok(());
-                } else {
-                    JobFault::TooManyJobs
+                    let text = from_identifier(line);
+                    return Ok(Err(Wrong::at_front(JobFault::TwiceNamed, text, identifier)));
                 }
+                if self.jobs.len() < MAX_JOBS {
+                    self.add_job(alloc, number, period, delay, identifier, command)?;
+                    return Ok(Ok(()));
+                }
+                Ok(Err(Wrong::whole(JobFault::TooManyJobs, skip_blanks(line))))
             }
-        };
-        Err(AnacronFault::At {
-            line: number,
-            fault,
-        })
+        }
     }
 }
 
-fn read_lines(alloc: Global, bytes: &[u8]) -> Result<Draft, AnacronFault>
-    requires { length bytes.now ≤ MAX_TABLE }
-    ensures { Denotes (λ draft. draft) (lines_from 1 no_lines (lines_of bytes.now)) result }
+fn read_bytes(alloc: Global, bytes: &[u8]) -> Result<Anacrontab, AnacronFault>
+    ensures { Denotes (λ table. table) (table_of added no_lines TooLong bytes.now) result }
 {
-    let mut draft = Draft::new(alloc);
-    let mut number = 0u32;
-    let mut rest = bytes;
-    while !rest.is_empty() {
-        let (line, after) = first_line(rest);
-        number += 1;
-        draft.add(alloc, number, line)?;
-        rest = after;
-    }
-    Ok(draft)
-}
-
-#[tactic(auto, unfolding(crate::specs::Table::anacrontab_of))]
-fn read_table(alloc: Global, bytes: &[u8]) -> Result<Anacrontab, AnacronFault>
-    ensures { Denotes (λ table. table) (anacrontab_of bytes.now) result }
-{
-    if bytes.len() > MAX_TABLE {
-        return Err(AnacronFault::At {
-            line: 0,
-            fault: JobFault::TooLong,
-        });
-    }
-    let draft = read_lines(alloc, bytes)?;
+    let draft = read_table(alloc, AnacrontabDraft::new(alloc), JobFault::TooLong, bytes)?;
     Ok(Anacrontab::new(draft.variables, draft.jobs))
 }
 
@@ -157,5 +137,5 @@ pub fn read_anacrontab(alloc: Global, bytes: &[u8]) -> Result<Anacrontab, Anacro
     ensures only { (meaning : Meaning) → Means bytes.now meaning
         → Denotes (λ table. table) meaning result }
 {
-    read_table(alloc, bytes)
+    read_bytes(alloc, bytes)
 }

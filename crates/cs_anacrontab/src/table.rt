@@ -1,10 +1,10 @@
 ghost use Rattle.std.specs.Prelude.{◌≡◌, ◌≢◌, ◌<◌, ◌≤◌, length, map, All, AllPairs, IfOk};
-ghost use Rattle.cs_crontab.specs.Environment.{above, names_of, first_places, IsLast};
+ghost use Rattle.cs_table.specs.Environment.{above, names_of, first_places, IsLast};
 ghost use Rattle.cs_anacrontab.specs.declared.limits.TheConstants.{MAX_JOBS, MAX_DELAY};
 
 use crate::period::Period;
 use cs_civil::{Bytes, Sequence};
-use cs_crontab::{Setting, copy_settings, env_of};
+use cs_table::{Setting, copy_settings, env_of};
 use std::alloc::{AllocError, Global};
 use std::marker::Model;
 
@@ -186,7 +186,7 @@ impl Anacrontab {
         self.jobs.as_slice()
     }
 
-    /// Returns the environment of the job on that line, like [`env_of`](cs_crontab::env_of). The
+    /// Returns the environment of the job on that line, like [`env_of`](cs_table::env_of). The
     /// only error is out of memory.
     pub fn env_of(&self, alloc: Global, line: u32) -> Result<Sequence<(Bytes, Bytes)>, AllocError>
         ensures names { IfOk result

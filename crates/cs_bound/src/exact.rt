@@ -82,7 +82,7 @@ fn window_of(facts: &Facts, run: &QueuedRun, length: u8) -> Option<Window> {
         from: u16::try_from(run.due % MINUTES_OF_DAY).ok()?,
         reach: u16::try_from(until.saturating_sub(run.due)).unwrap_or(u16::MAX),
     };
-    if task.waits() && touches(&window, 0, cs_windows::MINUTES_OF_DAY) {
+    if task.mode.waits() && touches(&window, 0, cs_civil::MINUTES_OF_DAY) {
         Some(window)
     } else {
         None
@@ -210,7 +210,7 @@ impl<'a> ExactWaits<'a> {
     /// A window of the stretch as it really is.
     fn exact(&self, own: &IndexMap<Name, Window>, window: &Window) -> Option<Window> {
         match self.facts.tasks().get(usize::from(window.job)) {
-            Some(task) if task.is_cron && task.waits() => own
+            Some(task) if task.is_cron && task.mode.waits() => own
                 .get(&(window.job, window.day_back, window.from))
                 .copied(),
             _ => Some(*window),

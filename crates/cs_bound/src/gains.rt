@@ -3,7 +3,7 @@ use cs_profile::{Facts, Task};
 use std::alloc::{AllocError, Global};
 
 /// How many minutes a day has.
-pub(crate) const MINUTES_OF_DAY: u32 = 1_440;
+pub(crate) const MINUTES_OF_DAY: u32 = cs_civil::MINUTES_OF_DAY as u32;
 
 /// Runs that are due at one minute and take the lock of a group.
 #[derive(Clone, Copy)]
@@ -42,12 +42,12 @@ impl Arrivals {
 
 /// Whether runs of the job take the lock of the group.
 pub(crate) fn takes_lock_of(task: &Task, group: u8) -> bool {
-    task.is_cron && task.takes_lock() && task.group == Some(group)
+    task.is_cron && task.mode.takes_lock() && task.group == Some(group)
 }
 
 /// Whether runs of the job wait for the lock of the group.
 pub(crate) fn waits_for(task: &Task, group: u8) -> bool {
-    task.is_cron && task.waits() && task.group == Some(group)
+    task.is_cron && task.mode.waits() && task.group == Some(group)
 }
 
 /// The runs of a job arrive at each minute at which it is due.

@@ -48,7 +48,7 @@ fn end_of(plan: &Plan, facts: &Facts, locks: &[Lock], job: usize, task: &Task) -
     if !is_ever_due(facts, job) {
         return 0;
     }
-    let lasts = if task.waits() {
+    let lasts = if task.mode.waits() {
         longest_of(locks, job).reach
     } else {
         u32::from(task.max)
@@ -82,7 +82,7 @@ fn reaches(
     let latest = latest_end(plan, facts, locks);
     let mut reaches = Vec::new(alloc);
     for (job, task) in facts.tasks().iter().enumerate() {
-        if task.is_cron && task.waits() {
+        if task.is_cron && task.mode.waits() {
             let reach = reach_by(longest_of(locks, job), latest);
             if reach > MOST_REACH {
                 return Ok(None);

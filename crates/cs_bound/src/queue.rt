@@ -1,6 +1,5 @@
 //! Who comes one after the other for the lock of a group, day by day.
 use crate::gains::{MINUTES_OF_DAY, takes_lock_of, waits_for};
-use cs_history::Mode;
 use cs_profile::{Calendar, Facts, Task};
 use std::alloc::{AllocError, Global};
 
@@ -54,10 +53,10 @@ pub(crate) struct Queue {
 
 /// For how many minutes runs of a job keep the lock from the next.
 pub(crate) fn work_of(task: &Task) -> u32 {
-    match task.mode {
-        Mode::Shared => 0,
-        Mode::Plain | Mode::Skip | Mode::Wait => u32::from(task.max).saturating_sub(1),
+    if task.mode.shares() {
+        return 0;
     }
+    u32::from(task.max).saturating_sub(1)
 }
 
 /// The runs of a job on a day on which it is due.

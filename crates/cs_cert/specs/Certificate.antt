@@ -32,9 +32,3 @@ pieces_of (b ∷ rest) group = if nat_eq b.group group then b.backlog else piece
 -- the backlog bound of a group at a minute of a day of the class: 0 where the group isn't listed
 abbrev pub bound_in : Class → ℕ → ℕ → ℕ
 bound_in class group minute = at (pieces_of class.backlog group) minute
-
--- the tree of a stretch of days of these classes, where it is listed
-abbrev pub tree_for : List StretchTree → List ℕ → Option Tree
-tree_for [] classes = None
-tree_for (s ∷ rest) classes =
-    if pointwise nat_eq s.of classes then Some s.tree else tree_for rest classes

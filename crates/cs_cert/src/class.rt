@@ -7,9 +7,8 @@ ghost use Rattle.cs_cert.specs.Certificate.{bound_in, is_due_in, pieces_of};
 ghost use Rattle.cs_cert.specs.Rules.{class_fits, due_list_fits, group_backlog_fits, has_carries, has_carry, is_at_midnight, is_carries};
 
 use crate::limits::{MAX_GROUPS, MAX_JOBS};
-use cs_civil::Sequence;
+use cs_civil::{MINUTES_OF_DAY, Sequence};
 use cs_wait::{Backlog, Piece};
-use cs_windows::MINUTES_OF_DAY;
 
 /// The minutes of a day at which a cron job is due.
 #[derive(Debug, Drop)]

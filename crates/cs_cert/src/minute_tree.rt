@@ -6,7 +6,8 @@ ghost use Rattle.cs_windows.specs.Tree.{tree_of};
 ghost use Rattle.cs_cert.specs.Rules.{depth, entries_fit, entry_fits, is_short, leaves_pass};
 
 use crate::limits::{MAX_ENTRIES, MAX_JOBS};
-use cs_windows::{Entry, MINUTES_OF_DAY, MinuteTree};
+use cs_civil::MINUTES_OF_DAY;
+use cs_windows::{Entry, MinuteTree};
 
 /// Whether the depth is at most the limit: 0 for a leaf, else one more than the deeper half.
 pub(crate) fn is_no_deeper_than(tree: &MinuteTree, limit: u8) -> bool

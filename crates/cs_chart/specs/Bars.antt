@@ -1,10 +1,10 @@
 -- The bars of a job, and the minutes that its windows hold.
-use Rattle.std.specs.Prelude.{ℕ, ◌+◌, ◌-◌, ◌*◌, ◌/◌, ◌%◌, ◌≤◌, Bool, ◌&&◌, List, [], ◌∷◌, map, nat_le, nat_lt}
-use Rattle.std.specs.List.{list_any, range_with_len}
-use Rattle.cs_civil.specs.Calendar.{Kind, kind, last_day}
+use Rattle.std.specs.Prelude.{ℕ, ◌+◌, ◌-◌, ◌*◌, ◌/◌, ◌%◌, ◌≤◌, Bool, ◌&&◌, List, [], ◌∷◌, nat_le, nat_lt}
+use Rattle.std.specs.List.{list_any}
+use Rattle.cs_civil.specs.Calendar.{Kind, four_days, last_day}
 use Rattle.cs_chart.specs.declared.bar.Bar.{Bar}
 use Rattle.cs_windows.specs.declared.window.Window.{Window}
-use Rattle.cs_windows.specs.declared.window.TheConstants.{MINUTES_OF_DAY}
+use Rattle.cs_civil.specs.declared.minute.TheConstants.{MINUTES_OF_DAY}
 use Rattle.cs_windows.specs.Windows.{Job, windows_on}
 
 -- successive days
@@ -37,10 +37,6 @@ abbrev pub is_held_on : ℕ → List Window → ℕ → Bool
 is_held_on start windows minute =
     (nat_le start minute && nat_lt minute (start + MINUTES_OF_DAY))
     && list_any (holds (minute - start)) windows
-
--- a day and the three days before it, eldest first
-unfoldable pub four_days : ℕ → List Kind
-four_days n = map kind (range_with_len (n - 3) 4)
 
 -- whether a window of the job holds this minute, counted from the start of a day: a window of the
 -- minute's own day or one that began up to three days before

@@ -3,7 +3,7 @@ ghost use Rattle.std.specs.Prelude.{◌≤◌};
 
 use crate::sheet::{Sheet, place_of};
 use crate::text::push_day;
-use cs_windows::MINUTES_OF_DAY;
+use cs_civil::MINUTES_OF_DAY;
 use std::alloc::AllocError;
 use std::fmt::Write;
 

@@ -1,11 +1,11 @@
 //! The bars of a job: its windows, joined where they touch.
 ghost use Rattle.std.specs.Prelude.{◌≡◌, ◌*◌, ◌<◌, ◌≤◌, ◌||◌, ℕ, [], ◌∷◌, IfOk, OnOk, IsTrue};
 ghost use Rattle.cs_windows.specs.Occupied.{job_of};
-ghost use Rattle.cs_chart.specs.Bars.{covers, four_days, is_covered, is_held_on, is_occupied};
+ghost use Rattle.cs_chart.specs.Bars.{covers, is_covered, is_held_on, is_occupied};
 
-use crate::span::Span;
-use cs_civil::{Day, DayKind, kind_of};
-use cs_windows::{MINUTES_OF_DAY, Occupied, Window, windows_on};
+use crate::span::DaySpan;
+use cs_civil::{MINUTES_OF_DAY, four_days};
+use cs_windows::{Occupied, Window, windows_on};
 use std::alloc::{AllocError, Global};
 
 /// Minutes of the picture, from one on and below another, counted from the start of its first day.
@@ -62,21 +62,6 @@ fn add_windows(bars: &mut Vec<Bar>, windows: &[Window], start: u32) -> Result<()
     Ok(())
 }
 
-/// The kinds of a day and of the three days before it, eldest first.
-#[tactic(auto, unfolding(crate::specs::Bars::four_days))]
-fn four_days(day: Day) -> [DayKind; 4]
-    requires { 3 ≤ day }
-    ensures { result ≡ four_days day }
-{
-    let number = day.number();
-    [
-        kind_of(Day::new(number - 3).unwrap()),
-        kind_of(Day::new(number - 2).unwrap()),
-        kind_of(Day::new(number - 1).unwrap()),
-        kind_of(day),
-    ]
-}
-
 /// The bars of a job over the days of the picture: they cover the very minutes that its windows
 /// hold, those that began up to three days before among them. Windows that touch make one bar. The
 /// only error is want of memory.
@@ -84,7 +69,7 @@ fn four_days(day: Day) -> [DayKind; 4]
 pub(crate) fn bars_of(
     alloc: Global,
     occupied: Occupied<'_>,
-    span: Span,
+    span: DaySpan,
 ) -> Result<Vec<Bar>, AllocError>
     ensures { IfOk result (λ bars. (minute : ℕ) → minute < MINUTES_OF_DAY * span.days
         → is_covered bars.items minute ≡ is_occupied (job_of occupied.entry) span.first minute) }

@@ -3,7 +3,7 @@ use crate::job::GROUP_CELLS;
 use crate::look::look_of;
 use crate::row::Terms;
 use crate::sheet::{MARGIN, Sheet};
-use crate::span::Span;
+use crate::span::DaySpan;
 use crate::text::{push_clock, push_cut, push_day};
 use cs_decl::{Group, Plan};
 use std::alloc::{AllocError, Global};
@@ -21,7 +21,7 @@ const GROUP_WIDTH: u32 = 148;
 const KEY_LINE: u32 = 18;
 
 /// The title: the table, and the days.
-pub(crate) fn title(alloc: Global, subject: &[u8], span: Span) -> Result<String, AllocError> {
+pub(crate) fn title(alloc: Global, subject: &[u8], span: DaySpan) -> Result<String, AllocError> {
     let mut title = String::new(alloc);
     push_cut(&mut title, subject, SUBJECT_CELLS)?;
     title.push_str(": ")?;

@@ -1,9 +1,8 @@
 //! What a picture can show of bars and of due minutes.
 use crate::bar::Bar;
-use crate::span::Span;
-use cs_civil::kind_of;
+use crate::span::DaySpan;
+use cs_civil::{MINUTES_OF_DAY, kind_of};
 use cs_schedule::{MinuteSet, Schedule};
-use cs_windows::MINUTES_OF_DAY;
 use std::alloc::{AllocError, Global};
 
 /// Bars or marks as they are drawn.
@@ -66,7 +65,7 @@ pub(crate) fn without_gaps(alloc: Global, bars: &[Bar], gap: u32) -> Result<Draw
 pub(crate) fn marks_of(
     alloc: Global,
     schedule: &Schedule,
-    span: Span,
+    span: DaySpan,
     gap: u32,
 ) -> Result<Drawn, AllocError> {
     let mut drawn = Drawn::new(alloc);

@@ -6,12 +6,11 @@ use crate::job::push_row;
 use crate::load::Load;
 use crate::row::{Row, Terms, plan_rows, table_rows};
 use crate::sheet::{ROW, Sheet};
-use crate::span::{MOST_DAYS, Span};
+use crate::span::{DaySpan, MOST_DAYS};
 use cs_anacrontab::Anacrontab;
 use cs_civil::Day;
 use cs_crontab::Crontab;
 use cs_decl::{Group, Plan};
-use cs_history::Mode;
 use std::alloc::{AllocError, Global};
 use std::fmt::Write;
 
@@ -68,7 +67,7 @@ fn push_note(sheet: &mut Sheet, note: &str) -> Result<(), AllocError> {
 /// Whether a job may have to wait for its lock.
 fn waits(row: &Row<'_>) -> bool {
     match row.declared {
-        Some(job) => job.mode == Mode::Wait || job.mode == Mode::Shared,
+        Some(job) => job.mode.waits(),
         None => false,
     }
 }
@@ -99,7 +98,7 @@ fn push_notes(sheet: &mut Sheet, scene: &Scene<'_>, is_coarse: bool) -> Result<(
 }
 
 /// Draws everything below the head of the file.
-fn body(alloc: Global, scene: &Scene<'_>, span: Span) -> Result<Sheet, AllocError> {
+fn body(alloc: Global, scene: &Scene<'_>, span: DaySpan) -> Result<Sheet, AllocError> {
     let mut sheet = Sheet::new(alloc, span);
     let mut load = Load::new(alloc, sheet.minutes())?;
     push_title(&mut sheet, scene.title, scene.terms)?;
@@ -127,7 +126,7 @@ fn body(alloc: Global, scene: &Scene<'_>, span: Span) -> Result<Sheet, AllocErro
 }
 
 /// Draws a scene.
-fn draw(alloc: Global, scene: &Scene<'_>, span: Span) -> Result<String, AllocError> {
+fn draw(alloc: Global, scene: &Scene<'_>, span: DaySpan) -> Result<String, AllocError> {
     let sheet = body(alloc, scene, span)?;
     let title = scene.title;
     let height = sheet.y;
@@ -167,7 +166,7 @@ pub fn chart(
     from: Day,
     days: u8,
 ) -> Result<String, AllocError> {
-    let span = Span::new(from, days);
+    let span = DaySpan::new(from, days);
     let rows = table_rows(alloc, table, jobs, terms)?;
     let title = title(alloc, subject, span)?;
     let terms = terms_text(alloc, terms)?;
@@ -195,7 +194,7 @@ pub fn plan_chart(
     from: Day,
     days: u8,
 ) -> Result<String, AllocError> {
-    let span = Span::new(from, days);
+    let span = DaySpan::new(from, days);
     let rows = plan_rows(alloc, plan)?;
     let title = title(alloc, subject, span)?;
     let terms = plan_text(alloc, plan)?;

@@ -1,6 +1,6 @@
 //! The sheet that a picture is drawn on, from its top to its foot.
-use crate::span::Span;
-use cs_windows::MINUTES_OF_DAY;
+use crate::span::DaySpan;
+use cs_civil::MINUTES_OF_DAY;
 use std::alloc::{AllocError, Global};
 use std::fmt::Write;
 
@@ -28,13 +28,13 @@ pub(crate) struct Sheet {
     pub(crate) svg: String,
     /// The top of what is drawn next.
     pub(crate) y: u32,
-    pub(crate) span: Span,
+    pub(crate) span: DaySpan,
 }
 
 impl Sheet {
     ghost use Rattle.std.specs.Prelude.{◌≤◌};
 
-    pub(crate) fn new(alloc: Global, span: Span) -> Sheet {
+    pub(crate) fn new(alloc: Global, span: DaySpan) -> Sheet {
         Sheet {
             svg: String::new(alloc),
             y: 0,
@@ -91,7 +91,7 @@ impl Sheet {
 }
 
 /// The place of a minute of the picture from the left.
-pub(crate) fn place_of(minute: u32, span: Span) -> u32 {
+pub(crate) fn place_of(minute: u32, span: DaySpan) -> u32 {
     let minutes = u32::from(MINUTES_OF_DAY) * u32::from(span.days());
     let along = u64::from(PLOT_WIDTH) * u64::from(minute.min(minutes)) / u64::from(minutes.max(1));
     PLOT_LEFT + (along as u32)

@@ -16,12 +16,12 @@ pub(crate) const MOST_DAYS: u8 = 7;
 
 /// Successive days, one to seven, from 1970-01-04 on and none past 9999-12-31.
 #[derive(Clone, Copy, Debug, PartialEq, Eq)]
-pub(crate) struct Span {
+pub(crate) struct DaySpan {
     start: Day,
     count: u8,
 }
 
-impl Model for Span {
+impl Model for DaySpan {
     ghost use Rattle.cs_chart.specs.Bars.{Days, AreShown};
 
     ghost Value = { Days };
@@ -33,15 +33,15 @@ impl Model for Span {
     ghost inverse = { λ v. record { start = v.first; count = v.days } };
 }
 
-impl Span {
+impl DaySpan {
     ghost use Rattle.cs_chart.specs.Bars.{AreShown};
 
     /// So many days from one on, as far as they can be shown; at least one, and at most seven.
-    pub(crate) fn new(from: Day, days: u8) -> Span {
+    pub(crate) fn new(from: Day, days: u8) -> DaySpan {
         let first = from.number().max(FIRST_DAY);
         let left = LAST_DAY - first + 1;
         let count = u64::from(days.clamp(1, MOST_DAYS)).min(left) as u8;
-        Span {
+        DaySpan {
             start: Day::new(first).unwrap(),
             count,
         }

@@ -1,6 +1,6 @@
 //! Texts of a picture: escaped, and cut to fit.
 use bstr::ByteSlice;
-use cs_civil::{Day, day_text, kind_of};
+use cs_civil::{Day, day_text, kind_of, weekday_name};
 use std::alloc::AllocError;
 use std::fmt::Write;
 use unicode_width::UnicodeWidthChar;
@@ -74,19 +74,6 @@ pub(crate) fn push_clock(svg: &mut String, minute: u16) -> Result<(), AllocError
     let hour = minute / 60;
     let rest = minute % 60;
     write!(svg, "{hour:02}:{rest:02}")
-}
-
-/// The short name of a weekday, 0 for Sunday.
-fn weekday_name(dow: u8) -> &'static str {
-    match dow {
-        0 => "Sun",
-        1 => "Mon",
-        2 => "Tue",
-        3 => "Wed",
-        4 => "Thu",
-        5 => "Fri",
-        _ => "Sat",
-    }
 }
 
 /// Adds `YYYY-MM-DD Fri`.

@@ -7,21 +7,22 @@ use Rattle.std.proofs.lemmas.Bool.{ltb-true}
 use Rattle.cs_civil.specs.Calendar.{Kind}
 use Rattle.cs_history.specs.Plan.{Plan, IsPlan}
 use Rattle.cs_history.proofs.Lists.{all_map}
-use Rattle.cs_safety.proofs.Locks.{group_of}
+use Rattle.cs_theorem.proofs.Locks.{group_of}
 use Rattle.cs_wait.specs.Bounds.{ClearsBy, StepsHold}
-use Rattle.cs_accepted.specs.Certificate.{Certificate, Stretch}
-use Rattle.cs_accepted.specs.Accepted.{AreApart, AreFree, AreWithin, InEach, IsCovered, IsUsed, arrivals, nth, windows_of}
-use Rattle.cs_accepted.specs.Faults.{due_fault, first_fault, is_used, stretch_fault, used_stretches}
-use Rattle.cs_accepted.proofs.Chains.{tells_used}
-use Rattle.cs_accepted.proofs.Points.{says_all, says_one, says_two, waiter_to}
+use Rattle.cs_theorem.specs.Certificate.{Certificate, Stretch}
+use Rattle.cs_theorem.specs.Accepted.{AreApart, AreFree, AreWithin, InEach, IsCovered, IsUsed, arrivals, nth, windows_of}
+use Rattle.cs_theorem.specs.Faults.{due_fault, first_fault, is_used, stretch_fault, used_stretches}
+use Rattle.cs_theorem.proofs.Chains.{tells_used}
+use Rattle.cs_theorem.proofs.Points.{says_all, says_one, says_two, waiter_to}
+use Rattle.cs_check.proofs.Clearing.{tells_on}
 use Rattle.cs_check.specs.Stretches.{AreGood, AreStretches, HaveReaches, IsCase, IsGood}
 use Rattle.std.proofs.lemmas.List.Elements.{All-head, All-tail}
 use Rattle.cs_cert.specs.Claim.{said}
-use Rattle.cs_chains.specs.Used.{seen}
-use Rattle.cs_chains.specs.declared.used.UsedStretch.{UsedStretch}
-use Rattle.cs_claim.specs.Claim.{as_certificate}
+use Rattle.cs_classes.specs.Used.{seen}
+use Rattle.cs_classes.specs.declared.used.UsedStretch.{UsedStretch}
+use Rattle.cs_classes.specs.Claim.{as_certificate}
 use Rattle.cs_decl.specs.Plan.{as_plan}
-use Rattle.cs_claim.specs.Planned.{due_on}
+use Rattle.cs_classes.specs.Planned.{due_on}
 use Rattle.cs_check.specs.Case.{claim_fault}
 use Rattle.cs_check.specs.declared.case.Case.{Case}
 use Rattle.cs_check.proofs.Using.{days_range}
@@ -48,12 +49,12 @@ module _ (p : Plan) (plan : IsPlan p) (on : ℕ → Kind → ℕ → Bool) (a : 
           r.0,
           r.1,
           in_each (λ s. (m : ℕ) → m < 1440 → a.due (nth s.of 0) j m ≡ true → ClearsBy (map (λ class. a.bound class g) s.of) m r.0)
-              (λ s is. subst (λ (k : ℕ). (m : ℕ) → m < 1440 → a.due (nth s.of 0) j m ≡ true → ClearsBy (map (λ class. a.bound class k) s.of) m r.0) (ap (λ (o : Option ℕ). unwrap_or o 0) (group_of p g j lock)) (is.clears j r.0 (ltb-true j p.crons cron) wait r.1)),
+              (λ s is. subst (λ (k : ℕ). (m : ℕ) → m < 1440 → a.due (nth s.of 0) j m ≡ true → ClearsBy (map (λ class. a.bound class k) s.of) m r.0) (ap (λ (o : Option ℕ). unwrap_or o 0) (group_of p g j lock)) ((tells_on p plan a j r.0 s).0 (is.reaches j (ltb-true j p.crons cron) r.0 wait r.1))),
         );
-    covered = in_each (IsCovered p a) (λ s is. is.covered);
-    apart = in_each (λ s. AreApart p (windows_of p a s.of)) (λ s is. is.apart);
-    within = in_each (λ s. AreWithin p n (windows_of p a s.of)) (λ s is. is.within);
-    free = in_each (λ s. AreFree p (windows_of p a s.of)) (λ s is. is.free);
+    covered = in_each (IsCovered p a) (λ s is. is.leaves);
+    apart = in_each (λ s. AreApart p (windows_of p a s.of)) (λ s is. is.collisions);
+    within = in_each (λ s. AreWithin p n (windows_of p a s.of)) (λ s is. is.capacity);
+    free = in_each (λ s. AreFree p (windows_of p a s.of)) (λ s is. is.skips);
   })
 
 recursion_from : (P : Stretch → Type 0) (see : UsedStretch → Stretch) (us : List UsedStretch) → All (λ u. P (see u)) us → AllByRecursion P (map see us)

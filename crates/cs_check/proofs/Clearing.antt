@@ -6,16 +6,28 @@ use Rattle.cs_history.specs.Plan.{Plan, IsPlan}
 use Rattle.cs_cert.specs.declared.class.Class.{Class}
 use Rattle.cs_cert.specs.Certificate.{bound_in, is_due_in}
 use Rattle.cs_cert.specs.Content.{Content}
-use Rattle.cs_claim.specs.Claim.{as_certificate, class_at}
-use Rattle.cs_claim.specs.Reaches.{Clears, bounds_of}
+use Rattle.cs_classes.specs.Claim.{as_certificate, class_at}
+use Rattle.cs_classes.specs.Reaches.{Clears, bounds_of}
 use Rattle.cs_wait.specs.Bounds.{ClearsBy, at_days}
-use Rattle.cs_accepted.specs.Accepted.{nth}
-use Rattle.cs_accepted.specs.Certificate.{Stretch}
-use Rattle.cs_accepted.specs.Faults.{clears_by}
-use Rattle.cs_accepted.proofs.Says.{Tells, tells_minutes, tells_if}
-use Rattle.cs_accepted.proofs.Stretches.{map_twice}
-use Rattle.cs_accepted.proofs.Points.{tells_clears}
-use Rattle.cs_check.specs.Stretches.{ClearsOn, clears_on}
+use Rattle.cs_theorem.specs.Accepted.{nth}
+use Rattle.cs_theorem.specs.Certificate.{Certificate, Stretch}
+use Rattle.cs_theorem.specs.Faults.{clears_by}
+use Rattle.cs_theorem.proofs.Says.{Tells, tells_minutes, tells_if}
+use Rattle.cs_theorem.proofs.Stretches.{map_twice}
+use Rattle.cs_theorem.proofs.Points.{tells_clears}
+use Rattle.cs_check.specs.Stretches.{clears_on}
+
+-- after each due minute of the job on the first day of the stretch the bound of its group is zero
+-- within the reach
+abbrev ClearsOn : Plan → Certificate → Stretch → ℕ → ℕ → Type 0
+ClearsOn p a s j r = (m : ℕ) → m < 1440 → a.due (nth s.of 0) j m ≡ true → ClearsBy (map (λ class. a.bound class (unwrap_or (p.group j) 0)) s.of) m r
+
+pub tells_on : (p : Plan) → IsPlan p → (a : Certificate) (j r : ℕ) (s : Stretch) → Tells (clears_on p a j r s) (ClearsOn p a s j r)
+tells_on p plan a j r s =
+    tells_minutes (λ m. not (a.due (nth s.of 0) j m) || clears_by (map (λ class. a.bound class (unwrap_or (p.group j) 0)) s.of) m r)
+    (λ m. a.due (nth s.of 0) j m ≡ true → ClearsBy (map (λ class. a.bound class (unwrap_or (p.group j) 0)) s.of) m r)
+    (λ m. tells_if (a.due (nth s.of 0) j m) (clears_by (map (λ class. a.bound class (unwrap_or (p.group j) 0)) s.of) m r) (ClearsBy (map (λ class. a.bound class (unwrap_or (p.group j) 0)) s.of) m r)
+    (tells_clears p plan (λ _ _ _. false) a 1 (omega arith) (map (λ class. a.bound class (unwrap_or (p.group j) 0)) s.of) m r))
 
 -- a test is what decides the same
 pub tells_is : (x y : Bool) (P : Type 0) → (x ≡ true → P) × (P → x ≡ true) → Tells y P → x ≡ y
@@ -38,18 +50,11 @@ module _ (p : Plan) (plan : IsPlan p) (c : Content) (s : Stretch) (j r : ℕ) (s
   from_on : ClearsOn p (as_certificate c) s j r → Clears p (map (class_at c.classes) s.of) j r
   from_on h m lt due = subst (λ (bs : List (ℕ → ℕ)). ClearsBy bs m r) (sym bounds_are) (h m lt (sym (ap (λ (class : Class). is_due_in class j m) (first_is c.classes s.of some)) ∙ due))
 
-  pub tells_on : Tells (clears_on p (as_certificate c) j r s) (ClearsOn p (as_certificate c) s j r)
-  tells_on =
-      tells_minutes (λ m. not ((as_certificate c).due (nth s.of 0) j m) || clears_by (map (λ class. (as_certificate c).bound class (unwrap_or (p.group j) 0)) s.of) m r)
-      (λ m. (as_certificate c).due (nth s.of 0) j m ≡ true → ClearsBy (map (λ class. (as_certificate c).bound class (unwrap_or (p.group j) 0)) s.of) m r)
-      (λ m. tells_if ((as_certificate c).due (nth s.of 0) j m) (clears_by (map (λ class. (as_certificate c).bound class (unwrap_or (p.group j) 0)) s.of) m r) (ClearsBy (map (λ class. (as_certificate c).bound class (unwrap_or (p.group j) 0)) s.of) m r)
-      (tells_clears p plan (λ _ _ _. false) (as_certificate c) 1 (omega arith) (map (λ class. (as_certificate c).bound class (unwrap_or (p.group j) 0)) s.of) m r))
-
   -- what the classes of the stretch decide is the test
   pub clears_is : (x : Bool) (classes : List Class) → classes ≡ map (class_at c.classes) s.of → (IsTrue x ↔ Clears p classes j r) → x ≡ clears_on p (as_certificate c) j r s
   clears_is x classes e is =
       tells_is x (clears_on p (as_certificate c) j r s) (ClearsOn p (as_certificate c) s j r)
-      (λ h. to_on (subst (λ (ks : List Class). Clears p ks j r) e (is.0 h)), λ h. is.1 (subst (λ (ks : List Class). Clears p ks j r) (sym e) (from_on h))) tells_on
+      (λ h. to_on (subst (λ (ks : List Class). Clears p ks j r) e (is.0 h)), λ h. is.1 (subst (λ (ks : List Class). Clears p ks j r) (sym e) (from_on h))) (tells_on p plan (as_certificate c) j r s)
 
 -- what is clear on the first day is clear on it and those after it
 more_days : (b : ℕ → ℕ) (bs : List (ℕ → ℕ)) (m r : ℕ) → ClearsBy (b ∷ []) m r → ClearsBy (b ∷ bs) m r
@@ -62,7 +67,7 @@ more_days b bs m r h =
 
 -- so a job that has had its lock on the first day itself has had it
 pub clears_alone : (p : Plan) → IsPlan p → (c : Content) (s : Stretch) (j r : ℕ) → 0 < length s.of → Clears p (class_at c.classes (nth s.of 0) ∷ []) j r → clears_on p (as_certificate c) j r s ≡ true
-clears_alone p plan c s j r some h = (tells_on p plan c s j r some).1 (on s.of some h)
+clears_alone p plan c s j r some h = (tells_on p plan (as_certificate c) j r s).1 (on s.of some h)
   where
     on : (of : List ℕ) → 0 < length of → Clears p (class_at c.classes (nth of 0) ∷ []) j r → (m : ℕ) → m < 1440 → (as_certificate c).due (nth of 0) j m ≡ true → ClearsBy (map (λ class. (as_certificate c).bound class (unwrap_or (p.group j) 0)) of) m r
     on [] lt h m in_day due = absurd (omega (arith, lt))

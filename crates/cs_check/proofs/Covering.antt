@@ -1,10 +1,10 @@
 -- What a complete tree lists at each minute.
 use Rattle.std.proofs.Common.{◌≡◌, ℕ, ◌+◌, ◌<◌, Bool, true, false, List, Some, refl, subst, arith}
 use Rattle.std.specs.Prelude.{◌==◌}
-use Rattle.cs_accepted.specs.Accepted.{ListsAll}
+use Rattle.cs_theorem.specs.Accepted.{ListsAll}
 use Rattle.cs_cert.specs.Content.{Content}
-use Rattle.cs_chains.specs.Used.{seen}
-use Rattle.cs_chains.specs.declared.used.UsedStretch.{UsedStretch}
+use Rattle.cs_classes.specs.Used.{seen}
+use Rattle.cs_classes.specs.declared.used.UsedStretch.{UsedStretch}
 use Rattle.std.specs.List.{AllByRecursion}
 use Rattle.cs_history.proofs.Lists.{all_zip, all-filter, all_passes}
 use Rattle.cs_windows.specs.declared.window.Window.{Window}
@@ -13,8 +13,8 @@ use Rattle.cs_windows.specs.Entries.{lists}
 use Rattle.cs_windows.specs.Tree.{IsComplete, Tree, entries_at, tree_of}
 use Rattle.cs_windows.proofs.Members.{Has, has_contains}
 use Rattle.cs_windows.proofs.Touching.{touches_held}
-use Rattle.cs_accepted.specs.Windows.{holders}
-use Rattle.cs_accepted.proofs.Says.{all_from_has}
+use Rattle.cs_theorem.specs.Windows.{holders}
+use Rattle.cs_theorem.proofs.Says.{all_from_has}
 
 held : (w : Window) (m : ℕ) → touches w m (m + 1) ≡ true → Holds w m
 held w m t = let h = touches_held w m (m + 1) t in let e : h.0 ≡ m = omega (arith, h.1, h.2) in subst (Holds w) e h.3

@@ -2,15 +2,16 @@
 use Rattle.std.proofs.Common.{◌≡◌, ℕ, Bool, not, ◌||◌, Option, None, Some, refl, ap, sym, ◌∙◌}
 use Rattle.cs_decl.specs.Plan.{Declared, as_plan}
 use Rattle.cs_cert.specs.Content.{Content}
-use Rattle.cs_claim.specs.Claim.{as_certificate}
+use Rattle.cs_classes.specs.Claim.{as_certificate}
 use Rattle.cs_civil.specs.Calendar.{Kind}
 use Rattle.cs_history.specs.Lists.{below}
 use Rattle.cs_history.specs.Plan.{Plan, waits}
-use Rattle.cs_claim.specs.Planned.{due_on}
-use Rattle.cs_accepted.specs.Certificate.{Certificate}
-use Rattle.cs_accepted.specs.Faults.{Fault, ReachTooShort, due_fault, first_fault, first_of, leaf_fault, or_else, reach_fault, reaches_far, step_fault, stretch_fault, unless, used_stretches, collision_fault, capacity_fault, skip_fault}
+use Rattle.cs_classes.specs.Planned.{due_on}
+use Rattle.cs_theorem.specs.Certificate.{Certificate}
+use Rattle.cs_theorem.specs.Faults.{Fault, ReachTooShort, due_fault, first_fault, first_of, leaf_fault, or_else, reach_fault, reaches_far, step_fault, stretch_fault, unless, used_stretches, collision_fault, capacity_fault, skip_fault}
 use Rattle.cs_check.specs.Case.{claim_fault, length_for}
-use Rattle.cs_check.specs.Stretches.{is_far_by, fault_by_windows, later_fault}
+use Rattle.cs_check.specs.Stretches as ours
+use Rattle.cs_check.specs.Stretches.{later_fault, windows_fault}
 
 module _ (p : Plan) (on : ℕ → Kind → ℕ → Bool) (a : Certificate) (n : ℕ) where
   rest : Option Fault
@@ -20,15 +21,15 @@ module _ (p : Plan) (on : ℕ → Kind → ℕ → Bool) (a : Certificate) (n : 
   unfolding first_fault rest
   first_is = refl
 
-  far_same : (j : ℕ) (o : Option ℕ) → reaches_far p a n j o ≡ is_far_by p a (used_stretches a n) j o
+  far_same : (j : ℕ) (o : Option ℕ) → reaches_far p a n j o ≡ ours.reaches_far p a (used_stretches a n) j o
   far_same j None = refl
   far_same j (Some r) = refl
 
-  reach_same : reach_fault p a n ≡ first_of (λ j. unless (not (waits p j) || is_far_by p a (used_stretches a n) j (a.reach j)) (ReachTooShort j)) (below p.crons)
+  reach_same : reach_fault p a n ≡ first_of (λ j. unless (not (waits p j) || ours.reaches_far p a (used_stretches a n) j (a.reach j)) (ReachTooShort j)) (below p.crons)
   reach_same = ap (λ (f : ℕ → Option Fault). first_of f (below p.crons)) (λ i j. unless (not (waits p j) || far_same j (a.reach j) i) (ReachTooShort j))
 
   rest_is : rest ≡ later_fault p a n (used_stretches a n)
-  unfolding later_fault fault_by_windows rest
+  unfolding later_fault windows_fault rest
   rest_is = ap (λ (o : Option Fault). or_else (step_fault p a n) (or_else o (or_else (leaf_fault p a n) (or_else (collision_fault p a n) (or_else (capacity_fault p a n) (skip_fault p a n)))))) reach_same
 
   pub one_first : (f : Fault) → due_fault p on a ≡ Some f → first_fault p on a n ≡ Some f

@@ -9,23 +9,23 @@ use Rattle.cs_crontab.specs.declared.table.When.{When}
 use Rattle.cs_crontab.specs.declared.table.When.TheVariants.{At, Reboot}
 use Rattle.cs_schedule.specs.Times.{is_due as is_time_due}
 use Rattle.cs_decl.specs.Plan.{Declared, as_plan, command_of, is_due}
-use Rattle.cs_claim.specs.Planned.{due_on, is_due_on}
+use Rattle.cs_classes.specs.Planned.{due_on, is_due_on}
 use Rattle.cs_cert.specs.Content.{Content}
-use Rattle.cs_claim.specs.Claim.{as_certificate}
-use Rattle.cs_claim.specs.WorkedOut.{claimed}
-use Rattle.cs_accepted.specs.Faults.{Fault}
-use Rattle.cs_safety.proofs.Safety.{safe}
-use Rattle.cs_safety.proofs.Runs.{runs_in_windows}
-use Rattle.cs_accepted.specs.Accepted.{bound_on, IsByKind, IsLength}
-use Rattle.cs_accepted.proofs.Calm.{calm}
-use Rattle.cs_accepted.proofs.Bounded.{bounded}
-use Rattle.cs_accepted.proofs.Points.{says_all}
-use Rattle.cs_accepted.proofs.Lengths.{length_is}
+use Rattle.cs_classes.specs.Claim.{as_certificate}
+use Rattle.cs_classes.specs.StandsFor.{claimed}
+use Rattle.cs_theorem.specs.Faults.{Fault}
+use Rattle.cs_theorem.proofs.Safety.{safe}
+use Rattle.cs_theorem.proofs.Runs.{runs_in_windows}
+use Rattle.cs_theorem.specs.Accepted.{bound_on, IsByKind, IsLength}
+use Rattle.cs_theorem.proofs.Calm.{calm}
+use Rattle.cs_theorem.proofs.Bounded.{bounded}
+use Rattle.cs_theorem.proofs.Points.{says_all}
+use Rattle.cs_theorem.proofs.Lengths.{length_is}
 use Rattle.cs_check.specs.Case.{reach_for, length_for, claim_fault, fault_of, IsAcceptedClaim, IsAcceptedWith, IsFit}
 use Rattle.cs_check.specs.Checked.{AreFew, IsBroken, IsHeadline, IsCalmThroughout, StayInWindows, Tells}
 use Rattle.cs_check.specs.declared.fault.CheckError.{CheckError}
 use Rattle.cs_check.specs.declared.fault.CheckError.TheVariants as errors
-use Rattle.cs_refused.specs.Told.{told}
+use Rattle.cs_report.specs.Told.{told}
 
 due_step : (w : When) (d m : ℕ) → m < 1440 → is_due w (1440 * d + m) ≡ is_due_on w (kind d) m
 due_step (At schedule) d m lt =

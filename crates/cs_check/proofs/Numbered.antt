@@ -8,7 +8,7 @@ use Rattle.cs_decl.specs.Plan.{Declared}
 use Rattle.cs_cert.specs.Content.{Content}
 use Rattle.cs_check.specs.ClassDays.{AreClassDays, IsClassDay}
 use Rattle.cs_check.specs.declared.class_day.ClassDay.{ClassDay}
-use Rattle.cs_chains.proofs.Collected.{of_answers}
+use Rattle.cs_classes.proofs.Collected.{of_answers}
 
 -- what holds of each element at its place still holds after one more that has it
 pub each_push : {X : Type 0} (P : ℕ → X → Type 0) (xs : List X) (x : X) → ((n : ℕ) (y : X) → slice_get xs n ≡ Some y → P n y) → P (length xs) x → (n : ℕ) (y : X) → slice_get (xs ++ x ∷ []) n ≡ Some y → P n y

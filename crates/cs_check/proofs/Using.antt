@@ -8,24 +8,24 @@ use Rattle.std.proofs.lemmas.List.Sums.{AllPass-from_list_all}
 use Rattle.cs_civil.specs.Calendar.{Kind}
 use Rattle.cs_decl.specs.Plan.{Declared, as_plan}
 use Rattle.cs_cert.specs.Content.{Content, StretchTree, stretch_of}
-use Rattle.cs_chains.specs.declared.used.UsedStretch.{UsedStretch}
+use Rattle.cs_classes.specs.declared.used.UsedStretch.{UsedStretch}
 use Rattle.cs_cert.specs.Certificate.{class_of}
 use Rattle.cs_cert.specs.Judged.{IsClaim}
 use Rattle.cs_cert.specs.Rules.{is_split_well}
 use Rattle.cs_cert.proofs.Splits.{inside_so}
-use Rattle.cs_claim.specs.Planned.{due_on, planned}
+use Rattle.cs_classes.specs.Planned.{due_on, planned}
 use Rattle.cs_windows.specs.Windows.{windows_on}
-use Rattle.cs_claim.specs.Claim.{as_certificate}
-use Rattle.cs_accepted.specs.Accepted.{windows_of}
-use Rattle.cs_accepted.specs.Faults.{due_fault}
-use Rattle.cs_accepted.proofs.ByKind.{by_kinds}
-use Rattle.cs_accepted.proofs.Points.{says_one}
-use Rattle.cs_chains.specs.Used.{HaveClasses}
+use Rattle.cs_classes.specs.Claim.{as_certificate}
+use Rattle.cs_theorem.specs.Accepted.{windows_of}
+use Rattle.cs_theorem.specs.Faults.{due_fault}
+use Rattle.cs_theorem.proofs.ByKind.{by_kinds}
+use Rattle.cs_theorem.proofs.Points.{says_one}
+use Rattle.cs_classes.specs.Used.{HaveClasses}
 use Rattle.cs_check.specs.Case.{IsFit, length_for}
 use Rattle.cs_cert.specs.Claim.{said}
 use Rattle.cs_cert.specs.declared.class.Class.{Class}
-use Rattle.cs_claim.specs.Claim.{class_at}
-use Rattle.cs_accepted.specs.Accepted.{nth}
+use Rattle.cs_classes.specs.Claim.{class_at}
+use Rattle.cs_theorem.specs.Accepted.{nth}
 use Rattle.cs_check.specs.declared.case.Case.{Case}
 use Rattle.cs_check.specs.Stretches.{IsCase, IsInUse}
 use Rattle.cs_check.proofs.Headline.{length_of}
@@ -68,11 +68,6 @@ pub one_more : (classes : List Class) (of : List ℕ) (so_far : List (Bor Class)
     → map (λ (x : Bor Class). x.now) (take place so_far) ≡ map (class_at classes) (take place of)
     → map (λ (x : Bor Class). x.now) (take (place + 1) (slice_set so_far place class)) ≡ map (class_at classes) (take (place + 1) of)
 one_more classes of so_far place class lt in_of is so = one_more_of (λ (x : Bor Class). x.now) (class_at classes) of so_far place class lt in_of is so
-
--- the classes of a stretch in use are as many as its days
-pub long_as_classes : (c : Content) (n : ℕ) (kinds : List Kind) (of : List ℕ) (classes : List (Bor Class)) → HaveClasses c n of kinds → map (λ (x : Bor Class). x.now) classes ≡ map (class_at c.classes) of → length classes ≡ n
-long_as_classes c n kinds of classes have e =
-    sym (length-map classes (λ (x : Bor Class). x.now)) ∙ (ap length e ∙ (length-map of (class_at c.classes) ∙ long_as_kinds c n kinds of have))
 
 at_place : {X : Type 0} (P : X → Type 0) (xs : List X) (i : ℕ) (x : X) → All P xs → slice_get xs i ≡ Some x → P x
 at_place P [] i x h e = absurd (cc)

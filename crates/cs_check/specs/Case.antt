@@ -1,13 +1,13 @@
 -- A plan and a certificate, as the rules of acceptance see them.
 use Rattle.std.specs.Prelude.{ℕ, Option}
 use Rattle.cs_decl.specs.Plan.{Declared, as_plan}
-use Rattle.cs_claim.specs.Planned.{due_on}
+use Rattle.cs_classes.specs.Planned.{due_on}
 use Rattle.cs_cert.specs.Content.{Content}
-use Rattle.cs_claim.specs.Claim.{as_certificate}
-use Rattle.cs_claim.specs.WorkedOut.{claimed}
+use Rattle.cs_classes.specs.Claim.{as_certificate}
+use Rattle.cs_classes.specs.StandsFor.{claimed}
 use Rattle.cs_history.specs.Plan.{IsPlan}
-use Rattle.cs_accepted.specs.Accepted.{IsAccepted, IsModest, reach_in}
-use Rattle.cs_accepted.specs.Faults.{Fault, first_fault, stretch_length}
+use Rattle.cs_theorem.specs.Accepted.{IsAccepted, IsModest, reach_in}
+use Rattle.cs_theorem.specs.Faults.{Fault, first_fault, stretch_length}
 
 -- the reach of a job
 abbrev pub reach_for : Declared → Content → ℕ → ℕ

@@ -8,11 +8,11 @@ use Rattle.cs_check.specs.declared.checked.Checked.{Checked}
 use Rattle.cs_history.specs.Plan.{Plan, IsReached}
 use Rattle.cs_history.specs.Calm.{Holds, IsCalm, window_of}
 use Rattle.cs_history.specs.History.{History, now, running, IsLegal, IsInTime, IsSafe}
-use Rattle.cs_accepted.specs.Accepted.{IsLength}
-use Rattle.cs_accepted.specs.Faults.{Fault}
-use Rattle.cs_claim.specs.Planned.{due_on}
+use Rattle.cs_theorem.specs.Accepted.{IsLength}
+use Rattle.cs_theorem.specs.Faults.{Fault}
+use Rattle.cs_classes.specs.Planned.{due_on}
 use Rattle.cs_check.specs.Case.{IsAcceptedWith, reach_for}
-use Rattle.cs_refused.specs.Told.{told}
+use Rattle.cs_report.specs.Told.{told}
 use Rattle.cs_check.specs.declared.fault.CheckError.{CheckError}
 use Rattle.cs_check.specs.declared.fault.CheckError.TheVariants as errors
 

@@ -5,15 +5,15 @@ use Rattle.cs_cert.specs.Content.{Content}
 use Rattle.cs_cert.specs.Claim.{said}
 use Rattle.cs_cert.specs.declared.class.Class.{Class}
 use Rattle.cs_cert.specs.Judged.{IsClaim}
-use Rattle.cs_accepted.specs.Faults.{due_fault}
-use Rattle.cs_claim.specs.Claim.{as_certificate, class_at}
-use Rattle.cs_claim.specs.GroupDays.{AreGroupDays}
-use Rattle.cs_claim.specs.Reaches.{Clears}
+use Rattle.cs_theorem.specs.Faults.{due_fault}
+use Rattle.cs_classes.specs.Claim.{as_certificate, class_at}
+use Rattle.cs_classes.specs.GroupDays.{AreGroupDays}
+use Rattle.cs_classes.specs.Reaches.{Clears}
 use Rattle.cs_history.specs.Plan.{waits}
 use Rattle.cs_windows.specs.Occupied.{job_of}
-use Rattle.cs_claim.specs.Planned.{due_on, planned}
+use Rattle.cs_classes.specs.Planned.{due_on, planned}
 use Rattle.cs_check.specs.Case.{IsFit}
-use Rattle.cs_check.specs.declared.basis.Basis.{Basis}
+use Rattle.cs_check.specs.declared.due.Basis.{Basis}
 use Rattle.cs_check.specs.declared.class_day.ClassDay.{ClassDay}
 
 -- the classes have the due minutes of their kinds, and the rest is the plan's and the certificate's

@@ -1,17 +1,21 @@
 //! What is known of a plan and a certificate before the stretches are looked at.
-ghost use Rattle.std.specs.Prelude.{◌≡◌, ◌<◌, ◌≤◌, IfOk, IsTrue, length, map, take};
-ghost use Rattle.cs_accepted.specs.Accepted.{ListsAll, nth};
+ghost use Rattle.std.specs.Prelude.{◌≡◌, ◌<◌, ◌≤◌, IfOk, length, map, take};
 ghost use Rattle.cs_cert.specs.Claim.{said};
-ghost use Rattle.cs_check.specs.ClassDays.{IsClassDay};
-ghost use Rattle.cs_check.specs.Stretches.{IsCase, IsInUse, claim_of, classes_in, seen_of, windows_in};
-ghost use Rattle.cs_claim.specs.Claim.{class_at};
+ghost use Rattle.cs_check.specs.ClassDays.{AreClassDays, IsBasis, IsClassDay};
+ghost use Rattle.cs_check.specs.Stretches.{IsCase, IsCaseOf, IsInUse, claim_of, classes_in, seen_of, windows_in};
+ghost use Rattle.cs_civil.specs.Calendar.{first_minute, last_minute};
+ghost use Rattle.cs_classes.specs.Claim.{class_at};
+ghost use Rattle.cs_theorem.specs.Accepted.{nth};
+ghost use Rattle.cs_theorem.specs.Faults.{minute_of};
 ghost use Rattle.cs_windows.specs.Window.{IsRising};
 
 use crate::class_day::ClassDay;
+use crate::due::Basis;
 use cs_cert::{Claim, Class, reach_of};
-use cs_chains::UsedStretch;
+use cs_civil::Minute;
+use cs_classes::{UsedStretch, last_day, stretch_length};
 use cs_decl::Plan;
-use cs_stretch::Roles;
+use cs_overlap::Roles;
 use cs_wait::Backlog;
 use cs_windows::{Occupied, Window, windows_on};
 use std::alloc::{AllocError, Global};
@@ -91,17 +95,6 @@ impl<'a> Case<'a> {
         &self.class_days.as_slice()[number as usize]
     }
 
-    /// Whether the leaves of a stretch in use list these windows, if the version lists windows.
-    pub(crate) fn covers(&self, used: &UsedStretch<'_>, windows: &[Window]) -> bool
-        requires { IsInUse (said self.now.claim.now) self.now.days used.now }
-        ensures { IsTrue result → ListsAll (seen_of self.now used.now).tree windows.now }
-    {
-        if self.claim.version() == 3 {
-            return true;
-        }
-        used.stretch.tree.covers(windows)
-    }
-
     /// The windows of a stretch in use, in order of start. The only error is out of memory.
     pub(crate) fn windows(
         &self,
@@ -116,4 +109,47 @@ impl<'a> Case<'a> {
         let _days = self.days();
         windows_on(alloc, self.occupied.as_slice(), used.kinds.as_slice())
     }
+}
+
+/// The case with this basis and the day of each class. The only error is out of memory.
+pub(crate) fn case_of<'a>(
+    alloc: Global,
+    basis: Basis<'a>,
+    class_days: Vec<ClassDay>,
+) -> Result<Case<'a>, AllocError>
+    requires basis { IsBasis basis }
+    requires days { AreClassDays basis.plan.now (said basis.claim.now) class_days.items }
+    ensures { IfOk result (IsCaseOf basis.entry.plan.now (said basis.entry.claim.now)) }
+{
+    Ok(Case {
+        plan: basis.plan,
+        claim: basis.claim,
+        days: stretch_length(basis.occupied.as_slice()),
+        roles: Roles::of(alloc, basis.plan)?,
+        occupied: basis.occupied,
+        class_days,
+        none: basis.none,
+    })
+}
+
+pub(crate) fn civil(number: u64) -> Minute
+    requires { (first_minute ≤ number) × (number ≤ last_minute) }
+    ensures { result ≡ number }
+{
+    match Minute::new(number) {
+        Some(minute) => minute,
+        None => unreachable!(),
+    }
+}
+
+/// The civil minute at a minute of the day, on the first day that ends a stretch of such days.
+pub(crate) fn minute_on(case: &Case<'_>, used: &UsedStretch<'_>, minute: u16) -> u64
+    requires { IsCase case.now }
+    ensures value { result
+        ≡ minute_of (claim_of case.now) case.now.days (seen_of case.now used.now) minute }
+    ensures range { (2880 ≤ result) × (result < 20000000) }
+{
+    let _days = case.days();
+    let last = last_day(case.claim, used.stretch.of.as_slice(), case.days);
+    1_440 * u64::from(last) + u64::from(minute)
 }

@@ -8,15 +8,16 @@ ghost use Rattle.cs_check.specs.Checked.{StayInWindows, Tells, certificate_in, p
 ghost use Rattle.cs_check.specs.Stretches.{AreGood, AreStretches, IsCase};
 ghost use Rattle.cs_decl.specs.Plan.{as_plan};
 
-use crate::case::Case;
+use crate::case::{Case, case_of};
 use crate::checked::Checked;
-use crate::class_day::{class_days, class_days_parallel};
+use crate::due::basis_of;
 use crate::fault::CheckError;
 use crate::order::later_fault;
-use crate::prepare::{basis_of, basis_of_parallel, case_of, stretches_of};
-use crate::quiet::{are_good, are_good_parallel, have_reaches};
+use crate::reaches::have_reaches;
+use crate::stretches::in_use;
+use crate::workers::CheckWorkers;
 use cs_cert::{Certificate, Claim};
-use cs_chains::{UsedStretch, claim_by, work_out, work_out_parallel};
+use cs_classes::{OneThread, SeveralThreads, UsedStretch, claim_by, work_out};
 use cs_decl::Plan;
 use cs_wait::Backlog;
 use std::alloc::Global;
@@ -55,74 +56,48 @@ fn answer(
     }
 }
 
-/// Nothing if the claim breaks no rule, else the first fault, with one thread.
-fn judge_claim(
+/// Nothing if the claim breaks no rule, else the first fault.
+fn judge_claim<W: CheckWorkers>(
+    workers: &W,
     alloc: Global,
     plan: &Plan,
     claim: &Claim<'_>,
     none: &Backlog,
 ) -> Result<(), CheckError>
-    requires { none.now ≡ [] }
+    requires ready { W.can_work workers.now }
+    requires none { none.now ≡ [] }
     ensures ok { OnOk result (claim_fault plan.now (said claim.now) ≡ None) }
     ensures fault { IfErr result (Tells (claim_fault plan.now (said claim.now))) }
 {
-    let basis = basis_of(alloc, plan, claim, none)?;
-    let class_days = class_days(alloc, &basis)?;
+    let basis = basis_of(workers, alloc, plan, claim, none)?;
+    let class_days = workers.class_days(alloc, &basis)?;
     let case = case_of(alloc, basis, class_days)?;
-    let stretches = stretches_of(alloc, &case)?;
-    let good = are_good(alloc, &case, stretches.as_slice())?;
+    let stretches = in_use(alloc, &case)?;
+    let good = workers.are_good(alloc, &case, stretches.as_slice())?;
     answer(alloc, &case, stretches.as_slice(), good)
 }
 
-/// Like `judge_claim`, with several threads.
-fn judge_claim_parallel<R: Threads + Sync>(
-    rt: &R,
-    alloc: Global,
-    plan: &Plan,
-    claim: &Claim<'_>,
-    none: &Backlog,
-) -> Result<(), CheckError>
-    requires { none.now ≡ [] }
-    ensures ok { OnOk result (claim_fault plan.now (said claim.now) ≡ None) }
-    ensures fault { IfErr result (Tells (claim_fault plan.now (said claim.now))) }
-{
-    let basis = basis_of_parallel(rt, alloc, plan, claim, none)?;
-    let class_days = class_days_parallel(rt, alloc, &basis)?;
-    let case = case_of(alloc, basis, class_days)?;
-    let stretches = stretches_of(alloc, &case)?;
-    let good = are_good_parallel(rt, alloc, &case, stretches.as_slice());
-    answer(alloc, &case, stretches.as_slice(), good)
-}
-
-/// Nothing if what the certificate stands for breaks no rule, else the first fault; one thread.
-fn judge(
+/// Nothing if what the certificate stands for breaks no rule, else the first fault.
+fn judge<W: CheckWorkers>(
+    workers: &W,
     alloc: Global,
     plan: &Plan,
     certificate: &Certificate,
     none: &Backlog,
 ) -> Result<(), CheckError>
-    requires { none.now ≡ [] }
+    requires ready { W.can_work workers.now }
+    requires none { none.now ≡ [] }
     ensures ok { OnOk result (fault_of plan.now (content certificate.now) ≡ None) }
     ensures fault { IfErr result (Tells (fault_of plan.now (content certificate.now))) }
 {
-    let worked = work_out(alloc, plan, certificate)?;
-    judge_claim(alloc, plan, &claim_by(plan, certificate, &worked), none)
-}
-
-/// Like `judge`, with several threads.
-fn judge_parallel<R: Threads + Sync>(
-    rt: &R,
-    alloc: Global,
-    plan: &Plan,
-    certificate: &Certificate,
-    none: &Backlog,
-) -> Result<(), CheckError>
-    requires { none.now ≡ [] }
-    ensures ok { OnOk result (fault_of plan.now (content certificate.now) ≡ None) }
-    ensures fault { IfErr result (Tells (fault_of plan.now (content certificate.now))) }
-{
-    let worked = work_out_parallel(rt, alloc, plan, certificate)?;
-    judge_claim_parallel(rt, alloc, plan, &claim_by(plan, certificate, &worked), none)
+    let worked = work_out(workers, alloc, plan, certificate)?;
+    judge_claim(
+        workers,
+        alloc,
+        plan,
+        &claim_by(plan, certificate, &worked),
+        none,
+    )
 }
 
 /// Accepts a plan with a certificate if and only if the eight rules of this profile hold, with
@@ -152,7 +127,7 @@ pub fn check(alloc: Global, plan: &Plan, certificate: Certificate) -> Result<Che
 {
     look_at(plan, &certificate);
     let none = Backlog::none(alloc);
-    judge(alloc, plan, &certificate, &none)?;
+    judge(&OneThread, alloc, plan, &certificate, &none)?;
     let plan = plan.copy(alloc)?;
     Ok(Checked { plan, certificate })
 }
@@ -181,7 +156,7 @@ pub fn check_parallel<R: Threads + Sync>(
 {
     look_at(plan, &certificate);
     let none = Backlog::none(alloc);
-    judge_parallel(rt, alloc, plan, &certificate, &none)?;
+    judge(&SeveralThreads(rt), alloc, plan, &certificate, &none)?;
     let plan = plan.copy(alloc)?;
     Ok(Checked { plan, certificate })
 }

@@ -1,4 +1,4 @@
-use cs_refused::CheckFault;
+use cs_report::CheckFault;
 use std::alloc::AllocError;
 
 /// Why no plan was accepted.

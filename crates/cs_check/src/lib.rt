@@ -1,23 +1,25 @@
 //! The checker: decides whether a certificate proves that a plan is safe.
 #![tactic(auto)]
 
-mod basis;
+mod capacity;
 mod case;
 mod checked;
 mod checking;
 mod class_day;
+mod collisions;
+mod due;
 mod fault;
-mod found;
 mod good;
-mod late;
+mod leaves;
 mod order;
-mod passing;
-mod prepare;
 mod promise;
-mod quiet;
-mod rule;
+mod reaches;
+mod skips;
+mod steps;
+mod stretches;
+mod workers;
 
 pub use checked::Checked;
 pub use checking::{check, check_parallel};
-pub use cs_refused::CheckFault;
+pub use cs_report::CheckFault;
 pub use fault::CheckError;

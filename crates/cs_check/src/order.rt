@@ -1,19 +1,71 @@
 //! The first fault of the stretches in use, in the order of the rules.
 ghost use Rattle.std.specs.Prelude.{◌≡◌, All, IfOk, option_map};
 ghost use Rattle.cs_cert.specs.Claim.{said};
-ghost use Rattle.cs_check.specs.Stretches.{IsCase, IsInUse, all_seen, claim_of, fault_by_windows, later_fault, plan_of};
-ghost use Rattle.cs_refused.specs.Told.{told};
+ghost use Rattle.cs_check.specs.Stretches.{IsCase, IsInUse, all_seen, claim_of, fault_by, later_fault, plan_of, seen_of, windows_fault};
+ghost use Rattle.cs_report.specs.Told.{told};
+ghost use Rattle.cs_theorem.specs.Faults.{first_of};
 
 use crate::case::Case;
-use crate::found::first_by;
-use crate::late::first_late;
-use crate::rule::Rule;
-use cs_chains::UsedStretch;
-use cs_refused::CheckFault;
+use crate::{capacity, collisions, leaves, reaches, skips, steps};
+use cs_classes::UsedStretch;
+use cs_report::CheckFault;
 use std::alloc::{AllocError, Global};
 
+/// The rules that are looked at stretch by stretch.
+#[derive(Clone, Copy, Debug)]
+pub(crate) enum Rule {
+    Steps,
+    Leaves,
+    Collisions,
+    Capacity,
+    Skips,
+}
+
+/// The first fault of a stretch by one rule.
+fn fault_by(
+    alloc: Global,
+    case: &Case<'_>,
+    rule: Rule,
+    used: &UsedStretch<'_>,
+) -> Result<Option<CheckFault>, AllocError>
+    requires case { IsCase case.now }
+    requires in_use { IsInUse (said case.now.claim.now) case.now.days used.now }
+    ensures { IfOk result (λ found. option_map told found
+        ≡ fault_by rule (plan_of case.now) (claim_of case.now) case.now.days
+        (seen_of case.now used.now)) }
+{
+    match rule {
+        Rule::Steps => steps::first_fault(alloc, case, used),
+        Rule::Leaves => leaves::first_fault(alloc, case, used),
+        Rule::Collisions => collisions::first_fault(alloc, case, used),
+        Rule::Capacity => capacity::first_fault(alloc, case, used),
+        Rule::Skips => skips::first_fault(alloc, case, used),
+    }
+}
+
+/// The first fault by one rule, in the order of the stretches.
+fn first_by(
+    alloc: Global,
+    case: &Case<'_>,
+    rule: Rule,
+    stretches: &[UsedStretch<'_>],
+) -> Result<Option<CheckFault>, AllocError>
+    requires case { IsCase case.now }
+    requires in_use { All (IsInUse (said case.now.claim.now) case.now.days) stretches.now }
+    ensures { IfOk result (λ found. option_map told found
+        ≡ first_of (fault_by rule (plan_of case.now) (claim_of case.now) case.now.days)
+        (all_seen case.now stretches.now)) }
+{
+    for used in stretches {
+        if let Some(fault) = fault_by(alloc, case, rule, used)? {
+            return Ok(Some(fault));
+        }
+    }
+    Ok(None)
+}
+
 /// The first fault by the rules of windows and locks: leaves, collisions, capacity, skip jobs.
-#[tactic(auto, unfolding(crate::specs::Stretches::fault_by_windows))]
+#[tactic(auto, unfolding(crate::specs::Stretches::windows_fault))]
 fn first_by_windows(
     alloc: Global,
     case: &Case<'_>,
@@ -22,7 +74,7 @@ fn first_by_windows(
     requires case { IsCase case.now }
     requires in_use { All (IsInUse (said case.now.claim.now) case.now.days) stretches.now }
     ensures { IfOk result (λ found. option_map told found
-        ≡ fault_by_windows (plan_of case.now) (claim_of case.now) case.now.days
+        ≡ windows_fault (plan_of case.now) (claim_of case.now) case.now.days
         (all_seen case.now stretches.now)) }
 {
     if let Some(fault) = first_by(alloc, case, Rule::Leaves, stretches)? {
@@ -34,7 +86,7 @@ fn first_by_windows(
     if let Some(fault) = first_by(alloc, case, Rule::Capacity, stretches)? {
         return Ok(Some(fault));
     }
-    first_by(alloc, case, Rule::SkipJobs, stretches)
+    first_by(alloc, case, Rule::Skips, stretches)
 }
 
 /// The first fault by the rules after the first two, in their order.
@@ -53,7 +105,7 @@ pub(crate) fn later_fault(
     if let Some(fault) = first_by(alloc, case, Rule::Steps, stretches)? {
         return Ok(Some(fault));
     }
-    if let Some(fault) = first_late(case, stretches) {
+    if let Some(fault) = reaches::first_fault(case, stretches) {
         return Ok(Some(fault));
     }
     first_by_windows(alloc, case, stretches)

@@ -5,9 +5,6 @@ use Rattle.cs_civil.specs.Calendar.{CivilDate, date_of}
 use Rattle.cs_civil.specs.Text.{date_bytes, minute_bytes, day_text, minute_text}
 use Rattle.cs_civil.proofs.Dates.{has_number}
 
-same_two : (a b : ℕ) → 48 + a / 10 ≡ 48 + b / 10 → 48 + a % 10 ≡ 48 + b % 10 → a ≡ b
-same_two a b tens ones = omega arith
-
 same_parts : (d e : CivilDate) → d.year ≡ e.year → d.month ≡ e.month → d.dom ≡ e.dom → d ≡ e
 same_parts d e year month dom = rw (← year, ← month, ← dom)
 

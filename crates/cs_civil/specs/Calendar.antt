@@ -1,5 +1,5 @@
 -- Dates, weekdays and kinds of days, by day number: day 0 is 1 January 1970, a Thursday.
-use Rattle.std.specs.Prelude.{ℕ, zero, suc, ◌+◌, ◌%◌, ◌≡◌, ◌<◌, ◌≤◌, ◌==◌, ◌&&◌, nat_lt, if◌then◌else◌, List, [], ◌∷◌, map, pos}
+use Rattle.std.specs.Prelude.{ℕ, zero, suc, ◌+◌, ◌-◌, ◌%◌, ◌≡◌, ◌<◌, ◌≤◌, ◌==◌, ◌&&◌, nat_lt, if◌then◌else◌, List, [], ◌∷◌, map, pos}
 use Rattle.jiff_core.specs.Calendar.{days_in_month}
 
 -- a date of the Gregorian calendar
@@ -34,6 +34,10 @@ pub record Kind : Type 0 where
 -- the kind of day number n
 abbrev pub kind : ℕ → Kind
 kind n = record { month = (date_of n).month; dom = (date_of n).dom; dow = weekday_of n }
+
+-- a day and the three days before it, eldest first
+unfoldable pub four_days : ℕ → List Kind
+four_days n = map kind ((n - 3) ∷ (n - 2) ∷ (n - 1) ∷ n ∷ [])
 
 -- the days of a month in a leap year
 abbrev pub longest : ℕ → ℕ

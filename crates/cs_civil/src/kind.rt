@@ -1,5 +1,6 @@
 ghost use Rattle.std.specs.Prelude.{◌≡◌, ◌+◌, ◌<◌, ◌≤◌, ◌∷◌, slice_get, Some, ◌↔◌, IsSome, IfSome, All, Contains};
-ghost use Rattle.cs_civil.specs.Calendar.{Kind, IsKind, longest, kind, kinds_after, ComesWithin};
+ghost use Rattle.cs_civil.specs.Calendar.{Kind, IsKind, longest, kind, kinds_after, four_days, ComesWithin};
+ghost use Rattle.cs_civil.specs.Text.{weekday_text};
 ghost use Rattle.cs_civil.specs.Order.{all_kinds, kinds_from, place};
 
 use crate::Day;
@@ -184,5 +185,36 @@ pub fn kind_of(day: Day) -> DayKind
         month_number: date.month,
         day_number: date.day,
         weekday: dow,
+    }
+}
+
+/// Returns the kinds of a day and of the three days before it, eldest first. No day comes before
+/// 1970-01-01, which stands for those that would.
+#[tactic(auto, unfolding(crate::specs::Calendar::four_days))]
+pub fn four_days(day: Day) -> [DayKind; 4]
+    ensures { result ≡ four_days day }
+{
+    let number = day.number();
+    [
+        kind_of(Day::new(number.saturating_sub(3)).unwrap()),
+        kind_of(Day::new(number.saturating_sub(2)).unwrap()),
+        kind_of(Day::new(number.saturating_sub(1)).unwrap()),
+        kind_of(day),
+    ]
+}
+
+/// Returns the short name of a weekday, 0 for Sunday.
+#[tactic(auto, unfolding(crate::specs::Text::weekday_text))]
+pub fn weekday_name(dow: u8) -> &'static str
+    ensures { result.now ≡ weekday_text dow }
+{
+    match dow {
+        0 => "Sun",
+        1 => "Mon",
+        2 => "Tue",
+        3 => "Wed",
+        4 => "Thu",
+        5 => "Fri",
+        _ => "Sat",
     }
 }

@@ -4,13 +4,14 @@ ghost use Rattle.cs_civil.specs.Calendar.{first_minute, last_minute, last_day};
 use crate::Day;
 use std::marker::Model;
 
-pub(crate) const MINUTES_OF_DAY: u64 = 1_440;
+/// The minutes of a day.
+pub const MINUTES_OF_DAY: u16 = 1_440;
 
-/// 1970-01-02 00:00.
-const FIRST_MINUTE: u64 = 1_440;
+/// The first civil minute, 1970-01-02 00:00.
+pub const FIRST_MINUTE: u64 = 1_440;
 
-/// 9999-12-31 23:59.
-const LAST_MINUTE: u64 = 4_223_371_679;
+/// The last civil minute, 9999-12-31 23:59.
+pub const LAST_MINUTE: u64 = 4_223_371_679;
 
 /// A minute on the clock of the crontab's machine, at one offset from UTC all year (this profile).
 ///
@@ -60,7 +61,7 @@ impl Minute {
         ensures value { result ≡ self / 1_440 }
         ensures in_range { (1 ≤ result) × (result ≤ last_day) }
     {
-        Day::new(self.minutes / MINUTES_OF_DAY).unwrap()
+        Day::new(self.minutes / u64::from(MINUTES_OF_DAY)).unwrap()
     }
 
     /// Returns the minute of the day, from 0 to 1,439.
@@ -68,6 +69,6 @@ impl Minute {
         ensures value { result ≡ self % 1_440 }
         ensures in_range { result < 1_440 }
     {
-        (self.minutes % MINUTES_OF_DAY) as u16
+        (self.minutes % u64::from(MINUTES_OF_DAY)) as u16
     }
 }

@@ -1,4 +1,4 @@
-ghost use Rattle.std.specs.Prelude.{◌≡◌, ◌≢◌, ◌<◌, ◌≤◌, Err, ◌↔◌, ◌∷◌, [], ℕ, pos, ◌+ℤ◌, ◌*ℤ◌, IfOk, IfErr, IsOk, IfSome, IsNone, IsSome};
+ghost use Rattle.std.specs.Prelude.{◌≡◌, ◌≢◌, ◌<◌, ◌≤◌, Err, ◌↔◌, ◌∷◌, [], ℕ, pos, ◌+ℤ◌, ◌*ℤ◌, ◌++◌, decimal, OnOk, IfOk, IfErr, IsOk, IfSome, IsNone, IsSome};
 ghost use Rattle.std.specs.Int.{int_div_euclid};
 ghost use Rattle.jiff_core.specs.Calendar.{IsBetween};
 ghost use Rattle.cs_civil.specs.Calendar.{first_minute, last_minute, last_day};
@@ -8,6 +8,7 @@ use crate::date::Gregorian;
 use crate::digits::{read_two, write_two};
 use crate::minute::MINUTES_OF_DAY;
 use crate::{CivilFault, Day, Minute};
+use std::alloc::{AllocError, Global};
 
 /// Returns the civil minute of a moment, in seconds since 1970-01-01 00:00 UTC.
 ///
@@ -44,6 +45,13 @@ pub fn day_text(day: Day) -> [u8; 10]
     ensures { result ≡ day_text day }
 {
     Gregorian::of_day(day).bytes()
+}
+
+/// Adds a number in decimal digits. The only error is out of memory.
+pub fn push_number(alloc: Global, text: &mut Vec<u8>, number: u128) -> Result<(), AllocError>
+    ensures { OnOk result (text.new.items ≡ text.old.items ++ decimal number) }
+{
+    text.extend_from_slice(number.to_string(alloc)?.as_bytes())
 }
 
 /// Reads a day, `YYYY-MM-DD` (this profile).
@@ -102,7 +110,7 @@ fn later_minute(date: Gregorian, clock: u16) -> Option<Minute>
         → minute_bytes date clock ≢ minute_text t }
 {
     let day = date.later_day()?;
-    Some(Minute::new(day.number() * MINUTES_OF_DAY + u64::from(clock)).unwrap())
+    Some(Minute::new(day.number() * u64::from(MINUTES_OF_DAY) + u64::from(clock)).unwrap())
 }
 
 /// The date and the minute of the day that the text `YYYY-MM-DD HH:MM` writes.

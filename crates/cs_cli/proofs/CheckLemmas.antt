@@ -6,13 +6,13 @@ use Rattle.cs_decl.specs.Plan.{Declared}
 use Rattle.cs_cert.specs.Content.{Content}
 use Rattle.cs_check.specs.Checked.{certificate_in, plan_in}
 use Rattle.cs_check.specs.declared.checked.Checked.{Checked}
-use Rattle.cs_call.specs.CommandLine.{AskedCheck}
+use Rattle.cs_args.specs.CommandLine.{AskedCheck}
 use Rattle.cs_cli.specs.Check.{AreRead, IsProofOf, ReadsCertificate, safe_text}
-use Rattle.cs_reads.specs.Reads.{ReadsDeclared, ReadsTables}
-use Rattle.cs_reads.specs.Response.{Ending, done}
-use Rattle.cs_reads.specs.Trouble.{Trouble, ends, trouble_status}
+use Rattle.cs_files.specs.Reads.{ReadsDeclared, ReadsTables}
+use Rattle.cs_files.specs.Response.{Ending, done}
+use Rattle.cs_files.specs.Trouble.{Trouble, ends, trouble_status}
 use Rattle.cs_io.specs.Files.{Failed}
-use Rattle.cs_reads.specs.Trouble.{InAnacrontab, InCertificate, InCrontab, InDeclarations, InScript, InWords, Unread}
+use Rattle.cs_files.specs.Trouble.{InAnacrontab, InCertificate, InCrontab, InDeclarations, InScript, InWords, Unread}
 
 -- what was accepted is what was read
 pub are_read : (files : List ℕ → Option (List ℕ)) (a : AskedCheck) (tables : Table × JobTable) (before : Failed) (plan : Declared) (x : Content) (o : Option Checked)

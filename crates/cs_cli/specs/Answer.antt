@@ -2,10 +2,10 @@
 use Rattle.std.specs.Prelude.{◌≡◌, ◌≢◌, ℕ, List, Option, ⊤}
 use Rattle.cs_decl.specs.Plan.{as_plan}
 use Rattle.cs_check.specs.Checked.{IsHeadline, plan_in}
-use Rattle.cs_call.specs.CommandLine.{AskedRun}
+use Rattle.cs_args.specs.CommandLine.{AskedRun}
 use Rattle.cs_io.specs.Files.{Failed}
 use Rattle.cs_cli.specs.Check.{AnswersCheck, IsProofOf, safe_text}
-use Rattle.cs_reads.specs.Response.{Ending, done}
+use Rattle.cs_files.specs.Response.{Ending, done}
 use Rattle.cs_cli.specs.declared.answer.Answer.{Answer}
 use Rattle.cs_cli.specs.declared.answer.Answer.TheVariants.{Ends, Runs}
 use Rattle.cs_cli.specs.declared.answer.Order.{Order}

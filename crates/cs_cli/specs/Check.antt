@@ -7,7 +7,7 @@ use Rattle.clap.specs.Words.{Text}
 use Rattle.cs_crontab.specs.Crontab.{Table}
 use Rattle.cs_anacrontab.specs.Anacrontab.{Table as JobTable}
 use Rattle.cs_decl.specs.Plan.{Declared}
-use Rattle.cs_accepted.specs.Faults.{Fault}
+use Rattle.cs_theorem.specs.Faults.{Fault}
 use Rattle.cs_cert.specs.Certificate.{content}
 use Rattle.cs_cert.specs.Content.{Content}
 use Rattle.cs_cert.specs.Denoted.{certificate_by}
@@ -15,12 +15,12 @@ use Rattle.cs_cert.specs.declared.certificate.Certificate.{Certificate}
 use Rattle.cs_check.specs.Case.{fault_of}
 use Rattle.cs_check.specs.Checked.{certificate_in, plan_in}
 use Rattle.cs_check.specs.declared.checked.Checked.{Checked}
-use Rattle.cs_refused.specs.Refused.{fault_text}
-use Rattle.cs_call.specs.CommandLine.{AskedCheck}
+use Rattle.cs_report.specs.Refused.{fault_text}
+use Rattle.cs_args.specs.CommandLine.{AskedCheck}
 use Rattle.cs_io.specs.Files.{Failed}
-use Rattle.cs_reads.specs.Response.{Ending, done}
-use Rattle.cs_reads.specs.Reads.{AndThen, Answered, Gives, ReadsAs, ReadsDeclared, ReadsTables}
-use Rattle.cs_reads.specs.Trouble.{InCertificate, Trouble}
+use Rattle.cs_files.specs.Response.{Ending, done}
+use Rattle.cs_files.specs.Reads.{AndThen, Answered, Gives, ReadsAs, ReadsDeclared, ReadsTables}
+use Rattle.cs_files.specs.Trouble.{InCertificate, Trouble}
 
 -- what a certificate says that was read, wherever it lies in memory
 abbrev pub said : {E : Type 0} → Result Certificate E → Result Content E

@@ -10,11 +10,11 @@ use Rattle.cs_judge.specs.declared.answers.Outcome.{Outcome}
 use Rattle.cs_judge.specs.declared.answers.Outcome.TheVariants.{NoMemory, Safe, Unknown, Unsafe}
 use Rattle.cs_judge.specs.declared.answers.Wanted.{Wanted}
 use Rattle.cs_judge.specs.declared.answers.Wanted.TheVariants.{Certificate, Compact, Verdict}
-use Rattle.cs_call.specs.CommandLine.{AskedJudge, AskedMake}
+use Rattle.cs_args.specs.CommandLine.{AskedJudge, AskedMake}
 use Rattle.cs_io.specs.Files.{Failed}
-use Rattle.cs_reads.specs.Response.{Ending}
-use Rattle.cs_reads.specs.Reads.{AndThen, Answered, GivesSome, ReadsDeclared, ReadsTables}
-use Rattle.cs_reads.specs.Trouble.{Trouble}
+use Rattle.cs_files.specs.Response.{Ending}
+use Rattle.cs_files.specs.Reads.{AndThen, Answered, GivesSome, ReadsDeclared, ReadsTables}
+use Rattle.cs_files.specs.Trouble.{Trouble}
 
 -- the status of a call by how the plan was found
 abbrev pub outcome_status : Outcome → ℕ

@@ -4,10 +4,10 @@ use Rattle.cs_decl.specs.Plan.{as_plan}
 use Rattle.cs_check.specs.Case.{reach_for}
 use Rattle.cs_check.specs.Checked.{IsCalmThroughout, IsHeadline, certificate_in, plan_in}
 use Rattle.cs_check.specs.declared.checked.Checked.{Checked}
-use Rattle.cs_call.specs.CommandLine.{AskedCheck}
+use Rattle.cs_args.specs.CommandLine.{AskedCheck}
 use Rattle.cs_io.specs.Files.{Failed}
 use Rattle.cs_cli.specs.Check.{AnswersCheck, IsProofOf}
-use Rattle.cs_reads.specs.Response.{Ending}
+use Rattle.cs_files.specs.Response.{Ending}
 
 -- every legal history of its plan in which each run ends within its declared time is safe, and each
 -- minute from 1970-01-04 on is calm

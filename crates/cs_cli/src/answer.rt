@@ -1,10 +1,10 @@
 //! What is answered to the words of a call.
 ghost use Rattle.std.specs.Prelude.{◌≡◌, ◌++◌, [], IfOk, codes};
-ghost use Rattle.cs_reads.specs.Response.{complaint};
+ghost use Rattle.cs_files.specs.Response.{complaint};
 
 use cs_check::Checked;
 use cs_civil::Bytes;
-use cs_reads::{Response, Status};
+use cs_files::{Response, Status};
 use std::alloc::{AllocError, Global};
 
 /// What a call comes to.

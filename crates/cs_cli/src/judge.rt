@@ -1,23 +1,23 @@
 //! The subcommands `judge` and `make`.
 ghost use Rattle.std.specs.Prelude.{◌≡◌, ◌≢◌, IfErr, IfOk};
-ghost use Rattle.cs_call.specs.Asked.{asked_judge, asked_make};
+ghost use Rattle.cs_args.specs.Asked.{asked_judge, asked_make};
 ghost use Rattle.cs_io.specs.Files.{AreReadInTurn, IsFresh, IsReadAlone};
 ghost use Rattle.cs_cli.specs.Judge.{AnswersJudge, AnswersMake, AnswersWanted, IsJudged};
 ghost use Rattle.cs_cli.specs.Judge.{JudgesPlan, outcome_status, wanted_of};
-ghost use Rattle.cs_reads.specs.RanOut.{IsWarned};
-ghost use Rattle.cs_reads.specs.Response.{status_of};
-ghost use Rattle.cs_reads.specs.Trouble.{CameTo, IsHonest, IsHonestOf};
-ghost use Rattle.cs_reads.specs.Turn.{judge_paths};
+ghost use Rattle.cs_files.specs.RanOut.{IsWarned};
+ghost use Rattle.cs_files.specs.Response.{status_of};
+ghost use Rattle.cs_files.specs.Trouble.{CameTo, IsHonest, IsHonestOf};
+ghost use Rattle.cs_files.specs.Turn.{judge_paths};
 
 use cs_anacrontab::Anacrontab;
-use cs_call::{JudgeWords, MakeWords};
+use cs_args::{JudgeWords, MakeWords};
 use cs_civil::Bytes;
 use cs_crontab::Crontab;
 use cs_decl::Plan;
+use cs_files::{Fault, RanOut, Response, Status, declared_plan_from, read_tables};
 use cs_io::Inputs;
 use cs_judge::{Outcome, Wanted, answer, judge};
-use cs_reads::{Fault, RanOut, Response, Status, declared_plan_from, read_tables};
-use cs_warning::warnings;
+use cs_report::warnings;
 use std::alloc::{AllocError, Global};
 use std::thread::Threads;
 

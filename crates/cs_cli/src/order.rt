@@ -1,17 +1,17 @@
 //! The subcommand `run`, up to where something is run.
 ghost use Rattle.std.specs.Prelude.{IfErr, IfOk};
-ghost use Rattle.cs_call.specs.Asked.{asked_check, asked_run};
+ghost use Rattle.cs_args.specs.Asked.{asked_check, asked_run};
 ghost use Rattle.cs_io.specs.Files.{AreReadInTurn, IsFresh};
 ghost use Rattle.cs_cli.specs.Answer.{AnswersRun, IfEnds};
-ghost use Rattle.cs_reads.specs.RanOut.{IsWarned};
-ghost use Rattle.cs_reads.specs.Trouble.{IsHonest};
-ghost use Rattle.cs_reads.specs.Turn.{check_paths};
+ghost use Rattle.cs_files.specs.RanOut.{IsWarned};
+ghost use Rattle.cs_files.specs.Trouble.{IsHonest};
+ghost use Rattle.cs_files.specs.Turn.{check_paths};
 
 use crate::answer::{Answer, Order};
 use crate::check::checked_answer;
-use cs_call::RunWords;
+use cs_args::RunWords;
+use cs_files::RanOut;
 use cs_io::Inputs;
-use cs_reads::RanOut;
 use std::alloc::Global;
 use std::thread::Threads;
 

@@ -95,8 +95,8 @@ fn names(alloc: Global, runs: &Roster) -> Result<Vec<Run>, AllocError>
     Ok(listed)
 }
 
-/// Whether a run comes before another, by job, then minute.
-fn is_before(one: Run, other: Run) -> bool
+/// Checks whether a run comes before another, by job, then minute.
+pub fn is_before(one: Run, other: Run) -> bool
     ensures { result ≡ is_before one other }
 {
     one.job < other.job || (one.job == other.job && one.at < other.at)

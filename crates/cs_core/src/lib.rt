@@ -9,5 +9,6 @@ mod lists;
 mod refusals;
 mod rules;
 
+pub use choices::is_before;
 pub use event_core::Core;
 pub use laws::choices_are_legal_events;

@@ -85,29 +85,20 @@ impl Rules {
     pub(crate) fn mode(&self, job: u16) -> Mode
         ensures { result ≡ (as_plan self.now).mode job }
     {
-        match self.plan.jobs().get(usize::from(job)) {
-            Some(job) => job.mode(),
-            None => Mode::Plain,
-        }
+        self.plan.job_at(job).mode()
     }
 
     fn group(&self, job: u16) -> Option<u8>
         ensures { result ≡ (as_plan self.now).group job }
     {
-        match self.plan.jobs().get(usize::from(job)) {
-            Some(job) => job.group(),
-            None => None,
-        }
+        self.plan.job_at(job).group()
     }
 
     /// The job's declared time, in minutes.
     pub(crate) fn limit(&self, job: u16) -> u64
         ensures { result ≡ (as_plan self.now).limit job }
     {
-        match self.plan.jobs().get(usize::from(job)) {
-            Some(job) => u64::from(job.max()),
-            None => 1,
-        }
+        u64::from(self.plan.job_at(job).max())
     }
 
     /// What a run of the job does with the lock of its group.

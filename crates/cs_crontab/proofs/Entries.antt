@@ -1,5 +1,5 @@
 -- Lines: what is read is written so, and what is written so is read.
-use Rattle.std.proofs.Common.{◌≡◌, ◌≢◌, ℕ, ◌⊎◌, Bool, true, false, cond, ◌||◌, nat_eq, nat_lt, List, [], ◌∷◌, ◌++◌, length, Option, Some, None, Result, Ok, Err, refl, sym, ap, subst, ◌∙◌, arith, inl, inr}
+use Rattle.std.proofs.Common.{◌≡◌, ◌≢◌, ℕ, ◌+◌, ◌⊎◌, Bool, true, false, cond, ◌||◌, nat_eq, nat_lt, List, [], ◌∷◌, ◌++◌, length, drop, Option, Some, None, Result, Ok, Err, refl, sym, ap, subst, ◌∙◌, arith, inl, inr}
 use Rattle.std.specs.Prelude.{codes}
 use Rattle.std.specs.List.{list_all, list_any, join_with_byte}
 use Rattle.std.specs.Str.{bytes_eq}
@@ -12,21 +12,23 @@ use Rattle.cs_crontab.specs.declared.fault.LineFault.{LineFault}
 use Rattle.cs_crontab.specs.declared.fault.LineFault.TheVariants as faults
 use Rattle.cs_crontab.specs.declared.table.When.{When}
 use Rattle.cs_crontab.specs.declared.table.When.TheVariants.{At, Reboot}
-use Rattle.cs_crontab.specs.declared.limits.TheConstants.{MAX_LINE}
+use Rattle.cs_table.specs.declared.limits.TheConstants.{MAX_LINE}
 use Rattle.cs_crontab.specs.Crontab.{Entry, Nothing, Setting, Command}
-use Rattle.cs_crontab.specs.Format.{begins_setting, begins_as_setting, times_of_word}
-use Rattle.cs_crontab.specs.Setting.{IsSetting}
-use Rattle.cs_crontab.specs.SettingReading.{setting_of}
-use Rattle.cs_crontab.specs.Text.{front, after, is_blank, is_solid, is_digit, StopsAt}
-use Rattle.cs_crontab.specs.Reading.{◌>>=◌, schedule_at, timed, when_of, commanded, word_line, set, entry_of, line_of, is_nothing}
+use Rattle.cs_table.specs.Setting.{begins_setting, begins_as_setting, IsSetting}
+use Rattle.cs_crontab.specs.Format.{times_of_word}
+use Rattle.cs_table.specs.SettingReading.{setting_of}
+use Rattle.cs_table.specs.Text.{front, after, is_blank, is_solid, is_digit, StopsAt, is_nothing}
+use Rattle.cs_crontab.specs.Reading.{schedule_at, timed, when_of, commanded, word_line, set, entry_of, line_of}
+use Rattle.cs_table.specs.declared.fault.Wrong.{Wrong}
+use Rattle.cs_table.specs.Wrong.{◌>>=◌, at_end, whole, at_nul, marked}
 use Rattle.cs_crontab.specs.Grammar.{IsNumber, IsItem, AreItems, AreFields, fields_of, IsWordFor, IsWordLine, TextSays, Says}
-use Rattle.cs_crontab.proofs.Spans.{front_again, after_again, parts_joined, front_passes, after_stops, and_left}
+use Rattle.cs_table.proofs.Spans.{front_again, after_again, parts_joined, front_passes, after_stops, and_left, some_from, some_to, gap_some, gap_stops}
 use Rattle.cs_crontab.proofs.Names.{minute_unnamed}
-use Rattle.cs_crontab.proofs.Items.{bind_ok, guard_ok, ok_is, some_from, some_to}
-use Rattle.cs_crontab.proofs.Settings.{setting_takes, setting_again}
-use Rattle.cs_crontab.proofs.Whole.{gap_some, gap_stops, schedule_takes, schedule_again}
+use Rattle.cs_table.proofs.Results.{bind_ok, guard_ok, ok_is, marked_ok}
+use Rattle.cs_table.proofs.Settings.{setting_takes, setting_again}
+use Rattle.cs_crontab.proofs.Whole.{schedule_takes, schedule_again}
 
-abbrev said : Entry → Result Entry LineFault
+abbrev said : Entry → Result Entry (Wrong LineFault)
 said x = Ok x
 
 abbrev timely : When → Result When LineFault
@@ -82,7 +84,7 @@ fields_first s text command (word, gap, rest, is, solid, blank, stop, (texts, it
 
 commanded_takes : (when : When) (command : List ℕ) (x : Entry) → commanded when command ≡ Ok x → (command ≢ []) × (Command when command ≡ x)
 commanded_takes when command x e =
-    let g = guard_ok (is_nothing command) faults.NoCommand (Ok (Command when command)) x e in
+    let g = guard_ok (is_nothing command) (at_end faults.NoCommand) (Ok (Command when command)) x e in
     (some_from command g.0, ok_is (Command when command) x g.1)
 
 pub word_takes : (word : List ℕ) (when : When) → when_of word ≡ Ok when → (word ≢ []) × IsWordFor word when
@@ -123,17 +125,17 @@ word_line_takes bs x e =
     let word : List ℕ = front is_solid bs in
     let rest : List ℕ = after is_solid bs in
     let command : List ℕ = after is_blank rest in
-    let one = bind_ok (when_of word) (λ when. commanded when command) x e in
-    let named = word_takes word one.0 one.1 in
+    let one = bind_ok (marked (length bs + 1) (length word + 1) (when_of word)) (λ when. commanded when command) x e in
+    let named = word_takes word one.0 (marked_ok (length bs + 1) (length word + 1) (when_of word) one.0 one.1) in
     let c = commanded_takes one.0 command x one.2 in
     let parts : 64 ∷ bs ≡ 64 ∷ (word ++ (front is_blank rest ++ command)) = ap (λ (l : List ℕ). 64 ∷ l) (sym (parts_joined is_solid bs) ∙ ap (λ (l : List ℕ). word ++ l) (sym (parts_joined is_blank rest))) in
     subst (TextSays (64 ∷ bs)) c.1
     (inr (word, front is_blank rest, parts, (front_passes is_solid bs, named.0), (front_passes is_blank rest, gap_some rest (after_stops is_solid bs) c.0), after_stops is_blank rest, named.1), c.0)
 
-set_takes : (text : List ℕ) (x : Entry) → begins_as_setting text ≡ true → set (setting_of text) ≡ Ok x → TextSays text x
+set_takes : (text : List ℕ) (x : Entry) → begins_as_setting text ≡ true → set text (setting_of text) ≡ Ok x → TextSays text x
 set_takes text x begins e = by_found (setting_of text) refl e
   where
-    by_found : (o : Option (List ℕ × List ℕ)) → setting_of text ≡ o → set o ≡ Ok x → TextSays text x
+    by_found : (o : Option (List ℕ × List ℕ)) → setting_of text ≡ o → set text o ≡ Ok x → TextSays text x
     by_found None is e = absurd cc
     by_found (Some found) is e = subst (TextSays text) (ok_is (Setting found.0 found.1) x e) (begins, setting_takes text found.0 found.1 is)
 
@@ -142,7 +144,7 @@ unfolding entry_of
 entry_takes [] x stop e = subst (TextSays []) (ok_is Nothing x e) (inl refl)
 entry_takes (b ∷ bs) x stop e = by_hash (nat_eq b 35) refl e
   where
-    fields : Result Entry LineFault
+    fields : Result Entry (Wrong LineFault)
     fields = schedule_at (b ∷ bs) >>= λ found. commanded (At found.0) found.1
 
     by_fields : (schedule_at (b ∷ bs) >>= λ found. commanded (At found.0) found.1) ≡ said x → TextSays (b ∷ bs) x
@@ -151,15 +153,15 @@ entry_takes (b ∷ bs) x stop e = by_hash (nat_eq b 35) refl e
         let c = commanded_takes (At k.0.0) k.0.1 x k.2 in
         subst (TextSays (b ∷ bs)) c.1 (inl (schedule_takes (b ∷ bs) k.0 stop k.1 c.0), c.0)
 
-    by_setting : (t : Bool) → begins_setting b ≡ t → cond t (set (setting_of (b ∷ bs))) (schedule_at (b ∷ bs) >>= λ found. commanded (At found.0) found.1) ≡ said x → TextSays (b ∷ bs) x
+    by_setting : (t : Bool) → begins_setting b ≡ t → cond t (set (b ∷ bs) (setting_of (b ∷ bs))) (schedule_at (b ∷ bs) >>= λ found. commanded (At found.0) found.1) ≡ said x → TextSays (b ∷ bs) x
     by_setting true is e = set_takes (b ∷ bs) x is e
     by_setting false is e = by_fields e
 
-    by_at : (t : Bool) → nat_eq b 64 ≡ t → cond t (word_line bs) (cond (begins_setting b) (set (setting_of (b ∷ bs))) (schedule_at (b ∷ bs) >>= λ found. commanded (At found.0) found.1)) ≡ said x → TextSays (b ∷ bs) x
+    by_at : (t : Bool) → nat_eq b 64 ≡ t → cond t (word_line bs) (cond (begins_setting b) (set (b ∷ bs) (setting_of (b ∷ bs))) (schedule_at (b ∷ bs) >>= λ found. commanded (At found.0) found.1)) ≡ said x → TextSays (b ∷ bs) x
     by_at true is e = let P : ℕ → Type 0 = λ c. TextSays (c ∷ bs) x in subst P (sym (eqb-true b 64 is)) (word_line_takes bs x e)
     by_at false is e = by_setting (begins_setting b) refl e
 
-    by_hash : (t : Bool) → nat_eq b 35 ≡ t → cond t (Ok Nothing) (cond (nat_eq b 64) (word_line bs) (cond (begins_setting b) (set (setting_of (b ∷ bs))) (schedule_at (b ∷ bs) >>= λ found. commanded (At found.0) found.1))) ≡ said x → TextSays (b ∷ bs) x
+    by_hash : (t : Bool) → nat_eq b 35 ≡ t → cond t (Ok Nothing) (cond (nat_eq b 64) (word_line bs) (cond (begins_setting b) (set (b ∷ bs) (setting_of (b ∷ bs))) (schedule_at (b ∷ bs) >>= λ found. commanded (At found.0) found.1))) ≡ said x → TextSays (b ∷ bs) x
     by_hash true is e = subst (TextSays (b ∷ bs)) (ok_is Nothing x e) (inl' (ap (λ (c : ℕ). c ∷ bs) (eqb-true b 35 is)))
       where
         inl' : b ∷ bs ≡ 35 ∷ bs → (b ∷ bs ≡ []) ⊎ ((comment : List ℕ) × (b ∷ bs ≡ 35 ∷ comment))
@@ -212,8 +214,8 @@ pub line_takes : (line : List ℕ) (x : Entry) → line_of line ≡ Ok x → Say
 unfolding line_of
 line_takes line x e =
     let text : List ℕ = after is_blank line in
-    let g = guard_ok (nat_lt MAX_LINE (length line)) faults.TooLong (cond (list_any (λ b. nat_eq b 0) line) (Err faults.NulByte) (entry_of text)) x e in
-    let h = guard_ok (list_any (λ b. nat_eq b 0) line) faults.NulByte (entry_of text) x g.1 in
+    let g = guard_ok (nat_lt MAX_LINE (length line)) (whole faults.TooLong (drop MAX_LINE line)) (cond (list_any (λ b. nat_eq b 0) line) (Err (at_nul faults.NulByte line)) (entry_of text)) x e in
+    let h = guard_ok (list_any (λ b. nat_eq b 0) line) (at_nul faults.NulByte line) (entry_of text) x g.1 in
     record {
       short = ltb-false MAX_LINE (length line) g.0;
       clean = h.0;

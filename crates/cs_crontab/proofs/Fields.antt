@@ -1,7 +1,9 @@
 -- Lists of items: what is read is written so, what is written so is read, and numbers are in range.
-use Rattle.std.proofs.Common.{◌≡◌, ◌≢◌, ℕ, ◌≤◌, Bool, true, false, cond, not, nat_eq, nat_le, ◌&&◌, List, [], ◌∷◌, ◌++◌, Result, Ok, All, refl, sym, ap, subst, ◌∙◌, arith, inl, inr}
+use Rattle.std.proofs.Common.{◌≡◌, ◌≢◌, ℕ, ◌+◌, ◌^◌, ◌<◌, ◌≤◌, Bool, true, false, cond, not, nat_eq, nat_le, ◌&&◌, List, [], ◌∷◌, ◌++◌, length, Result, Ok, Err, All, refl, sym, ap, subst, ◌∙◌, arith, inl, inr}
+use Rattle.std.specs.Prelude.{IfErr}
 use Rattle.std.specs.List.{list_all, list_any, slice_split, onto_first, join_with_byte, range_with_len}
 use Rattle.std.proofs.lemmas.Bool.{eqb-true, ne_eqb, leb-true, not-true, or_cases}
+use Rattle.std.proofs.lemmas.List.{length-append}
 use Rattle.std.proofs.lemmas.List.Elements.{All-weaker, All-head, All-tail, filter_passes}
 use Rattle.std.proofs.lemmas.List.Splits.{join_with_byte-slice_split}
 use Rattle.cs_schedule.specs.declared.part.Part.{Part}
@@ -11,15 +13,18 @@ use Rattle.cs_schedule.specs.Numbers.{numbers_where, is_every, in_week, has}
 use Rattle.cs_schedule.specs.Times.{Choice, IsWithin}
 use Rattle.cs_schedule.proofs.Within.{every_within, week_within}
 use Rattle.cs_crontab.specs.declared.fault.LineFault.{LineFault}
-use Rattle.cs_crontab.specs.Text.{is_digit}
-use Rattle.cs_crontab.specs.Format.{counted, all_of, is_comma, begins_with}
-use Rattle.cs_crontab.specs.Reading.{◌>>=◌, item_of, items_of, list_of, field_of}
+use Rattle.cs_table.specs.declared.fault.Wrong.{Wrong}
+use Rattle.cs_table.specs.Text.{is_digit, begins_with}
+use Rattle.cs_table.specs.Wrong.{IsWithin as IsPart, marked, ◌>>=◌}
+use Rattle.cs_crontab.specs.Format.{counted, all_of, is_comma}
+use Rattle.cs_crontab.specs.Reading.{item_of, items_of, list_of, field_of}
 use Rattle.cs_crontab.specs.Grammar.{IsNumber, IsStep, IsItem, AreItems, IsField}
-use Rattle.cs_crontab.proofs.Spans.{and_left, and_right, list_all_weaker, list_all_joined}
+use Rattle.cs_table.proofs.Spans.{and_left, and_right, list_all_weaker, list_all_joined}
 use Rattle.cs_crontab.proofs.Names.{is_letter, letter_other, name_letters, names_end}
-use Rattle.cs_crontab.proofs.Items.{bind_ok, ok_is, whole_takes, whole_again}
+use Rattle.cs_crontab.proofs.Items.{whole_takes, whole_again}
+use Rattle.cs_table.proofs.Results.{bind_ok, bind_err, ok_is, ok_no_err, marked_ok, marked_err}
 
-abbrev done : {A : Type 0} → A → Result A LineFault
+abbrev done : {A : Type 0} → A → Result A (Wrong LineFault)
 done x = Ok x
 
 -- ---- an item holds no comma
@@ -92,9 +97,10 @@ items_take : (part : Part) (texts items : List (List ℕ)) → items_of part tex
 unfolding items_of
 items_take part [] items e = sym (ok_is [] items e)
 items_take part (text ∷ texts) items e =
-    let one = bind_ok (item_of part text) (λ item. items_of part texts >>= λ others. Ok (item ∷ others)) items e in
+    let placed = marked (length (join_with_byte 44 (text ∷ texts))) (length text) (item_of part text) in
+    let one = bind_ok placed (λ item. items_of part texts >>= λ others. Ok (item ∷ others)) items e in
     let two = bind_ok (items_of part texts) (λ others. Ok (one.0 ∷ others)) items one.2 in
-    (one.0, two.0, whole_takes part text one.0 one.1, items_take part texts two.0 two.1, sym (ok_is (one.0 ∷ two.0) items two.2))
+    (one.0, two.0, whole_takes part text one.0 (marked_ok (length (join_with_byte 44 (text ∷ texts))) (length text) (item_of part text) one.0 one.1), items_take part texts two.0 two.1, sym (ok_is (one.0 ∷ two.0) items two.2))
 
 items_again : (part : Part) (texts items : List (List ℕ)) → AreItems part texts items → items_of part texts ≡ Ok items
 unfolding items_of
@@ -127,6 +133,45 @@ unfolding field_of list_of
 field_again part word field (texts, items, some, is, are, value) =
     let parted : slice_split is_comma word ≡ texts = ap (slice_split is_comma) is ∙ split_joined texts some (items_plain part texts items are) in
     rw (parted, items_again part texts items are) (ap (λ (f : Choice). done f) (sym value))
+
+-- ---- what is wrong is a part of the word
+
+join_longer : (text : List ℕ) (texts : List (List ℕ)) → (length text ≤ length (join_with_byte 44 (text ∷ texts))) × (length (join_with_byte 44 texts) ≤ length (join_with_byte 44 (text ∷ texts)))
+join_longer text [] = (omega arith, omega arith)
+join_longer text (other ∷ texts) =
+    let sum = length-append text (44 ∷ join_with_byte 44 (other ∷ texts)) in
+    (omega (arith, sum), omega (arith, sum))
+
+items_part : (part : Part) (texts : List (List ℕ)) (wrong : Wrong LineFault) → items_of part texts ≡ Err wrong → IsPart (join_with_byte 44 texts) wrong
+unfolding items_of
+items_part part [] wrong e = absurd (ok_no_err [] wrong e)
+items_part part (text ∷ texts) wrong e =
+    let longer = join_longer text texts in
+    let left : ℕ = length (join_with_byte 44 (text ∷ texts)) in
+    elim (bind_err (marked left (length text) (item_of part text)) (λ item. items_of part texts >>= λ items. Ok (item ∷ items)) wrong e) [
+      | inl here ↦ let m = marked_err left (length text) (item_of part text) wrong here in (omega (arith, m.1), omega (arith, m.1, m.2, longer.0))
+      | inr rest ↦
+          elim (bind_err (items_of part texts) (λ items. Ok (rest.0 ∷ items)) wrong rest.2) [
+            | inl later ↦ let more = items_part part texts wrong later in (omega (arith, more.0, longer.1), more.1)
+            | inr none ↦ absurd (ok_no_err (rest.0 ∷ none.0) wrong none.2)
+          ]
+    ]
+
+pub field_part : (part : Part) (word : List ℕ) (wrong : Wrong LineFault) → field_of part word ≡ Err wrong → IsPart word wrong
+unfolding field_of list_of
+field_part part word wrong e =
+    elim (bind_err (items_of part (slice_split is_comma word) >>= λ items. Ok (all_of items)) (λ numbers. Ok (record { star = begins_with 42 word; numbers = counted part numbers })) wrong e) [
+      | inl list ↦
+          elim (bind_err (items_of part (slice_split is_comma word)) (λ items. Ok (all_of items)) wrong list) [
+            | inl items ↦ subst (λ (l : List ℕ). IsPart l wrong) (join_with_byte-slice_split 44 word) (items_part part (slice_split is_comma word) wrong items)
+            | inr none ↦ absurd (ok_no_err (all_of none.0) wrong none.2)
+          ]
+      | inr none ↦ absurd (ok_no_err (record { star = begins_with 42 word; numbers = counted part none.0 }) wrong none.2)
+    ]
+
+pub field_fits : (part : Part) (word : List ℕ) (more : ℕ) (r : Result Choice (Wrong LineFault)) → r ≡ field_of part word → length word + more < 2 ^ 64 → IfErr r (λ wrong. wrong.left + more < 2 ^ 64)
+field_fits part word more (Ok field) is fits = tt
+field_fits part word more (Err wrong) is fits = let p = field_part part word wrong (sym is) in omega (arith, p.0, fits)
 
 -- ---- the numbers of a field lie in its range
 

@@ -1,5 +1,6 @@
 -- What is read of a field is written so, and what is written so is read.
 use Rattle.std.proofs.Common.{◌≡◌, ◌≢◌, ℕ, ◌+◌, ◌<◌, ◌≤◌, ◌⊎◌, Bool, true, false, cond, ◌||◌, nat_eq, nat_lt, nat_le, List, [], ◌∷◌, ◌++◌, length, take, drop, Option, Some, None, Result, Ok, Err, refl, sym, ap, subst, ◌∙◌, arith, inl, inr}
+use Rattle.std.specs.Prelude.{IfOk, IsErr}
 use Rattle.std.specs.List.{list_all}
 use Rattle.std.proofs.Math.Seq.{take-append_seam, drop-append_seam}
 use Rattle.std.proofs.lemmas.Bool.{le-ltb, ltb-false, leb-true, eqb-true, eqb-false, ne_eqb, false_from_ne_true}
@@ -9,39 +10,21 @@ use Rattle.cs_schedule.specs.declared.part.Part.{Part}
 use Rattle.cs_schedule.specs.Part.{first_of, last_of}
 use Rattle.cs_crontab.specs.declared.fault.LineFault.{LineFault}
 use Rattle.cs_crontab.specs.declared.fault.LineFault.TheVariants as faults
-use Rattle.cs_crontab.specs.Text.{front, after, is_digit, decimal, decimal_from, StopsAt}
+use Rattle.cs_table.specs.Text.{front, after, is_digit, decimal, decimal_from, StopsAt, is_nothing}
 use Rattle.cs_crontab.specs.Format.{place_of}
-use Rattle.cs_crontab.specs.Reading.{◌>>=◌, named, number_at, step_at, every, end_at, range_at, numbers_at, item_at, item_of, is_nothing}
+use Rattle.cs_crontab.specs.Reading.{named, number_at, step_at, every, end_at, range_at, numbers_at, item_at, item_of}
+use Rattle.cs_table.specs.Wrong.{◌>>=◌}
 use Rattle.cs_crontab.specs.Grammar.{IsNumber, IsStep, IsItem}
 use Rattle.cs_crontab.proofs.Names.{is_letter, letter_no_digit, letter_other, name_letters, name_length}
-use Rattle.cs_crontab.proofs.Spans.{front_again, after_again, parts_joined, front_passes, and_left}
+use Rattle.cs_table.proofs.Results.{bind_ok, guard_ok, ok_is, ok_no_err}
+use Rattle.cs_table.proofs.Spans.{front_again, after_again, parts_joined, front_passes, and_left, some_from, some_to}
 
 abbrev done : {A : Type 0} → A → Result A LineFault
 done x = Ok x
 
--- the value of a step that did not fail, and of a test that did not
-pub bind_ok : {A B : Type 0} (r : Result A LineFault) (f : A → Result B LineFault) (y : B) → (r >>= f) ≡ Ok y → (x : A) × (r ≡ Ok x) × (f x ≡ Ok y)
-bind_ok (Ok x) f y e = (x, refl, e)
-bind_ok (Err d) f y e = absurd cc
-
-pub guard_ok : {A : Type 0} (b : Bool) (d : LineFault) (r : Result A LineFault) (y : A) → cond b (Err d) r ≡ Ok y → (b ≡ false) × (r ≡ Ok y)
-guard_ok true d r y e = absurd cc
-guard_ok false d r y e = (refl, e)
-
-pub ok_is : {A : Type 0} (x y : A) → done x ≡ done y → x ≡ y
-ok_is x y e = cc
-
 or_false : (a b : Bool) → (a || b) ≡ false → (a ≡ false) × (b ≡ false)
 or_false true b e = absurd cc
 or_false false b e = (refl, e)
-
-pub some_from : (xs : List ℕ) → nat_eq (length xs) 0 ≡ false → xs ≢ []
-some_from [] e eq = absurd cc
-some_from (x ∷ xs) e eq = cc
-
-pub some_to : (xs : List ℕ) → xs ≢ [] → nat_eq (length xs) 0 ≡ false
-some_to [] some = absurd (some refl)
-some_to (x ∷ xs) some = false_from_ne_true (nat_eq (length (x ∷ xs)) 0) (λ e. absurd (omega (arith, eqb-true (length (x ∷ xs)) 0 e)))
 
 -- ---- numbers
 
@@ -260,3 +243,12 @@ whole_takes part text numbers e =
 pub whole_again : (part : Part) (text numbers : List ℕ) → IsItem part text numbers → item_of part text ≡ Ok numbers
 unfolding item_of
 whole_again part text numbers is = rw (item_again part text numbers is) refl
+
+-- ---- what a call answered
+
+pub item_answers : (part : Part) (text : List ℕ) (r : Result (List ℕ) LineFault) → r ≡ item_of part text → IfOk r (IsItem part text) × (IsErr r → (numbers : List ℕ) → IsItem part text numbers → ⊥)
+item_answers part text (Ok numbers) is = (whole_takes part text numbers (sym is), λ failed. absurd (impossible failed))
+  where
+    impossible : IsErr {T = List ℕ} {E = LineFault} (Ok numbers) → ⊥
+    impossible e = cc
+item_answers part text (Err fault) is = (tt, λ failed numbers item. ok_no_err numbers fault (sym (whole_again part text numbers item) ∙ sym is))

@@ -12,7 +12,7 @@ use Rattle.std.proofs.lemmas.List.Quantifiers.{position-Some}
 use Rattle.cs_schedule.specs.declared.part.Part.{Part}
 use Rattle.cs_schedule.specs.declared.part.Part.TheVariants as parts
 use Rattle.cs_schedule.specs.Part.{first_of, last_of}
-use Rattle.cs_crontab.specs.Text.{is_digit}
+use Rattle.cs_table.specs.Text.{is_digit}
 use Rattle.cs_crontab.specs.Format.{names_of, place_of}
 
 -- a letter, in upper or lower case, or a byte after the letters

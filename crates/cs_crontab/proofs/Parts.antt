@@ -8,7 +8,7 @@ use Rattle.cs_schedule.specs.declared.part.Part.{Part}
 use Rattle.cs_crontab.specs.declared.fault.LineFault.{LineFault}
 use Rattle.cs_schedule.specs.declared.part.Part.TheVariants as parts
 use Rattle.cs_crontab.specs.declared.fault.LineFault.TheVariants as faults
-use Rattle.cs_crontab.specs.Text.{front, after, is_digit, decimal}
+use Rattle.cs_table.specs.Text.{front, after, is_digit, decimal}
 use Rattle.cs_schedule.specs.Part.{first_of, last_of}
 use Rattle.cs_crontab.specs.Format.{place_of}
 use Rattle.cs_crontab.specs.Reading.{named, number_at, every, cut_step}

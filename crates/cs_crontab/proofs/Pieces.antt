@@ -46,10 +46,6 @@ pieces_byte b (c ∷ cs) other plain = rw (ne_eqb b 37 other) (by_slash (nat_eq 
     by_slash true false is at = refl
     by_slash false t is at = refl
 
-pub behind_onto : (front : List ℕ) (b : ℕ) (pieces : List (List ℕ)) → behind (front ++ b ∷ []) pieces ≡ behind front (onto_first b pieces)
-behind_onto front b [] = refl
-behind_onto front b (piece ∷ pieces) = ap (λ (p : List ℕ). p ∷ pieces) (append_assoc front (b ∷ []) piece)
-
 pub behind_nothing : (pieces : List (List ℕ)) → pieces ≢ [] → behind [] pieces ≡ pieces
 behind_nothing [] some = absurd (some refl)
 behind_nothing (piece ∷ pieces) some = refl

@@ -1,19 +1,21 @@
 -- Five fields: what is read is written so, and what is written so is read.
-use Rattle.std.proofs.Common.{◌≡◌, ◌≢◌, ℕ, Bool, true, false, not, ◌&&◌, List, [], ◌∷◌, ◌++◌, Result, Ok, refl, sym, ap, subst, ◌∙◌}
+use Rattle.std.proofs.Common.{◌≡◌, ◌≢◌, ℕ, Bool, true, false, not, ◌&&◌, List, [], ◌∷◌, ◌++◌, length, Result, Ok, refl, sym, ap, subst, ◌∙◌}
 use Rattle.std.specs.List.{list_all}
 use Rattle.cs_schedule.specs.Times.{Choice, Times}
 use Rattle.cs_schedule.specs.declared.part.Part.{Part}
 use Rattle.cs_schedule.specs.declared.part.Part.TheVariants as parts
 use Rattle.cs_crontab.specs.declared.fault.LineFault.{LineFault}
 use Rattle.cs_crontab.specs.declared.fault.LineFault.TheVariants as faults
-use Rattle.cs_crontab.specs.Text.{front, after, is_blank, is_solid, Are, StopsAt}
-use Rattle.cs_crontab.specs.Reading.{◌>>=◌, field_of, field_at, schedule_at, is_nothing}
+use Rattle.cs_table.specs.Text.{front, after, is_blank, is_solid, Are, StopsAt, is_nothing}
+use Rattle.cs_crontab.specs.Reading.{field_of, field_at, schedule_at}
+use Rattle.cs_table.specs.declared.fault.Wrong.{Wrong}
+use Rattle.cs_table.specs.Wrong.{◌>>=◌, at_end, moved}
 use Rattle.cs_crontab.specs.Grammar.{IsField, AreFields, fields_of}
-use Rattle.cs_crontab.proofs.Spans.{front_again, after_again, parts_joined, front_passes, after_stops}
-use Rattle.cs_crontab.proofs.Items.{bind_ok, guard_ok, ok_is, some_from, some_to}
+use Rattle.cs_table.proofs.Spans.{front_again, after_again, parts_joined, front_passes, after_stops, some_from, some_to, front_some, gap_some, gap_stops, joined_some}
+use Rattle.cs_table.proofs.Results.{bind_ok, guard_ok, ok_is, moved_ok}
 use Rattle.cs_crontab.proofs.Fields.{field_takes, field_again}
 
-abbrev done : {A : Type 0} → A → Result A LineFault
+abbrev done : {A : Type 0} → A → Result A (Wrong LineFault)
 done x = Ok x
 
 -- what a field takes of the text, where something follows it
@@ -22,47 +24,21 @@ Step part text field rest = (word gap : List ℕ) × (text ≡ word ++ (gap ++ r
 
 field_some : (part : Part) (text : List ℕ) (x : Choice × List ℕ) → field_at part text ≡ Ok x → text ≢ []
 unfolding field_at
-field_some part text x e = some_from text (guard_ok (is_nothing text) faults.MissingField (field_of part (front is_solid text) >>= λ field. Ok (field, after is_blank (after is_solid text))) x e).0
-
-pub front_some : (text : List ℕ) → text ≢ [] → StopsAt is_blank text → front is_solid text ≢ []
-unfolding front
-front_some [] some stop = absurd (some refl)
-front_some (b ∷ bs) some stop = rw stop (λ e. cc)
-
-pub gap_some : (xs : List ℕ) → StopsAt is_solid xs → after is_blank xs ≢ [] → front is_blank xs ≢ []
-unfolding front after
-gap_some [] stop some = absurd (some refl)
-gap_some (b ∷ bs) stop some = let blank : is_blank b ≡ true = not_false (is_blank b) stop in rw blank (λ e. cc)
-  where
-    not_false : (t : Bool) → not t ≡ false → t ≡ true
-    not_false true e = refl
-    not_false false e = absurd cc
+field_some part text x e = some_from text (guard_ok (is_nothing text) (at_end faults.MissingField) (moved (length (after is_solid text)) (field_of part (front is_solid text)) >>= λ field. Ok (field, after is_blank (after is_solid text))) x e).0
 
 field_step : (part : Part) (text : List ℕ) (x : Choice × List ℕ) → StopsAt is_blank text → field_at part text ≡ Ok x → x.1 ≢ [] → Step part text x.0 x.1
 unfolding field_at
 field_step part text x stop e some =
     let rest : List ℕ = after is_solid text in
-    let g = guard_ok (is_nothing text) faults.MissingField (field_of part (front is_solid text) >>= λ field. Ok (field, after is_blank rest)) x e in
-    let one = bind_ok (field_of part (front is_solid text)) (λ field. Ok (field, after is_blank rest)) x g.1 in
+    let g = guard_ok (is_nothing text) (at_end faults.MissingField) (moved (length rest) (field_of part (front is_solid text)) >>= λ field. Ok (field, after is_blank rest)) x e in
+    let one = bind_ok (moved (length rest) (field_of part (front is_solid text))) (λ field. Ok (field, after is_blank rest)) x g.1 in
     let is : (one.0, after is_blank rest) ≡ x = ok_is (one.0, after is_blank rest) x one.2 in
     let follows : after is_blank rest ≢ [] = λ empty. some (sym (ap (λ (p : Choice × List ℕ). p.1) is) ∙ empty) in
     let joined : text ≡ front is_solid text ++ (front is_blank rest ++ after is_blank rest) = sym (parts_joined is_solid text) ∙ ap (λ (l : List ℕ). front is_solid text ++ l) (sym (parts_joined is_blank rest)) in
     let made : Step part text one.0 (after is_blank rest) =
-    (front is_solid text, front is_blank rest, joined, (front_passes is_solid text, front_some text (some_from text g.0) stop), (front_passes is_blank rest, gap_some rest (after_stops is_solid text) follows), after_stops is_blank rest, field_takes part (front is_solid text) one.0 one.1)
+    (front is_solid text, front is_blank rest, joined, (front_passes is_solid text, front_some text (some_from text g.0) stop), (front_passes is_blank rest, gap_some rest (after_stops is_solid text) follows), after_stops is_blank rest, field_takes part (front is_solid text) one.0 (moved_ok (length rest) (field_of part (front is_solid text)) one.0 one.1))
     in
     subst (λ (p : Choice × List ℕ). Step part text p.0 p.1) is made
-
-pub gap_stops : (gap rest : List ℕ) → Are is_blank gap → StopsAt is_solid (gap ++ rest)
-gap_stops [] rest are = absurd (are.1 refl)
-gap_stops (b ∷ bs) rest are = blank_first (is_blank b) (list_all is_blank bs) are.0
-  where
-    blank_first : (t u : Bool) → (t && u) ≡ true → not t ≡ false
-    blank_first true u e = refl
-    blank_first false u e = absurd cc
-
-joined_some : (word more : List ℕ) → word ≢ [] → word ++ more ≢ []
-joined_some [] more some e = some refl
-joined_some (b ∷ bs) more some e = cc
 
 step_again : (part : Part) (text rest : List ℕ) (field : Choice) → Step part text field rest → field_at part text ≡ Ok (field, rest)
 unfolding field_at

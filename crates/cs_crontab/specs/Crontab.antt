@@ -1,5 +1,6 @@
 -- The content of a crontab.
-use Rattle.std.specs.Prelude.{ℕ, List, [], ◌∷◌, length, AllPairs, ◌<◌, ◌≤◌}
+use Rattle.std.specs.Prelude.{ℕ, List, [], ◌∷◌, ◌++◌, length, AllPairs, ◌<◌, ◌≤◌}
+use Rattle.cs_table.specs.Setting.{SettingLine}
 use Rattle.cs_crontab.specs.declared.table.When.{When}
 use Rattle.cs_crontab.specs.declared.limits.TheConstants.{MAX_COMMANDS}
 
@@ -8,12 +9,6 @@ pub data Entry : Type 0 where
   Nothing : Entry
   Setting : (name value : List ℕ) → Entry
   Command : When → (command : List ℕ) → Entry
-
--- a setting of the environment, and the number of its line, counted from 1
-pub record SettingLine : Type 0 where
-  pub number : ℕ
-  pub name : List ℕ
-  pub value : List ℕ
 
 -- a command, when it is started, and the number of its line, counted from 1
 pub record CommandLine : Type 0 where
@@ -28,20 +23,16 @@ pub record Table : Type 0 where
 abbrev pub no_lines : Table
 no_lines = record { settings = []; lines = [] }
 
--- a table with the content of a line before it
+-- a table with the content of a line at its end
 abbrev pub with_entry : ℕ → Entry → Table → Table
 with_entry number Nothing table = table
 with_entry number (Setting name value) table = record {
-  settings = record {
-    number = number;
-    name = name;
-    value = value;
-  } ∷ table.settings;
+  settings = table.settings ++ (record { number = number; name = name; value = value } ∷ []);
   lines = table.lines;
 }
 with_entry number (Command when command) table = record {
   settings = table.settings;
-  lines = record { number = number; when = when; command = command } ∷ table.lines;
+  lines = table.lines ++ (record { number = number; when = when; command = command } ∷ []);
 }
 
 -- There are not too many commands; settings and commands are in order of line, each on its own.

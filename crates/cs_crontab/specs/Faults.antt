@@ -1,105 +1,105 @@
 -- Which fault of a table is the first: of its lines, and in a line from left to right.
-use Rattle.std.specs.Prelude.{◌≡◌, ◌≢◌, ℕ, ◌+◌, ◌<◌, ◌≤◌, ◌⊎◌, true, false, nat_eq, List, [], ◌∷◌, ◌++◌, length, Result, Ok, Err}
-use Rattle.std.specs.List.{list_all, list_any, slice_split}
+use Rattle.std.specs.Prelude.{◌≡◌, ◌≢◌, ℕ, ◌+◌, ◌<◌, ◌≤◌, ◌⊎◌, true, false, nat_eq, List, [], ◌∷◌, ◌++◌, length, drop, Result, Ok, Err}
+use Rattle.std.specs.List.{list_all, list_any, slice_split, join_with_byte}
 use Rattle.cs_schedule.specs.Times.{Choice}
 use Rattle.cs_schedule.specs.declared.part.Part.{Part}
 use Rattle.cs_schedule.specs.declared.part.Part.TheVariants.{Minute, Hour, Dom, Month, Dow}
 use Rattle.cs_crontab.specs.declared.fault.LineFault.{LineFault}
 use Rattle.cs_crontab.specs.declared.fault.LineFault.TheVariants as faults
-use Rattle.cs_crontab.specs.declared.fault.TableFault.{TableFault}
-use Rattle.cs_crontab.specs.declared.fault.TableFault.TheVariants.{At, OutOfMemory}
+use Rattle.cs_table.specs.declared.fault.Wrong.{Wrong}
+use Rattle.cs_table.specs.declared.fault.TableFault.{TableFault}
+use Rattle.cs_table.specs.declared.limits.TheConstants.{MAX_LINE}
+use Rattle.cs_table.specs.Wrong.{at_end, whole, before, farther, IsNul, IsWhole}
+use Rattle.cs_table.specs.Table as tables
+use Rattle.cs_table.specs.Table.{Kind, IsTable}
 use Rattle.cs_crontab.specs.declared.table.When.{When}
-use Rattle.cs_crontab.specs.declared.limits.TheConstants.{MAX_TABLE, MAX_LINE, MAX_COMMANDS}
-use Rattle.cs_crontab.specs.Crontab.{Command, Table}
-use Rattle.cs_crontab.specs.Format.{is_comma, begins_setting}
-use Rattle.cs_crontab.specs.Setting.{IsSetting}
-use Rattle.cs_crontab.specs.Text.{lines_of, is_blank, is_solid, Are, StopsAt}
-use Rattle.cs_crontab.specs.Grammar.{AreItems, IsField, IsWordFor, Says, AreLines, IsCrontab}
+use Rattle.cs_crontab.specs.declared.limits.TheConstants.{MAX_COMMANDS}
+use Rattle.cs_crontab.specs.Crontab.{Command, Table, no_lines}
+use Rattle.cs_crontab.specs.Format.{is_comma}
+use Rattle.cs_table.specs.Setting.{begins_setting, IsSetting}
+use Rattle.cs_table.specs.Text.{lines_of, is_blank, is_solid, Are, StopsAt}
+use Rattle.cs_crontab.specs.Grammar.{AreItems, IsField, IsWordFor, Says, Adds}
 use Rattle.cs_crontab.specs.Reading.{item_of}
 
 -- Of the items between the commas those before one are fine, and that one has the fault.
-abbrev pub IsFieldFault : Part → List ℕ → LineFault → Type 0
-IsFieldFault part word fault =
+abbrev pub IsFieldFault : Part → List ℕ → Wrong LineFault → Type 0
+IsFieldFault part word wrong =
     (before : List (List ℕ)) × (text : List ℕ) × (behind items : List (List ℕ))
     × (slice_split is_comma word ≡ before ++ (text ∷ behind)) × AreItems part before items
-    × (item_of part text ≡ Err fault)
+    × (item_of part text ≡ Err wrong.fault) × (wrong.length ≡ length text)
+    × (wrong.left ≡ length (join_with_byte 44 (text ∷ behind)))
 
 -- The fields before one are fine; there the text ends, or the next word has the fault. After the
 -- last field the text ends.
-abbrev pub FieldsFail : List Part → List ℕ → LineFault → Type 0
-FieldsFail [] text fault = (text ≡ []) × (fault ≡ faults.NoCommand)
-FieldsFail (part ∷ parts) text fault =
-    ((text ≡ []) × (fault ≡ faults.MissingField))
+abbrev pub FieldsFail : List Part → List ℕ → Wrong LineFault → Type 0
+FieldsFail [] text wrong = (text ≡ []) × (wrong ≡ at_end faults.NoCommand)
+FieldsFail (part ∷ parts) text wrong =
+    ((text ≡ []) × (wrong ≡ at_end faults.MissingField))
     ⊎ ((word behind : List ℕ) × (text ≡ word ++ behind) × Are is_solid word
     × StopsAt is_solid behind
-    × (IsFieldFault part word fault
+    × (((inner : Wrong LineFault) × IsFieldFault part word inner
+    × (wrong ≡ farther (length behind) inner))
     ⊎ ((gap rest : List ℕ) × (field : Choice) × (behind ≡ gap ++ rest)
     × (list_all is_blank gap ≡ true) × StopsAt is_blank rest × IsField part word field
-    × FieldsFail parts rest fault)))
+    × FieldsFail parts rest wrong)))
 
 abbrev pub five_parts : List Part
 five_parts = Minute ∷ Hour ∷ Dom ∷ Month ∷ Dow ∷ []
 
 -- After `@`, the word stands for nothing, or only blanks follow it.
-abbrev pub WordFails : List ℕ → LineFault → Type 0
-WordFails text fault =
+abbrev pub WordFails : List ℕ → Wrong LineFault → Type 0
+WordFails text wrong =
     (word behind : List ℕ) × (text ≡ word ++ behind) × (list_all is_solid word ≡ true)
     × StopsAt is_solid behind
-    × (((fault ≡ faults.UnknownWord) × ((when : When) → IsWordFor word when → ⊥))
-    ⊎ ((fault ≡ faults.NoCommand) × (list_all is_blank behind ≡ true)
+    × (((wrong ≡ before behind faults.UnknownWord (64 ∷ word))
+    × ((when : When) → IsWordFor word when → ⊥))
+    ⊎ ((wrong ≡ at_end faults.NoCommand) × (list_all is_blank behind ≡ true)
     × ((when : When) × IsWordFor word when)))
 
-abbrev pub SettingFails : List ℕ → LineFault → Type 0
-SettingFails text fault =
-    (fault ≡ faults.BadSetting) × ((name value : List ℕ) → IsSetting text name value → ⊥)
+abbrev pub SettingFails : List ℕ → Wrong LineFault → Type 0
+SettingFails text wrong =
+    (wrong ≡ whole faults.BadSetting text) × ((name value : List ℕ) → IsSetting text name value → ⊥)
 
 -- By its first byte a text without leading blanks is a good comment, a word, a setting or fields.
-abbrev pub TextFails : List ℕ → LineFault → Type 0
-TextFails [] fault = ⊥
-TextFails (b ∷ bs) fault =
-    ((b ≡ 64) × WordFails bs fault)
-    ⊎ (((begins_setting b ≡ true) × SettingFails (b ∷ bs) fault)
-    ⊎ ((b ≢ 35) × (b ≢ 64) × (begins_setting b ≡ false) × FieldsFail five_parts (b ∷ bs) fault))
+abbrev pub TextFails : List ℕ → Wrong LineFault → Type 0
+TextFails [] wrong = ⊥
+TextFails (b ∷ bs) wrong =
+    ((b ≡ 64) × WordFails bs wrong)
+    ⊎ (((begins_setting b ≡ true) × SettingFails (b ∷ bs) wrong)
+    ⊎ ((b ≢ 35) × (b ≢ 64) × (begins_setting b ≡ false) × FieldsFail five_parts (b ∷ bs) wrong))
 
 -- The line is too long, or holds a zero byte, or its text after leading blanks has the fault.
-abbrev pub LineFails : List ℕ → LineFault → Type 0
-LineFails line fault =
-    ((MAX_LINE < length line) × (fault ≡ faults.TooLong))
-    ⊎ (((length line ≤ MAX_LINE) × (list_any (λ b. nat_eq b 0) line ≡ true)
-    × (fault ≡ faults.NulByte))
+abbrev pub LineFails : List ℕ → Wrong LineFault → Type 0
+LineFails line wrong =
+    ((MAX_LINE < length line) × (wrong ≡ whole faults.TooLong (drop MAX_LINE line)))
+    ⊎ (((length line ≤ MAX_LINE) × IsNul faults.NulByte line wrong)
     ⊎ ((length line ≤ MAX_LINE) × (list_any (λ b. nat_eq b 0) line ≡ false)
     × ((indent text : List ℕ) × (line ≡ indent ++ text) × (list_all is_blank indent ≡ true)
-    × StopsAt is_blank text × TextFails text fault)))
+    × StopsAt is_blank text × TextFails text wrong)))
 
--- The first line with a fault. The command above the limit is a fault after all others of its line.
-pub record IsFirstFault (text : List ℕ) (number : ℕ) (fault : LineFault) : Type 0 where
-  pub short : length text ≤ MAX_TABLE
-  pub before : List (List ℕ)
-  pub line : List ℕ
-  pub later : List (List ℕ)
-  pub parts : lines_of text ≡ before ++ (line ∷ later)
-  pub place : number ≡ length before + 1
-  pub table : Table
-  pub fine : AreLines 1 before table
-  pub few : length table.lines ≤ MAX_COMMANDS
-  pub stands : LineFails line fault
-      ⊎ ((fault ≡ faults.TooManyJobs) × (length table.lines ≡ MAX_COMMANDS)
-      × ((when : When) × (command : List ℕ) × Says line (Command when command)))
+-- A line has a fault, or, after all its own faults, its command is one too many for the table.
+abbrev pub Fails : Table → List ℕ → Wrong LineFault → Type 0
+Fails table line wrong =
+    LineFails line wrong
+    ⊎ ((MAX_COMMANDS ≤ length table.lines)
+    × ((when : When) × (command : List ℕ) × Says line (Command when command))
+    × IsWhole faults.TooManyJobs line wrong)
 
--- the text's fault, with the number of its line: the table's own length has line 0
-abbrev pub IsFault : List ℕ → ℕ → LineFault → Type 0
-IsFault text number fault = ((MAX_TABLE < length text) × (number ≡ 0) × (fault ≡ faults.TooLong))
-    ⊎ IsFirstFault text number fault
+-- A crontab is read line by line.
+abbrev pub crontab : Kind Table LineFault
+crontab = record { empty = no_lines; too_long = faults.TooLong; Adds = Adds; Fails = Fails }
+
+-- The text is written as this table.
+abbrev pub IsCrontab : List ℕ → Table → Type 0
+IsCrontab text table = IsTable crontab text table
 
 -- A text is written as a table, or it has a fault.
 abbrev pub Meaning : Type 0
-Meaning = Result Table (ℕ × LineFault)
+Meaning = tables.Meaning Table LineFault
 
 abbrev pub Means : List ℕ → Meaning → Type 0
-Means text (Ok table) = IsCrontab text table
-Means text (Err fault) = IsFault text fault.0 fault.1
+Means text meaning = tables.Means crontab text meaning
 
 -- The fault that a call answered is the text's, unless memory ran out.
-abbrev pub IsFaultOf : List ℕ → TableFault → Type 0
-IsFaultOf text OutOfMemory = Unit {0}
-IsFaultOf text (At line fault) = IsFault text line fault
+abbrev pub IsFaultOf : List ℕ → TableFault LineFault → Type 0
+IsFaultOf text fault = tables.IsFaultOf crontab text fault

@@ -38,19 +38,6 @@ all_of items = numbers_where (λ n. list_any (λ item. has item n) items)
 abbrev pub is_comma : ℕ → Bool
 is_comma b = b == 44
 
-abbrev pub begins_with : ℕ → List ℕ → Bool
-begins_with byte [] = false
-begins_with byte (b ∷ bs) = b == byte
-
--- A setting begins with a letter, `_` or a quote.
-abbrev pub begins_setting : ℕ → Bool
-begins_setting b =
-    nat_le 65 b && nat_le b 90 || nat_le 97 b && nat_le b 122 || b == 95 || b == 34 || b == 39
-
-abbrev pub begins_as_setting : List ℕ → Bool
-begins_as_setting [] = false
-begins_as_setting (b ∷ bs) = begins_setting b
-
 -- a field with one number, and the field `*`
 abbrev pub only : ℕ → Choice
 only n = record { star = false; numbers = numbers_where (is_every n n 1) }

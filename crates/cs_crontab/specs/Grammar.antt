@@ -8,11 +8,12 @@ use Rattle.cs_schedule.specs.declared.part.Part.{Part}
 use Rattle.cs_schedule.specs.declared.part.Part.TheVariants.{Minute, Hour, Dom, Month, Dow}
 use Rattle.cs_crontab.specs.declared.table.When.{When}
 use Rattle.cs_crontab.specs.declared.table.When.TheVariants.{At, Reboot}
-use Rattle.cs_crontab.specs.declared.limits.TheConstants.{MAX_TABLE, MAX_LINE, MAX_COMMANDS}
+use Rattle.cs_table.specs.declared.limits.TheConstants.{MAX_TABLE, MAX_LINE}
+use Rattle.cs_crontab.specs.declared.limits.TheConstants.{MAX_COMMANDS}
 use Rattle.cs_crontab.specs.Crontab.{Entry, Nothing, Setting, Command, Table, no_lines, with_entry}
-use Rattle.cs_crontab.specs.Format.{place_of, counted, all_of, begins_with, begins_as_setting, times_of_word}
-use Rattle.cs_crontab.specs.Setting.{IsSetting}
-use Rattle.cs_crontab.specs.Text.{Are, StopsAt, lines_of, is_blank, is_solid, is_digit, decimal}
+use Rattle.cs_crontab.specs.Format.{place_of, counted, all_of, times_of_word}
+use Rattle.cs_table.specs.Text.{begins_with, Are, StopsAt, lines_of, is_blank, is_solid, is_digit, decimal}
+use Rattle.cs_table.specs.Setting.{begins_as_setting, IsSetting}
 
 -- digits that stand for a number of the field
 pub record IsDigits (part : Part) (text : List ℕ) (n : ℕ) : Type 0 where
@@ -113,14 +114,13 @@ pub record Says (line : List ℕ) (entry : Entry) : Type 0 where
   pub blank : list_all is_blank indent ≡ true
   pub says : TextSays text entry
 
--- the content of lines, of which the first has this number
-abbrev pub AreLines : ℕ → List (List ℕ) → Table → Type 0
-AreLines number [] table = table ≡ no_lines
-AreLines number (line ∷ lines) table = (entry : Entry) × (others : Table) × Says line entry
-    × AreLines (number + 1) lines others × (table ≡ with_entry number entry others)
+-- There is room for a command in the table.
+abbrev pub HasRoom : Table → Entry → Type 0
+HasRoom table Nothing = Unit {0}
+HasRoom table (Setting name value) = Unit {0}
+HasRoom table (Command when command) = length table.lines < MAX_COMMANDS
 
--- the text is written as this table
-pub record IsCrontab (text : List ℕ) (table : Table) : Type 0 where
-  pub short : length text ≤ MAX_TABLE
-  pub few : length table.lines ≤ MAX_COMMANDS
-  pub lines : AreLines 1 (lines_of text) table
+-- The line with this number makes one table into the other.
+abbrev pub Adds : ℕ → Table → List ℕ → Table → Type 0
+Adds number table line more = (entry : Entry) × Says line entry × HasRoom table entry
+    × (more ≡ with_entry number entry table)

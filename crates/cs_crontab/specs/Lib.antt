@@ -1,14 +1,10 @@
 pub mod Crontab
 pub mod Format
-pub mod Text
-pub mod Setting
-pub mod SettingReading
 pub mod Reading
 pub mod Seen
 pub mod Table
 pub mod Grammar
 pub mod Faults
-pub mod Environment
 pub mod Command
 pub mod Token
 pub mod Printed

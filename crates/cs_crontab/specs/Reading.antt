@@ -1,32 +1,24 @@
 -- What the fields of a line denote, or their first fault from left to right.
 use Rattle.std.specs.Prelude.{◌≡◌, ℕ, Bool, ◌||◌, ◌==◌, ◌+◌, nat_lt, if◌then◌else◌, List, [], ◌∷◌, min, length, take, drop, codes, Option, Some, None, Result, Ok, Err}
-use Rattle.std.specs.List.{list_any, slice_split}
+use Rattle.std.specs.List.{list_any, slice_split, join_with_byte}
 use Rattle.std.specs.Str.{bytes_eq}
 use Rattle.cs_schedule.specs.Times.{Choice, Times}
 use Rattle.cs_schedule.specs.Numbers.{numbers_where, is_every}
 use Rattle.cs_schedule.specs.Part.{first_of, last_of}
 use Rattle.cs_crontab.specs.declared.table.When.{When}
 use Rattle.cs_crontab.specs.declared.table.When.TheVariants.{At, Reboot}
-use Rattle.cs_crontab.specs.declared.limits.TheConstants.{MAX_LINE}
+use Rattle.cs_table.specs.declared.limits.TheConstants.{MAX_LINE}
 use Rattle.cs_schedule.specs.declared.part.Part.{Part}
 use Rattle.cs_schedule.specs.declared.part.Part.TheVariants.{Minute, Hour, Dom, Month, Dow}
 use Rattle.cs_crontab.specs.declared.fault.LineFault.{LineFault}
 use Rattle.cs_crontab.specs.declared.fault.LineFault.TheVariants as faults
 use Rattle.cs_crontab.specs.Crontab.{Entry, Nothing, Setting, Command}
-use Rattle.cs_crontab.specs.SettingReading.{setting_of}
-use Rattle.cs_crontab.specs.Format.{place_of, counted, all_of, is_comma, begins_with, begins_setting, times_of_word}
-use Rattle.cs_crontab.specs.Text.{front, after, is_blank, is_solid, is_digit, decimal}
-
-infixl 10 ◌>>=◌
-abbrev pub ◌>>=◌ : {A B : Type 0} → Result A LineFault → (A → Result B LineFault)
-    → Result B LineFault
-(Ok x) >>= f = f x
-(Err e) >>= f = Err e
-
--- What a function answered, seen by view, is what reading gives.
-abbrev pub Gives : {X Y : Type 0} → (X → Y) → Result X LineFault → Result Y LineFault → Type 0
-Gives view (Ok x) read = read ≡ Ok (view x)
-Gives view (Err e) read = read ≡ Err e
+use Rattle.cs_table.specs.SettingReading.{setting_of}
+use Rattle.cs_table.specs.declared.fault.Wrong.{Wrong}
+use Rattle.cs_table.specs.Wrong.{◌>>=◌, at_end, whole, at_nul, marked, moved}
+use Rattle.cs_crontab.specs.Format.{place_of, counted, all_of, is_comma, times_of_word}
+use Rattle.cs_table.specs.Text.{begins_with, front, after, is_blank, is_solid, is_digit, decimal, is_nothing}
+use Rattle.cs_table.specs.Setting.{begins_setting}
 
 -- A part of an item is its value and what follows it.
 
@@ -90,24 +82,22 @@ item_at part [] = Err faults.BadNumber
 item_at part (b ∷ bs) =
     if b == 42 then every (first_of part) (last_of part) (step_at bs) else numbers_at part (b ∷ bs)
 
-abbrev pub is_nothing : List ℕ → Bool
-is_nothing text = length text == 0
-
 -- an item, which is all of its text
 unfoldable pub item_of : Part → List ℕ → Result (List ℕ) LineFault
 item_of part text = do
   item ← item_at part text
   if is_nothing item.1 then Ok item.0 else Err faults.BadNumber
 
-unfoldable pub items_of : Part → List (List ℕ) → Result (List (List ℕ)) LineFault
+-- items that commas part; the wrong one has the texts behind it to its right
+unfoldable pub items_of : Part → List (List ℕ) → Result (List (List ℕ)) (Wrong LineFault)
 items_of part [] = Ok []
 items_of part (text ∷ texts) = do
-  item ← item_of part text
+  item ← marked (length (join_with_byte 44 (text ∷ texts))) (length text) (item_of part text)
   items ← items_of part texts
   Ok (item ∷ items)
 
 -- the numbers of the items that commas part
-unfoldable pub list_of : Part → List ℕ → Result (List ℕ) LineFault
+unfoldable pub list_of : Part → List ℕ → Result (List ℕ) (Wrong LineFault)
 list_of part word = do
   items ← items_of part (slice_split is_comma word)
   Ok (all_of items)
@@ -118,20 +108,20 @@ items_behind None = []
 items_behind (Some text) = slice_split is_comma text
 
 -- a field, which is all of its word
-unfoldable pub field_of : Part → List ℕ → Result Choice LineFault
+unfoldable pub field_of : Part → List ℕ → Result Choice (Wrong LineFault)
 field_of part word = do
   numbers ← list_of part word
   Ok (record { star = begins_with 42 word; numbers = counted part numbers })
 
 -- the field that the next word is, and the text from the word after it on
-unfoldable pub field_at : Part → List ℕ → Result (Choice × List ℕ) LineFault
+unfoldable pub field_at : Part → List ℕ → Result (Choice × List ℕ) (Wrong LineFault)
 field_at part text =
-    if is_nothing text then Err faults.MissingField else do
-      field ← field_of part (front is_solid text)
+    if is_nothing text then Err (at_end faults.MissingField) else do
+      field ← moved (length (after is_solid text)) (field_of part (front is_solid text))
       Ok (field, after is_blank (after is_solid text))
 
 -- the five fields, and the text after them
-unfoldable pub schedule_at : List ℕ → Result (Times × List ℕ) LineFault
+unfoldable pub schedule_at : List ℕ → Result (Times × List ℕ) (Wrong LineFault)
 schedule_at text = do
   minute ← field_at Minute text
   hour ← field_at Hour minute.1
@@ -151,33 +141,33 @@ when_of word =
     else timed (times_of_word word)
 
 -- a command, which is not empty
-abbrev pub commanded : When → List ℕ → Result Entry LineFault
+abbrev pub commanded : When → List ℕ → Result Entry (Wrong LineFault)
 commanded when command =
-    if is_nothing command then Err faults.NoCommand else Ok (Command when command)
+    if is_nothing command then Err (at_end faults.NoCommand) else Ok (Command when command)
 
 -- the content of a line after its `@`
-unfoldable pub word_line : List ℕ → Result Entry LineFault
+unfoldable pub word_line : List ℕ → Result Entry (Wrong LineFault)
 word_line text = do
-  when ← when_of (front is_solid text)
+  when ← marked (length text + 1) (length (front is_solid text) + 1) (when_of (front is_solid text))
   commanded when (after is_blank (after is_solid text))
 
-abbrev pub set : Option (List ℕ × List ℕ) → Result Entry LineFault
-set None = Err faults.BadSetting
-set (Some found) = Ok (Setting found.0 found.1)
+abbrev pub set : List ℕ → Option (List ℕ × List ℕ) → Result Entry (Wrong LineFault)
+set text None = Err (whole faults.BadSetting text)
+set text (Some found) = Ok (Setting found.0 found.1)
 
 -- the content of a line without its leading blanks
-unfoldable pub entry_of : List ℕ → Result Entry LineFault
+unfoldable pub entry_of : List ℕ → Result Entry (Wrong LineFault)
 entry_of [] = Ok Nothing
 entry_of (b ∷ bs) =
     if b == 35 then Ok Nothing
     else if b == 64 then word_line bs
-    else if begins_setting b then set (setting_of (b ∷ bs))
+    else if begins_setting b then set (b ∷ bs) (setting_of (b ∷ bs))
     else do
       found ← schedule_at (b ∷ bs)
       commanded (At found.0) found.1
 
-unfoldable pub line_of : List ℕ → Result Entry LineFault
+unfoldable pub line_of : List ℕ → Result Entry (Wrong LineFault)
 line_of line =
-    if nat_lt MAX_LINE (length line) then Err faults.TooLong
-    else if list_any (λ b. b == 0) line then Err faults.NulByte
+    if nat_lt MAX_LINE (length line) then Err (whole faults.TooLong (drop MAX_LINE line))
+    else if list_any (λ b. b == 0) line then Err (at_nul faults.NulByte line)
     else entry_of (after is_blank line)

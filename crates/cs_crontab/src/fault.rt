@@ -1,16 +1,14 @@
 ghost use Rattle.std.specs.Prelude.{◌≡◌};
 ghost use Rattle.cs_crontab.specs.Printed.{fault_text};
-ghost use Rattle.cs_crontab.specs.declared.fault.TableFault.TheVariants.{OutOfMemory};
 
-use std::alloc::{AllocError, AllocFailed};
 use thiserror::Error;
 
 /// What is wrong with a line or its length, printed as number and name: `8 Reversed`.
 #[derive(Clone, Copy, Debug, PartialEq, Eq, Error)]
 #[error("{}", self.text())]
 pub enum LineFault {
-    /// The table or the line exceeds [`MAX_TABLE`](crate::MAX_TABLE) or
-    /// [`MAX_LINE`](crate::MAX_LINE).
+    /// The table or the line exceeds [`MAX_TABLE`](cs_table::MAX_TABLE) or
+    /// [`MAX_LINE`](cs_table::MAX_LINE).
     TooLong,
     /// The line holds a zero byte.
     NulByte,
@@ -59,28 +57,4 @@ impl LineFault {
 }
 
 /// Why a crontab could not be read.
-#[derive(Clone, Copy, Debug, PartialEq, Eq, Error)]
-pub enum TableFault {
-    /// The first line with a fault, from 1, or 0 if the table is too long; and the fault.
-    #[error("line {line}: {fault}")]
-    At { line: u32, fault: LineFault },
-    /// Memory ran out.
-    #[error("out of memory")]
-    OutOfMemory,
-}
-
-impl From<AllocError> for TableFault {
-    ghost from_gives = { λ _ e. e ≡ OutOfMemory };
-
-    fn from(_e: AllocError) -> TableFault {
-        TableFault::OutOfMemory
-    }
-}
-
-impl<T: Drop> From<AllocFailed<T>> for TableFault {
-    ghost from_gives = { λ _ e. e ≡ OutOfMemory };
-
-    fn from(_e: AllocFailed<T>) -> TableFault {
-        TableFault::OutOfMemory
-    }
-}
+pub type TableFault = cs_table::TableFault<LineFault>;

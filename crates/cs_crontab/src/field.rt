@@ -1,14 +1,18 @@
-ghost use Rattle.std.specs.Prelude.{◌≡◌, ◌<◌, ◌≤◌, ◌∷◌, length, take, drop, IfOk, IfSome};
+ghost use Rattle.std.specs.Prelude.{◌≡◌, ◌<◌, ◌≤◌, ◌+◌, ◌^◌, ◌∷◌, ℕ, List, length, take, drop, IfOk, IfSome, IsErr};
 ghost use Rattle.std.specs.List.{slice_split};
 ghost use Rattle.std.specs.Option.{option_map};
 ghost use Rattle.cs_schedule.specs.Times.{IsWithin};
-ghost use Rattle.cs_crontab.specs.Format.{place_of, counted, begins_with, is_comma};
-ghost use Rattle.cs_crontab.specs.Reading.{Gives, named, number_at, step_at, cut_step, every, end_at, range_at, numbers_at, item_at, items_behind, item_of, list_of, field_of, field_at};
+ghost use Rattle.cs_crontab.specs.Format.{place_of, counted, is_comma};
+ghost use Rattle.cs_table.specs.Text.{begins_with};
+ghost use Rattle.cs_crontab.specs.Reading.{named, number_at, step_at, cut_step, every, end_at, range_at, numbers_at, item_at, items_behind, item_of, list_of, field_of, field_at};
+ghost use Rattle.cs_table.specs.Wrong.{Gives, marked, moved};
+ghost use Rattle.cs_crontab.specs.Grammar.{IsItem};
 
 use crate::fault::LineFault;
 use crate::name::name_place;
-use crate::text::{digits, skip_blanks, word};
 use cs_schedule::{Field, Numbers, Part};
+use cs_table::text::{digits, skip_blanks, word};
+use cs_table::{Wrong, marked, moved};
 use memchr::memchr;
 
 /// The number that the name at the front stands for, and what follows it.
@@ -117,7 +121,6 @@ fn first_item(text: &[u8]) -> (&[u8], Option<&[u8]>)
     }
 }
 
-/// The numbers of an item, which is all of its text.
 #[tactic(auto, unfolding(crate::specs::Reading::item_of))]
 fn whole_item(part: Part, text: &[u8]) -> Result<Numbers, LineFault>
     ensures { result ≡ item_of part text.now }
@@ -129,15 +132,34 @@ fn whole_item(part: Part, text: &[u8]) -> Result<Numbers, LineFault>
     Ok(numbers)
 }
 
+/// Reads an item of a field, which is all of its text, or returns its first fault from left to
+/// right: `*`, `a` or `a-z`, each with a step or without one.
+pub fn read_item(part: Part, text: &[u8]) -> Result<Numbers, LineFault>
+    ensures written { IfOk result (IsItem part text.now) }
+    ensures none { IsErr result → (numbers : List ℕ) → IsItem part text.now numbers → ⊥ }
+
+    // the same, as a value
+    ensures value { result ≡ item_of part text.now }
+{
+    whole_item(part, text)
+}
+
+/// An item, where so many bytes are left of its word.
+fn placed_item(part: Part, left: usize, text: &[u8]) -> Result<Numbers, Wrong<LineFault>>
+    ensures { result ≡ marked left (length text.now) (item_of part text.now) }
+{
+    marked(left, text.len(), whole_item(part, text))
+}
+
 /// The numbers of items separated by commas.
-fn list(part: Part, word: &[u8]) -> Result<Numbers, LineFault>
+fn list(part: Part, word: &[u8]) -> Result<Numbers, Wrong<LineFault>>
     ensures { result ≡ list_of part word.now }
 {
     let mut numbers = Numbers::none();
     let mut rest = word;
     loop {
         let (text, behind) = first_item(rest);
-        let item = whole_item(part, text)?;
+        let item = placed_item(part, rest.len(), text)?;
         numbers = numbers.union(&item);
         match behind {
             None => return Ok(numbers),
@@ -148,7 +170,7 @@ fn list(part: Part, word: &[u8]) -> Result<Numbers, LineFault>
 
 /// A field, which is all of its word.
 #[tactic(auto, unfolding(crate::specs::Reading::field_of))]
-fn field(part: Part, word: &[u8]) -> Result<Field, LineFault>
+fn field(part: Part, word: &[u8]) -> Result<Field, Wrong<LineFault>>
     ensures { result ≡ field_of part word.now }
 {
     let numbers = list(part, word)?;
@@ -160,15 +182,24 @@ fn field(part: Part, word: &[u8]) -> Result<Field, LineFault>
     Ok(Field::new(star, numbers))
 }
 
+/// The field that a word is, where so many bytes follow it.
+fn placed_field(part: Part, word: &[u8], more: usize) -> Result<Field, Wrong<LineFault>>
+    requires { length word.now + more < 2 ^ 64 }
+    ensures { result ≡ moved more (field_of part word.now) }
+{
+    moved(more, field(part, word))
+}
+
 /// The field in the next word, and the text from the word after it on.
 #[tactic(auto, unfolding(crate::specs::Reading::field_at))]
-pub(crate) fn next_field(part: Part, text: &[u8]) -> Result<(Field, &[u8]), LineFault>
+pub(crate) fn next_field(part: Part, text: &[u8]) -> Result<(Field, &[u8]), Wrong<LineFault>>
     ensures gives { Gives (λ x. (x.0, x.1.now)) result (field_at part text.now) }
     ensures within { IfOk result (λ x. IsWithin part x.0.numbers) }
 {
     if text.is_empty() {
-        return Err(LineFault::MissingField);
+        return Err(Wrong::at_end(LineFault::MissingField));
     }
     let (word, rest) = word(text);
-    Ok((field(part, word)?, skip_blanks(rest)))
+    let field = placed_field(part, word, rest.len())?;
+    Ok((field, skip_blanks(rest)))
 }

@@ -1,20 +1,24 @@
-ghost use Rattle.std.specs.Prelude.{◌≡◌, ◌==◌};
+ghost use Rattle.std.specs.Prelude.{◌≡◌, ◌==◌, ◌+◌, ◌<◌, ◌^◌, length, drop, IfOk, IfErr};
 ghost use Rattle.std.specs.List.{list_any};
-ghost use Rattle.cs_crontab.specs.Format.{begins_setting};
-ghost use Rattle.cs_crontab.specs.Reading.{Gives, schedule_at, when_of, commanded, word_line, entry_of, line_of};
+ghost use Rattle.cs_table.specs.Setting.{begins_setting};
+ghost use Rattle.cs_crontab.specs.Reading.{schedule_at, when_of, commanded, word_line, entry_of, line_of};
+ghost use Rattle.cs_table.specs.Wrong.{Gives, IsWithin, marked};
+ghost use Rattle.cs_crontab.specs.Grammar.{Says};
+ghost use Rattle.cs_crontab.specs.Faults.{LineFails};
 ghost use Rattle.cs_crontab.specs.Seen.{entry_seen};
 
 use crate::fault::LineFault;
 use crate::field::next_field;
-use crate::limits::MAX_LINE;
-use crate::setting::{begins_setting, read_setting};
 use crate::table::When;
-use crate::text::{has_nul, skip_blanks, word};
 use crate::word::word_schedule;
 use cs_schedule::{Part, Schedule};
+use cs_table::setting::{begins_setting, read_setting};
+use cs_table::text::{has_nul, skip_blanks, word};
+use cs_table::{MAX_LINE, Wrong, marked};
 
 /// The content of a line.
-pub(crate) enum Entry<'a> {
+#[derive(Debug, Drop)]
+pub enum Entry<'a> {
     /// Nothing: it is empty, blank or a comment.
     Nothing,
     /// A name and its value.
@@ -25,7 +29,7 @@ pub(crate) enum Entry<'a> {
 
 /// The five fields, and the text after them.
 #[tactic(auto, unfolding(crate::specs::Reading::schedule_at))]
-fn schedule(text: &[u8]) -> Result<(Schedule, &[u8]), LineFault>
+fn schedule(text: &[u8]) -> Result<(Schedule, &[u8]), Wrong<LineFault>>
     ensures { Gives (λ x. (x.0, x.1.now)) result (schedule_at text.now) }
 {
     let (minute, text) = next_field(Part::Minute, text)?;
@@ -50,28 +54,35 @@ fn word_time(word: &[u8]) -> Result<When, LineFault>
     }
 }
 
-fn commanded(when: When, command: &[u8]) -> Result<Entry<'_>, LineFault>
+fn commanded(when: When, command: &[u8]) -> Result<Entry<'_>, Wrong<LineFault>>
     ensures { Gives entry_seen result (commanded when command.now) }
 {
     if command.is_empty() {
-        return Err(LineFault::NoCommand);
+        return Err(Wrong::at_end(LineFault::NoCommand));
     }
     Ok(Entry::Command(when, command))
 }
 
+/// The same of the word at the front of a text behind `@`.
+fn placed_time(word: &[u8], text: &[u8]) -> Result<When, Wrong<LineFault>>
+    ensures { result ≡ marked (length text.now + 1) (length word.now + 1) (when_of word.now) }
+{
+    marked(text.len() + 1, word.len() + 1, word_time(word))
+}
+
 /// The content of a line after its `@`.
 #[tactic(auto, unfolding(crate::specs::Reading::word_line))]
-fn word_line(text: &[u8]) -> Result<Entry<'_>, LineFault>
+fn word_line(text: &[u8]) -> Result<Entry<'_>, Wrong<LineFault>>
     ensures { Gives entry_seen result (word_line text.now) }
 {
     let (word, rest) = word(text);
-    let when = word_time(word)?;
+    let when = placed_time(word, text)?;
     commanded(when, skip_blanks(rest))
 }
 
 /// The content of a line without its leading blanks.
 #[tactic(auto, unfolding(crate::specs::Reading::entry_of))]
-fn read_entry(text: &[u8]) -> Result<Entry<'_>, LineFault>
+fn read_entry(text: &[u8]) -> Result<Entry<'_>, Wrong<LineFault>>
     ensures { Gives entry_seen result (entry_of text.now) }
 {
     match text {
@@ -79,7 +90,7 @@ fn read_entry(text: &[u8]) -> Result<Entry<'_>, LineFault>
         [b'@', rest @ ..] => word_line(rest),
         [first, ..] if begins_setting(*first) => match read_setting(text) {
             Some((name, value)) => Ok(Entry::Setting(name, value)),
-            None => Err(LineFault::BadSetting),
+            None => Err(Wrong::whole(LineFault::BadSetting, text)),
         },
         [_, ..] => {
             let (schedule, command) = schedule(text)?;
@@ -88,16 +99,27 @@ fn read_entry(text: &[u8]) -> Result<Entry<'_>, LineFault>
     }
 }
 
-/// The content of a line.
 #[tactic(auto, unfolding(crate::specs::Reading::line_of))]
-pub(crate) fn read_line(line: &[u8]) -> Result<Entry<'_>, LineFault>
+fn content(line: &[u8]) -> Result<Entry<'_>, Wrong<LineFault>>
     ensures { Gives entry_seen result (line_of line.now) }
 {
     if line.len() > MAX_LINE {
-        return Err(LineFault::TooLong);
+        return Err(Wrong::whole(LineFault::TooLong, &line[MAX_LINE..]));
     }
     if has_nul(line) {
-        return Err(LineFault::NulByte);
+        return Err(Wrong::at_nul(LineFault::NulByte, line));
     }
     read_entry(skip_blanks(line))
+}
+
+/// Reads the content of a line, or returns its first fault from left to right.
+pub fn read_line(line: &[u8]) -> Result<Entry<'_>, Wrong<LineFault>>
+    ensures says { IfOk result (λ entry. Says line.now (entry_seen entry)) }
+    ensures fails { IfErr result (LineFails line.now) }
+    ensures within { IfErr result (IsWithin line.now) }
+
+    // the same, as a value
+    ensures value { Gives entry_seen result (line_of line.now) }
+{
+    content(line)
 }

@@ -1,8 +1,10 @@
-ghost use Rattle.std.specs.Prelude.{◌≡◌, ◌<◌, ◌≤◌, length, AllPairs, IfOk};
+ghost use Rattle.std.specs.Prelude.{◌≡◌, ◌<◌, ◌≤◌, length, map, All, AllPairs, IfOk};
+ghost use Rattle.cs_table.specs.Environment.{above, names_of, first_places, IsLast};
 ghost use Rattle.cs_crontab.specs.declared.limits.TheConstants.{MAX_COMMANDS};
 
 use cs_civil::{Bytes, Sequence};
 use cs_schedule::Schedule;
+use cs_table::{Setting, copy_settings, env_of};
 use std::alloc::{AllocError, Global};
 use std::marker::Model;
 
@@ -85,78 +87,6 @@ impl Line {
     }
 }
 
-/// A setting of the environment.
-#[derive(Debug, Drop)]
-pub struct Setting {
-    line: u32,
-    key: Bytes,
-    content: Bytes,
-}
-
-impl Model for Setting {
-    ghost use Rattle.cs_crontab.specs.Crontab.{SettingLine};
-
-    ghost Value = { SettingLine };
-
-    ghost view = { λ a. record { number = a.line; name = a.key; value = a.content } };
-}
-
-impl Setting {
-    /// Returns the setting on that line, counted from 1.
-    pub fn new(number: u32, name: Bytes, value: Bytes) -> Setting
-        ensures { result ≡ record { number = number; name = name; value = value } }
-    {
-        Setting {
-            line: number,
-            key: name,
-            content: value,
-        }
-    }
-
-    /// Returns the number of the line, counted from 1 over all lines of the table.
-    pub fn number(&self) -> u32
-        ensures { result ≡ self.now.number }
-    {
-        self.line
-    }
-
-    /// Copies the setting. The only error is out of memory.
-    pub fn copy(&self, alloc: Global) -> Result<Setting, AllocError>
-        ensures { IfOk result (λ setting. setting ≡ self.now) }
-    {
-        Ok(Setting {
-            line: self.line,
-            key: Bytes::from_slice(alloc, self.key.as_slice())?,
-            content: Bytes::from_slice(alloc, self.content.as_slice())?,
-        })
-    }
-
-    /// Returns the name, without its quotes.
-    pub fn name(&self) -> &[u8]
-        ensures { result.now ≡ self.now.name }
-    {
-        self.key.as_slice()
-    }
-
-    /// Returns the value, without its quotes.
-    pub fn value(&self) -> &[u8]
-        ensures { result.now ≡ self.now.value }
-    {
-        self.content.as_slice()
-    }
-}
-
-/// Copies settings. The only error is out of memory.
-pub fn copy_settings(alloc: Global, settings: &[Setting]) -> Result<Sequence<Setting>, AllocError>
-    ensures { IfOk result (λ copies. copies ≡ settings.now) }
-{
-    let mut copies = Sequence::new(alloc);
-    for setting in settings {
-        copies.push(setting.copy(alloc)?)?;
-    }
-    Ok(copies)
-}
-
 fn copy_lines(alloc: Global, lines: &[Line]) -> Result<Sequence<Line>, AllocError>
     ensures { IfOk result (λ copies. copies ≡ lines.now) }
 {
@@ -222,5 +152,15 @@ impl Crontab {
         ensures rising { AllPairs (λ x y. x.number < y.number) self.now.lines }
     {
         self.commands.as_slice()
+    }
+
+    /// Returns the environment of the command on that line, like [`env_of`]. The only error is out
+    /// of memory.
+    pub fn env_of(&self, alloc: Global, line: u32) -> Result<Sequence<(Bytes, Bytes)>, AllocError>
+        ensures names { IfOk result
+            (λ env. map (λ v. v.0) env ≡ first_places (names_of (above line self.now.settings))) }
+        ensures values { IfOk result (All (IsLast (above line self.now.settings))) }
+    {
+        env_of(alloc, self.settings(), line)
     }
 }

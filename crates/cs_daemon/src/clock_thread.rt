@@ -6,7 +6,7 @@ ghost use Rattle.cs_device.specs.declared.clock.Tick.TheVariants.{Stop};
 
 use crate::dispatch::Round;
 use crate::end::Cause;
-use crate::lines::Line;
+use crate::lines::LogLine;
 use crate::notices::Notices;
 use crate::plan_ledger::PlanLedger;
 use crate::shared::Shared;
@@ -136,7 +136,7 @@ impl<'w, J: PlanLedger, R: Wait, G, O: io::Write> Shared<'w, J, R, G, O> {
     fn tell(&self, notices: &Notices, last: Minute, minute: Minute) {
         let mut log = self.log.lock(self.rt);
         if minute.number() > last.number() + 1 {
-            log.write(Line::Outage(last, minute));
+            log.write(LogLine::Outage(last, minute));
         }
         log.write_all(notices.lines());
         log.lose(notices.lost());

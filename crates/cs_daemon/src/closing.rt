@@ -9,12 +9,13 @@ use crate::dispatch::Dispatch;
 use crate::end::{Cause, DaemonEnd};
 use crate::log::Log;
 use crate::plan_ledger::PlanLedger;
-use crate::stamps::{Stored, copy_stamps};
+use crate::stamps::Stored;
 use crate::threads::Gathered;
 use arrayvec::ArrayVec;
 use cs_check::Checked;
 use cs_decl::Plan;
 use cs_device::StampStore;
+use cs_history::copy_stamps;
 use cs_keep::{Keep, Kept, Seat};
 use std::io;
 

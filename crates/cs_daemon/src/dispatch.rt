@@ -1,13 +1,13 @@
 //! What the lock guards: the keep, and the starts in its journal that workers take.
 ghost use Rattle.std.specs.Prelude.{◌≡◌, ◌+◌, ◌<◌, ◌≤◌, ◌^◌, OnOk};
 
-use crate::lines::Line;
+use crate::lines::LogLine;
 use crate::notices::Notices;
 use crate::plan_ledger::PlanLedger;
-use crate::stamps::{Stamps, copy_stamps};
+use crate::stamps::Stamps;
 use cs_civil::Minute;
 use cs_core::Core;
-use cs_history::{Event, Reply, Run};
+use cs_history::{Event, Reply, Run, copy_stamps};
 use cs_keep::{Keep, Seat, TickFault};
 use std::alloc::Global;
 
@@ -126,8 +126,14 @@ impl<J: PlanLedger> Dispatch<J> {
             match (entry.event(), entry.reply()) {
                 (Event::Minute(minute), _) => at = minute,
                 (Event::Up(minute), _) => at = minute,
-                (Event::Begin(job), Reply::Waiting) => notices.add(Line::Waiting(Run { job, at })),
-                (Event::Begin(job), Reply::Skipped) => notices.add(Line::Skipped(Run { job, at })),
+                (Event::Begin(job), Reply::Waiting) => notices.add(LogLine::Waiting(Run {
+                    job,
+                    at,
+                })),
+                (Event::Begin(job), Reply::Skipped) => notices.add(LogLine::Skipped(Run {
+                    job,
+                    at,
+                })),
                 _ => {}
             }
         }
@@ -139,7 +145,7 @@ impl<J: PlanLedger> Dispatch<J> {
         for going in core.running().iter() {
             let deadline = deadline(core, going.run.job, going.since);
             if last.number() < deadline && deadline <= minute.number() {
-                notices.add(Line::Overrun(going.run));
+                notices.add(LogLine::Overrun(going.run));
                 self.overruns = self.overruns.saturating_add(1);
             }
         }

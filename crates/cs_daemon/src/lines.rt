@@ -8,7 +8,7 @@ use std::io;
 
 /// A line of the log.
 #[derive(Clone, Copy)]
-pub(crate) enum Line {
+pub(crate) enum LogLine {
     /// A worker has taken the run.
     Started(Run),
     /// The run waits for its group's lock.
@@ -28,16 +28,16 @@ pub(crate) enum Line {
 }
 
 /// Writes the line, with its newline.
-pub(crate) fn write_line<O: io::Write>(out: &mut O, plan: &Plan, line: Line) -> io::Result<()> {
+pub(crate) fn write_line<O: io::Write>(out: &mut O, plan: &Plan, line: LogLine) -> io::Result<()> {
     match line {
-        Line::Started(run) => write_run(out, b"started ", plan, run)?,
-        Line::Waiting(run) => write_run(out, b"waiting ", plan, run)?,
-        Line::Skipped(run) => write_run(out, b"skipped ", plan, run)?,
-        Line::Overrun(run) => write_run(out, b"overrun ", plan, run)?,
-        Line::Ended(run, outcome) => write_end(out, plan, run, outcome)?,
-        Line::Outage(from, to) => write_outage(out, from, to)?,
-        Line::StampNotRead(job) => write_stamp(out, b"stamp not read ", plan, job)?,
-        Line::StampNotWritten(job) => write_stamp(out, b"stamp not written ", plan, job)?,
+        LogLine::Started(run) => write_run(out, b"started ", plan, run)?,
+        LogLine::Waiting(run) => write_run(out, b"waiting ", plan, run)?,
+        LogLine::Skipped(run) => write_run(out, b"skipped ", plan, run)?,
+        LogLine::Overrun(run) => write_run(out, b"overrun ", plan, run)?,
+        LogLine::Ended(run, outcome) => write_end(out, plan, run, outcome)?,
+        LogLine::Outage(from, to) => write_outage(out, from, to)?,
+        LogLine::StampNotRead(job) => write_stamp(out, b"stamp not read ", plan, job)?,
+        LogLine::StampNotWritten(job) => write_stamp(out, b"stamp not written ", plan, job)?,
     }
     out.write_all(b"\n")
 }

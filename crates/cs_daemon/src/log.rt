@@ -1,6 +1,6 @@
 //! The log that all threads write to.
 
-use crate::lines::{Line, write_line};
+use crate::lines::{LogLine, write_line};
 use cs_decl::Plan;
 use std::alloc::Global;
 use std::io;
@@ -36,13 +36,13 @@ impl<'w, O: io::Write> Log<'w, O> {
         self.faults = self.faults.saturating_add(lines);
     }
 
-    pub(crate) fn write(&mut self, line: Line) {
+    pub(crate) fn write(&mut self, line: LogLine) {
         if self.try_write(line).is_err() {
             self.lose(1);
         }
     }
 
-    pub(crate) fn write_all(&mut self, lines: &[Line]) {
+    pub(crate) fn write_all(&mut self, lines: &[LogLine]) {
         for line in lines {
             self.write(*line);
         }
@@ -51,18 +51,18 @@ impl<'w, O: io::Write> Log<'w, O> {
     /// Writes that these anacron jobs' stamps couldn't be read.
     pub(crate) fn write_unread(&mut self, jobs: &[usize]) {
         for job in jobs {
-            self.write(Line::StampNotRead(*job));
+            self.write(LogLine::StampNotRead(*job));
         }
     }
 
     /// Writes that these anacron jobs' stamps couldn't be written.
     pub(crate) fn write_unwritten(&mut self, jobs: &[usize]) {
         for job in jobs {
-            self.write(Line::StampNotWritten(*job));
+            self.write(LogLine::StampNotWritten(*job));
         }
     }
 
-    fn try_write(&mut self, line: Line) -> io::Result<()> {
+    fn try_write(&mut self, line: LogLine) -> io::Result<()> {
         self.line.clear();
         write_line(&mut self.line, self.plan, line)?;
         self.out.write_all(self.line.as_slice())

@@ -1,12 +1,12 @@
 //! What a tick logs besides the runs that it started.
 
-use crate::lines::Line;
+use crate::lines::LogLine;
 use std::alloc::Global;
 
 /// Lines to log, and how many were lost because memory ran out.
 #[derive(Drop)]
 pub(crate) struct Notices {
-    lines: Vec<Line>,
+    lines: Vec<LogLine>,
     lost: u64,
 }
 
@@ -20,13 +20,13 @@ impl Notices {
     }
 
     /// Adds a line, or counts it as lost.
-    pub(crate) fn add(&mut self, line: Line) {
+    pub(crate) fn add(&mut self, line: LogLine) {
         if self.lines.push(line).is_err() {
             self.lost = self.lost.saturating_add(1);
         }
     }
 
-    pub(crate) fn lines(&self) -> &[Line] {
+    pub(crate) fn lines(&self) -> &[LogLine] {
         self.lines.as_slice()
     }
 

@@ -5,6 +5,7 @@ use arrayvec::ArrayVec;
 use cs_civil::Day;
 use cs_decl::Plan;
 use cs_device::{Stamp, StampStore};
+use cs_history::copy_stamps;
 
 /// A stamp for each anacron job, in the order of the plan.
 pub(crate) type Stamps = ArrayVec<Option<Day>, 64>;
@@ -98,12 +99,4 @@ fn stamp_at(stamps: &Stamps, job: usize) -> Option<Day> {
         Some(stamp) => *stamp,
         None => None,
     }
-}
-
-pub(crate) fn copy_stamps(stamps: &[Option<Day>]) -> Stamps {
-    let mut copy = ArrayVec::new();
-    for stamp in stamps {
-        add(&mut copy, *stamp);
-    }
-    copy
 }

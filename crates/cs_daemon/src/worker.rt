@@ -1,7 +1,7 @@
 //! Workers, which run jobs and make the ends of their runs.
 ghost use Rattle.std.specs.Prelude.{◌≡◌, ◌<◌, ◌^◌};
 
-use crate::lines::Line;
+use crate::lines::LogLine;
 use crate::plan_ledger::PlanLedger;
 use crate::shared::Shared;
 use cs_crontab::command_parts;
@@ -45,7 +45,7 @@ impl<'w, J: PlanLedger, R: Wait, G: Gate, O: io::Write> Shared<'w, J, R, G, O> {
     fn run_job<W: Runner>(&self, runner: &mut W, seat: &mut Seat<J>, run: Run) -> Outcome
         ensures { seat.new.parts ≡ seat.old.parts }
     {
-        self.log.lock(self.rt).write(Line::Started(run));
+        self.log.lock(self.rt).write(LogLine::Started(run));
         self.gate.pass(run, Point::Before);
         let outcome = match run_command(self.alloc, self.plan, runner, run) {
             Ok(outcome) => outcome,
@@ -53,7 +53,7 @@ impl<'w, J: PlanLedger, R: Wait, G: Gate, O: io::Write> Shared<'w, J, R, G, O> {
         };
         self.gate.pass(run, Point::After);
         self.make(seat, Event::End(run));
-        self.log.lock(self.rt).write(Line::Ended(run, outcome));
+        self.log.lock(self.rt).write(LogLine::Ended(run, outcome));
         outcome
     }
 }

@@ -3,7 +3,8 @@ use Rattle.std.specs.Prelude.{List, [], ◌∷◌, ◌++◌, ℕ, ◌+◌, ℤ, 
 use Rattle.std.specs.Ordering.{int_eq}
 use Rattle.std.specs.List.{list_any}
 use Rattle.cs_history.specs.Plan.{takes}
-use Rattle.cs_decl.specs.declared.limits.TheConstants.{MAX_MINUTES, MAX_WEIGHT, MAX_CAPACITY, MAX_GROUPS, MAX_OFFSET, MINUTES_OF_DAY}
+use Rattle.cs_civil.specs.declared.minute.TheConstants.{MINUTES_OF_DAY}
+use Rattle.cs_decl.specs.declared.limits.TheConstants.{MAX_MINUTES, MAX_WEIGHT, MAX_CAPACITY, MAX_GROUPS, MAX_OFFSET}
 use Rattle.cs_decl.specs.declared.fault.DeclFault.{DeclFault}
 use Rattle.cs_decl.specs.declared.fault.DeclFault.TheVariants as faults
 use Rattle.cs_decl.specs.declared.fault.Place.{Place}

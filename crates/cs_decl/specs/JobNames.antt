@@ -7,6 +7,10 @@ use Rattle.cs_decl.specs.Plan.{Declared, command_of, line_of}
 unfoldable pub command_name : Declared → ℕ → List ℕ
 command_name d j = codes "line " ++ decimal (command_of d j).number
 
+-- `line N due `
+unfoldable pub due_name : Declared → ℕ → List ℕ
+due_name d j = command_name d j ++ codes " due "
+
 -- `ID`
 abbrev pub identifier_of : Declared → ℕ → List ℕ
 identifier_of d j = (line_of d j).identifier

@@ -15,7 +15,8 @@ use Rattle.cs_decl.specs.declared.entries.CronEntry.{CronEntry}
 use Rattle.cs_decl.specs.declared.entries.AnacronEntry.{AnacronEntry}
 use Rattle.cs_decl.specs.declared.entries.Entries.{Entries}
 use Rattle.cs_decl.specs.Job.{DeclaredJob}
-use Rattle.cs_decl.specs.Plan.{Declared, DeclaredGroup, CatchUpHours}
+use Rattle.cs_decl.specs.Plan.{Declared, DeclaredGroup}
+use Rattle.cs_civil.specs.Hours.{CatchUpHours}
 use Rattle.cs_decl.specs.Faults.{Fault, at_cron, at_anacron, first_fault}
 use Rattle.cs_decl.specs.Meaning.{unless}
 

@@ -3,7 +3,8 @@ use Rattle.std.specs.Prelude.{ℕ, pos, nat_le, [], ◌++◌, map, None, Bool, n
 use Rattle.cs_crontab.specs.Crontab.{Table as Crontab}
 use Rattle.cs_anacrontab.specs.Anacrontab.{Table as Anacrontab}
 use Rattle.cs_history.specs.declared.mode.Mode.TheVariants.{Plain}
-use Rattle.cs_decl.specs.declared.limits.TheConstants.{MAX_MINUTES, MAX_CAPACITY, MINUTES_OF_DAY}
+use Rattle.cs_civil.specs.declared.minute.TheConstants.{MINUTES_OF_DAY}
+use Rattle.cs_decl.specs.declared.limits.TheConstants.{MAX_MINUTES, MAX_CAPACITY}
 use Rattle.cs_decl.specs.declared.fault.DeclFault.TheVariants as faults
 use Rattle.cs_decl.specs.Job.{DeclaredJob}
 use Rattle.cs_decl.specs.Plan.{Declared, places_of}

@@ -2,6 +2,7 @@
 use Rattle.std.specs.Prelude.{◌≡◌, ◌≢◌, ℕ, ℤ, unsigned_abs, ◌-◌, ◌/◌, ◌%◌, ◌<◌, ◌≤◌, Bool, false, List, ◌++◌, [], map, drop, length, slice_index_or, All, AllPairs, Option, None, IfSome}
 use Rattle.std.specs.List.{range_with_len}
 use Rattle.cs_civil.specs.Calendar.{kind}
+use Rattle.cs_civil.specs.Hours.{CatchUpHours, ArePossible}
 use Rattle.cs_schedule.specs.Times.{is_due as is_time_due}
 use Rattle.cs_crontab.specs.Crontab.{Table as Crontab, CommandLine}
 use Rattle.cs_crontab.specs.declared.table.When.{When}
@@ -14,21 +15,13 @@ use Rattle.cs_anacrontab.specs.declared.limits.TheConstants.{MAX_JOBS}
 use Rattle.cs_history.specs.Plan.{Plan}
 use Rattle.cs_history.specs.declared.mode.Mode.TheVariants.{Plain}
 use Rattle.cs_decl.specs.Job.{DeclaredJob, IsPossible}
-use Rattle.cs_decl.specs.declared.limits.TheConstants.{MINUTES_OF_DAY, MAX_CAPACITY, MAX_GROUPS, MAX_OFFSET}
+use Rattle.cs_civil.specs.declared.minute.TheConstants.{MINUTES_OF_DAY}
+use Rattle.cs_decl.specs.declared.limits.TheConstants.{MAX_CAPACITY, MAX_GROUPS, MAX_OFFSET}
 
 -- a group, and whether its runs exclude one another
 pub record DeclaredGroup : Type 0 where
   pub name : List ℕ
   pub exclusive : Bool
-
--- the minutes of the day from one on and below another
-pub record CatchUpHours : Type 0 where
-  pub from : ℕ
-  pub to : ℕ
-
--- some minutes of one day
-abbrev pub ArePossible : CatchUpHours → Type 0
-ArePossible hours = (hours.from < hours.to) × (hours.to ≤ MINUTES_OF_DAY)
 
 -- The jobs are those of the crontab and then those of the anacrontab, each in order of line. The
 -- pass minute is one of the day, the offset counts minutes to the east of UTC.

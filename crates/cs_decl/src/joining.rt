@@ -7,13 +7,12 @@ ghost use Rattle.cs_decl.specs.Join.{at_line, at_job, is_reboot, join_faults, de
 use crate::declarations::Declarations;
 use crate::entries::Entries;
 use crate::fault::{DeclError, DeclFault, Place};
-use crate::hours::Hours;
 use crate::lookups::{first_reboot, first_undeclared, first_undeclared_job, jobless, lineless};
 use crate::plan::Plan;
 use crate::rows::Found;
 use crate::terms::{groups_of, jobs_of, small, smaller};
 use cs_anacrontab::{Anacrontab, Job as JobLine};
-use cs_civil::Bytes;
+use cs_civil::{Bytes, Hours};
 use cs_crontab::{Crontab, Line};
 use std::alloc::{AllocError, Global};
 
@@ -76,9 +75,9 @@ fn hours_of(entries: &Entries) -> Hours
     requires { IsValid entries.now }
     ensures { result ≡ declared_hours entries.now.hours }
 {
-    let from = small(entries.hours.0);
-    let to = small(entries.hours.1);
-    Hours::new(from, to)
+    let from = u64::from(small(entries.hours.0));
+    let to = u64::from(small(entries.hours.1));
+    Hours::new(from, to).unwrap()
 }
 
 #[tactic(auto, using(crate::proofs::Validity::capacity_possible))]

@@ -1,6 +1,3 @@
-/// The minutes of a day.
-pub const MINUTES_OF_DAY: u16 = 1_440;
-
 /// The longest time that a job may declare, in minutes: three days (this profile).
 pub const MAX_MINUTES: u16 = 4_320;
 

@@ -7,14 +7,13 @@ ghost use Rattle.cs_decl.specs.Join.{is_reboot};
 ghost use Rattle.cs_decl.specs.Plain.{plain_job, plain_plan, plain_of, is_possible_max};
 
 use crate::fault::{DeclError, DeclFault};
-use crate::hours::Hours;
 use crate::job::Job;
 use crate::joining::at_line;
-use crate::limits::{MAX_CAPACITY, MAX_MINUTES, MINUTES_OF_DAY};
+use crate::limits::{MAX_CAPACITY, MAX_MINUTES};
 use crate::lookups::first_reboot;
 use crate::plan::Plan;
 use cs_anacrontab::Anacrontab;
-use cs_civil::Sequence;
+use cs_civil::{Hours, MINUTES_OF_DAY, Sequence};
 use cs_crontab::Crontab;
 use cs_history::Mode;
 use std::alloc::{AllocError, Global};
@@ -47,6 +46,12 @@ fn plain_jobs(
     Ok(jobs)
 }
 
+fn all_day() -> Hours
+    ensures { result ≡ record { from = 0; to = MINUTES_OF_DAY } }
+{
+    Hours::new(0, u64::from(MINUTES_OF_DAY)).unwrap()
+}
+
 #[tactic(auto, unfolding(crate::specs::Plain::plain_plan))]
 fn plain_plan(
     alloc: Global,
@@ -60,7 +65,7 @@ fn plain_plan(
 {
     let jobs = plain_jobs(alloc, crontab.lines().len(), anacrontab.lines().len(), max)?;
     let groups = Sequence::new(alloc);
-    let hours = Hours::new(0, MINUTES_OF_DAY);
+    let hours = all_day();
     Ok(Plan::new(
         crontab,
         anacrontab,

@@ -1,13 +1,14 @@
 ghost use Rattle.std.specs.Prelude.{All, ◌≡◌, ℕ, ◌+◌, ◌<◌, ◌≤◌, length, false, Some, IfOk, IfSome, unsigned_abs};
-ghost use Rattle.cs_history.specs.Plan.{IsPlan};
-ghost use Rattle.cs_decl.specs.declared.limits.TheConstants.{MINUTES_OF_DAY, MAX_MINUTES, MAX_CAPACITY, MAX_OFFSET, MAX_GROUPS};
+ghost use Rattle.cs_history.specs.Plan.{IsPlan, exclusive_group};
+ghost use Rattle.cs_civil.specs.declared.minute.TheConstants.{MINUTES_OF_DAY};
+ghost use Rattle.cs_decl.specs.declared.limits.TheConstants.{MAX_MINUTES, MAX_CAPACITY, MAX_OFFSET, MAX_GROUPS};
 
 use crate::group::Group;
-use crate::hours::Hours;
 use crate::job::Job;
 use cs_anacrontab::Anacrontab;
-use cs_civil::Sequence;
+use cs_civil::{Hours, Sequence};
 use cs_crontab::Crontab;
+use cs_history::Mode;
 use std::alloc::{AllocError, Global};
 use std::marker::Model;
 
@@ -67,7 +68,7 @@ fn copy_groups(alloc: Global, groups: &[Group]) -> Result<Sequence<Group>, Alloc
 }
 
 impl Plan {
-    ghost use Rattle.cs_decl.specs.Plan.{IsTimed, IsWhole, crons, as_plan};
+    ghost use Rattle.cs_decl.specs.Plan.{IsTimed, IsWhole, crons, as_plan, job_at};
 
     pub(crate) fn new(
         crontab: Crontab,
@@ -167,12 +168,36 @@ impl Plan {
         self.jobs.as_slice()
     }
 
+    /// Returns the declaration of the job with this number. Past the last job it is one of a minute,
+    /// of weight 1, without group or lock.
+    pub fn job_at(&self, number: u16) -> Job
+        ensures { result ≡ job_at self.now number }
+    {
+        match self.jobs().get(usize::from(number)) {
+            Some(job) => *job,
+            None => Job::new(0, 1, 1, None, Mode::Plain),
+        }
+    }
+
     /// Returns the groups, in the order of the declarations.
     pub fn groups(&self) -> &[Group]
         ensures value { result.now ≡ self.now.groups }
         ensures few { length self.now.groups ≤ MAX_GROUPS }
     {
         self.groups.as_slice()
+    }
+
+    /// Checks whether runs of this group's jobs exclude one another.
+    pub fn is_exclusive(&self, group: Option<u8>) -> bool
+        ensures { result ≡ exclusive_group (as_plan self.now) group }
+    {
+        match group {
+            Some(number) => match self.groups().get(usize::from(number)) {
+                Some(group) => group.is_exclusive(),
+                None => false,
+            },
+            None => false,
+        }
     }
 
     /// Returns the most that running jobs may weigh together, from 1 to

@@ -5,12 +5,10 @@ ghost use Rattle.cs_decl.specs.Faults.{is_within, is_bad_offset, is_bad_max, is_
 
 use crate::entries::{AnacronEntry, CronEntry, Entries};
 use crate::fault::{DeclFault, Place};
-use crate::limits::{
-    MAX_CAPACITY, MAX_GROUPS, MAX_MINUTES, MAX_OFFSET, MAX_WEIGHT, MINUTES_OF_DAY,
-};
+use crate::limits::{MAX_CAPACITY, MAX_GROUPS, MAX_MINUTES, MAX_OFFSET, MAX_WEIGHT};
 use crate::names::{unlisted_anacron, unlisted_cron};
 use crate::twice::{twice_group, twice_identifier, twice_line};
-use cs_history::Mode;
+use cs_civil::MINUTES_OF_DAY;
 use std::alloc::{AllocError, Global};
 
 /// A fault, and its place if it has one.
@@ -43,11 +41,7 @@ fn is_bad_weight(weight: i128) -> bool
 fn needs_group(entry: &CronEntry) -> bool
     ensures { result ≡ needs_group entry.now }
 {
-    let takes_lock = match entry.mode {
-        Mode::Plain => false,
-        Mode::Skip | Mode::Wait | Mode::Shared => true,
-    };
-    takes_lock && entry.group.is_none()
+    entry.mode.takes_lock() && entry.group.is_none()
 }
 
 fn are_bad_hours(hours: (i128, i128)) -> bool

@@ -2,8 +2,8 @@
 
 use crate::flock::file_and_mode;
 use crate::unlocked::Unlocked;
-use cs_crontab::text::{is_blank, word};
 use cs_history::Mode;
+use cs_table::text::{is_blank, word};
 use std::alloc::{AllocError, Global};
 
 /// Whether a command takes a lock.

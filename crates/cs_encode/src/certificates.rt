@@ -2,9 +2,9 @@ use crate::class::classes_of;
 use crate::day_trees::day_tree;
 use crate::minute_trees::minute_tree;
 use cs_cert::{CertError, CertFault, Certificate, Stretch};
-use cs_civil::Sequence;
+use cs_civil::{MINUTES_OF_DAY, Sequence};
 use cs_profile::{Classing, Facts};
-use cs_windows::{JobReach, MINUTES_OF_DAY, Window};
+use cs_windows::{JobReach, Window};
 use std::alloc::{AllocError, Global};
 
 /// The stretch of successive days of these classes, eldest first, with the windows that hold minutes of the last of them. Its

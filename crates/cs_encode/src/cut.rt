@@ -1,5 +1,6 @@
 //! Where a range of minutes is cut in two, so that few windows have to be listed on both sides.
-use cs_windows::{MINUTES_OF_DAY, Window};
+use cs_civil::MINUTES_OF_DAY;
+use cs_windows::Window;
 use std::alloc::{AllocError, Global};
 
 /// How many windows begin to hold minutes of a range at one minute, and how many hold none from it on.

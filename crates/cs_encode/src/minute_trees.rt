@@ -1,7 +1,7 @@
 use crate::cut::{best_cut, most_at_once, turns};
 use cs_cert::MAX_ENTRIES;
-use cs_civil::Sequence;
-use cs_windows::{Entry, MINUTES_OF_DAY, MinuteTree, Window, touches};
+use cs_civil::{MINUTES_OF_DAY, Sequence};
+use cs_windows::{Entry, MinuteTree, Window, touches};
 use std::alloc::{AllocError, Global};
 
 /// A leaf of so many entries isn't split.

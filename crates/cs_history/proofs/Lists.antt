@@ -115,10 +115,6 @@ pub total_zero : {X : Type 0} (f : X → ℕ) (xs : List X) → AllByRecursion (
 total_zero f [] a = refl
 total_zero f (x ∷ xs) a = omega (arith, a.0, total_zero f xs a.1)
 
-pub total_at : {X : Type 0} (f : X → ℕ) (xs : List X) → AllByRecursion (λ x. f x ≤ total f xs) xs
-total_at f [] = tt
-total_at f (x ∷ xs) = (omega arith, all_map (λ y. f y ≤ total f xs) (λ y. f y ≤ f x + total f xs) xs (λ y l. omega (arith, l)) (total_at f xs))
-
 pub greatest_at : {X : Type 0} (f : X → ℕ) (xs : List X) → AllByRecursion (λ x. f x ≤ greatest f xs) xs
 greatest_at f [] = tt
 greatest_at f (x ∷ xs) = (omega arith, all_map (λ y. f y ≤ greatest f xs) (λ y. f y ≤ max (f x) (greatest f xs)) xs (λ y l. omega (arith, l)) (greatest_at f xs))
@@ -208,9 +204,6 @@ lone_total t f (x ∷ xs) a = lone_step t f x xs (t x) a.0 (lone_total t f xs a.
 pub all_terms : {X : Type 0} (f : ℕ → X → ℕ) (xs : List X) → AllByRecursion (λ x. (g : ℕ) → f g x ≤ total (f g) xs) xs
 all_terms f [] = tt
 all_terms f (x ∷ xs) = (λ g. omega arith, all_map (λ y. (g : ℕ) → f g y ≤ total (f g) xs) (λ y. (g : ℕ) → f g y ≤ f g x + total (f g) xs) xs (λ y l g. omega (arith, l g)) (all_terms f xs))
-
-last_or_below : (n k : ℕ) → k < suc n → (k ≡ n) ⊎ (k < n)
-last_or_below n k l = ⊎_elim (λ h. inr h) (λ h. inl (omega (arith, h, l))) (cases_lt k n)
 
 -- where f is 0 but at k, and at most 1 there, the sum below any number is at most 1
 pub once_below : (f : ℕ → ℕ) (k : ℕ) → ((j : ℕ) → (j ≡ k → ⊥) → f j ≡ 0) → f k ≤ 1 → (m : ℕ) → (total f (below m) ≤ 1) × (m ≤ k → total f (below m) ≡ 0)

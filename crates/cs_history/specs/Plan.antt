@@ -48,6 +48,13 @@ shares_in Skip = false
 shares_in Wait = false
 shares_in Shared = true
 
+-- whether a run is skipped where the lock is held (flock(1) -n)
+abbrev pub is_skip : Mode → Bool
+is_skip Plain = false
+is_skip Skip = true
+is_skip Wait = false
+is_skip Shared = false
+
 abbrev pub is_cron : Plan → ℕ → Bool
 is_cron p j = nat_lt j p.crons
 

@@ -23,7 +23,7 @@ pub use refusal::Refusal;
 pub use reply::Reply;
 pub use run::{Going, Run};
 pub use script::Script;
-pub use start::{MAX_STAMPS, Start};
+pub use start::{MAX_STAMPS, Start, copy_stamps};
 pub use stories::{
     clock_and_outages, locks_and_waiting, passes_and_stamps, safe_and_unsafe, windows_and_calm,
 };

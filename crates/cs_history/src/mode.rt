@@ -1,3 +1,6 @@
+ghost use Rattle.std.specs.Prelude.{◌≡◌};
+ghost use Rattle.cs_history.specs.Plan.{is_skip, shares_in, takes, waits_in};
+
 /// How a job treats the lock of its group, like `flock(1)` before its command.
 #[derive(Clone, Copy, Debug, PartialEq, Eq)]
 pub enum Mode {
@@ -9,4 +12,46 @@ pub enum Mode {
     Wait,
     /// `flock -s`: the run waits until all that hold the lock share it.
     Shared,
+}
+
+impl Mode {
+    /// Checks whether a run takes the lock.
+    pub fn takes_lock(self) -> bool
+        ensures { result ≡ takes self }
+    {
+        match self {
+            Mode::Plain => false,
+            Mode::Skip | Mode::Wait | Mode::Shared => true,
+        }
+    }
+
+    /// Checks whether a run waits for the lock if it is held.
+    pub fn waits(self) -> bool
+        ensures { result ≡ waits_in self }
+    {
+        match self {
+            Mode::Plain | Mode::Skip => false,
+            Mode::Wait | Mode::Shared => true,
+        }
+    }
+
+    /// Checks whether a run shares the lock.
+    pub fn shares(self) -> bool
+        ensures { result ≡ shares_in self }
+    {
+        match self {
+            Mode::Plain | Mode::Skip | Mode::Wait => false,
+            Mode::Shared => true,
+        }
+    }
+
+    /// Checks whether a run is skipped if the lock is held.
+    pub fn skips(self) -> bool
+        ensures { result ≡ is_skip self }
+    {
+        match self {
+            Mode::Skip => true,
+            Mode::Plain | Mode::Wait | Mode::Shared => false,
+        }
+    }
 }

@@ -1,4 +1,4 @@
-ghost use Rattle.std.specs.Prelude.{◌≡◌, ◌≤◌, length};
+ghost use Rattle.std.specs.Prelude.{◌≡◌, ◌≤◌, ◌<◌, [], length};
 
 use arrayvec::ArrayVec;
 use cs_civil::{Day, Minute};
@@ -37,6 +37,13 @@ impl Start {
         }
     }
 
+    /// Copies the start.
+    pub fn copy(&self) -> Start
+        ensures { result ≡ self.now }
+    {
+        Start::new(self.minute, self.up, copy_stamps(self.stamps()))
+    }
+
     /// Returns the civil minute at which the history starts.
     pub fn now(&self) -> Minute
         ensures { result ≡ self.now.now }
@@ -57,5 +64,16 @@ impl Start {
         ensures few { length result.now ≤ MAX_STAMPS }
     {
         self.stamps.as_slice()
+    }
+}
+
+/// Copies stamps: at most 64, as more are those of no start.
+pub fn copy_stamps(stamps: &[Option<Day>]) -> ArrayVec<Option<Day>, 64>
+    ensures few { length stamps.now ≤ MAX_STAMPS → result.items ≡ stamps.now }
+    ensures many { MAX_STAMPS < length stamps.now → result.items ≡ [] }
+{
+    match ArrayVec::try_from(stamps) {
+        Ok(copy) => copy,
+        Err(_) => ArrayVec::new(),
     }
 }

@@ -2,10 +2,10 @@
 use Rattle.std.proofs.Common.{◌≡◌, ◌≤◌, true, nat_le}
 use Rattle.std.proofs.lemmas.Bool.{leb-true}
 use Rattle.cs_history.specs.Plan.{first_start}
-use Rattle.cs_script.proofs.NamedJobs.{and_left}
+use Rattle.cs_report.proofs.NamedJobs.{and_left}
 use Rattle.cs_history.specs.declared.script.Script.{Script}
 use Rattle.cs_decl.specs.Plan.{Declared}
-use Rattle.cs_script.specs.ScriptText.{is_nameable}
+use Rattle.cs_report.specs.ScriptText.{is_nameable}
 
 pub starts : (d : Declared) (script : Script) → is_nameable d script ≡ true → first_start ≤ script.start.now
 unfolding is_nameable

@@ -3,20 +3,20 @@ use Rattle.std.specs.Prelude.{◌≡◌, ◌⊎◌, ◌<◌, ℕ, List, ◌∷�
 use Rattle.serde_json.specs.Written.{compact_text}
 use Rattle.cs_history.specs.declared.script.Script.{Script}
 use Rattle.cs_decl.specs.Plan.{Declared}
-use Rattle.cs_accepted.specs.Faults.{Fault}
+use Rattle.cs_theorem.specs.Faults.{Fault}
 use Rattle.cs_cert.specs.Content.{Content}
 use Rattle.cs_cert.specs.Denoted.{certificate_by}
 use Rattle.cs_cert.specs.Written.{certificate_data}
 use Rattle.cs_cert.specs.declared.limits.TheConstants.{MAX_CERTIFICATE}
 use Rattle.cs_check.specs.Checked.{certificate_in}
-use Rattle.cs_refused.specs.Refused.{fault_text}
-use Rattle.cs_refused.specs.Told.{told}
+use Rattle.cs_report.specs.Refused.{fault_text}
+use Rattle.cs_report.specs.Told.{told}
 use Rattle.cs_maker.specs.Reason.{reason_name}
 use Rattle.cs_maker.specs.declared.made.Reason.{Reason}
 use Rattle.cs_maker.specs.declared.made.Reason.TheVariants.{TooManyClasses, LeafTooLong, TooDeep, NoReach, NoScript, NotChecked, NoMemory}
-use Rattle.cs_script.specs.ScriptText.{script_text}
-use Rattle.cs_shown.specs.ShownText.{shown_text}
-use Rattle.cs_shown.specs.declared.shown.Shown.{Shown}
+use Rattle.cs_report.specs.ScriptText.{script_text}
+use Rattle.cs_counterexample.specs.ShownText.{shown_text}
+use Rattle.cs_counterexample.specs.declared.shown.Shown.{Shown}
 use Rattle.cs_judge.specs.Form.{IsJudgedBy}
 use Rattle.cs_judge.specs.Judged.{Shows}
 use Rattle.cs_judge.specs.declared.judged.Judged.{Judged}

@@ -6,11 +6,11 @@ use Rattle.cs_cert.specs.Content.{Content}
 use Rattle.cs_check.specs.Case.{fault_of, reach_for}
 use Rattle.cs_check.specs.Checked.{IsCalmThroughout, IsHeadline, certificate_in, plan_in}
 use Rattle.cs_check.specs.declared.checked.Checked.{Checked}
-use Rattle.cs_refused.specs.Told.{told}
-use Rattle.cs_refused.specs.declared.fault.CheckFault.{CheckFault}
-use Rattle.cs_script.specs.ScriptText.{is_nameable}
-use Rattle.cs_shown.specs.Shown.{IsShown, IsTellable}
-use Rattle.cs_shown.specs.declared.shown.Shown.{Shown}
+use Rattle.cs_report.specs.Told.{told}
+use Rattle.cs_report.specs.declared.check_fault.CheckFault.{CheckFault}
+use Rattle.cs_report.specs.ScriptText.{is_nameable}
+use Rattle.cs_counterexample.specs.Shown.{IsShown, IsTellable}
+use Rattle.cs_counterexample.specs.declared.shown.Shown.{Shown}
 use Rattle.cs_judge.specs.declared.judged.Judged.{Judged}
 use Rattle.cs_judge.specs.declared.judged.Judged.TheVariants.{Safe, Unsafe, Unknown}
 

@@ -7,17 +7,16 @@ ghost use Rattle.cs_judge.specs.Answer.{outcome_of, refusal_text, unknown_outcom
 ghost use Rattle.cs_judge.specs.Answer.{unknown_text, unsafe_text, verdict_text};
 ghost use Rattle.cs_judge.specs.Form.{IsJudgedBy};
 ghost use Rattle.cs_judge.specs.Judged.{IfUnsafe, Shows};
-ghost use Rattle.cs_refused.specs.Told.{told};
+ghost use Rattle.cs_report.specs.Told.{told};
 
 use crate::judged::Judged;
 use cs_cert::{Certificate, MAX_CERTIFICATE, least_text, write_certificate};
 use cs_check::Checked;
+use cs_counterexample::{Shown, shown_text};
 use cs_decl::Plan;
 use cs_history::Script;
 use cs_maker::Reason;
-use cs_refused::{CheckFault, fault_text};
-use cs_script::script_text;
-use cs_shown::{Shown, shown_text};
+use cs_report::{CheckFault, fault_text, script_text};
 use std::alloc::{AllocError, Global};
 
 /// What is asked of a plan.

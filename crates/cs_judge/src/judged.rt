@@ -1,8 +1,8 @@
 use cs_check::Checked;
+use cs_counterexample::Shown;
 use cs_history::Script;
 use cs_maker::Reason;
-use cs_refused::CheckFault;
-use cs_shown::Shown;
+use cs_report::CheckFault;
 
 /// What is known of a plan.
 #[derive(Debug, Drop)]

@@ -10,11 +10,11 @@ use crate::answers::Wanted;
 use crate::judged::Judged;
 use cs_cert::Certificate;
 use cs_check::{CheckError, check_parallel};
+use cs_counterexample::{NotShown, prove_unsafe};
 use cs_decl::Plan;
 use cs_history::Script;
 use cs_maker::{Form, Made, Reason, make, propose};
-use cs_script::is_nameable;
-use cs_shown::{NotShown, prove_unsafe};
+use cs_report::is_nameable;
 use std::alloc::{AllocError, Global};
 use std::thread::Threads;
 

@@ -63,10 +63,6 @@ and_no : (b : Bool) → (b && false) ≡ false
 and_no true = refl
 and_no false = refl
 
-and_yes : (b : Bool) → (b && true) ≡ b
-and_yes true = refl
-and_yes false = refl
-
 no_refusal : (o : Option Refusal) → is_none o ≡ true → o ≡ None
 no_refusal None e = refl
 no_refusal (Some f) e = absurd (cc)

@@ -5,13 +5,13 @@ use Rattle.cs_history.specs.declared.event.Event.{Event}
 use Rattle.cs_history.specs.declared.event.Event.TheVariants.{Minute, Begin, Got, Catch, End, Down, Up}
 use Rattle.cs_history.specs.declared.reply.Reply.{Reply}
 use Rattle.cs_history.specs.declared.reply.Reply.TheVariants as replies
-use Rattle.cs_keep.specs.declared.entry.Kind.{Kind}
-use Rattle.cs_keep.specs.declared.entry.Kind.TheVariants as kinds
+use Rattle.cs_keep.specs.declared.entry.EventKind.{EventKind}
+use Rattle.cs_keep.specs.declared.entry.EventKind.TheVariants as kinds
 use Rattle.cs_keep.specs.declared.entry.Told.{Told}
 use Rattle.cs_keep.specs.declared.entry.Told.TheVariants as answers
 
 -- by its kind, job and minute
-abbrev pub event_of : Kind → ℕ → ℕ → Event
+abbrev pub event_of : EventKind → ℕ → ℕ → Event
 event_of kinds.Minute job at = Minute at
 event_of kinds.Begin job at = Begin job
 event_of kinds.Got job at = Got job at

@@ -7,7 +7,7 @@ use std::marker::Model;
 
 /// Which event it is.
 #[derive(Clone, Copy, Debug, PartialEq, Eq)]
-pub(crate) enum Kind {
+pub(crate) enum EventKind {
     Minute,
     Begin,
     Got,
@@ -39,7 +39,7 @@ pub struct Entry {
     // the job of the event, and that of the run, 0 if there is none
     job: u16,
     starts: u16,
-    kind: Kind,
+    kind: EventKind,
     told: Told,
 }
 
@@ -54,17 +54,17 @@ impl Model for Entry {
 }
 
 /// The kind of an event, its job and its minute.
-fn parts_of(event: Event) -> (Kind, u16, u64)
+fn parts_of(event: Event) -> (EventKind, u16, u64)
     ensures { event_of result.0 result.1 result.2 ≡ event }
 {
     match event {
-        Event::Minute(at) => (Kind::Minute, 0, at),
-        Event::Begin(job) => (Kind::Begin, job, 0),
-        Event::Got(job, at) => (Kind::Got, job, at),
-        Event::Catch(job) => (Kind::Catch, job, 0),
-        Event::End(run) => (Kind::End, run.job, run.at),
-        Event::Down => (Kind::Down, 0, 0),
-        Event::Up(at) => (Kind::Up, 0, at),
+        Event::Minute(at) => (EventKind::Minute, 0, at),
+        Event::Begin(job) => (EventKind::Begin, job, 0),
+        Event::Got(job, at) => (EventKind::Got, job, at),
+        Event::Catch(job) => (EventKind::Catch, job, 0),
+        Event::End(run) => (EventKind::End, run.job, run.at),
+        Event::Down => (EventKind::Down, 0, 0),
+        Event::Up(at) => (EventKind::Up, 0, at),
     }
 }
 
@@ -106,13 +106,13 @@ impl Entry {
     {
         let (job, at) = (self.job, self.at);
         match self.kind {
-            Kind::Minute => Event::Minute(at),
-            Kind::Begin => Event::Begin(job),
-            Kind::Got => Event::Got(job, at),
-            Kind::Catch => Event::Catch(job),
-            Kind::End => Event::End(Run { job, at }),
-            Kind::Down => Event::Down,
-            Kind::Up => Event::Up(at),
+            EventKind::Minute => Event::Minute(at),
+            EventKind::Begin => Event::Begin(job),
+            EventKind::Got => Event::Got(job, at),
+            EventKind::Catch => Event::Catch(job),
+            EventKind::End => Event::End(Run { job, at }),
+            EventKind::Down => Event::Down,
+            EventKind::Up => Event::Up(at),
         }
     }
 

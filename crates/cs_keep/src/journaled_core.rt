@@ -1,15 +1,16 @@
 //! An event core with its journal, which replays to it.
-ghost use Rattle.std.specs.Prelude.{◌≡◌, ◌↔◌, ◌≤◌, IfErr, IfOk, IsTrue, None, OnErr, OnOk, if◌then◌else◌};
+ghost use Rattle.std.specs.Prelude.{◌≡◌, ◌↔◌, ◌≤◌, IfErr, IfOk, IsTrue, None, OnErr, OnOk, if◌then◌else◌, length};
 ghost use Rattle.cs_check.specs.Checked.{plan_in};
 ghost use Rattle.cs_history.specs.Plan.{first_start};
 ghost use Rattle.cs_keep.specs.Keeping.{IsFewInTime, IsIdle, IsKept, IsRefused, IsSafeInTime, cut_here, opened, refusal_in, reply_in, with_event};
 
 use crate::entry::Entry;
 use crate::limits::MAX_ENTRIES;
-use crate::starts::{copy_stamps, copy_start};
+use arrayvec::ArrayVec;
 use cs_check::Checked;
+use cs_civil::Day;
 use cs_core::Core;
-use cs_history::{Event, Refusal, Reply, Start};
+use cs_history::{Event, Refusal, Reply, Start, copy_stamps};
 use std::alloc::{AllocError, Global};
 use std::marker::Model;
 
@@ -40,6 +41,14 @@ impl Model for JournaledCore {
     ghost invariant = { Holds };
 }
 
+/// A copy of the core's stamps.
+fn stamps_of(core: &Core) -> ArrayVec<Option<Day>, 64>
+    requires { length core.now.state.stamps ≤ 64 }
+    ensures { result.items ≡ core.now.state.stamps }
+{
+    copy_stamps(core.stamps())
+}
+
 impl JournaledCore {
     /// An empty journal of a checked plan from this start. The only error is out of memory.
     pub(crate) fn open(
@@ -50,7 +59,7 @@ impl JournaledCore {
         requires { first_start ≤ start.now }
         ensures { IfOk result (λ journaled. journaled ≡ opened (plan_in checked.now) start) }
     {
-        let core = Core::open(alloc, checked.plan(), copy_start(&start))?;
+        let core = Core::open(alloc, checked.plan(), start.copy())?;
         checked.is_safe();
         let _minute = start.now();
         Ok(JournaledCore {
@@ -125,7 +134,7 @@ impl JournaledCore {
             return false;
         }
         let _jobs = self.core.plan().jobs();
-        let stamps = copy_stamps(self.core.stamps());
+        let stamps = stamps_of(&self.core);
         self.base = Start::new(self.core.now(), self.core.is_up(), stamps);
         self.journal.clear();
         true

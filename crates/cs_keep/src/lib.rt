@@ -10,7 +10,6 @@ mod limits;
 mod next;
 mod readers;
 mod seat;
-mod starts;
 mod tick;
 
 pub use entry::Entry;

@@ -1,7 +1,6 @@
 //! The first choice of a kind, found without a list of all: so that a minute without choices costs
 //! the same however many runs wait.
 ghost use Rattle.std.specs.Prelude.{◌≡◌, IsTrue, None, true};
-ghost use Rattle.cs_core.specs.Choices.{is_before};
 ghost use Rattle.cs_decl.specs.Plan.{as_plan};
 ghost use Rattle.cs_history.specs.Step.{refusal, is_settled};
 ghost use Rattle.cs_history.specs.declared.event.Event.TheVariants.{Got};
@@ -9,15 +8,8 @@ ghost use Rattle.cs_keep.specs.FirstToGet.{earlier, first_to_get, may_get};
 ghost use Rattle.cs_keep.specs.Tick.{next_of};
 ghost use Rattle.cs_keep.specs.declared.tick.Kind.TheVariants.{Catching, Settling};
 
-use cs_core::Core;
+use cs_core::{Core, is_before};
 use cs_history::{Event, Run};
-
-/// Whether a run comes before another, by job, then minute.
-fn is_before(one: Run, other: Run) -> bool
-    ensures { result ≡ is_before one other }
-{
-    one.job < other.job || (one.job == other.job && one.at < other.at)
-}
 
 /// The first of these two runs.
 fn earlier(best: Option<Run>, run: Run) -> Run

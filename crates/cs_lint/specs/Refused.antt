@@ -1,5 +1,6 @@
 -- Which files their readers refuse.
 use Rattle.std.specs.Prelude.{◌≡◌, ◌⊎◌, ℕ, List, Option, Some, None, Result, Ok, Err}
+use Rattle.cs_table.specs.Table.{Found}
 use Rattle.cs_crontab.specs.Crontab.{Table}
 use Rattle.cs_crontab.specs.Faults.{Means}
 use Rattle.cs_crontab.specs.declared.fault.LineFault.{LineFault}
@@ -16,7 +17,7 @@ use Rattle.cs_lint.specs.declared.report.Verdict.{Verdict}
 use Rattle.cs_lint.specs.declared.report.Verdict.TheVariants.{Clean, Odd, Faulty}
 
 -- what an anacrontab means, where there is one; without one there are no jobs
-abbrev pub MeansSome : Option (List ℕ) → Result JobTable (ℕ × JobFault) → Type 0
+abbrev pub MeansSome : Option (List ℕ) → Result JobTable (Found JobFault) → Type 0
 MeansSome None read = read ≡ Ok no_jobs
 MeansSome (Some text) read = MeansJobs text read
 
@@ -37,8 +38,8 @@ HasPlan table jobs (Some text) =
 -- A table has a fault, or both are fine and the declarations have one.
 abbrev pub AreRefused : List ℕ → Option (List ℕ) → Option (List ℕ) → Type 0
 AreRefused table jobs declarations =
-    ((fault : ℕ × LineFault) × Means table (Err fault))
-    ⊎ (((fault : ℕ × JobFault) × MeansSome jobs (Err fault))
+    ((fault : Found LineFault) × Means table (Err fault))
+    ⊎ (((fault : Found JobFault) × MeansSome jobs (Err fault))
     ⊎ ((t : Table) × (j : JobTable) × Means table (Ok t) × MeansSome jobs (Ok j)
     × HasNoPlan t j declarations))
 
@@ -67,9 +68,9 @@ FindsInPlan (Some refusal) table jobs declarations = HasNoPlan table jobs declar
 -- of an anacrontab: its jobs, or that it is refused
 abbrev pub FindsJobs : Result JobTable Refusal → Option (List ℕ) → Type 0
 FindsJobs (Ok jobs) text = MeansSome text (Ok jobs)
-FindsJobs (Err refusal) text = (fault : ℕ × JobFault) × MeansSome text (Err fault)
+FindsJobs (Err refusal) text = (fault : Found JobFault) × MeansSome text (Err fault)
 
 -- of a crontab
 abbrev pub FindsTable : Result Table Refusal → List ℕ → Type 0
 FindsTable (Ok table) text = Means text (Ok table)
-FindsTable (Err refusal) text = (fault : ℕ × LineFault) × Means text (Err fault)
+FindsTable (Err refusal) text = (fault : Found LineFault) × Means text (Err fault)

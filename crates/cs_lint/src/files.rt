@@ -3,183 +3,32 @@ ghost use Rattle.std.specs.Prelude.{◌≡◌, IfOk};
 ghost use Rattle.std.specs.Option.{option_map};
 ghost use Rattle.cs_lint.specs.Refused.{Judges};
 
-use crate::declared::{DeclaredLook, Tables, look_at_declared, parsed};
+use crate::declared::{Declared, parsed};
 use crate::refusal::{Refusal, first_refusal};
 use crate::report::{Report, Verdict};
+use crate::table::{Kind, TableLook};
 use cs_civil::Bytes;
-use cs_finding::{File, Findings, Span};
-use cs_lint_tables::{Entered, JobsLook, TableLook, look_at_jobs, look_at_table};
-use serde_json::{Error, Value};
+use cs_diagnostics::{Done, File, Findings, Span};
 use std::alloc::{AllocError, Global};
 
 /// The place at which a line begins, or the end where there are fewer lines; line 0 begins where
 /// the first does.
-fn line_start(bytes: &[u8], line: u32) -> Span {
-    let mut start = 0usize;
-    let mut number = 1u32;
-    for text in bytes.split(|byte| *byte == b'\n') {
-        if number >= line {
-            break;
-        }
-        number = number.saturating_add(1);
-        start = start.saturating_add(text.len()).saturating_add(1);
-    }
-    Span::of(start, 1)
+pub(crate) fn line_start(bytes: &[u8], line: usize) -> usize {
+    let before = line.saturating_sub(1);
+    let lines = bytes.split(|byte| *byte == b'\n').take(before);
+    lines.fold(0usize, |start, text| {
+        start.saturating_add(text.len()).saturating_add(1)
+    })
 }
 
-/// Adds the fault of a reader to what was found in its file, where nothing wrong was found there.
-fn add_refusal(
-    alloc: Global,
-    findings: &mut Findings,
-    place: Span,
-    fault: &str,
-) -> Result<(), AllocError> {
+fn add_refusal(findings: &mut Findings, start: usize, fault: &str) -> Done {
     if findings.has_faults() {
         return Ok(());
     }
-    let words = format!(in alloc; "{fault}: see 'cronsafe explain'")?;
-    findings.add_fault(place, words)
+    let words = format!(in findings.alloc; "{fault}: see 'cronsafe explain'")?;
+    findings.fault(Span::of(start, 1), words.as_str())
 }
 
-/// What is found in declarations by themselves, if there are any.
-fn declared_look<'v>(
-    alloc: Global,
-    bytes: Option<&'v [u8]>,
-    value: &'v Option<Result<Value, Error>>,
-) -> Result<Option<DeclaredLook<'v>>, AllocError> {
-    let Some(bytes) = bytes else {
-        return Ok(None);
-    };
-    match value {
-        Some(parsed) => Ok(Some(look_at_declared(alloc, bytes, parsed)?)),
-        None => Ok(None),
-    }
-}
-
-/// What is found in an anacrontab, and nothing where there is none.
-fn jobs_look<'f>(
-    alloc: Global,
-    bytes: Option<&'f [u8]>,
-    entered: Option<&'f Entered>,
-) -> Result<JobsLook<'f, 'f>, AllocError> {
-    look_at_jobs(alloc, bytes.unwrap_or(&[]), entered)
-}
-
-/// The JSON value of declarations or why it's none, if there are any.
-fn value_in(
-    alloc: Global,
-    declarations: Option<&[u8]>,
-) -> Result<Option<Result<Value, Error>>, AllocError> {
-    match declarations {
-        Some(bytes) => Ok(Some(parsed(alloc, bytes)?)),
-        None => Ok(None),
-    }
-}
-
-/// What declarations enter, if there are any.
-fn entered_in(
-    alloc: Global,
-    declared: &Option<DeclaredLook<'_>>,
-) -> Result<Option<Entered>, AllocError> {
-    match declared {
-        Some(look) => Ok(Some(look.entered(alloc)?)),
-        None => Ok(None),
-    }
-}
-
-/// All that was found in the files of a call.
-#[derive(Drop)]
-struct Looks {
-    table: Findings,
-    jobs: Findings,
-    declared: Findings,
-}
-
-impl Looks {
-    /// What is found in files.
-    fn at(
-        alloc: Global,
-        table: &[u8],
-        jobs: Option<&[u8]>,
-        declarations: Option<&[u8]>,
-    ) -> Result<Looks, AllocError> {
-        let value = value_in(alloc, declarations)?;
-        let declared = declared_look(alloc, declarations, &value)?;
-        Looks::beside(alloc, table, jobs, declared)
-    }
-
-    /// What is found in tables, and in declarations beside them.
-    fn beside(
-        alloc: Global,
-        table: &[u8],
-        jobs: Option<&[u8]>,
-        declared: Option<DeclaredLook<'_>>,
-    ) -> Result<Looks, AllocError> {
-        let entered = entered_in(alloc, &declared)?;
-        let no_job = match jobs {
-            Some(_) => "no such job: correct \"id\", or remove the entry",
-            None => "no anacrontab is given: use --anacrontab FILE",
-        };
-        let table = look_at_table(alloc, table, entered.as_ref())?;
-        let jobs = jobs_look(alloc, jobs, entered.as_ref())?;
-        Looks::of(alloc, table, jobs, declared, no_job)
-    }
-
-    /// What was found in tables, and what is found in declarations beside it.
-    fn of(
-        alloc: Global,
-        table: TableLook<'_>,
-        jobs: JobsLook<'_, '_>,
-        declared: Option<DeclaredLook<'_>>,
-        no_job: &'static str,
-    ) -> Result<Looks, AllocError> {
-        let tables = Tables {
-            begun: table.commands(),
-            identifiers: jobs.names(),
-            no_job,
-        };
-        let declared = match declared {
-            Some(look) => look.beside(alloc, tables)?,
-            None => Findings::new(alloc),
-        };
-        Ok(Looks {
-            table: table.findings,
-            jobs: jobs.findings,
-            declared,
-        })
-    }
-
-    /// Adds the first fault of the readers where nothing wrong was found in its file.
-    fn add(
-        &mut self,
-        alloc: Global,
-        table: &[u8],
-        jobs: &[u8],
-        refusal: Refusal,
-    ) -> Result<(), AllocError> {
-        match refusal {
-            Refusal::Table(line, fault) => {
-                let place = line_start(table, line);
-                add_refusal(alloc, &mut self.table, place, fault.text())
-            }
-            Refusal::Jobs(line, fault) => {
-                let place = line_start(jobs, line);
-                add_refusal(alloc, &mut self.jobs, place, fault.text())
-            }
-            Refusal::Declared(fault) => if self.table.has_faults() || self.jobs.has_faults() {
-                Ok(())
-            } else {
-                add_refusal(alloc, &mut self.declared, Span::of(0, 1), fault.text())
-            },
-        }
-    }
-
-    fn have_oddities(&self) -> bool {
-        self.table.has_oddities() || self.jobs.has_oddities() || self.declared.has_oddities()
-    }
-}
-
-/// The bytes of a file, if there is one.
 fn bytes_of<'a>(file: Option<&File<'a>>) -> Option<&'a [u8]>
     ensures { option_map (λ text. text.now) result
         ≡ option_map (λ file. file.now.bytes.now) file.entry }
@@ -190,20 +39,24 @@ fn bytes_of<'a>(file: Option<&File<'a>>) -> Option<&'a [u8]>
     }
 }
 
-/// Adds what is told of a file, if there is one.
-fn tell(
+fn found_in<'f>(
     alloc: Global,
-    text: &mut Vec<u8>,
-    file: Option<&File<'_>>,
-    findings: &Findings,
-) -> Result<(), AllocError> {
-    match file {
-        Some(file) => findings.tell(alloc, file, text),
-        None => Ok(()),
-    }
+    table: &'f [u8],
+    jobs: Option<&'f [u8]>,
+    declarations: Option<&'f [u8]>,
+) -> Result<(Findings, Findings, Findings), AllocError> {
+    let json = match declarations {
+        Some(bytes) => Some((bytes, parsed(alloc, bytes)?)),
+        None => None,
+    };
+    let mut look = TableLook::at(alloc, table, Kind::Crontab)?;
+    let mut jobs_look = TableLook::at(alloc, jobs.unwrap_or(&[]), Kind::Anacrontab)?;
+    let declared = Declared::at(alloc, &json, (&look, &jobs_look, jobs.is_some()))?;
+    look.find_beside(&declared)?;
+    jobs_look.find_beside(&declared)?;
+    Ok((look.findings, jobs_look.findings, declared.findings))
 }
 
-/// The text of what is found in files, and whether anything is odd.
 fn told(
     alloc: Global,
     table: &File<'_>,
@@ -211,16 +64,32 @@ fn told(
     declarations: Option<&File<'_>>,
     refusal: Option<Refusal>,
 ) -> Result<(Bytes, bool), AllocError> {
-    let some_jobs = bytes_of(jobs);
-    let mut looks = Looks::at(alloc, table.bytes, some_jobs, bytes_of(declarations))?;
-    if let Some(refusal) = refusal {
-        looks.add(alloc, table.bytes, some_jobs.unwrap_or(&[]), refusal)?;
+    let (bytes, job_bytes) = (table.bytes, bytes_of(jobs));
+    let (mut found, mut in_jobs, mut declared) = found_in(
+        alloc,
+        bytes,
+        job_bytes,
+        bytes_of(declarations),
+    )?;
+    match refusal {
+        Some(Refusal::Table(line, fault)) => {
+            add_refusal(&mut found, line_start(bytes, line as usize), fault.text())?;
+        }
+        Some(Refusal::Jobs(line, fault)) => {
+            let start = line_start(job_bytes.unwrap_or(&[]), line as usize);
+            add_refusal(&mut in_jobs, start, fault.text())?;
+        }
+        Some(Refusal::Declared(fault)) if !found.has_faults() && !in_jobs.has_faults() => {
+            add_refusal(&mut declared, 0, fault.text())?;
+        }
+        Some(Refusal::Declared(_)) | None => {}
     }
     let mut text = Vec::new(alloc);
-    tell(alloc, &mut text, Some(table), &looks.table)?;
-    tell(alloc, &mut text, jobs, &looks.jobs)?;
-    tell(alloc, &mut text, declarations, &looks.declared)?;
-    Ok((Bytes::from_vec(text), looks.have_oddities()))
+    found.tell(Some(table), &mut text)?;
+    in_jobs.tell(jobs, &mut text)?;
+    declared.tell(declarations, &mut text)?;
+    let is_odd = found.has_oddities() || in_jobs.has_oddities() || declared.has_oddities();
+    Ok((Bytes::from_vec(text), is_odd))
 }
 
 /// Everything that is wrong or odd in a crontab, an anacrontab and declarations, as far as there

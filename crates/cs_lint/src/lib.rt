@@ -4,13 +4,17 @@
 
 mod declared;
 mod files;
+mod front;
+mod gap;
 mod json;
+mod line;
 mod object;
 mod outline;
 mod refusal;
 mod report;
 mod shape;
+mod table;
 
-pub use cs_finding::File;
+pub use cs_diagnostics::File;
 pub use files::lint;
 pub use report::{Report, Verdict};

@@ -1,7 +1,9 @@
 //! The objects of declarations, with the places of their members.
-use crate::outline::{parts, sides, text_in};
-use cs_decl::Place;
-use cs_finding::Span;
+use crate::declared::plan_words;
+use crate::outline::{Part, parts, text_in};
+use crate::shape::whole;
+use cs_decl::{DeclFault, Place};
+use cs_diagnostics::{Done, Findings, Span};
 use serde_json::Value;
 use std::alloc::{AllocError, Global};
 
@@ -29,12 +31,9 @@ impl Kind {
 /// A member of an object.
 #[derive(Drop)]
 pub(crate) struct Member {
-    /// Its name.
     pub(crate) name: String,
-    /// Where its name stands.
-    pub(crate) key: Span,
-    /// Where its value stands.
-    pub(crate) place: Span,
+    /// Where it stands.
+    pub(crate) part: Part,
 }
 
 /// An object of declarations.
@@ -43,8 +42,8 @@ pub(crate) struct Object<'v> {
     pub(crate) kind: Kind,
     /// Its place in its list, counted from 0.
     pub(crate) index: usize,
-    /// Where it stands.
-    pub(crate) span: Span,
+    /// Its first byte, which is its bracket.
+    pub(crate) bracket: Span,
     /// What it is.
     pub(crate) value: &'v Value,
     /// Its members, in their order.
@@ -63,52 +62,53 @@ impl<'v> Object<'v> {
     ) -> Result<Object<'v>, AllocError> {
         let mut members = Vec::new(alloc);
         for part in parts(alloc, bytes, span)? {
-            let (key, place) = sides(bytes, part);
-            if let Some(name) = text_in(alloc, bytes, key)? {
-                members.push(Member { name, key, place })?;
+            if let Some(name) = text_in(alloc, part.name.bytes(bytes))? {
+                members.push(Member { name, part })?;
             }
         }
         Ok(Object {
             kind,
             index,
-            span,
+            bracket: Span::of(span.from, 1),
             value,
             members,
         })
     }
 
-    /// Its place, as faults of declarations have it.
-    pub(crate) fn place(&self) -> Option<Place> {
-        match self.kind {
+    /// Adds a fault of it, with its place as the readers of declarations tell it.
+    pub(crate) fn fault(
+        &self,
+        findings: &mut Findings,
+        span: Span,
+        fault: DeclFault,
+        why: &str,
+    ) -> Done {
+        let place = match self.kind {
+            _ if fault == DeclFault::BadShape => None,
             Kind::Whole => None,
             Kind::Group => Some(Place::Group(self.index)),
             Kind::Cron => Some(Place::Cron(self.index)),
             Kind::Anacron => Some(Place::Anacron(self.index)),
-        }
-    }
-
-    /// Its first byte, which is its bracket.
-    pub(crate) fn bracket(&self) -> Span {
-        Span::of(self.span.from, 1)
+        };
+        let words = plan_words(findings.alloc, fault, place, why)?;
+        findings.fault(span, words.as_str())
     }
 
     /// The last member of that name, which is the one that counts.
     pub(crate) fn member(&self, name: &str) -> Option<&Member> {
-        self.members
-            .iter()
-            .rev()
-            .find(|member| member.name.as_str() == name)
+        let mut last_first = self.members.iter().rev();
+        last_first.find(|member| member.name.as_str() == name)
     }
 
     /// The text that a member is, if it's there and is one, and where it stands.
     pub(crate) fn text(&self, name: &str) -> Option<(&'v str, Span)> {
         let text = self.value.get(name)?.as_str()?;
-        Some((text, self.member(name)?.place))
+        Some((text, self.member(name)?.part.value))
     }
 
     /// The whole number that a member is, if it's there and is one, and where it stands.
     pub(crate) fn whole(&self, name: &str) -> Option<(i128, Span)> {
-        let number = self.value.get(name)?.as_number()?.as_i128()?;
-        Some((number, self.member(name)?.place))
+        let number = whole(self.value.get(name)?)?;
+        Some((number, self.member(name)?.part.value))
     }
 }

@@ -25,7 +25,7 @@ fn table_or_refusal(alloc: Global, text: &[u8]) -> Result<Result<Crontab, Refusa
 {
     match read_crontab(alloc, text) {
         Ok(table) => Ok(Ok(table)),
-        Err(TableFault::At { line, fault }) => Ok(Err(Refusal::Table(line, fault))),
+        Err(TableFault::At { line, fault, .. }) => Ok(Err(Refusal::Table(line, fault))),
         Err(TableFault::OutOfMemory) => Err(AllocError),
     }
 }
@@ -42,7 +42,7 @@ fn jobs_or_refusal(
     };
     match read_anacrontab(alloc, text) {
         Ok(jobs) => Ok(Ok(jobs)),
-        Err(AnacronFault::At { line, fault }) => Ok(Err(Refusal::Jobs(line, fault))),
+        Err(AnacronFault::At { line, fault, .. }) => Ok(Err(Refusal::Jobs(line, fault))),
         Err(AnacronFault::OutOfMemory) => Err(AllocError),
     }
 }

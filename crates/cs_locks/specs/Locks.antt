@@ -86,7 +86,3 @@ hold_in true true (Some g) = Shared g
 -- what a run of a job has to do with a lock: nothing if its mode takes none, or without a group
 abbrev pub hold_of : Plan → ℕ → Hold
 hold_of p j = hold_in (takes_lock p j) (shares p j) (p.group j)
-
--- what runs of these jobs have to do with them
-abbrev pub holds_of : Plan → List ℕ → List Hold
-holds_of p js = map (hold_of p) js

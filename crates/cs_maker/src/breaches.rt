@@ -1,8 +1,9 @@
 //! What the windows of a stretch break, and the civil minute of that.
+use cs_civil::MINUTES_OF_DAY;
+use cs_overlap::{Quiet, Roles};
 use cs_profile::{Calendar, DAYS_BEFORE};
 use cs_story::{Breach, Rule, Span};
-use cs_stretch::{Quiet, Roles};
-use cs_windows::{MINUTES_OF_DAY, Window, touches};
+use cs_windows::{Window, touches};
 use std::alloc::{AllocError, Global};
 
 /// A rule that the windows of a stretch break, and the first minute of its last day at which they

@@ -8,7 +8,7 @@ use crate::stretches::{Stretches, days_of, stretches_by};
 use cs_bound::Bounds;
 use cs_cert::{Certificate, MAX_CERTIFICATE, MAX_CLASSES, Stretch, least_text};
 use cs_civil::Sequence;
-use cs_claim::occupied;
+use cs_classes::occupied;
 use cs_decl::Plan;
 use cs_encode::{certificate, compact_certificate, stretch};
 use cs_profile::{Classing, Facts};

@@ -5,13 +5,12 @@ use crate::breaches::{breach_on, broken_by};
 use crate::stretches::days_of;
 use crate::subject::Subject;
 use cs_bound::ExactWaits;
-use cs_chains::Chain;
-use cs_civil::{Day, kind_of};
-use cs_claim::occupied;
+use cs_civil::{Day, MINUTES_OF_DAY, kind_of};
+use cs_classes::{Chain, occupied};
 use cs_history::Script;
 use cs_profile::Facts;
 use cs_story::{Breach, tell};
-use cs_windows::{JobReach, MINUTES_OF_DAY, Occupied, Window, windows_on};
+use cs_windows::{JobReach, Occupied, Window, windows_on};
 use std::alloc::{AllocError, Global};
 
 /// The greatest reach of a certificate, in minutes.
@@ -31,7 +30,7 @@ const MINUTES_OF_LOOK: u64 = 8;
 pub(crate) fn greatest_reaches(alloc: Global, facts: &Facts) -> Result<Vec<JobReach>, AllocError> {
     let mut reaches = Vec::new(alloc);
     for (number, task) in facts.tasks().iter().enumerate() {
-        if task.is_cron && task.waits() {
+        if task.is_cron && task.mode.waits() {
             reaches.push(JobReach {
                 job: u16::try_from(number).unwrap_or(u16::MAX),
                 reach: GREATEST_REACH,

@@ -11,9 +11,9 @@ use crate::sweep::first_breach;
 use cs_bound::{Bounds, least_bounds};
 use cs_cert::Certificate;
 use cs_decl::Plan;
+use cs_overlap::Roles;
 use cs_profile::{Calendar, Facts};
 use cs_story::{Breach, tell};
-use cs_stretch::Roles;
 use std::alloc::{AllocError, Global};
 
 /// A counterexample with jobs that wait as long as they can, if that is unbounded; or this reason.

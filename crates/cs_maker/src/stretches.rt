@@ -1,8 +1,8 @@
 //! The stretches of successive days that the windows of a plan are looked at by.
 ghost use Rattle.std.specs.Prelude.{◌≤◌};
 
-use cs_chains::{Chain, chains, stretch_length};
 use cs_civil::kind_number;
+use cs_classes::{Chain, chains, stretch_length};
 use cs_windows::Occupied;
 use std::alloc::{AllocError, Global};
 use std::collections::BTreeMap;

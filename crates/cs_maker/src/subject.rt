@@ -1,7 +1,7 @@
 use crate::form::Form;
 use cs_decl::Plan;
+use cs_overlap::Roles;
 use cs_profile::{Calendar, Facts};
-use cs_stretch::Roles;
 
 /// A plan, what is read off it once, and the form of certificate wanted.
 #[derive(Drop)]

@@ -5,9 +5,9 @@ ghost use Rattle.cs_windows.specs.Window.{IsRising};
 use crate::breaches::{Found, breach_on, broken_by, last_day};
 use crate::stretches::{days_of, stretches_by};
 use crate::subject::Subject;
-use cs_claim::occupied;
+use cs_classes::occupied;
+use cs_overlap::Roles;
 use cs_story::Breach;
-use cs_stretch::Roles;
 use cs_windows::{JobReach, Window, windows_on};
 use std::alloc::{AllocError, Global};
 

@@ -23,18 +23,6 @@ pub struct Task {
     pub minutes: Vec<u16>,
 }
 
-impl Task {
-    /// Whether its runs take the lock of their group.
-    pub fn takes_lock(&self) -> bool {
-        self.mode != Mode::Plain
-    }
-
-    /// Whether its runs wait for that lock.
-    pub fn waits(&self) -> bool {
-        self.mode == Mode::Wait || self.mode == Mode::Shared
-    }
-}
-
 /// The schedule of the job with this number, where it is of the crontab.
 pub(crate) fn schedule_of(plan: &Plan, number: usize) -> Option<&Schedule> {
     match plan.crontab().lines().get(number)?.when() {
@@ -63,17 +51,6 @@ fn delay_of(plan: &Plan, number: usize) -> u32 {
     }
 }
 
-/// Whether this group of the plan is exclusive.
-fn is_exclusive(plan: &Plan, group: Option<u8>) -> bool {
-    match group {
-        Some(number) => match plan.groups().get(usize::from(number)) {
-            Some(group) => group.is_exclusive(),
-            None => false,
-        },
-        None => false,
-    }
-}
-
 /// What the job with this number does.
 fn task_of(alloc: Global, plan: &Plan, number: usize, job: Job) -> Result<Task, AllocError> {
     let is_cron = number < plan.crons();
@@ -81,7 +58,7 @@ fn task_of(alloc: Global, plan: &Plan, number: usize, job: Job) -> Result<Task, 
         is_cron,
         mode: job.mode(),
         group: job.group(),
-        is_exclusive: is_exclusive(plan, job.group()),
+        is_exclusive: plan.is_exclusive(job.group()),
         weight: job.weight(),
         max: job.max(),
         delay: if is_cron { 0 } else { delay_of(plan, number) },

@@ -192,14 +192,6 @@ kept_marked r es fs gone here all kept h is distinct counted listed =
     let less : length (still fs) + 1 ≡ length (still es) = ap (λ (gs : Entries). length (still gs) + 1) is ∙ marked_less r es kept.distinct h in
     record { distinct = distinct; count = omega (arith, less, counted, listed, still_fewer fs) }
 
--- a run that is there
-pub some_there : (r : Run) (es : Entries) → has (still es) r ≡ true → 1 ≤ length (still es)
-some_there r es h = by (still es) h
-  where
-    by : (runs : List Going) → has runs r ≡ true → 1 ≤ length runs
-    by [] g = absurd (both_ways false refl g)
-    by (x ∷ xs) g = omega arith
-
 -- the entries without a mark of this name
 pub view_without : (r : Run) (es fs : Entries) → has (still es) r ≡ false → fs ≡ remove_entry (same_run r) es → still fs ≡ still es
 view_without r es fs h is = ap still is ∙ still_without r es h

@@ -37,7 +37,7 @@ impl Aim {
 /// Whether the run takes the lock of this group.
 fn takes_lock_of(facts: &Facts, run: Wanted, group: u8) -> bool {
     match task_of(facts, run.job) {
-        Some(task) => task.takes_lock() && is_of(facts, run, group),
+        Some(task) => task.mode.takes_lock() && is_of(facts, run, group),
         None => false,
     }
 }

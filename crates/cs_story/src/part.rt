@@ -1,5 +1,4 @@
 use crate::wanted::{Wanted, task_of};
-use cs_history::Mode;
 use cs_profile::Facts;
 
 /// How the runs of a job go on beside others.
@@ -28,12 +27,14 @@ pub(crate) fn part_of(facts: &Facts, run: Wanted) -> Option<Part> {
     if !task.is_cron {
         return Some(Part::CatchUp);
     }
-    match task.mode {
-        Mode::Plain => Some(Part::Free),
-        Mode::Skip => Some(Part::Holder),
-        Mode::Wait => Some(Part::Holder),
-        Mode::Shared => Some(Part::Sharer),
+    if !task.mode.takes_lock() {
+        return Some(Part::Free);
     }
+    Some(if task.mode.shares() {
+        Part::Sharer
+    } else {
+        Part::Holder
+    })
 }
 
 /// Whether the run is of this part.

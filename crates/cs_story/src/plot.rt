@@ -21,7 +21,7 @@ pub(crate) struct Plot<'a> {
 /// Whether the run waits for the end of this chain.
 fn waits_for(facts: &Facts, chain: Chain, run: Wanted) -> bool {
     let waits = match task_of(facts, run.job) {
-        Some(task) => task.waits(),
+        Some(task) => task.mode.waits(),
         None => false,
     };
     waits && is_of(facts, run, chain.group) && chain.from <= run.due && run.due < chain.to
@@ -74,7 +74,7 @@ impl<'a> Plot<'a> {
     /// Whether the job is of this group, and takes its lock.
     pub(crate) fn takes_lock_of(&self, job: u16, group: u8) -> bool {
         match task_of(self.facts, job) {
-            Some(task) => task.takes_lock() && task.group == Some(group),
+            Some(task) => task.mode.takes_lock() && task.group == Some(group),
             None => false,
         }
     }

@@ -5,7 +5,7 @@ use std::alloc::{AllocError, Global};
 use std::cmp::Reverse;
 
 /// The minutes of a day.
-pub(crate) const MINUTES_OF_DAY: u64 = 1_440;
+pub(crate) const MINUTES_OF_DAY: u64 = cs_civil::MINUTES_OF_DAY as u64;
 
 /// A run that a story is to bring about, by civil minutes.
 #[derive(Clone, Copy, PartialEq, Eq)]
@@ -48,7 +48,7 @@ fn run_in(plan: &Plan, facts: &Facts, span: Span, at: u64) -> Option<Wanted> {
     } else {
         at.min(last_of_hours(plan, span.from))
     };
-    let start = if task.waits() {
+    let start = if task.mode.waits() {
         due.max(at.saturating_add(1).saturating_sub(u64::from(task.max)))
     } else {
         due

@@ -2,17 +2,17 @@
 use Rattle.std.proofs.Common.{◌≡◌, ℕ, List, [], Option, Some, None, IfSome, Ok, Err, ap, inl, inr, option_map, refl, subst, sym}
 use Rattle.cs_crontab.specs.Crontab.{Table}
 use Rattle.cs_anacrontab.specs.Anacrontab.{Table as JobTable}
-use Rattle.cs_call.specs.CommandLine.{Asked}
-use Rattle.cs_call.specs.Question.{IsBadWord, IsQuestion, Question}
-use Rattle.cs_call.specs.Words.{word_fault}
-use Rattle.cs_call.specs.declared.question.WordFault.{WordFault}
+use Rattle.cs_args.specs.CommandLine.{Asked}
+use Rattle.cs_args.specs.Question.{IsBadWord, IsQuestion, Question}
+use Rattle.cs_args.specs.Words.{word_fault}
+use Rattle.cs_args.specs.declared.question.WordFault.{WordFault}
 use Rattle.cs_io.specs.Files.{Failed}
 use Rattle.cs_views.specs.DayAnswer.{AnswersDay, shown}
-use Rattle.cs_reads.specs.Reads.{ReadsTables}
-use Rattle.cs_reads.specs.Response.{Ending}
-use Rattle.cs_reads.specs.Trouble.{InWords, Trouble, ends, trouble}
-use Rattle.cs_reads.specs.declared.fault.Fault.{Fault}
-use Rattle.cs_reads.proofs.TroubleLemmas.{some_is}
+use Rattle.cs_files.specs.Reads.{ReadsTables}
+use Rattle.cs_files.specs.Response.{Ending}
+use Rattle.cs_files.specs.Trouble.{InWords, Trouble, ends, trouble}
+use Rattle.cs_files.specs.declared.fault.Fault.{Fault}
+use Rattle.cs_files.proofs.TroubleLemmas.{some_is}
 
 -- the words hold a fault
 pub words_answer : (a : Asked) (files : List ℕ → Option (List ℕ)) (before : Failed) (fault : WordFault) (r : Ending)

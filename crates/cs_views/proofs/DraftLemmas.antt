@@ -3,13 +3,13 @@ use Rattle.std.proofs.Common.{◌≡◌, ℕ, true, List, [], Option, Some, None
 use Rattle.cs_crontab.specs.Crontab.{Table}
 use Rattle.cs_anacrontab.specs.Anacrontab.{Table as JobTable}
 use Rattle.cs_decl.specs.Plain.{is_possible_max}
-use Rattle.cs_call.specs.CommandLine.{AskedDraft}
+use Rattle.cs_args.specs.CommandLine.{AskedDraft}
 use Rattle.cs_io.specs.Files.{Failed}
-use Rattle.cs_reads.specs.Reads.{ReadsTables}
-use Rattle.cs_reads.specs.Response.{Ending}
-use Rattle.cs_reads.specs.Trouble.{Trouble, ends, trouble}
-use Rattle.cs_reads.specs.declared.fault.Fault.{Fault}
-use Rattle.cs_reads.proofs.TroubleLemmas.{some_is}
+use Rattle.cs_files.specs.Reads.{ReadsTables}
+use Rattle.cs_files.specs.Response.{Ending}
+use Rattle.cs_files.specs.Trouble.{Trouble, ends, trouble}
+use Rattle.cs_files.specs.declared.fault.Fault.{Fault}
+use Rattle.cs_files.proofs.TroubleLemmas.{some_is}
 use Rattle.cs_views.specs.DraftAnswer.{AnswersDraft, IsDrafted}
 
 -- a table has a fault

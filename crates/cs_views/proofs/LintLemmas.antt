@@ -3,18 +3,19 @@ use Rattle.std.proofs.Common.{◌≡◌, ◌<◌, ◌≤◌, ◌⊎◌, ◌∙�
 use Rattle.std.specs.Option.{option_copied}
 use Rattle.std.proofs.lemmas.Bool.{cases_lt}
 use Rattle.clap.specs.Words.{Text}
+use Rattle.cs_table.specs.Table.{nowhere}
 use Rattle.cs_crontab.specs.declared.fault.LineFault.TheVariants.{TooLong}
-use Rattle.cs_crontab.specs.declared.limits.TheConstants.{MAX_TABLE}
+use Rattle.cs_table.specs.declared.limits.TheConstants.{MAX_TABLE}
 use Rattle.cs_anacrontab.specs.declared.fault.JobFault.TheVariants.{TooLong as JobsTooLong}
-use Rattle.cs_call.specs.CommandLine.{AskedLint}
+use Rattle.cs_args.specs.CommandLine.{AskedLint}
 use Rattle.cs_io.specs.Files.{Failed, IsUpTo}
 use Rattle.cs_lint.specs.Refused.{Judges}
 use Rattle.cs_lint.specs.declared.report.Verdict.{Verdict}
 use Rattle.cs_lint.specs.declared.report.Verdict.TheVariants.{Clean, Odd, Faulty}
-use Rattle.cs_reads.specs.Response.{Ending}
-use Rattle.cs_reads.specs.Trouble.{TellsPath, Trouble, ends, trouble}
-use Rattle.cs_reads.specs.declared.fault.Fault.{Fault}
-use Rattle.cs_reads.proofs.TroubleLemmas.{some_is}
+use Rattle.cs_files.specs.Response.{Ending}
+use Rattle.cs_files.specs.Trouble.{TellsPath, Trouble, ends, trouble}
+use Rattle.cs_files.specs.declared.fault.Fault.{Fault}
+use Rattle.cs_files.proofs.TroubleLemmas.{some_is}
 use Rattle.cs_views.specs.LintAnswer.{AnswersLint, AreHeld, IfAllKnown, IfKnown, IsLong, IsShort, IsSomeUpTo, IsUnreadFile}
 
 -- a file can't be read
@@ -63,7 +64,7 @@ judges_same v t u j k d e table jobs declarations is =
 long_table : (v : Verdict) (held text : List ℕ) (j k d e : Option (List ℕ)) → MAX_TABLE < length held → MAX_TABLE < length text → Judges v held j d → Judges v text k e
 long_table Clean held text j k d e l m (table, jobs, means, other, plan) = absurd (let s = means.short in omega (arith, s, l))
 long_table Odd held text j k d e l m (table, jobs, means, other, plan) = absurd (let s = means.short in omega (arith, s, l))
-long_table Faulty held text j k d e l m is = inl ((0, TooLong), inl (m, refl, refl))
+long_table Faulty held text j k d e l m is = inl (nowhere TooLong, inl (m, refl))
 
 -- and so are two anacrontabs
 long_jobs : (v : Verdict) (t : List ℕ) (held text d e : Option (List ℕ)) → IsLong held → IsLong text → Judges v t held d → Judges v t text e
@@ -71,7 +72,7 @@ long_jobs v t None text d e l m is = absurd l
 long_jobs v t (Some held) None d e l m is = absurd m
 long_jobs Clean t (Some held) (Some text) d e l m (table, jobs, means, others, plan) = absurd (let s = others.short in omega (arith, s, l))
 long_jobs Odd t (Some held) (Some text) d e l m (table, jobs, means, others, plan) = absurd (let s = others.short in omega (arith, s, l))
-long_jobs Faulty t (Some held) (Some text) d e l m is = inr (inl ((0, JobsTooLong), inl (m, refl, refl)))
+long_jobs Faulty t (Some held) (Some text) d e l m is = inr (inl (nowhere JobsTooLong, inl (m, refl)))
 
 short_or_long : (o : Option (List ℕ)) → IsShort o ⊎ IsLong o
 short_or_long None = inl tt

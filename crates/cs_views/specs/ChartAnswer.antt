@@ -3,14 +3,14 @@ use Rattle.std.specs.Prelude.{◌≡◌, ◌⊎◌, ℕ, List, [], Option, Some,
 use Rattle.clap.specs.Words.{Text}
 use Rattle.cs_crontab.specs.Crontab.{Table}
 use Rattle.cs_anacrontab.specs.Anacrontab.{Table as JobTable}
-use Rattle.cs_call.specs.CommandLine.{AskedChart}
-use Rattle.cs_call.specs.Question.{IsBadWord, IsQuestion, Question}
-use Rattle.cs_call.specs.Words.{word_fault}
-use Rattle.cs_call.specs.declared.question.WordFault.{WordFault}
+use Rattle.cs_args.specs.CommandLine.{AskedChart}
+use Rattle.cs_args.specs.Question.{IsBadWord, IsQuestion, Question}
+use Rattle.cs_args.specs.Words.{word_fault}
+use Rattle.cs_args.specs.declared.question.WordFault.{WordFault}
 use Rattle.cs_io.specs.Files.{Failed}
-use Rattle.cs_reads.specs.Reads.{AndThen, Answered, GivesSome, ReadsDeclared, ReadsTables}
-use Rattle.cs_reads.specs.Response.{Ending}
-use Rattle.cs_reads.specs.Trouble.{InWords, Trouble, ends}
+use Rattle.cs_files.specs.Reads.{AndThen, Answered, GivesSome, ReadsDeclared, ReadsTables}
+use Rattle.cs_files.specs.Response.{Ending}
+use Rattle.cs_files.specs.Trouble.{InWords, Trouble, ends}
 
 -- a picture is printed
 abbrev pub IsPicture : Ending → Type 0

@@ -5,16 +5,16 @@ use Rattle.cs_crontab.specs.declared.table.When.{When}
 use Rattle.cs_crontab.specs.declared.table.When.TheVariants.{At, Reboot}
 use Rattle.cs_crontab.specs.Crontab.{CommandLine, Table}
 use Rattle.cs_anacrontab.specs.Anacrontab.{JobLine, Table as JobTable}
-use Rattle.cs_warning.specs.Warning.{warnings as warnings_text}
-use Rattle.cs_call.specs.CommandLine.{Asked}
-use Rattle.cs_call.specs.Question.{IsBadWord, IsQuestion, Question}
-use Rattle.cs_call.specs.Words.{word_fault}
-use Rattle.cs_call.specs.declared.question.WordFault.{WordFault}
+use Rattle.cs_report.specs.Warning.{warnings as warnings_text}
+use Rattle.cs_args.specs.CommandLine.{Asked}
+use Rattle.cs_args.specs.Question.{IsBadWord, IsQuestion, Question}
+use Rattle.cs_args.specs.Words.{word_fault}
+use Rattle.cs_args.specs.declared.question.WordFault.{WordFault}
 use Rattle.cs_io.specs.Files.{Failed}
 use Rattle.cs_views.specs.DayText.{catch_up_text, date_line, job_text}
-use Rattle.cs_reads.specs.Reads.{AndThen, Gives, ReadsTables, ended}
-use Rattle.cs_reads.specs.Response.{Ending, done}
-use Rattle.cs_reads.specs.Trouble.{InWords, Trouble}
+use Rattle.cs_files.specs.Reads.{AndThen, Gives, ReadsTables, ended}
+use Rattle.cs_files.specs.Response.{Ending, done}
+use Rattle.cs_files.specs.Trouble.{InWords, Trouble}
 
 -- what is printed of a command line
 abbrev pub when_text : Question → ℕ → When → List ℕ

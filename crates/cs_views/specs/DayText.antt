@@ -1,8 +1,7 @@
 -- What `day` prints.
-use Rattle.std.specs.Prelude.{ℕ, ◌+◌, ◌-◌, ◌*◌, ◌/◌, ◌%◌, ◌==◌, List, [], ◌∷◌, ◌++◌, map, flat_map, length, codes, decimal, if◌then◌else◌, nat_le}
-use Rattle.std.specs.List.{range_with_len}
-use Rattle.cs_civil.specs.Calendar.{Kind, kind}
-use Rattle.cs_civil.specs.Text.{two_digits, day_text}
+use Rattle.std.specs.Prelude.{ℕ, ◌+◌, ◌-◌, ◌*◌, ◌/◌, ◌%◌, ◌==◌, List, [], ◌∷◌, ◌++◌, flat_map, length, codes, decimal, if◌then◌else◌, nat_le}
+use Rattle.cs_civil.specs.Calendar.{Kind, four_days, kind}
+use Rattle.cs_civil.specs.Text.{two_digits, day_text, weekday_text}
 use Rattle.cs_schedule.specs.Times.{Times, is_due}
 use Rattle.cs_schedule.specs.Minutes.{minutes_where}
 use Rattle.cs_windows.specs.declared.window.Window.{Window}
@@ -35,14 +34,6 @@ window_text w = codes "  "
     ++ (start_text w
     ++ (codes " to " ++ (end_text (w.from + w.reach - 1440 * w.day_back) ++ 10 ∷ [])))
 
--- the name of a weekday
-unfoldable pub weekday_text : ℕ → List ℕ
-weekday_text dow =
-    if dow == 0 then codes "Sun"
-    else (if dow == 1 then codes "Mon" else (if dow == 2 then codes "Tue"
-    else (if dow == 3 then codes "Wed"
-    else (if dow == 4 then codes "Thu" else (if dow == 5 then codes "Fri" else codes "Sat")))))
-
 -- `line 1: due 2`, where the job is due twice
 unfoldable pub due_text : ℕ → Times → Kind → List ℕ
 due_text number times day = codes "line "
@@ -52,10 +43,6 @@ due_text number times day = codes "line "
 -- a job whose runs last so long
 abbrev pub job : Times → ℕ → Job Kind
 job times max = record { begins = is_due times; lasts = max }
-
--- the printed day and the three days before it, eldest first
-unfoldable pub four_days : ℕ → List Kind
-four_days n = map kind (range_with_len (n - 3) 4)
 
 -- a command line: how often it is due, and the windows of its runs, those begun on earlier days first
 unfoldable pub job_text : ℕ → ℕ → ℕ → Times → List ℕ

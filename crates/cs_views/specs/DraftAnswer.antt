@@ -2,15 +2,15 @@
 use Rattle.std.specs.Prelude.{◌≡◌, ◌⊎◌, ◌++◌, ℕ, true, false, List, [], Option, Result}
 use Rattle.cs_crontab.specs.Crontab.{Table}
 use Rattle.cs_anacrontab.specs.Anacrontab.{Table as JobTable}
-use Rattle.cs_warning.specs.Warning.{warnings as warnings_text}
+use Rattle.cs_report.specs.Warning.{warnings as warnings_text}
 use Rattle.cs_decl.specs.Plain.{is_possible_max}
 use Rattle.cs_draft.specs.Draft.{IsDraft}
-use Rattle.cs_call.specs.CommandLine.{AskedDraft}
-use Rattle.cs_call.specs.declared.question.WordFault.TheVariants.{BadMax}
+use Rattle.cs_args.specs.CommandLine.{AskedDraft}
+use Rattle.cs_args.specs.declared.question.WordFault.TheVariants.{BadMax}
 use Rattle.cs_io.specs.Files.{Failed}
-use Rattle.cs_reads.specs.Reads.{AndThen, GivesSome, ReadsTables, ended}
-use Rattle.cs_reads.specs.Response.{Ending}
-use Rattle.cs_reads.specs.Trouble.{InWords, Trouble, ends}
+use Rattle.cs_files.specs.Reads.{AndThen, GivesSome, ReadsTables, ended}
+use Rattle.cs_files.specs.Response.{Ending}
+use Rattle.cs_files.specs.Trouble.{InWords, Trouble, ends}
 
 -- the text begins with what is to be warned of in both tables
 abbrev pub WarnsFirst : Table × JobTable → List ℕ → Type 0

@@ -1,7 +1,7 @@
 -- What is answered to `explain`.
 use Rattle.std.specs.Prelude.{◌≡◌, ◌⊎◌, []}
 use Rattle.cs_io.specs.Files.{Failed}
-use Rattle.cs_reads.specs.Response.{Ending}
+use Rattle.cs_files.specs.Response.{Ending}
 
 -- what a name means, or all names; or, with status 4, that there is no such name
 abbrev pub IsExplained : Ending → Type 0

@@ -2,15 +2,15 @@
 use Rattle.std.specs.Prelude.{◌≡◌, ◌≤◌, ◌<◌, ◌⊎◌, ℕ, List, [], Option, Some, None, IfSome}
 use Rattle.std.specs.Prelude.{length}
 use Rattle.clap.specs.Words.{Text}
-use Rattle.cs_crontab.specs.declared.limits.TheConstants.{MAX_TABLE}
-use Rattle.cs_call.specs.CommandLine.{AskedLint}
+use Rattle.cs_table.specs.declared.limits.TheConstants.{MAX_TABLE}
+use Rattle.cs_args.specs.CommandLine.{AskedLint}
 use Rattle.cs_io.specs.Files.{Failed, IsUpTo}
 use Rattle.cs_lint.specs.Refused.{Judges}
 use Rattle.cs_lint.specs.declared.report.Verdict.{Verdict}
 use Rattle.cs_lint.specs.declared.report.Verdict.TheVariants.{Clean, Odd, Faulty}
-use Rattle.cs_reads.specs.Response.{Ending}
-use Rattle.cs_reads.specs.Trouble.{TellsPath, Trouble, ends, trouble}
-use Rattle.cs_reads.specs.declared.fault.Fault.{Fault}
+use Rattle.cs_files.specs.Response.{Ending}
+use Rattle.cs_files.specs.Trouble.{TellsPath, Trouble, ends, trouble}
+use Rattle.cs_files.specs.declared.fault.Fault.{Fault}
 
 -- this holds of the text at a path, or of no text where there is no path; where the bytes of the file
 -- aren't known nothing is said

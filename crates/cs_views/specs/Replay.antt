@@ -8,8 +8,8 @@ use Rattle.cs_history.specs.declared.event.Event.{Event}
 use Rattle.cs_history.specs.declared.reply.Reply.{Reply}
 use Rattle.cs_history.specs.declared.refusal.Refusal.{Refusal}
 use Rattle.cs_decl.specs.Plan.{Declared, as_plan}
-use Rattle.cs_script.specs.Reply.{reply_text}
-use Rattle.cs_script.specs.Grammar.{Numbered}
+use Rattle.cs_report.specs.Reply.{reply_text}
+use Rattle.cs_report.specs.Grammar.{Numbered}
 
 -- what an event is answered that the plan refuses or takes
 abbrev pub answered : Option Refusal → Reply → Result Reply Refusal

@@ -5,15 +5,15 @@ use Rattle.cs_crontab.specs.Crontab.{Table}
 use Rattle.cs_anacrontab.specs.Anacrontab.{Table as JobTable}
 use Rattle.cs_decl.specs.Plain.{plain_of}
 use Rattle.cs_decl.specs.Plan.{Declared}
-use Rattle.cs_script.specs.Faults.{Means as MeansScript}
-use Rattle.cs_script.specs.Grammar.{Numbered}
-use Rattle.cs_call.specs.CommandLine.{AskedReplay}
+use Rattle.cs_report.specs.Faults.{Means as MeansScript}
+use Rattle.cs_report.specs.Grammar.{Numbered}
+use Rattle.cs_args.specs.CommandLine.{AskedReplay}
 use Rattle.cs_io.specs.Files.{Failed}
-use Rattle.cs_reads.specs.Reads.{AndThen, Answered, Gives, ReadsAs, ReadsDeclared, ReadsTables}
-use Rattle.cs_reads.specs.Reads.{planned}
+use Rattle.cs_files.specs.Reads.{AndThen, Answered, Gives, ReadsAs, ReadsDeclared, ReadsTables}
+use Rattle.cs_files.specs.Reads.{planned}
 use Rattle.cs_views.specs.Replay.{has_refusal, replay_text}
-use Rattle.cs_reads.specs.Response.{Ending}
-use Rattle.cs_reads.specs.Trouble.{InScript, Trouble}
+use Rattle.cs_files.specs.Response.{Ending}
+use Rattle.cs_files.specs.Trouble.{InScript, Trouble}
 
 -- the plan of both tables: as it is declared, or with one longest time for all jobs
 abbrev pub ReadsPlan : (List ℕ → Option (List ℕ)) → Table × JobTable → ℕ → Option Text → Failed

@@ -1,21 +1,21 @@
 //! The subcommand `chart`.
 ghost use Rattle.std.specs.Prelude.{◌≡◌, ◌≢◌, IfErr, IfOk};
-ghost use Rattle.cs_call.specs.Asked.{asked_chart};
+ghost use Rattle.cs_args.specs.Asked.{asked_chart};
 ghost use Rattle.cs_io.specs.Files.{AreReadInTurn, IsFresh};
-ghost use Rattle.cs_reads.specs.RanOut.{IsWarned};
-ghost use Rattle.cs_reads.specs.Trouble.{CameTo, IsHonest, IsHonestOf};
-ghost use Rattle.cs_reads.specs.Turn.{chart_paths, some_path};
+ghost use Rattle.cs_files.specs.RanOut.{IsWarned};
+ghost use Rattle.cs_files.specs.Trouble.{CameTo, IsHonest, IsHonestOf};
+ghost use Rattle.cs_files.specs.Turn.{chart_paths, some_path};
 ghost use Rattle.cs_views.specs.ChartAnswer.{AnswersChart, Charts, ChartsTables, IsPicture};
 
 use cs_anacrontab::Anacrontab;
-use cs_call::{ChartWords, Question};
+use cs_args::{ChartWords, Question};
 use cs_chart::{Terms, chart as table_picture, plan_chart};
 use cs_civil::Bytes;
 use cs_crontab::Crontab;
 use cs_decl::Plan;
+use cs_files::{Fault, RanOut, Response, declared_plan_from, read_tables};
 use cs_io::Inputs;
-use cs_reads::{Fault, RanOut, Response, declared_plan_from, read_tables};
-use cs_warning::warnings;
+use cs_report::warnings;
 use std::alloc::{AllocError, Global};
 
 /// What the picture calls the tables.

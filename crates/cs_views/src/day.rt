@@ -1,21 +1,21 @@
 //! The subcommand `day`.
 ghost use Rattle.std.specs.Prelude.{◌≡◌, ◌++◌, IfErr, IfOk, IfSome, OnOk, flat_map};
-ghost use Rattle.cs_call.specs.Asked.{asked};
+ghost use Rattle.cs_args.specs.Asked.{asked};
 ghost use Rattle.cs_io.specs.Files.{AreReadInTurn, IsFresh};
-ghost use Rattle.cs_warning.specs.Warning.{warnings as warnings_text};
+ghost use Rattle.cs_report.specs.Warning.{warnings as warnings_text};
 ghost use Rattle.cs_views.specs.DayAnswer.{AnswersDay, anacron_text, line_text, shown};
 ghost use Rattle.cs_views.specs.DayAnswer.{tables_text};
-ghost use Rattle.cs_reads.specs.RanOut.{IsWarned};
-ghost use Rattle.cs_reads.specs.Trouble.{IsHonest};
-ghost use Rattle.cs_reads.specs.Turn.{table_paths};
+ghost use Rattle.cs_files.specs.RanOut.{IsWarned};
+ghost use Rattle.cs_files.specs.Trouble.{IsHonest};
+ghost use Rattle.cs_files.specs.Turn.{table_paths};
 
 use crate::day_text::{add_catch_up, add_date, add_job};
 use cs_anacrontab::{Anacrontab, Job};
-use cs_call::{DayWords, Question};
+use cs_args::{DayWords, Question};
 use cs_crontab::{Crontab, Line, When};
+use cs_files::{Fault, RanOut, Response, read_tables};
 use cs_io::Inputs;
-use cs_reads::{Fault, RanOut, Response, read_tables};
-use cs_warning::warnings;
+use cs_report::warnings;
 use std::alloc::{AllocError, Global};
 
 /// Adds what is printed of a command line.

@@ -2,43 +2,12 @@
 ghost use Rattle.std.specs.Prelude.{◌≡◌, ◌++◌, ◌-◌, ◌*◌, ◌≤◌, OnOk, IfOk, [], ◌∷◌, string_bytes, flat_map, map};
 ghost use Rattle.std.specs.List.{range_with_len};
 ghost use Rattle.cs_civil.specs.Calendar.{kind};
-ghost use Rattle.cs_views.specs.DayText.{catch_up_text, clock, date_line, days_apart, due_text, end_text, four_days, identifier_line, job_text, start_text, weekday_part, weekday_text, window_text};
+ghost use Rattle.cs_views.specs.DayText.{catch_up_text, clock, date_line, days_apart, due_text, end_text, identifier_line, job_text, start_text, weekday_part, window_text};
 
-use cs_call::Hours;
-use cs_civil::{Day, DayKind, day_text, kind_of};
+use cs_civil::{Day, Hours, day_text, four_days, kind_of, weekday_name};
 use cs_schedule::Schedule;
 use cs_windows::{Occupied, Window, windows_on};
 use std::alloc::{AllocError, Global};
-
-/// The printed day and the three days before it, eldest first.
-#[tactic(auto, unfolding(crate::specs::DayText::four_days))]
-pub fn four_days(day: Day) -> [DayKind; 4]
-    requires { 3 ≤ day }
-    ensures { result ≡ four_days day }
-{
-    let number = day.number();
-    [
-        kind_of(Day::new(number - 3).unwrap()),
-        kind_of(Day::new(number - 2).unwrap()),
-        kind_of(Day::new(number - 1).unwrap()),
-        kind_of(day),
-    ]
-}
-
-#[tactic(auto, unfolding(crate::specs::DayText::weekday_text))]
-fn weekday_name(dow: u8) -> &'static str
-    ensures { result.now ≡ weekday_text dow }
-{
-    match dow {
-        0 => "Sun",
-        1 => "Mon",
-        2 => "Tue",
-        3 => "Wed",
-        4 => "Thu",
-        5 => "Fri",
-        _ => "Sat",
-    }
-}
 
 /// Adds `HH:MM` of a minute of a day.
 #[tactic(auto, unfolding(crate::specs::DayText::clock))]

@@ -1,22 +1,22 @@
 //! The subcommand `draft`.
 ghost use Rattle.std.specs.Prelude.{◌≡◌, IfErr, IfOk, true};
-ghost use Rattle.cs_call.specs.Asked.{asked_draft};
+ghost use Rattle.cs_args.specs.Asked.{asked_draft};
 ghost use Rattle.cs_decl.specs.Plain.{is_possible_max};
 ghost use Rattle.cs_io.specs.Files.{AreReadInTurn, IsFresh};
-ghost use Rattle.cs_reads.specs.RanOut.{IsWarned};
-ghost use Rattle.cs_reads.specs.Trouble.{IsHonest};
-ghost use Rattle.cs_reads.specs.Turn.{table_paths};
+ghost use Rattle.cs_files.specs.RanOut.{IsWarned};
+ghost use Rattle.cs_files.specs.Trouble.{IsHonest};
+ghost use Rattle.cs_files.specs.Turn.{table_paths};
 ghost use Rattle.cs_views.specs.DraftAnswer.{AnswersDraft, IsDrafted};
 
 use cs_anacrontab::Anacrontab;
-use cs_call::{DraftWords, WordFault};
+use cs_args::{DraftWords, WordFault};
 use cs_civil::Bytes;
 use cs_crontab::Crontab;
 use cs_decl::MAX_MINUTES;
 use cs_draft::{Drawing, draw_up};
+use cs_files::{Fault, RanOut, Response, Status, read_tables};
 use cs_io::Inputs;
-use cs_reads::{Fault, RanOut, Response, Status, read_tables};
-use cs_warning::warnings;
+use cs_report::warnings;
 use std::alloc::{AllocError, Global};
 
 /// Whether a job may declare this longest time.

@@ -4,7 +4,7 @@ ghost use Rattle.cs_views.specs.ExplainAnswer.{IsExplained};
 
 use cs_civil::Bytes;
 use cs_explain::{explain as explanation, names, nearest};
-use cs_reads::Response;
+use cs_files::Response;
 use std::alloc::{AllocError, Global};
 
 /// What is told where nothing has the name, with the nearest one that something has.

@@ -1,22 +1,22 @@
 //! The subcommand `lint`.
 ghost use Rattle.std.specs.Prelude.{◌≡◌, ◌≤◌, [], IfErr, IfOk, OnErr, OnOk, length, option_map};
-ghost use Rattle.cs_call.specs.Asked.{asked_lint};
-ghost use Rattle.cs_crontab.specs.declared.limits.TheConstants.{MAX_TABLE};
+ghost use Rattle.cs_args.specs.Asked.{asked_lint};
+ghost use Rattle.cs_table.specs.declared.limits.TheConstants.{MAX_TABLE};
 ghost use Rattle.cs_io.specs.Files.{AreReadInTurn, IsFresh};
 ghost use Rattle.cs_lint.specs.Refused.{Judges};
-ghost use Rattle.cs_reads.specs.RanOut.{IsUnwarned};
-ghost use Rattle.cs_reads.specs.Response.{status_of};
-ghost use Rattle.cs_reads.specs.Trouble.{IsHonest, IsHonestOf};
-ghost use Rattle.cs_reads.specs.Turn.{lint_paths, some_path, table_paths};
+ghost use Rattle.cs_files.specs.RanOut.{IsUnwarned};
+ghost use Rattle.cs_files.specs.Response.{status_of};
+ghost use Rattle.cs_files.specs.Trouble.{IsHonest, IsHonestOf};
+ghost use Rattle.cs_files.specs.Turn.{lint_paths, some_path, table_paths};
 ghost use Rattle.cs_views.specs.LintAnswer.{AnswersLint, AreHeld, AreHeldTables, IfKnown, IsLinted};
 ghost use Rattle.cs_views.specs.LintAnswer.{IsShort, IsSomeUpTo, IsUnreadFile, verdict_status};
 
-use cs_call::LintWords;
+use cs_args::LintWords;
 use cs_civil::Bytes;
-use cs_crontab::MAX_TABLE;
+use cs_files::{Fault, RanOut, Response, Status, all_bytes_at, bytes_at};
 use cs_io::Inputs;
 use cs_lint::{File, Verdict, lint as findings};
-use cs_reads::{Fault, RanOut, Response, Status, all_bytes_at, bytes_at};
+use cs_table::MAX_TABLE;
 use std::alloc::{AllocError, Global};
 
 /// A file whose bytes were read.

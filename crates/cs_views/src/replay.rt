@@ -1,24 +1,23 @@
 //! The subcommand `replay`.
 ghost use Rattle.std.specs.Prelude.{◌≡◌, ◌≢◌, ◌++◌, [], ◌∷◌, IfErr, IfOk, OnOk};
-ghost use Rattle.cs_script.specs.Faults.{Means as MeansScript};
-ghost use Rattle.cs_call.specs.Asked.{asked_replay};
+ghost use Rattle.cs_report.specs.Faults.{Means as MeansScript};
+ghost use Rattle.cs_args.specs.Asked.{asked_replay};
 ghost use Rattle.cs_io.specs.Files.{AreReadInTurn, IsFresh, IsReadAlone};
-ghost use Rattle.cs_reads.specs.RanOut.{IsWarned};
-ghost use Rattle.cs_reads.specs.Reads.{MeansIt};
+ghost use Rattle.cs_files.specs.RanOut.{IsWarned};
+ghost use Rattle.cs_files.specs.Reads.{MeansIt};
 ghost use Rattle.cs_views.specs.Replayed.{AnswersReplay, ReadsPlan, ReadsScript, Replays, replayed};
-ghost use Rattle.cs_reads.specs.Trouble.{CameTo, InScript, IsHonest, IsHonestOf, IsOfContent};
-ghost use Rattle.cs_reads.specs.Turn.{replay_paths, some_path};
+ghost use Rattle.cs_files.specs.Trouble.{CameTo, InScript, IsHonest, IsHonestOf, IsOfContent};
+ghost use Rattle.cs_files.specs.Turn.{replay_paths, some_path};
 
 use crate::replay_text::replay_text;
 use cs_anacrontab::Anacrontab;
-use cs_call::ReplayWords;
+use cs_args::ReplayWords;
 use cs_civil::Bytes;
 use cs_crontab::Crontab;
 use cs_decl::Plan;
+use cs_files::{Fault, RanOut, Response, bytes_at, declared_plan_from, read_tables};
 use cs_io::Inputs;
-use cs_reads::{Fault, RanOut, Response, bytes_at, declared_plan_from, read_tables};
-use cs_script::{MAX_SCRIPT, NumberedScript, read_numbered_script};
-use cs_warning::warnings;
+use cs_report::{MAX_SCRIPT, NumberedScript, read_numbered_script, warnings};
 use std::alloc::{AllocError, Global};
 
 /// The plan of both tables: as it is declared, or with one longest time.

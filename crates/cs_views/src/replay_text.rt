@@ -4,11 +4,11 @@ ghost use Rattle.cs_civil.specs.Text.{minute_text};
 ghost use Rattle.cs_decl.specs.Plan.{as_plan};
 ghost use Rattle.cs_views.specs.Replay.{event_line, event_lines, has_refusal, is_any_refused, last_state, next, replay_text, side, state_line, tried};
 
-use cs_civil::date_text;
+use cs_civil::{date_text, push_number};
 use cs_core::Core;
 use cs_decl::Plan;
 use cs_history::{Event, Refusal, Reply};
-use cs_script::{NumberedScript, push_reply};
+use cs_report::{NumberedScript, push_reply};
 use std::alloc::{AllocError, Global};
 
 /// Tries an event. The only error is want of memory.
@@ -37,7 +37,7 @@ fn push_event(
 ) -> Result<(), AllocError>
     ensures { OnOk result (text.new.items ≡ text.old.items ++ event_line number answer) }
 {
-    text.extend_from_slice(number.to_string(alloc)?.as_bytes())?;
+    push_number(alloc, text, u128::from(number))?;
     text.extend_from_slice(b": ")?;
     push_reply(text, answer)?;
     text.extend_from_slice(b"\n")
@@ -97,7 +97,7 @@ fn push_count(
     ensures { OnOk result (text.new.items ≡ text.old.items ++ (name.now ++ decimal count)) }
 {
     text.extend_from_slice(name)?;
-    text.extend_from_slice(count.to_string(alloc)?.as_bytes())
+    push_number(alloc, text, count as u128)
 }
 
 /// Adds `up` or `down` and the minute.

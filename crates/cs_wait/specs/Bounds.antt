@@ -1,7 +1,8 @@
 -- Bounds on the minutes of runs that wait for a group's lock or hold it.
 use Rattle.std.specs.Prelude.{◌≡◌, ℕ, ◌+◌, ◌-◌, ◌*◌, ◌<◌, ◌≤◌, List, [], ◌∷◌, length, fold, nat_le, nat_lt, if◌then◌else◌, replicate, min, ◌==◌}
 use Rattle.cs_wait.specs.declared.backlog.Piece.{Piece}
-use Rattle.cs_wait.specs.declared.backlog.TheConstants.{MINUTES_OF_DAY, MAX_BACKLOG}
+use Rattle.cs_civil.specs.declared.minute.TheConstants.{MINUTES_OF_DAY}
+use Rattle.cs_wait.specs.declared.backlog.TheConstants.{MAX_BACKLOG}
 
 -- from this minute on, minutes rise strictly below 1,440, and values are from 1 to 1,000,000
 abbrev pub IsBacklogFrom : ℕ → List Piece → Type 0

@@ -1,7 +1,8 @@
 ghost use Rattle.std.specs.Prelude.{◌≡◌, ◌^◌, ◌+◌, ◌-◌, ◌<◌, ◌≤◌, ◌↔◌, [], ◌∷◌, ℕ, List, IsTrue, length, slice_index, slice_set};
 ghost use Rattle.cs_wait.specs.Bounds.{StepsHold, StepsHoldWithin, at, at_days, none};
 
-use crate::backlog::{Backlog, MINUTES_OF_DAY};
+use crate::backlog::Backlog;
+use cs_civil::MINUTES_OF_DAY;
 use std::marker::Model;
 
 /// For each minute of a day, the minutes of runs that may begin to wait for a group's lock.

@@ -2,11 +2,9 @@ ghost use Rattle.std.specs.Prelude.{◌≡◌, ◌≤◌, ◌<◌, ◌+◌, ◌-
 ghost use Rattle.cs_wait.specs.Bounds.{IsBacklog, IsBacklogFrom, at, decided};
 ghost use Rattle.cs_wait.specs.declared.backlog.Piece.{Piece};
 
+use cs_civil::MINUTES_OF_DAY;
 use std::alloc::Global;
 use std::marker::Model;
-
-/// The minutes of a day.
-pub const MINUTES_OF_DAY: u16 = 1_440;
 
 /// The greatest value of a piece, in minutes of runs.
 pub const MAX_BACKLOG: u32 = 1_000_000;

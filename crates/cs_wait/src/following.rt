@@ -2,7 +2,8 @@ ghost use Rattle.std.specs.Prelude.{◌≡◌, ◌+◌, ◌-◌, ◌<◌, ◌≤
 ghost use Rattle.cs_wait.specs.Bounds.{at, following};
 
 use crate::arrivals::Arrivals;
-use crate::backlog::{Backlog, MAX_BACKLOG, MINUTES_OF_DAY, Piece};
+use crate::backlog::{Backlog, MAX_BACKLOG, Piece};
+use cs_civil::MINUTES_OF_DAY;
 use std::alloc::{AllocError, Global};
 
 impl Backlog {

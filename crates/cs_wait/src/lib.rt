@@ -7,5 +7,5 @@ mod following;
 mod stretch;
 
 pub use arrivals::{Arrivals, step_ok, steps_ok, steps_within};
-pub use backlog::{Backlog, BadPiece, MAX_BACKLOG, MINUTES_OF_DAY, Piece};
+pub use backlog::{Backlog, BadPiece, MAX_BACKLOG, Piece};
 pub use stretch::clears_by;

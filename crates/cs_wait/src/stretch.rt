@@ -1,7 +1,8 @@
 ghost use Rattle.std.specs.Prelude.{◌↔◌, IsTrue, map};
 ghost use Rattle.cs_wait.specs.Bounds.{ClearsBy, IsClearAt, at};
 
-use crate::backlog::{Backlog, MINUTES_OF_DAY};
+use crate::backlog::Backlog;
+use cs_civil::MINUTES_OF_DAY;
 
 /// Checks whether the bound is 0 at some minute of `(due, due + reach]`, by which all that waited
 /// at the due minute has had the lock.

@@ -5,7 +5,7 @@ use Rattle.cs_civil.specs.Calendar.{Kind}
 use Rattle.cs_schedule.specs.Numbers.{has, has_bit}
 use Rattle.cs_schedule.specs.declared.minute_set.TheConstants.{MINUTES_OF_BLOCK}
 use Rattle.cs_windows.specs.declared.window.Window.{Window}
-use Rattle.cs_windows.specs.declared.window.TheConstants.{MINUTES_OF_DAY}
+use Rattle.cs_civil.specs.declared.minute.TheConstants.{MINUTES_OF_DAY}
 use Rattle.cs_windows.specs.declared.starter.Starter.{Starter}
 use Rattle.cs_windows.specs.declared.starter.Near.{Near}
 use Rattle.cs_windows.specs.Window.{window, reaches}

@@ -2,7 +2,7 @@
 use Rattle.std.specs.Prelude.{ℕ, ◌<◌, Bool, ◌||◌, not, List, [], ◌∷◌, ◌++◌, nat_lt, if◌then◌else◌, Contains, IsTrue}
 use Rattle.std.specs.List.{list_all}
 use Rattle.cs_windows.specs.declared.window.Window.{Window}
-use Rattle.cs_windows.specs.declared.window.TheConstants.{MINUTES_OF_DAY}
+use Rattle.cs_civil.specs.declared.minute.TheConstants.{MINUTES_OF_DAY}
 use Rattle.cs_windows.specs.declared.tree.Entry.{Entry}
 use Rattle.cs_windows.specs.declared.tree.MinuteTree.{MinuteTree, Leaf, Split'}
 use Rattle.cs_windows.specs.Window.{Holds, touches}

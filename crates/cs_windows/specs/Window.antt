@@ -1,7 +1,7 @@
 -- One window, seen from the day looked at.
 use Rattle.std.specs.Prelude.{ℕ, ◌+◌, ◌*◌, ◌≤◌, ◌<◌, ◌≡◌, Bool, ◌&&◌, nat_lt, max, min, AllPairs, List}
 use Rattle.cs_windows.specs.declared.window.Window.{Window}
-use Rattle.cs_windows.specs.declared.window.TheConstants.{MINUTES_OF_DAY}
+use Rattle.cs_civil.specs.declared.minute.TheConstants.{MINUTES_OF_DAY}
 
 abbrev pub window : ℕ → ℕ → ℕ → ℕ → Window
 window job back from reach = record { job = job; day_back = back; from = from; reach = reach }

@@ -2,7 +2,7 @@
 use Rattle.std.specs.Prelude.{ℕ, ◌+◌, ◌*◌, ◌<◌, ◌≡◌, Bool, true, List, [], ◌∷◌, ◌++◌, if◌then◌else◌, flat_map, filter, length, slice_get, Some}
 use Rattle.std.specs.List.{range_with_len}
 use Rattle.cs_windows.specs.declared.window.Window.{Window}
-use Rattle.cs_windows.specs.declared.window.TheConstants.{MINUTES_OF_DAY}
+use Rattle.cs_civil.specs.declared.minute.TheConstants.{MINUTES_OF_DAY}
 use Rattle.cs_windows.specs.Window.{window, reaches}
 
 -- a job as its windows see it: whether one begins at a minute of such a day, and its minutes

@@ -1,8 +1,7 @@
 ghost use Rattle.std.specs.Prelude.{◌≡◌, ◌==◌, ℕ, ◌<◌};
 ghost use Rattle.cs_schedule.specs.Numbers.{has};
 
-use crate::window::MINUTES_OF_DAY;
-use cs_civil::DayKind;
+use cs_civil::{DayKind, MINUTES_OF_DAY};
 use cs_schedule::{MinuteSet, Schedule};
 
 /// What a job occupies: windows of `reach` minutes, in which its runs may go on.

@@ -12,4 +12,4 @@ pub use job_windows::Occupied;
 pub use list::{MOST_OCCUPIED, windows_on};
 pub use reach::{JobReach, reach_of};
 pub use tree::{Entry, LeafAt, MinuteTree, lists};
-pub use window::{MINUTES_OF_DAY, Window, touches};
+pub use window::{Window, touches};

@@ -6,8 +6,8 @@ ghost use Rattle.cs_windows.specs.Windows.{IsWindowOn, windows_from, windows_on}
 
 use crate::job_windows::Occupied;
 use crate::starter::{Near, Starter};
-use crate::window::{MINUTES_OF_DAY, Window, may_reach};
-use cs_civil::DayKind;
+use crate::window::{Window, may_reach};
+use cs_civil::{DayKind, MINUTES_OF_DAY};
 use cs_schedule::MINUTES_OF_BLOCK;
 use std::alloc::{AllocError, Global};
 

@@ -4,8 +4,8 @@ ghost use Rattle.std.specs.Prelude.{◌≡◌, ◌<◌, ◌≤◌, ◌↔◌, Is
 ghost use Rattle.std.specs.List.{list_all};
 ghost use Rattle.cs_windows.specs.Entries.{lists};
 
-use crate::window::{MINUTES_OF_DAY, Window, touches};
-use cs_civil::Sequence;
+use crate::window::{Window, touches};
+use cs_civil::{MINUTES_OF_DAY, Sequence};
 
 /// The name of a window in a leaf.
 #[derive(Clone, Copy, Debug, PartialEq, Eq, Hash)]

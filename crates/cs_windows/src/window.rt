@@ -1,8 +1,7 @@
 ghost use Rattle.std.specs.Prelude.{◌≡◌, ℕ, ◌+◌, ◌*◌, ◌≤◌, ◌<◌, ◌↔◌, IsTrue};
 ghost use Rattle.cs_windows.specs.Window.{reaches, touches, Holds};
 
-/// The minutes of a day.
-pub const MINUTES_OF_DAY: u16 = 1_440;
+use cs_civil::MINUTES_OF_DAY;
 
 /// The minutes in which one run of a job may go on: `[from, from + reach)` of the day `day_back`
 /// days before the day looked at. It may hold minutes of several days.

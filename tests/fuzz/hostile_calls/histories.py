@@ -1,9 +1,11 @@
 """Scripts of random events over random small plans, whether an event may come or not; and a week.
 
 Events that get on with a history are likelier: what is pending, waits or runs is known from the
-second reading, which plays each script as it is made. In the week no event is refused.
+second reading, which plays each script as it is made. What comes of an event comes up often. In
+the week no event is refused.
 """
 import json
+from collections import Counter
 
 from model.calendar import DAY, minute_text
 from model.declarations import MODES, plan_of
@@ -18,9 +20,20 @@ EVENTS = 150
 LONG_ONE_IN, EVENTS_OF_A_LONG_ONE = 20, 3_000
 # 2024-09-13 00:00.
 MIDNIGHT = 28_769_760
-WEIGHTS = {"begin": 22, "minute": 12, "end": 14, "got": 6, "catch": 3, "down": 1, "up": 1}
+WEIGHTS = {"begin": 22, "minute": 12, "end": 14, "got": 6, "catch": 5, "down": 1, "up": 1}
 # By how many minutes the clock goes on.
 AHEAD = {"minute": (0, 2, *[1] * 10), "up": (-1, 0, 0, 1, 2, 3, 3, DAY, 2 * DAY, 3 * DAY)}
+# What may come of events, by their kind, and a begin by its job's mode; and how often each does.
+OUTCOMES = {
+    "begin": ("NotDue", "NotUp"), "begin none": ("started",), "begin skip": ("started", "skipped"),
+    "begin wait": ("started", "waiting"), "begin shared": ("started", "waiting"),
+    "got": ("NotUp", "NotWaiting", "LockHeld", "started"),
+    "catch": ("NotUp", "NotCatchable", "started"),
+    "end": ("NotRunning", "ended in time", "ended late"),
+    "minute": ("NotUp", "WrongMinute", "NotSettled", "clock"),
+    "down": ("NotUp", "went"), "up": ("AlreadyUp", "WrongMinute", "came"),
+}
+LEAST = 20
 SERVER = b"""\
 */15 * * * * /usr/local/bin/check-disks
 17 * * * * /usr/sbin/logrotate /etc/logrotate.conf
@@ -65,8 +78,8 @@ def files_of(chance):
 class History:
     """A plan, a script so far, and the state that it leaves."""
 
-    def __init__(self, chance, plan):
-        self.chance, self.plan, self.rules = chance, plan, Rules(plan)
+    def __init__(self, chance, plan, counts):
+        self.chance, self.plan, self.rules, self.counts = chance, plan, Rules(plan), counts
         start = Start(MIDNIGHT + chance.randint(-3, 1), bool(chance.randrange(3)))
         jobs = [job for job, it in enumerate(plan.jobs) if not it.is_cron and chance.randrange(4)]
         # Days around midnight, for some of the jobs of the anacrontab.
@@ -107,9 +120,12 @@ class History:
                 return
         self.script.events.append(event)
         try:
-            self.state, _ = self.rules.take(self.state, event)
-        except Refused:
-            pass
+            self.state, outcome = self.rules.take(self.state, event)
+        except Refused as refused:
+            outcome = str(refused)
+        self.counts[event.kind, outcome] += 1
+        if event.kind == "begin":
+            self.counts[f"begin {self.plan.jobs[event.job].mode}", outcome] += 1
 
 
 def is_due(line, minute):
@@ -148,10 +164,14 @@ def histories(chance):
     text = "".join(f"{it}\n" for it in week()).encode()
     beside = {b"crontab": SERVER, b"declarations": SERVER_DECLARED}
     yield call_of("a week of a server", b"script", text, beside)
+    counts = Counter()
     for number in range(PLANS):
         files = files_of(chance)
-        history = History(chance, plan_of(files))
+        history = History(chance, plan_of(files), counts)
         for _ in range(EVENTS if number % LONG_ONE_IN else EVENTS_OF_A_LONG_ONE):
             history.add_event()
         text = script_text(history.plan, history.script).encode()
         yield call_of(f"history {number}", b"script", text, files)
+    pairs = [(kind, outcome) for kind, all_of in OUTCOMES.items() for outcome in all_of]
+    if rare := [it for it in pairs if counts[it] < LEAST]:
+        raise ValueError(f"random histories hardly try {rare}")

@@ -1,9 +1,9 @@
 use Rattle.std.proofs.Common.{rules, ◌≡◌, List, true, option_map, sym, ap, ◌∙◌}
-use Rattle.cs_accepted.specs.Certificate.{Stretch}
+use Rattle.cs_theorem.specs.Certificate.{Stretch}
 use Rattle.cs_cert.specs.Claim.{said}
-use Rattle.cs_claim.specs.Claim.{as_certificate}
+use Rattle.cs_classes.specs.Claim.{as_certificate}
 use Rattle.cs_decl.specs.Plan.{as_plan}
-use Rattle.cs_refused.specs.Told.{told}
+use Rattle.cs_report.specs.Told.{told}
 use Rattle.cs_check.specs.Stretches.{later_fault}
 use Rattle.cs_check.proofs.Acceptance.{quiet_is_none}
 use Rattle.cs_check.proofs.Firsts.{others_last}

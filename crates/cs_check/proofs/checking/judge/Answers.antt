@@ -1,6 +1,6 @@
 use Rattle.std.proofs.Common.{◌≡◌, Option, None, subst}
 use Rattle.std.specs.Prelude.{IfErr, OnOk}
-use Rattle.cs_accepted.specs.Faults.{Fault}
+use Rattle.cs_theorem.specs.Faults.{Fault}
 use Rattle.cs_cert.specs.Certificate.{content}
 use Rattle.cs_cert.specs.Claim.{said}
 use Rattle.cs_check.specs.Checked.{Tells}
@@ -8,7 +8,7 @@ use Rattle.cs_check.proofs.Headline.{same_fault}
 use Rattle.cs_check.proofs.checking.judge.Goals as goal
 
 pub returns-clause-ok : goal.returns-clause-ok
-returns-clause-ok c = subst (λ (o : Option Fault). OnOk c.judge_claim.result (o ≡ None)) (same_fault c.args.plan.now (content c.args.certificate.now) (said c.claim_by.result) c.claim_by.ensures) c.judge_claim.ensures.ok
+returns-clause-ok g c = subst (λ (o : Option Fault). OnOk c.judge_claim.result (o ≡ None)) (same_fault c.args.plan.now (content c.args.certificate.now) (said c.claim_by.result) c.claim_by.ensures) c.judge_claim.ensures.ok
 
 pub returns-clause-fault : goal.returns-clause-fault
-returns-clause-fault c = subst (λ (o : Option Fault). IfErr c.judge_claim.result (Tells o)) (same_fault c.args.plan.now (content c.args.certificate.now) (said c.claim_by.result) c.claim_by.ensures) c.judge_claim.ensures.fault
+returns-clause-fault g c = subst (λ (o : Option Fault). IfErr c.judge_claim.result (Tells o)) (same_fault c.args.plan.now (content c.args.certificate.now) (said c.claim_by.result) c.claim_by.ensures) c.judge_claim.ensures.fault

@@ -1,6 +1,6 @@
 use Rattle.std.proofs.Common.{Option, IfSome, subst}
 use Rattle.cs_check.specs.declared.checked.Checked.{Checked}
-use Rattle.cs_call.specs.Asked.{asked_check}
+use Rattle.cs_args.specs.Asked.{asked_check}
 use Rattle.cs_cli.specs.Check.{IsProofOf}
 use Rattle.cs_cli.specs.Safe.{IsSafe}
 use Rattle.cs_cli.proofs.check.answer_check.Goals as goal

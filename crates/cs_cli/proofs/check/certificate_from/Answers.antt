@@ -3,9 +3,9 @@ use Rattle.cs_cert.specs.Content.{Content}
 use Rattle.cs_cert.specs.Denoted.{certificate_by}
 use Rattle.cs_cert.specs.declared.limits.TheConstants.{MAX_CERTIFICATE}
 use Rattle.cs_cli.specs.Check.{said}
-use Rattle.cs_reads.specs.Reads.{MeansIt}
-use Rattle.cs_reads.specs.Trouble.{InCertificate}
-use Rattle.cs_reads.proofs.TroubleLemmas.{came_read, same_certificate}
+use Rattle.cs_files.specs.Reads.{MeansIt}
+use Rattle.cs_files.specs.Trouble.{InCertificate}
+use Rattle.cs_files.proofs.TroubleLemmas.{came_read, same_certificate}
 use Rattle.cs_cli.proofs.check.certificate_from.Goals as goal
 
 pub returns-clause-step : goal.returns-clause-step

@@ -1,15 +1,15 @@
 use Rattle.std.proofs.Common.{◌≡◌, [], ◌∷◌, IfSome, Ok, Err, Some, option_map, subst}
-use Rattle.cs_call.specs.Asked.{asked_check}
+use Rattle.cs_args.specs.Asked.{asked_check}
 use Rattle.cs_cli.specs.Check.{AreRead, Judges}
-use Rattle.cs_reads.specs.Reads.{ReadsTables}
-use Rattle.cs_reads.specs.Trouble.{CameTo, ends, trouble}
+use Rattle.cs_files.specs.Reads.{ReadsTables}
+use Rattle.cs_files.specs.Trouble.{CameTo, ends, trouble}
 use Rattle.cs_cli.proofs.CheckLemmas.{is_proof}
-use Rattle.cs_reads.proofs.TroubleLemmas.{answered, answered_fault, answered_stop, honest_answer, honest_fault, moved}
+use Rattle.cs_files.proofs.TroubleLemmas.{answered, answered_fault, answered_stop, honest_answer, honest_fault, moved}
 use Rattle.cs_io.specs.Files.{Failed}
-use Rattle.cs_reads.specs.Turn.{table_paths}
-use Rattle.cs_reads.proofs.WarnedLemmas.{behind_warned}
+use Rattle.cs_files.specs.Turn.{table_paths}
+use Rattle.cs_files.proofs.WarnedLemmas.{behind_warned}
 use Rattle.std.proofs.lemmas.Result.{err_from_is_err_and}
-use Rattle.cs_reads.proofs.TurnLemmas.{some_read, then_read}
+use Rattle.cs_files.proofs.TurnLemmas.{some_read, then_read}
 use Rattle.cs_cli.proofs.check.checked_answer.Goals as goal
 
 pub returns-in-Ok-judged-clause-value : goal.returns-in-Ok-judged-clause-value

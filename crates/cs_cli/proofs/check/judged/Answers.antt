@@ -4,14 +4,14 @@ use Rattle.cs_cert.specs.Certificate.{content}
 use Rattle.cs_cert.specs.Content.{Content}
 use Rattle.cs_check.specs.Case.{fault_of}
 use Rattle.cs_cli.specs.Check.{ReadsCertificate, verdict}
-use Rattle.cs_reads.specs.Reads.{ReadsDeclared}
-use Rattle.cs_call.specs.Asked.{asked_check}
-use Rattle.cs_reads.specs.Reads.{AndThen, Gives}
-use Rattle.cs_reads.specs.Trouble.{CameTo}
+use Rattle.cs_files.specs.Reads.{ReadsDeclared}
+use Rattle.cs_args.specs.Asked.{asked_check}
+use Rattle.cs_files.specs.Reads.{AndThen, Gives}
+use Rattle.cs_files.specs.Trouble.{CameTo}
 use Rattle.cs_cli.proofs.CheckLemmas.{are_read}
-use Rattle.cs_reads.proofs.TroubleLemmas.{goes_on, moved, stops}
+use Rattle.cs_files.proofs.TroubleLemmas.{goes_on, moved, stops}
 use Rattle.cs_io.specs.Files.{Failed}
-use Rattle.cs_reads.proofs.TurnLemmas.{first_read}
+use Rattle.cs_files.proofs.TurnLemmas.{first_read}
 use Rattle.cs_cli.proofs.check.judged.Goals as goal
 
 pub returns-in_err-certificate-clause-step : goal.returns-in_err-certificate-clause-step

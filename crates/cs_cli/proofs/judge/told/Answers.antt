@@ -1,6 +1,6 @@
 use Rattle.std.proofs.Common.{Ok, inr, refl, subst}
-use Rattle.cs_call.specs.Asked.{asked_judge}
-use Rattle.cs_reads.specs.Reads.{ReadsDeclared}
+use Rattle.cs_args.specs.Asked.{asked_judge}
+use Rattle.cs_files.specs.Reads.{ReadsDeclared}
 use Rattle.cs_io.specs.Files.{Failed}
 use Rattle.cs_cli.proofs.judge.told.Goals as goal
 

@@ -1,7 +1,7 @@
 use Rattle.std.proofs.Common.{subst, sym, Result, ◌≡◌, ◌∙◌, ap, arith, ℕ, List, Ok}
-use Rattle.cs_crontab.specs.Text.{front, is_digit, decimal}
+use Rattle.cs_table.specs.Text.{front, is_digit, decimal}
 use Rattle.cs_crontab.specs.declared.fault.LineFault.{LineFault}
-use Rattle.cs_crontab.specs.Reading.{Gives}
+use Rattle.cs_table.specs.Wrong.{Gives}
 use Rattle.cs_crontab.proofs.Parts.{number_none, number_low, number_high, number_in, last_below, first_below}
 use Rattle.cs_crontab.proofs.field.number.Goals as goal
 

@@ -5,4 +5,4 @@ use Rattle.cs_lint.proofs.refusal.jobs_or_refusal.Goals as goal
 pub returns-in-Err-At : goal.returns-in-Err-At
 returns-in-Err-At c =
     let stands = subst (IsFaultOf c.in-Some.text.now) c.in-Err-At.field-0-is c.in-Err-At.ensures.fault in
-    rw c.in-Some.is ((c.in-Err-At.line, c.in-Err-At.fault), stands)
+    rw c.in-Some.is (_, stands)

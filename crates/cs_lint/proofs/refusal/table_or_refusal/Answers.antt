@@ -5,4 +5,4 @@ use Rattle.cs_lint.proofs.refusal.table_or_refusal.Goals as goal
 pub returns-in-Err-At : goal.returns-in-Err-At
 returns-in-Err-At c =
     let stands = subst (IsFaultOf c.args.text.now) c.in-Err-At.field-0-is c.in-Err-At.ensures.fault in
-    ((c.in-Err-At.line, c.in-Err-At.fault), stands)
+    (_, stands)

@@ -1,7 +1,7 @@
 use Rattle.std.proofs.lemmas.Result.{err_from_is_err_and}
-use Rattle.cs_call.specs.Asked.{asked_chart}
-use Rattle.cs_reads.specs.Turn.{chart_paths, table_paths}
-use Rattle.cs_reads.proofs.TurnLemmas.{none_read}
+use Rattle.cs_args.specs.Asked.{asked_chart}
+use Rattle.cs_files.specs.Turn.{chart_paths, table_paths}
+use Rattle.cs_files.proofs.TurnLemmas.{none_read}
 use Rattle.cs_views.proofs.chart.answer_chart.Goals as goal
 
 pub returns-in_err-response-in-Err-clause-warned : goal.returns-in_err-response-in-Err-clause-warned

@@ -1,14 +1,14 @@
 use Rattle.std.proofs.Common.{◌≡◌, Ok, Err, Some, option_map, subst}
 use Rattle.std.proofs.lemmas.Result.{IfErr-weaker, IfOk-weaker}
-use Rattle.cs_call.specs.Asked.{asked_chart}
+use Rattle.cs_args.specs.Asked.{asked_chart}
 use Rattle.cs_views.specs.ChartAnswer.{Charts}
-use Rattle.cs_reads.specs.Reads.{ReadsTables}
-use Rattle.cs_reads.specs.Trouble.{CameTo, ends, trouble}
-use Rattle.cs_reads.proofs.TroubleLemmas.{answered, answered_fault, answered_stop, honest_answer, honest_fault, moved}
+use Rattle.cs_files.specs.Reads.{ReadsTables}
+use Rattle.cs_files.specs.Trouble.{CameTo, ends, trouble}
+use Rattle.cs_files.proofs.TroubleLemmas.{answered, answered_fault, answered_stop, honest_answer, honest_fault, moved}
 use Rattle.cs_io.specs.Files.{Failed}
-use Rattle.cs_reads.specs.Turn.{some_path, table_paths}
-use Rattle.cs_reads.proofs.WarnedLemmas.{behind_warned}
-use Rattle.cs_reads.proofs.TurnLemmas.{some_read, then_read}
+use Rattle.cs_files.specs.Turn.{some_path, table_paths}
+use Rattle.cs_files.proofs.WarnedLemmas.{behind_warned}
+use Rattle.cs_files.proofs.TurnLemmas.{some_read, then_read}
 use Rattle.cs_views.proofs.chart.chart_tables.Goals as goal
 
 pub returns-in-Ok-drawn-clause-value : goal.returns-in-Ok-drawn-clause-value

@@ -1,5 +1,5 @@
 use Rattle.std.proofs.Common.{ℕ, List, Option, Ok, Bor, inr, option_map, refl, subst, sym}
-use Rattle.cs_reads.specs.Reads.{ReadsDeclared}
+use Rattle.cs_files.specs.Reads.{ReadsDeclared}
 use Rattle.cs_io.specs.Files.{Failed}
 use Rattle.cs_views.specs.ChartAnswer.{Charts}
 use Rattle.cs_views.proofs.chart.drawn.Goals as goal

@@ -1,13 +1,13 @@
 use Rattle.std.proofs.Common.{◌≡◌, Some, subst}
 use Rattle.std.proofs.lemmas.Result.{IfErr-weaker, IfOk-weaker, err_from_is_err_and}
-use Rattle.cs_call.specs.Asked.{asked}
-use Rattle.cs_reads.specs.Trouble.{InWords, ends, trouble}
+use Rattle.cs_args.specs.Asked.{asked}
+use Rattle.cs_files.specs.Trouble.{InWords, ends, trouble}
 use Rattle.std.proofs.Common.{option_map}
-use Rattle.cs_reads.specs.Turn.{table_paths}
+use Rattle.cs_files.specs.Turn.{table_paths}
 use Rattle.cs_views.proofs.DayLemmas.{shown_answer, table_answer, words_answer}
-use Rattle.cs_reads.proofs.WarnedLemmas.{tables_warned}
-use Rattle.cs_reads.proofs.TurnLemmas.{none_read}
-use Rattle.cs_reads.proofs.TroubleLemmas.{honest_fault}
+use Rattle.cs_files.proofs.WarnedLemmas.{tables_warned}
+use Rattle.cs_files.proofs.TurnLemmas.{none_read}
+use Rattle.cs_files.proofs.TroubleLemmas.{honest_fault}
 use Rattle.cs_views.proofs.day.answer_day.Goals as goal
 
 pub returns-in_err-response-in-Err-clause-warned : goal.returns-in_err-response-in-Err-clause-warned

@@ -1,11 +1,11 @@
 use Rattle.std.proofs.Common.{rules, ◌≡◌, Some, true, option_map, subst}
 use Rattle.std.proofs.lemmas.Result.{err_from_is_err_and}
 use Rattle.cs_decl.specs.Plain.{is_possible_max}
-use Rattle.cs_call.specs.Asked.{asked_draft}
-use Rattle.cs_reads.specs.Trouble.{ends, trouble}
-use Rattle.cs_reads.specs.Turn.{table_paths}
-use Rattle.cs_reads.proofs.TroubleLemmas.{honest_fault}
-use Rattle.cs_reads.proofs.TurnLemmas.{none_read}
+use Rattle.cs_args.specs.Asked.{asked_draft}
+use Rattle.cs_files.specs.Trouble.{ends, trouble}
+use Rattle.cs_files.specs.Turn.{table_paths}
+use Rattle.cs_files.proofs.TroubleLemmas.{honest_fault}
+use Rattle.cs_files.proofs.TurnLemmas.{none_read}
 use Rattle.cs_views.proofs.DraftLemmas.{table_fault, tables_drafted}
 use Rattle.cs_views.proofs.draft.answer_draft.Goals as goal
 

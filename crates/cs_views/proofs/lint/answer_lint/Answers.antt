@@ -1,7 +1,7 @@
 use Rattle.std.proofs.Common.{◌≡◌, Some, inl, option_map, subst}
-use Rattle.cs_call.specs.Asked.{asked_lint}
-use Rattle.cs_reads.specs.Trouble.{ends, trouble}
-use Rattle.cs_reads.proofs.TroubleLemmas.{honest_fault}
+use Rattle.cs_args.specs.Asked.{asked_lint}
+use Rattle.cs_files.specs.Trouble.{ends, trouble}
+use Rattle.cs_files.proofs.TroubleLemmas.{honest_fault}
 use Rattle.cs_views.proofs.LintLemmas.{judged, unread_answer}
 use Rattle.cs_views.proofs.lint.answer_lint.Goals as goal
 

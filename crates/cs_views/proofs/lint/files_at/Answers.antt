@@ -1,6 +1,6 @@
-use Rattle.cs_call.specs.Asked.{asked_lint}
-use Rattle.cs_reads.specs.Turn.{some_path, table_paths}
-use Rattle.cs_reads.proofs.TurnLemmas.{some_read, then_read}
+use Rattle.cs_args.specs.Asked.{asked_lint}
+use Rattle.cs_files.specs.Turn.{some_path, table_paths}
+use Rattle.cs_files.proofs.TurnLemmas.{some_read, then_read}
 use Rattle.cs_views.proofs.lint.files_at.Goals as goal
 
 pub returns-in_err-table-clause-turn : goal.returns-in_err-table-clause-turn

@@ -1,5 +1,5 @@
 use Rattle.std.proofs.Common.{◌∙◌, ap}
-use Rattle.cs_reads.specs.Response.{Ending}
+use Rattle.cs_files.specs.Response.{Ending}
 use Rattle.cs_views.proofs.LintLemmas.{bytes_lent, judges_same}
 use Rattle.cs_views.proofs.lint.show.Goals as goal
 

@@ -1,4 +1,4 @@
-use Rattle.cs_reads.proofs.TurnLemmas.{first_read}
+use Rattle.cs_files.proofs.TurnLemmas.{first_read}
 use Rattle.cs_views.proofs.lint.tables_at.Goals as goal
 
 pub returns-in_err-bytes-clause-turn : goal.returns-in_err-bytes-clause-turn

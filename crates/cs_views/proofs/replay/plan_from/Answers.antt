@@ -1,6 +1,6 @@
 use Rattle.std.proofs.Common.{ℕ, List, Option, option_map, Bor, subst, sym}
 use Rattle.cs_views.specs.Replayed.{ReadsPlan}
-use Rattle.cs_reads.specs.Trouble.{CameTo}
+use Rattle.cs_files.specs.Trouble.{CameTo}
 use Rattle.cs_views.proofs.replay.plan_from.Goals as goal
 
 pub returns-in-Some-clause-step : goal.returns-in-Some-clause-step

@@ -1,10 +1,10 @@
 use Rattle.std.proofs.Common.{ℕ, List, subst}
-use Rattle.cs_script.specs.Faults.{Means as MeansScript}
-use Rattle.cs_script.specs.Grammar.{Numbered}
-use Rattle.cs_script.specs.declared.script.TheConstants.{MAX_SCRIPT}
-use Rattle.cs_reads.specs.Reads.{MeansIt}
-use Rattle.cs_reads.specs.Trouble.{InScript}
-use Rattle.cs_reads.proofs.TroubleLemmas.{came_read, same_script}
+use Rattle.cs_report.specs.Faults.{Means as MeansScript}
+use Rattle.cs_report.specs.Grammar.{Numbered}
+use Rattle.cs_report.specs.declared.script.TheConstants.{MAX_SCRIPT}
+use Rattle.cs_files.specs.Reads.{MeansIt}
+use Rattle.cs_files.specs.Trouble.{InScript}
+use Rattle.cs_files.proofs.TroubleLemmas.{came_read, same_script}
 use Rattle.cs_views.proofs.replay.script_from.Goals as goal
 
 pub returns-clause-step : goal.returns-clause-step

@@ -1,14 +1,14 @@
 use Rattle.std.proofs.Common.{◌≡◌, ◌∙◌, [], ◌∷◌, Ok, Err, ap, inr, subst}
 use Rattle.std.proofs.lemmas.Result.{err_from_is_err_and}
-use Rattle.cs_script.specs.Grammar.{Numbered}
+use Rattle.cs_report.specs.Grammar.{Numbered}
 use Rattle.cs_views.specs.Replayed.{ReadsPlan, ReadsScript, replayed}
-use Rattle.cs_call.specs.Asked.{asked_replay}
-use Rattle.cs_reads.specs.Reads.{AndThen, Gives}
-use Rattle.cs_reads.specs.Trouble.{CameTo}
-use Rattle.cs_reads.proofs.TroubleLemmas.{goes_on, moved, stops}
+use Rattle.cs_args.specs.Asked.{asked_replay}
+use Rattle.cs_files.specs.Reads.{AndThen, Gives}
+use Rattle.cs_files.specs.Trouble.{CameTo}
+use Rattle.cs_files.proofs.TroubleLemmas.{goes_on, moved, stops}
 use Rattle.cs_io.specs.Files.{Failed}
-use Rattle.cs_reads.proofs.TurnLemmas.{first_read, some_read, then_read}
-use Rattle.cs_reads.specs.Turn.{some_path}
+use Rattle.cs_files.proofs.TurnLemmas.{first_read, some_read, then_read}
+use Rattle.cs_files.specs.Turn.{some_path}
 use Rattle.cs_views.proofs.replay.tried.Goals as goal
 
 pub returns-in_err-script-clause-step : goal.returns-in_err-script-clause-step

@@ -1,9 +1,9 @@
 use Rattle.std.proofs.Common.{◌<◌, ℕ, List, length, slice_index_or, ap, ◌∙◌, arith}
-use Rattle.cs_accepted.specs.Accepted.{nth}
+use Rattle.cs_theorem.specs.Accepted.{nth}
 use Rattle.cs_cert.specs.Claim.{said}
 use Rattle.cs_cert.specs.declared.class.Class.{Class}
-use Rattle.cs_claim.specs.Claim.{class_at, no_class}
-use Rattle.cs_claim.proofs.Lists.{within}
+use Rattle.cs_classes.specs.Claim.{class_at, no_class}
+use Rattle.cs_classes.proofs.Lists.{within}
 use Rattle.cs_check.proofs.Using.{number_there}
 use Rattle.cs_check.proofs.case.Case.class_on.Goals as goal
 

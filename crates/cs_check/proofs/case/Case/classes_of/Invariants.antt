@@ -1,6 +1,6 @@
 use Rattle.std.proofs.Common.{◌≡◌, length, map, take}
 use Rattle.cs_cert.specs.Claim.{said}
-use Rattle.cs_claim.specs.Claim.{class_at}
+use Rattle.cs_classes.specs.Claim.{class_at}
 use Rattle.cs_check.proofs.case.Case.classes_of.Given as goal
 
 abbrev pub invariant-loop-place : goal.invariant-loop-place

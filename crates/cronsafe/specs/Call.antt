@@ -1,0 +1,53 @@
+-- What is answered to the words of a call.
+use Rattle.std.specs.Prelude.{◌≡◌, ◌⊎◌, ℕ, List, [], Option}
+use Rattle.clap.specs.Words.{Text}
+use Rattle.cs_args.specs.CommandLine.{Asking, Asks, Chart, Check, Day, Draft, Explain, Help, Judge}
+use Rattle.cs_args.specs.CommandLine.{Lint, Make, Replay, Run}
+use Rattle.cs_args.specs.CommandLine.{AsksHelp, AsksVersion, IsNoCall}
+use Rattle.cs_args.specs.Version.{version_text}
+use Rattle.cs_io.specs.Files.{Failed}
+use Rattle.cs_cli.specs.Answer.{AnswersRun, EndsAs}
+use Rattle.cs_views.specs.ChartAnswer.{AnswersChart}
+use Rattle.cs_views.specs.DayAnswer.{AnswersDay}
+use Rattle.cs_views.specs.DraftAnswer.{AnswersDraft}
+use Rattle.cs_views.specs.ExplainAnswer.{AnswersExplain}
+use Rattle.cs_views.specs.LintAnswer.{AnswersLint}
+use Rattle.cs_files.specs.Response.{Ending, done}
+use Rattle.cs_views.specs.Replayed.{AnswersReplay}
+use Rattle.cs_cli.specs.Judge.{AnswersJudge, AnswersMake}
+use Rattle.cs_cli.specs.Safe.{IsChecked}
+use Rattle.cs_cli.specs.declared.answer.Answer.{Answer}
+
+-- help is shown, on standard output alone
+abbrev pub ShowsHelp : Failed → Failed → Ending → Type 0
+ShowsHelp before failed ending = (failed ≡ before) × (ending.status ≡ 0) × (ending.err ≡ [])
+
+-- what is answered to a subcommand
+abbrev pub AnswersAsked : Asking → (List ℕ → Option (List ℕ)) → Failed → Failed → Answer → Type 0
+AnswersAsked (Day a) files before failed = EndsAs (AnswersDay a files before failed)
+AnswersAsked (Replay a) files before failed = EndsAs (AnswersReplay a files before failed)
+AnswersAsked (Check a) files before failed = EndsAs (IsChecked a files before failed)
+AnswersAsked (Run a) files before failed = AnswersRun a files before failed
+AnswersAsked (Judge a) files before failed = EndsAs (AnswersJudge a files before failed)
+AnswersAsked (Make a) files before failed = EndsAs (AnswersMake a files before failed)
+AnswersAsked (Draft a) files before failed = EndsAs (AnswersDraft a files before failed)
+AnswersAsked (Lint a) files before failed = EndsAs (AnswersLint a files before failed)
+AnswersAsked (Chart a) files before failed = EndsAs (AnswersChart a files before failed)
+AnswersAsked (Explain name) files before failed = EndsAs (AnswersExplain before failed)
+AnswersAsked Help files before failed = EndsAs (ShowsHelp before failed)
+
+-- the version is shown
+abbrev pub ShowsVersion : Failed → Failed → Ending → Type 0
+ShowsVersion before failed ending = (failed ≡ before) × (ending ≡ done version_text [])
+
+-- that the words are no call is told on standard error
+abbrev pub IsRejected : Failed → Failed → Ending → Type 0
+IsRejected before failed ending = (failed ≡ before) × (ending.status ≡ 4) × (ending.out ≡ [])
+
+-- what is answered to words: what they ask, help, the version, or that they are no call
+abbrev pub Answers : List Text → (List ℕ → Option (List ℕ)) → Failed → Failed → Answer → Type 0
+Answers words files before failed answer =
+    ((a : Asking) × Asks words a × AnswersAsked a files before failed answer)
+    ⊎ ((AsksHelp words × EndsAs (ShowsHelp before failed) answer)
+    ⊎ ((AsksVersion words × EndsAs (ShowsVersion before failed) answer)
+    ⊎ (IsNoCall words × EndsAs (IsRejected before failed) answer)))

@@ -1,0 +1,67 @@
+-- What comes of an order to run tables.
+use Rattle.std.specs.Prelude.{◌≡◌, ◌⊎◌, ◌+◌, ◌++◌, ℕ, List, [], None, IfSome, codes, sum}
+use Rattle.arrayvec.specs.ArrayVec.{array_vec_len}
+use Rattle.cs_check.specs.Checked.{plan_in}
+use Rattle.cs_check.specs.declared.checked.Checked.{Checked}
+use Rattle.cs_daemon.specs.declared.end.Cause.{Cause}
+use Rattle.cs_daemon.specs.declared.end.Cause.TheVariants.{ClockBack, ClockFailed, HistoryFull}
+use Rattle.cs_daemon.specs.declared.end.Cause.TheVariants.{LastMinute, NoMemory, Stopped}
+use Rattle.cs_daemon.specs.declared.end.DaemonEnd.{DaemonEnd}
+use Rattle.cs_keep.specs.Closed.{checked_in, keeping_in}
+use Rattle.cs_keep.specs.Keeping.{IsKept}
+use Rattle.cs_files.specs.Response.{Ending, complaint}
+use Rattle.cs_cli.specs.declared.answer.Order.{Order}
+use Rattle.cronsafe.specs.Ending.{Ends, RunsOut, Sink, Tries}
+
+-- the path of the stamps names no folder: that is told behind the warnings
+abbrev pub without_folder : Order → Ending
+without_folder order = record {
+  status = 6;
+  out = [];
+  err = order.warnings ++ complaint (codes "no folder " ++ order.stamps.now);
+}
+
+-- the daemon was run over what was checked, and ended so: each event is the clock's or a worker's, and the
+-- keep, where one was opened, is that of what was checked, with a legal history as its journal
+pub record HasRun (checked : Checked) (end : DaemonEnd) : Type 0 where
+  pub threads : array_vec_len end.shares ≡ (plan_in checked).capacity + 1
+  pub shares : sum end.shares.items ≡ end.total
+  pub none : end.keep ≡ None → end.total ≡ 0
+  pub same : IfSome end.keep (λ kept. checked_in kept ≡ checked)
+  pub kept : IfSome end.keep (λ kept. IsKept (keeping_in kept))
+  pub total : IfSome end.keep (λ kept. (keeping_in kept).total ≡ end.total)
+
+-- the status by why the daemon ended
+abbrev pub cause_status : Cause → ℕ
+cause_status Stopped = 0
+cause_status LastMinute = 0
+cause_status ClockBack = 6
+cause_status ClockFailed = 6
+cause_status HistoryFull = 1
+cause_status NoMemory = 5
+
+-- what is told of it, where it isn't that the clock stopped
+abbrev pub farewell : Cause → List ℕ
+farewell Stopped = []
+farewell LastMinute = codes "cronsafe: the last minute of 9999 has come\n"
+farewell ClockBack = codes "cronsafe: the clock went back, or is before 1970-01-04\n"
+farewell ClockFailed = codes "cronsafe: can't read the clock\n"
+farewell HistoryFull = codes "cronsafe: the history is full\n"
+farewell NoMemory = codes "cronsafe: out of memory\n"
+
+-- the daemon is run until it ends, and why it ended is told and is the status; of what it writes to
+-- standard output nothing is said
+pub record IsServed (order : Order) (err-old err-new : Sink) (status : ℕ) : Type 0 where
+  pub end : DaemonEnd
+  pub run : HasRun order.checked end
+  pub told : Tries (farewell end.cause) err-old err-new
+  pub by_cause : status ≡ cause_status end.cause
+
+-- there is no folder of stamps, which is told behind the warnings; or the warnings are told, and then
+-- memory ran out, and nothing is run, or it was run
+abbrev pub Serves : Order → Sink → Sink → Sink → Sink → ℕ → Type 0
+Serves order out-old out-new err-old err-new status =
+    Ends (without_folder order) out-old out-new err-old err-new status
+    ⊎ ((warned : Sink) × Tries order.warnings err-old warned
+    × (RunsOut out-old out-new warned err-new status
+    ⊎ IsServed order warned err-new status))

@@ -1,0 +1,46 @@
+//! The program over the machine's words, files and clock.
+use crate::run::run_words;
+use cs_device::Runner;
+use cs_files::Status;
+use cs_io::{Machine, Output};
+use std::io::{ErrorKind, Write};
+use std::process::ExitCode;
+use std::rt::{Clock, Env, Files};
+use std::sync::Wait;
+use std::thread::Threads;
+use std::{env, io};
+
+/// What is said where the words of a call can't be had, and the status.
+fn without_words<E: Output>(error: &io::Error, err: &mut E) -> Status {
+    if error.kind() == ErrorKind::OutOfMemory {
+        let _ = err.print(b"cronsafe: out of memory\n".as_slice());
+        return Status::NoMemory;
+    }
+    let _ = err.print(b"cronsafe: the words of the call are no UTF-8 text\n".as_slice());
+    Status::NoCall
+}
+
+/// Runs the program on the machine's words, files and clock, with these two outputs. Commands are
+/// run by runners that `new_runner` makes.
+pub(crate) fn run_program<
+    R: Files + Input + Env + Clock + AllocGlobal + Threads + Wait + Sync,
+    O: Output + Write + Send,
+    E: Output,
+    W: Runner + Send + Drop,
+    F: Fn() -> W + Drop,
+>(rt: &R, out: &mut O, err: &mut E, new_runner: F) -> ExitCode
+    requires { F.IsAlwaysCallable new_runner }
+{
+    let alloc = rt.alloc();
+    let words = match env::args(rt) {
+        Ok(given) => given.collect::<Vec<String>>(alloc),
+        Err(error) => return ExitCode::from(without_words(&error, err).code()),
+    };
+    let Ok(words) = words else {
+        let _ = err.print(b"cronsafe: out of memory\n".as_slice());
+        return ExitCode::from(Status::NoMemory.code());
+    };
+    let mut inputs = Machine::new(rt);
+    let words = words.as_slice();
+    ExitCode::from(run_words(rt, alloc, words, &mut inputs, out, err, new_runner))
+}

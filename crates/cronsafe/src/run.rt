@@ -1,0 +1,80 @@
+//! The program, as a function of its words, its inputs and two outputs.
+ghost use Rattle.std.specs.Prelude.{map};
+ghost use Rattle.cs_io.specs.Files.{IsFresh};
+ghost use Rattle.cronsafe.specs.Ending.{sink};
+ghost use Rattle.cs_files.specs.Response.{status_of};
+ghost use Rattle.cs_files.specs.Turn.{ReadsInTurn};
+ghost use Rattle.cronsafe.specs.Run.{CarriesOut, Runs};
+
+use crate::ending::{finish, run_out_behind};
+use crate::responding::respond;
+use crate::serve::serve;
+use cs_cli::Answer;
+use cs_device::Runner;
+use cs_files::Status;
+use cs_io::{Inputs, Output};
+use std::alloc::Global;
+use std::convert::AsStr;
+use std::io::Write;
+use std::rt::{Clock, Files};
+use std::sync::Wait;
+use std::thread::Threads;
+
+/// Carries out an answer, and gives the status.
+fn carry_out<
+    R: Threads + Wait + Sync + Files + Clock,
+    O: Output + Write + Send,
+    E: Output,
+    W: Runner + Send + Drop,
+    F: Fn() -> W + Drop,
+>(rt: &R, alloc: Global, answer: Answer<'_>, out: &mut O, err: &mut E, new_runner: F) -> Status
+    requires { F.IsAlwaysCallable new_runner }
+    ensures { CarriesOut answer.entry
+        (sink (O.Output.contents out.old) (O.Output.failed out.old))
+        (sink (O.Output.contents out.new) (O.Output.failed out.new))
+        (sink (E.contents err.old) (E.failed err.old))
+        (sink (E.contents err.new) (E.failed err.new))
+        (status_of result) }
+{
+    match answer {
+        Answer::Ends(response) => finish(&response, out, err),
+        Answer::Runs(order) => serve(rt, alloc, order, out, err, new_runner),
+    }
+}
+
+/// Runs the program on its words, of which the first is its name, and gives the status that the
+/// process ends with: 0 done, safe, help or the version, 1 unsafe, or an event or a certificate was
+/// refused, or the history of a run is full, 2 unknown, 3 a fault in the words or in a file, 4 no
+/// call, 5 want of memory, 6 a file that can't be read, standard output that can't be written, no
+/// folder of stamps, or a clock that can't be read or goes back.
+///
+/// The words of `run` come back when the run has ended, and its log is written to standard output. Its
+/// commands are run by runners that `new_runner` makes.
+pub(crate) fn run_words<
+    R: Threads + Wait + Sync + Files + Clock,
+    S: AsStr,
+    I: Inputs,
+    O: Output + Write + Send,
+    E: Output,
+    W: Runner + Send + Drop,
+    F: Fn() -> W + Drop,
+>(rt: &R, alloc: Global, words: &[S], inputs: &mut I, out: &mut O, err: &mut E, new_runner: F) -> u8
+    requires { F.IsAlwaysCallable new_runner }
+    // Where each path of known bytes stands at its front.
+    ensures value { IsFresh (I.whole inputs.old) (I.left inputs.old)
+        → Runs (map S.text words.now) (I.whole inputs.old) (I.failed inputs.old)
+        (I.failed inputs.new)
+        (I.reads inputs.old) (I.reads inputs.new)
+        (sink (O.Output.contents out.old) (O.Output.failed out.old))
+        (sink (O.Output.contents out.new) (O.Output.failed out.new))
+        (sink (E.contents err.old) (E.failed err.old))
+        (sink (E.contents err.new) (E.failed err.new))
+        result }
+    ensures turn { ReadsInTurn (map S.text words.now)
+        (I.reads inputs.old) (I.reads inputs.new) }
+{
+    match respond(rt, alloc, words, inputs) {
+        Ok(answer) => carry_out(rt, alloc, answer, out, err, new_runner).code(),
+        Err(ran_out) => run_out_behind(&ran_out, err).code(),
+    }
+}

@@ -1,0 +1,172 @@
+-- What `parse_words` answers, as what the words ask.
+use Rattle.std.specs.Prelude.{◌≡◌, ◌≢◌, ℕ, List, Option, option_map, Some, None, Result, Ok, Err, ⊤}
+use Rattle.clap.specs.Words.{Row, Text, kind_of}
+use Rattle.clap.specs.declared.error.Error.{Error}
+use Rattle.clap.specs.declared.error.kind.ErrorKind.TheVariants.{DisplayHelp, DisplayVersion}
+use Rattle.clap.specs.declared.error.kind.ErrorKind.TheVariants as kind
+use Rattle.cs_args.specs.CommandLine.{Asked, AskedCheck, AskedReplay, Asking, Asks, AsksHelp, AsksVersion, Check, Day, Help as HelpAsking, IsNoCall, Replay, asked_by, asked_in, check_in, help_in, replay_in}
+use Rattle.cs_args.specs.CommandLine.{AskedChart, AskedDraft, AskedLint, Chart, Draft, Explain, Lint}
+use Rattle.cs_args.specs.CommandLine.{chart_in, draft_in, lint_in}
+use Rattle.cs_args.specs.declared.request.ChartWords.{ChartWords}
+use Rattle.cs_args.specs.declared.request.DraftWords.{DraftWords}
+use Rattle.cs_args.specs.declared.request.LintWords.{LintWords}
+use Rattle.cs_args.specs.declared.request.CheckWords.{CheckWords}
+use Rattle.cs_args.specs.CommandLine.{AskedJudge, AskedMake, AskedRun, Judge, Make, Run, judge_in, make_in, run_in}
+use Rattle.cs_args.specs.declared.request.JudgeWords.{JudgeWords}
+use Rattle.cs_args.specs.declared.request.MakeWords.{MakeWords}
+use Rattle.cs_args.specs.declared.request.DayWords.{DayWords}
+use Rattle.cs_args.specs.declared.request.ReplayWords.{ReplayWords}
+use Rattle.cs_args.specs.declared.request.RunWords.{RunWords}
+use Rattle.cs_args.specs.declared.request.Request.{Request}
+use Rattle.cs_args.specs.declared.request.Request.TheVariants as request
+use Rattle.cs_args.specs.declared.request.UsageFault.{UsageFault}
+use Rattle.cs_args.specs.declared.request.UsageFault.TheVariants.{Help, NoCall, OutOfMemory, Version}
+
+abbrev pub asked : DayWords → Asked
+asked d = record {
+  table = d.table.now;
+  date = d.date.now;
+  max = d.max;
+  anacrontab = option_map (λ path. path.now) d.anacrontab;
+  from = d.from;
+  to = d.to;
+}
+
+abbrev pub asked_replay : ReplayWords → AskedReplay
+asked_replay r = record {
+  table = r.table.now;
+  script = r.script.now;
+  max = r.max;
+  anacrontab = option_map (λ path. path.now) r.anacrontab;
+  declarations = option_map (λ path. path.now) r.declarations;
+}
+
+abbrev pub asked_check : CheckWords → AskedCheck
+asked_check c = record {
+  table = c.table.now;
+  declarations = c.declarations.now;
+  certificate = c.certificate.now;
+  anacrontab = option_map (λ path. path.now) c.anacrontab;
+}
+
+abbrev pub asked_run : RunWords → AskedRun
+asked_run r = record { check = asked_check r.check; stamps = r.stamps.now; minutes = r.minutes }
+
+abbrev pub asked_judge : JudgeWords → AskedJudge
+asked_judge j = record {
+  table = j.table.now;
+  declarations = j.declarations.now;
+  anacrontab = option_map (λ path. path.now) j.anacrontab;
+}
+
+abbrev pub asked_make : MakeWords → AskedMake
+asked_make m = record { judge = asked_judge m.judge; compact = m.compact }
+
+abbrev pub asked_draft : DraftWords → AskedDraft
+asked_draft d = record {
+  table = d.table.now;
+  max = d.max;
+  anacrontab = option_map (λ path. path.now) d.anacrontab;
+}
+
+abbrev pub asked_lint : LintWords → AskedLint
+asked_lint l = record {
+  table = l.table.now;
+  declarations = option_map (λ path. path.now) l.declarations;
+  anacrontab = option_map (λ path. path.now) l.anacrontab;
+}
+
+abbrev pub asked_chart : ChartWords → AskedChart
+asked_chart c = record {
+  day = asked c.day;
+  days = c.days;
+  declarations = option_map (λ path. path.now) c.declarations;
+}
+
+abbrev pub asking : Request → Asking
+asking (request.Day d) = Day (asked d)
+asking (request.Replay r) = Replay (asked_replay r)
+asking (request.Check c) = Check (asked_check c)
+asking (request.Run r) = Run (asked_run r)
+asking (request.Judge j) = Judge (asked_judge j)
+asking (request.Make m) = Make (asked_make m)
+asking (request.Draft d) = Draft (asked_draft d)
+asking (request.Lint l) = Lint (asked_lint l)
+asking (request.Chart c) = Chart (asked_chart c)
+asking (request.Explain name) = Explain (option_map (λ name. name.now) name)
+
+-- the words ask what is answered; help and the version are answered where they are asked for, and a
+-- fault of the words where there is one
+abbrev pub Parses : List Text → Result Request UsageFault → Type 0
+Parses words (Ok r) = Asks words (asking r)
+Parses words (Err (Help text)) = AsksHelp words
+Parses words (Err Version) = AsksVersion words
+Parses words (Err (NoCall text)) = IsNoCall words
+Parses words (Err OutOfMemory) = ⊤
+
+-- what is asked is answered, and a fault of the words where nothing is
+abbrev pub AnswersFor : {W A : Type 0} → (W → A) → Option A → Result W UsageFault → Type 0
+AnswersFor view wanted (Ok words) = wanted ≡ Some (view words)
+AnswersFor view wanted (Err (Help text)) = ⊥
+AnswersFor view wanted (Err Version) = ⊥
+AnswersFor view wanted (Err (NoCall text)) = wanted ≡ None
+AnswersFor view wanted (Err OutOfMemory) = ⊤
+
+-- so of a number, and of one that may be left out
+abbrev pub NumberAsked : Option ℕ → Result ℕ UsageFault → Type 0
+NumberAsked = AnswersFor (λ n. n)
+
+abbrev pub MinutesAsked : Option (Option ℕ) → Result (Option ℕ) UsageFault → Type 0
+MinutesAsked = AnswersFor (λ n. n)
+
+-- and of the entries that follow a subcommand
+abbrev pub DayAsked : List Row → Result DayWords UsageFault → Type 0
+DayAsked rows = AnswersFor asked (asked_in rows)
+
+abbrev pub ReplayAsked : List Row → Result ReplayWords UsageFault → Type 0
+ReplayAsked rows = AnswersFor asked_replay (replay_in rows)
+
+abbrev pub CheckAsked : List Row → Result CheckWords UsageFault → Type 0
+CheckAsked rows = AnswersFor asked_check (check_in rows)
+
+abbrev pub RunAsked : List Row → Result RunWords UsageFault → Type 0
+RunAsked rows = AnswersFor asked_run (run_in rows)
+
+abbrev pub JudgeAsked : List Row → Result JudgeWords UsageFault → Type 0
+JudgeAsked rows = AnswersFor asked_judge (judge_in rows)
+
+abbrev pub MakeAsked : List Row → Result MakeWords UsageFault → Type 0
+MakeAsked rows = AnswersFor asked_make (make_in rows)
+
+abbrev pub DraftAsked : List Row → Result DraftWords UsageFault → Type 0
+DraftAsked rows = AnswersFor asked_draft (draft_in rows)
+
+abbrev pub LintAsked : List Row → Result LintWords UsageFault → Type 0
+LintAsked rows = AnswersFor asked_lint (lint_in rows)
+
+abbrev pub ChartAsked : List Row → Result ChartWords UsageFault → Type 0
+ChartAsked rows = AnswersFor asked_chart (chart_in rows)
+
+-- and of those that follow `help`: a text of it
+abbrev pub HelpAsked : {T : Type 0} → List Row → Result T UsageFault → Type 0
+HelpAsked rows (Ok text) = help_in rows ≡ Some HelpAsking
+HelpAsked rows (Err (Help text)) = ⊥
+HelpAsked rows (Err Version) = ⊥
+HelpAsked rows (Err (NoCall text)) = help_in rows ≡ None
+HelpAsked rows (Err OutOfMemory) = ⊤
+
+-- and of a subcommand's, by its name
+abbrev pub RequestAsked : Text → List Row → Result Request UsageFault → Type 0
+RequestAsked name rows (Ok r) = asked_by name rows ≡ Some (asking r)
+RequestAsked name rows (Err (Help text)) = asked_by name rows ≡ Some HelpAsking
+RequestAsked name rows (Err Version) = ⊥
+RequestAsked name rows (Err (NoCall text)) = asked_by name rows ≡ None
+RequestAsked name rows (Err OutOfMemory) = ⊤
+
+-- what a fault of `clap` is here
+abbrev pub FaultOf : Error → UsageFault → Type 0
+FaultOf e (Help text) = kind_of e ≡ DisplayHelp
+FaultOf e Version = kind_of e ≡ DisplayVersion
+FaultOf e (NoCall text) =
+    (kind_of e ≢ DisplayHelp) × (kind_of e ≢ DisplayVersion) × (kind_of e ≢ kind.OutOfMemory)
+FaultOf e OutOfMemory = ⊤

@@ -1,0 +1,479 @@
+//! What the words of a call ask.
+ghost use Rattle.std.specs.Prelude.{◌≡◌, codes, map, option_map};
+ghost use Rattle.std.specs.Char.{is_ascii_digit};
+ghost use Rattle.std.specs.List.{list_all};
+ghost use Rattle.clap.specs.Words.{first_of, found_of, rows_of};
+ghost use Rattle.cs_args.specs.CommandLine.{are_dashes, has_flag, is_dash_in, is_twice_standard, minutes_of, number_of, value_or};
+ghost use Rattle.cs_args.specs.Asked.{CheckAsked, DayAsked, FaultOf, HelpAsked, NumberAsked, Parses, ReplayAsked, RequestAsked};
+ghost use Rattle.cs_args.specs.Asked.{JudgeAsked, MakeAsked, MinutesAsked, RunAsked};
+ghost use Rattle.cs_args.specs.Asked.{ChartAsked, DraftAsked, LintAsked};
+ghost use Rattle.cs_args.specs.CommandLine.{is_up_to_a_week};
+
+use crate::commands::{Subcommand, command};
+use crate::request::{
+    ChartWords, CheckWords, DayWords, DraftWords, JudgeWords, LintWords, MakeWords, ReplayWords,
+    Request, RunWords, UsageFault,
+};
+use clap::error::ErrorKind;
+use clap::{ArgMatches, Error};
+use std::alloc::{AllocError, Global};
+use std::convert::AsStr;
+
+/// What a fault of `clap` is here.
+fn fault_of(alloc: Global, error: &Error) -> UsageFault
+    ensures { FaultOf error.now result }
+{
+    let kind = error.kind();
+    if kind == ErrorKind::OutOfMemory {
+        return UsageFault::OutOfMemory;
+    }
+    if kind == ErrorKind::DisplayVersion {
+        return UsageFault::Version;
+    }
+    match error.to_string(alloc) {
+        Ok(text) if kind == ErrorKind::DisplayHelp => UsageFault::Help(text),
+        Ok(text) => UsageFault::NoCall(text),
+        Err(_) => UsageFault::OutOfMemory,
+    }
+}
+
+/// Whether all bytes are decimal digits.
+fn has_only_digits(bytes: &[u8]) -> bool
+    ensures { result ≡ list_all is_ascii_digit bytes.now }
+{
+    bytes.iter().all(|b| b.is_ascii_digit())
+}
+
+/// The number that decimal digits write, if it fits.
+#[tactic(auto, using(crate::proofs::CommandLineLemmas::number_read, crate::proofs::CommandLineLemmas::number_refused))]
+fn digits(text: &str) -> Option<u64>
+    ensures { result ≡ number_of text.now }
+{
+    if !has_only_digits(text.as_bytes()) {
+        return None;
+    }
+    text.parse::<u64>().ok()
+}
+
+/// The first value of an argument, if it has one.
+fn value_of<'a>(given: &ArgMatches<'a>, id: &str) -> Option<&'a str>
+    ensures { option_map (λ text. text.now) result
+        ≡ first_of id.now (rows_of (found_of given.now)) }
+{
+    given.get_str(id)
+}
+
+/// The first value of an argument, and this text where it has none.
+fn text_of<'a>(given: &ArgMatches<'a>, id: &str, absent: &'a str) -> &'a str
+    ensures { result.now ≡ value_or absent.now id.now (rows_of (found_of given.now)) }
+{
+    match value_of(given, id) {
+        Some(text) => text,
+        None => absent,
+    }
+}
+
+/// Whether an option with no value is given.
+fn has_flag(given: &ArgMatches<'_>, id: &str) -> bool
+    ensures { result ≡ has_flag id.now (rows_of (found_of given.now)) }
+{
+    match value_of(given, id) {
+        Some(text) => text == "true",
+        None => false,
+    }
+}
+
+/// Whether both paths name standard input.
+fn is_twice_standard(table: &str, anacrontab: Option<&str>) -> bool
+    ensures { result
+        ≡ is_twice_standard table.now (option_map (λ path. path.now) anacrontab.entry) }
+{
+    match anacrontab {
+        Some(path) => table == "-" && path == "-",
+        None => false,
+    }
+}
+
+/// What is wrong with the number of an argument.
+fn number_fault(
+    alloc: Global,
+    subcommand: Subcommand,
+    name: &str,
+    text: &str,
+) -> Result<String, AllocError> {
+    let message = if !text.is_empty() && has_only_digits(text.as_bytes()) {
+        format!(in alloc; "{name} is larger than 18446744073709551615: {text}")?
+    } else {
+        format!(in alloc; "{name} is not a number: {text}")?
+    };
+    subcommand.fault(alloc, message.as_str())
+}
+
+/// The number of an argument.
+fn number(alloc: Global, subcommand: Subcommand, name: &str, text: &str) -> Result<u64, UsageFault>
+    ensures { NumberAsked (number_of text.now) result }
+{
+    match digits(text) {
+        Some(number) => Ok(number),
+        None => Err(UsageFault::NoCall(number_fault(alloc, subcommand, name, text)?)),
+    }
+}
+
+/// What is wrong where two paths name standard input.
+fn twice_standard(alloc: Global, subcommand: Subcommand) -> Result<String, AllocError> {
+    subcommand.fault(alloc, "only one path can be - for standard input")
+}
+
+/// What the entries of `day` ask, and of `chart` the same of them.
+fn day_words<'a>(
+    alloc: Global,
+    subcommand: Subcommand,
+    given: &ArgMatches<'a>,
+) -> Result<DayWords<'a>, UsageFault>
+    ensures { DayAsked (rows_of (found_of given.now)) result }
+{
+    let max = number(alloc, subcommand, "MAX", text_of(given, "MAX", ""))?;
+    let from = number(alloc, subcommand, "--from", text_of(given, "from", "0"))?;
+    let to = number(alloc, subcommand, "--to", text_of(given, "to", "1440"))?;
+    let table = text_of(given, "TABLE", "");
+    let anacrontab = value_of(given, "anacrontab");
+    if is_twice_standard(table, anacrontab) {
+        return Err(UsageFault::NoCall(twice_standard(alloc, subcommand)?));
+    }
+    Ok(DayWords {
+        table,
+        date: text_of(given, "DATE", ""),
+        max,
+        anacrontab,
+        from,
+        to,
+    })
+}
+
+/// Whether the path is given, and names standard input.
+fn is_dash_in(path: Option<&str>) -> bool
+    ensures { result ≡ is_dash_in (option_map (λ path. path.now) path.entry) }
+{
+    match path {
+        Some(path) => path == "-",
+        None => false,
+    }
+}
+
+/// Whether two of the paths name standard input.
+fn are_dashes(
+    table: &str,
+    script: &str,
+    anacrontab: Option<&str>,
+    declarations: Option<&str>,
+) -> bool
+    ensures { result ≡ are_dashes table.now script.now
+        (option_map (λ path. path.now) anacrontab.entry)
+        (option_map (λ path. path.now) declarations.entry) }
+{
+    let tables = (table == "-", script == "-");
+    let options = (is_dash_in(anacrontab), is_dash_in(declarations));
+    (tables.0 && tables.1)
+        || ((tables.0 || tables.1) && (options.0 || options.1))
+        || (options.0 && options.1)
+}
+
+/// What the entries of `replay` ask.
+fn replay_words<'a>(alloc: Global, given: &ArgMatches<'a>) -> Result<ReplayWords<'a>, UsageFault>
+    ensures { ReplayAsked (rows_of (found_of given.now)) result }
+{
+    let max = number(
+        alloc,
+        Subcommand::Replay,
+        "--max",
+        text_of(given, "max", "1440"),
+    )?;
+    let table = text_of(given, "TABLE", "");
+    let script = text_of(given, "SCRIPT", "");
+    let anacrontab = value_of(given, "anacrontab");
+    let declarations = value_of(given, "declarations");
+    if are_dashes(table, script, anacrontab, declarations) {
+        return Err(UsageFault::NoCall(twice_standard(alloc, Subcommand::Replay)?));
+    }
+    Ok(ReplayWords {
+        table,
+        script,
+        max,
+        anacrontab,
+        declarations,
+    })
+}
+
+/// What the entries of `check` ask, and of `run` the same of them.
+fn check_words<'a>(
+    alloc: Global,
+    subcommand: Subcommand,
+    given: &ArgMatches<'a>,
+) -> Result<CheckWords<'a>, UsageFault>
+    ensures { CheckAsked (rows_of (found_of given.now)) result }
+{
+    let table = text_of(given, "TABLE", "");
+    let declarations = text_of(given, "DECLS", "");
+    let certificate = text_of(given, "CERT", "");
+    let anacrontab = value_of(given, "anacrontab");
+    if are_dashes(table, declarations, anacrontab, Some(certificate)) {
+        return Err(UsageFault::NoCall(twice_standard(alloc, subcommand)?));
+    }
+    Ok(CheckWords {
+        table,
+        declarations,
+        certificate,
+        anacrontab,
+    })
+}
+
+/// The number of minutes after which a run is to end, if one is given.
+fn minutes(alloc: Global, text: Option<&str>) -> Result<Option<u64>, UsageFault>
+    ensures { MinutesAsked (minutes_of (option_map (λ text. text.now) text.entry)) result }
+{
+    match text {
+        Some(text) => Ok(Some(number(alloc, Subcommand::Run, "--minutes", text)?)),
+        None => Ok(None),
+    }
+}
+
+/// What the entries of `run` ask.
+fn run_words<'a>(alloc: Global, given: &ArgMatches<'a>) -> Result<RunWords<'a>, UsageFault>
+    ensures { RunAsked (rows_of (found_of given.now)) result }
+{
+    let minutes = minutes(alloc, value_of(given, "minutes"))?;
+    let check = check_words(alloc, Subcommand::Run, given)?;
+    Ok(RunWords {
+        check,
+        stamps: text_of(given, "STAMPS", ""),
+        minutes,
+    })
+}
+
+/// What the entries of `judge` ask, and of `make` the same of them.
+fn judge_words<'a>(
+    alloc: Global,
+    subcommand: Subcommand,
+    given: &ArgMatches<'a>,
+) -> Result<JudgeWords<'a>, UsageFault>
+    ensures { JudgeAsked (rows_of (found_of given.now)) result }
+{
+    let table = text_of(given, "TABLE", "");
+    let declarations = text_of(given, "DECLS", "");
+    let anacrontab = value_of(given, "anacrontab");
+    if are_dashes(table, declarations, anacrontab, None) {
+        return Err(UsageFault::NoCall(twice_standard(alloc, subcommand)?));
+    }
+    Ok(JudgeWords {
+        table,
+        declarations,
+        anacrontab,
+    })
+}
+
+/// What the entries of `make` ask.
+fn make_words<'a>(alloc: Global, given: &ArgMatches<'a>) -> Result<MakeWords<'a>, UsageFault>
+    ensures { MakeAsked (rows_of (found_of given.now)) result }
+{
+    let judge = judge_words(alloc, Subcommand::Make, given)?;
+    let compact = has_flag(given, "compact");
+    Ok(MakeWords { judge, compact })
+}
+
+/// What the entries of `draft` ask.
+fn draft_words<'a>(alloc: Global, given: &ArgMatches<'a>) -> Result<DraftWords<'a>, UsageFault>
+    ensures { DraftAsked (rows_of (found_of given.now)) result }
+{
+    let max = number(
+        alloc,
+        Subcommand::Draft,
+        "--max",
+        text_of(given, "max", "60"),
+    )?;
+    let table = text_of(given, "TABLE", "");
+    let anacrontab = value_of(given, "anacrontab");
+    if is_twice_standard(table, anacrontab) {
+        return Err(UsageFault::NoCall(twice_standard(alloc, Subcommand::Draft)?));
+    }
+    Ok(DraftWords {
+        table,
+        max,
+        anacrontab,
+    })
+}
+
+/// What the entries of `lint` ask.
+fn lint_words<'a>(alloc: Global, given: &ArgMatches<'a>) -> Result<LintWords<'a>, UsageFault>
+    ensures { LintAsked (rows_of (found_of given.now)) result }
+{
+    let table = text_of(given, "TABLE", "");
+    let declarations = value_of(given, "DECLS");
+    let anacrontab = value_of(given, "anacrontab");
+    if are_dashes(table, "", anacrontab, declarations) {
+        return Err(UsageFault::NoCall(twice_standard(alloc, Subcommand::Lint)?));
+    }
+    Ok(LintWords {
+        table,
+        declarations,
+        anacrontab,
+    })
+}
+
+/// Whether so many days are from one to a week.
+fn is_up_to_a_week(days: u64) -> bool
+    ensures { result ≡ is_up_to_a_week days }
+{
+    days > 0 && days < 8
+}
+
+/// What the entries of `chart` ask.
+fn chart_words<'a>(alloc: Global, given: &ArgMatches<'a>) -> Result<ChartWords<'a>, UsageFault>
+    ensures { ChartAsked (rows_of (found_of given.now)) result }
+{
+    let day = day_words(alloc, Subcommand::Chart, given)?;
+    let days = number(
+        alloc,
+        Subcommand::Chart,
+        "--days",
+        text_of(given, "days", "1"),
+    )?;
+    let declarations = value_of(given, "declarations");
+    if are_dashes(day.table, "", day.anacrontab, declarations) {
+        return Err(UsageFault::NoCall(twice_standard(alloc, Subcommand::Chart)?));
+    }
+    if !is_up_to_a_week(days) {
+        let message = "--days is from 1 to 7";
+        return Err(UsageFault::NoCall(Subcommand::Chart.fault(alloc, message)?));
+    }
+    Ok(ChartWords {
+        day,
+        days: days as u8,
+        declarations,
+    })
+}
+
+/// The help that the entries of `help` ask for, of the program or of a subcommand.
+fn help_text(alloc: Global, given: &ArgMatches<'_>) -> Result<String, UsageFault>
+    ensures { HelpAsked (rows_of (found_of given.now)) result }
+{
+    let Some(name) = value_of(given, "COMMAND") else {
+        return Ok(command(alloc)?.render_help()?);
+    };
+    match Subcommand::named(name) {
+        Some(subcommand) => Ok(subcommand.help(alloc)?),
+        None => {
+            let message = format!(in alloc; "unrecognized subcommand '{name}'")?;
+            Err(UsageFault::NoCall(Subcommand::Help.fault(alloc, message.as_str())?))
+        }
+    }
+}
+
+/// The request of the entries of `replay`.
+fn replay_request<'a>(alloc: Global, given: &ArgMatches<'a>) -> Result<Request<'a>, UsageFault>
+    ensures { RequestAsked (codes "replay") (rows_of (found_of given.now)) result }
+{
+    Ok(Request::Replay(replay_words(alloc, given)?))
+}
+
+/// The request of the entries of `check`.
+fn check_request<'a>(alloc: Global, given: &ArgMatches<'a>) -> Result<Request<'a>, UsageFault>
+    ensures { RequestAsked (codes "check") (rows_of (found_of given.now)) result }
+{
+    Ok(Request::Check(check_words(alloc, Subcommand::Check, given)?))
+}
+
+/// The request of the entries of `run`.
+fn run_request<'a>(alloc: Global, given: &ArgMatches<'a>) -> Result<Request<'a>, UsageFault>
+    ensures { RequestAsked (codes "run") (rows_of (found_of given.now)) result }
+{
+    Ok(Request::Run(run_words(alloc, given)?))
+}
+
+/// The request of the entries of `judge`.
+fn judge_request<'a>(alloc: Global, given: &ArgMatches<'a>) -> Result<Request<'a>, UsageFault>
+    ensures { RequestAsked (codes "judge") (rows_of (found_of given.now)) result }
+{
+    Ok(Request::Judge(judge_words(alloc, Subcommand::Judge, given)?))
+}
+
+/// The request of the entries of `make`.
+fn make_request<'a>(alloc: Global, given: &ArgMatches<'a>) -> Result<Request<'a>, UsageFault>
+    ensures { RequestAsked (codes "make") (rows_of (found_of given.now)) result }
+{
+    Ok(Request::Make(make_words(alloc, given)?))
+}
+
+/// The request of the entries of `draft`.
+fn draft_request<'a>(alloc: Global, given: &ArgMatches<'a>) -> Result<Request<'a>, UsageFault>
+    ensures { RequestAsked (codes "draft") (rows_of (found_of given.now)) result }
+{
+    Ok(Request::Draft(draft_words(alloc, given)?))
+}
+
+/// The request of the entries of `lint`.
+fn lint_request<'a>(alloc: Global, given: &ArgMatches<'a>) -> Result<Request<'a>, UsageFault>
+    ensures { RequestAsked (codes "lint") (rows_of (found_of given.now)) result }
+{
+    Ok(Request::Lint(lint_words(alloc, given)?))
+}
+
+/// The request of the entries of `chart`.
+fn chart_request<'a>(alloc: Global, given: &ArgMatches<'a>) -> Result<Request<'a>, UsageFault>
+    ensures { RequestAsked (codes "chart") (rows_of (found_of given.now)) result }
+{
+    Ok(Request::Chart(chart_words(alloc, given)?))
+}
+
+/// The request of the entries of `day`.
+fn day_request<'a>(alloc: Global, given: &ArgMatches<'a>) -> Result<Request<'a>, UsageFault>
+    ensures { RequestAsked (codes "day") (rows_of (found_of given.now)) result }
+{
+    Ok(Request::Day(day_words(alloc, Subcommand::Day, given)?))
+}
+
+/// The help of the entries of `help`.
+fn help_request<'a>(alloc: Global, given: &ArgMatches<'_>) -> Result<Request<'a>, UsageFault>
+    ensures { RequestAsked (codes "help") (rows_of (found_of given.now)) result }
+{
+    Err(UsageFault::Help(help_text(alloc, given)?))
+}
+
+/// What the entries of a subcommand ask, by its name.
+fn asked_by<'a>(
+    alloc: Global,
+    name: &str,
+    given: &ArgMatches<'a>,
+) -> Result<Request<'a>, UsageFault>
+    ensures { RequestAsked name.now (rows_of (found_of given.now)) result }
+{
+    match name {
+        "replay" => replay_request(alloc, given),
+        "check" => check_request(alloc, given),
+        "run" => run_request(alloc, given),
+        "judge" => judge_request(alloc, given),
+        "make" => make_request(alloc, given),
+        "draft" => draft_request(alloc, given),
+        "lint" => lint_request(alloc, given),
+        "chart" => chart_request(alloc, given),
+        "help" => help_request(alloc, given),
+        "explain" => Ok(Request::Explain(value_of(given, "NAME"))),
+        _ => day_request(alloc, given),
+    }
+}
+
+/// What the words of a call ask, the first of which is the program's name.
+pub fn parse_words<'a, S: AsStr>(alloc: Global, words: &'a [S]) -> Result<Request<'a>, UsageFault>
+    ensures { Parses (map S.text words.entry.now) result }
+{
+    let matches = match command(alloc)?.try_get_matches_from(words) {
+        Ok(matches) => matches,
+        Err(error) => return Err(fault_of(alloc, &error)),
+    };
+    match matches.subcommand() {
+        Some((name, given)) => asked_by(alloc, name, given),
+        None => Err(UsageFault::NoCall(String::from_str(
+            alloc,
+            "error: a subcommand is required\n",
+        )?)),
+    }
+}

@@ -1,0 +1,17 @@
+//! The words of a call: what they ask, or why they are no call.
+#![tactic(auto)]
+
+mod command_line;
+mod commands;
+mod question;
+mod request;
+mod texts;
+mod version;
+
+pub use command_line::parse_words;
+pub use question::{Question, WordFault};
+pub use request::{
+    ChartWords, CheckWords, DayWords, DraftWords, JudgeWords, LintWords, MakeWords, ReplayWords,
+    Request, RunWords, UsageFault,
+};
+pub use version::version_text;

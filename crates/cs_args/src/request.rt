@@ -1,0 +1,168 @@
+//! What a call asks, and why words are no call.
+ghost use Rattle.std.specs.Prelude.{◌≡◌};
+ghost use Rattle.cs_args.specs.declared.request.UsageFault.TheVariants.{OutOfMemory as no_memory};
+
+use std::alloc::{AllocError, AllocFailed};
+
+/// What `day` is asked.
+#[derive(Clone, Copy, Debug)]
+pub struct DayWords<'a> {
+    /// The path of a crontab.
+    pub table: &'a str,
+    /// The text of a date.
+    pub date: &'a str,
+    /// The longest time of each job, in minutes.
+    pub max: u64,
+    /// The path of an anacrontab.
+    pub anacrontab: Option<&'a str>,
+    /// The first minute of the day at which an anacron job may be started.
+    pub from: u64,
+    /// The first minute of the day behind the catch-up hours.
+    pub to: u64,
+}
+
+/// What `replay` is asked.
+#[derive(Clone, Copy, Debug)]
+pub struct ReplayWords<'a> {
+    /// The path of a crontab.
+    pub table: &'a str,
+    /// The path of a script.
+    pub script: &'a str,
+    /// The longest time of each job, in minutes, where nothing is declared.
+    pub max: u64,
+    /// The path of an anacrontab.
+    pub anacrontab: Option<&'a str>,
+    /// The path of declarations.
+    pub declarations: Option<&'a str>,
+}
+
+/// What `check` is asked.
+#[derive(Clone, Copy, Debug)]
+pub struct CheckWords<'a> {
+    /// The path of a crontab.
+    pub table: &'a str,
+    /// The path of declarations.
+    pub declarations: &'a str,
+    /// The path of a certificate.
+    pub certificate: &'a str,
+    /// The path of an anacrontab.
+    pub anacrontab: Option<&'a str>,
+}
+
+/// What `run` is asked.
+#[derive(Clone, Copy, Debug)]
+pub struct RunWords<'a> {
+    /// The paths that `check` is asked with.
+    pub check: CheckWords<'a>,
+    /// The path of a folder of stamps.
+    pub stamps: &'a str,
+    /// After how many minutes the clock stops; never where there is no number.
+    pub minutes: Option<u64>,
+}
+
+/// What `judge` is asked.
+#[derive(Clone, Copy, Debug)]
+pub struct JudgeWords<'a> {
+    /// The path of a crontab.
+    pub table: &'a str,
+    /// The path of declarations.
+    pub declarations: &'a str,
+    /// The path of an anacrontab.
+    pub anacrontab: Option<&'a str>,
+}
+
+/// What `make` is asked.
+#[derive(Clone, Copy, Debug)]
+pub struct MakeWords<'a> {
+    /// The paths that `judge` is asked with.
+    pub judge: JudgeWords<'a>,
+    /// Whether the certificate is to be a compact one, which says only what the tables and declarations don't.
+    pub compact: bool,
+}
+
+/// What `draft` is asked.
+#[derive(Clone, Copy, Debug)]
+pub struct DraftWords<'a> {
+    /// The path of a crontab.
+    pub table: &'a str,
+    /// The longest time of each job, in minutes.
+    pub max: u64,
+    /// The path of an anacrontab.
+    pub anacrontab: Option<&'a str>,
+}
+
+/// What `lint` is asked.
+#[derive(Clone, Copy, Debug)]
+pub struct LintWords<'a> {
+    /// The path of a crontab.
+    pub table: &'a str,
+    /// The path of declarations.
+    pub declarations: Option<&'a str>,
+    /// The path of an anacrontab.
+    pub anacrontab: Option<&'a str>,
+}
+
+/// What `chart` is asked.
+#[derive(Clone, Copy, Debug)]
+pub struct ChartWords<'a> {
+    /// What `day` is asked, of the first day.
+    pub day: DayWords<'a>,
+    /// For how many days, from 1 to 7.
+    pub days: u8,
+    /// The path of declarations.
+    pub declarations: Option<&'a str>,
+}
+
+/// What a call asks.
+#[derive(Clone, Copy, Debug)]
+pub enum Request<'a> {
+    /// A day of the tables.
+    Day(DayWords<'a>),
+    /// The replay of a script.
+    Replay(ReplayWords<'a>),
+    /// The check of a certificate.
+    Check(CheckWords<'a>),
+    /// A run of checked tables on the machine's clock.
+    Run(RunWords<'a>),
+    /// Whether a plan is safe, or a history that breaks it.
+    Judge(JudgeWords<'a>),
+    /// A certificate of a plan, or a history that breaks it.
+    Make(MakeWords<'a>),
+    /// Declarations to begin from.
+    Draft(DraftWords<'a>),
+    /// All that is wrong or odd in files.
+    Lint(LintWords<'a>),
+    /// A picture of some days of the tables.
+    Chart(ChartWords<'a>),
+    /// What the name of a fault or of a refusal means, or which names there are.
+    Explain(Option<&'a str>),
+}
+
+/// Why words are no call.
+#[derive(Debug, Drop)]
+pub enum UsageFault {
+    /// Help is asked for: its text.
+    Help(String),
+    /// The version is asked for.
+    Version,
+    /// The words are no call of the program: what is wrong with them.
+    NoCall(String),
+    /// There was no room for the words or the text.
+    OutOfMemory,
+}
+
+impl From<AllocError> for UsageFault {
+    ghost from_gives = { λ _ e. e ≡ no_memory };
+
+    fn from(_error: AllocError) -> UsageFault {
+        UsageFault::OutOfMemory
+    }
+}
+
+impl<T: Drop> From<AllocFailed<T>> for UsageFault {
+    ghost from_gives = { λ _ e. e ≡ no_memory };
+
+    fn from(_error: AllocFailed<T>) -> UsageFault {
+        UsageFault::OutOfMemory
+    }
+}

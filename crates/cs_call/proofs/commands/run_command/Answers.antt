@@ -1,9 +1,0 @@
-use Rattle.cs_call.specs.CommandLine.{run_app}
-use Rattle.cs_call.proofs.commands.run_command.Goals as goal
-
-pub returns-clause-app : goal.returns-clause-app
-unfolding run_app
-returns-clause-app c = c.with_option.ensures.app _ (c.with_option-command.ensures.app _ (c.with_required-command.ensures.app _ (c.with_certificate-command.ensures.app _ c.described-command.ensures.app)))
-
-pub returns-clause-local : goal.returns-clause-local
-returns-clause-local c = c.with_option.ensures.local (c.with_option-command.ensures.local (c.with_required-command.ensures.local (c.with_certificate-command.ensures.local c.described-command.ensures.local)))

@@ -1,6 +1,0 @@
-pub mod CommandLine
-pub mod Asked
-pub mod Hours
-pub mod Question
-pub mod Words
-pub mod Version

@@ -1,7 +1,0 @@
-use Rattle.std.proofs.Common.{◌≡◌, ◌<◌, ℕ, true}
-use Rattle.cs_cert.specs.Claim.{said}
-use Rattle.cs_chains.proofs.Alike.{job_alike}
-use Rattle.cs_chains.proofs.unlike.is_alike.Given as goal
-
-abbrev pub invariant-loop-number : goal.invariant-loop-number
-invariant-loop-number l = (j : ℕ) → j < l.number → job_alike l.plan (said l.claim) l.kind j ≡ true

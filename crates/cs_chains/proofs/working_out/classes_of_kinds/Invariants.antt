@@ -1,9 +1,0 @@
-use Rattle.std.proofs.Common.{◌≡◌, map}
-use Rattle.cs_cert.specs.Claim.{said}
-use Rattle.cs_claim.specs.WorkedOut.{worked_of}
-use Rattle.cs_history.specs.Lists.{below}
-use Rattle.cs_chains.proofs.working_out.classes_of_kinds.Given as goal
-
--- the classes so far
-abbrev pub invariant-loop-number : goal.invariant-loop-number
-invariant-loop-number l = l.worked.items ≡ map (worked_of l.plan (said l.claim)) (below l.number)

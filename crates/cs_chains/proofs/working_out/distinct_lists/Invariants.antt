@@ -1,8 +1,0 @@
-use Rattle.std.proofs.Common.{◌≡◌, map, take}
-use Rattle.cs_claim.specs.WorkedOut.{distinct}
-use Rattle.cs_chains.specs.Used.{classes_in}
-use Rattle.cs_chains.proofs.working_out.distinct_lists.Given as goal
-
--- the lists of the chains so far
-abbrev pub invariant-loop-chain : goal.invariant-loop-chain
-invariant-loop-chain l = map (λ list. list.now) l.lists.keys ≡ distinct (map classes_in (take l.chain-index l.chains))

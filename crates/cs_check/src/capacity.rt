@@ -1,0 +1,36 @@
+//! Capacity: at no minute of the last day do the windows weigh more than the capacity.
+ghost use Rattle.std.specs.Prelude.{◌≡◌, IfOk, option_map};
+ghost use Rattle.cs_cert.specs.Claim.{said};
+ghost use Rattle.cs_check.specs.Stretches.{IsCase, IsInUse, claim_of, plan_of, seen_of, capacity_fault};
+ghost use Rattle.cs_report.specs.Told.{told};
+
+use crate::case::{Case, civil, minute_on};
+use cs_classes::UsedStretch;
+use cs_report::CheckFault;
+use std::alloc::{AllocError, Global};
+
+/// The first minute of the last day at which the windows exceed the capacity.
+pub(crate) fn first_fault(
+    alloc: Global,
+    case: &Case<'_>,
+    used: &UsedStretch<'_>,
+) -> Result<Option<CheckFault>, AllocError>
+    requires case { IsCase case.now }
+    requires in_use { IsInUse (said case.now.claim.now) case.now.days used.now }
+    ensures { IfOk result (λ found. option_map told found
+        ≡ capacity_fault (plan_of case.now) (claim_of case.now) case.now.days
+        (seen_of case.now used.now)) }
+{
+    let windows = case.windows(alloc, used)?;
+    let quiet = case.roles.quiet(alloc, windows.as_slice())?;
+    if quiet.is_within {
+        return Ok(None);
+    }
+    match case.roles.overload(alloc, windows.as_slice())? {
+        Some((minute, load)) => {
+            let at = civil(minute_on(case, used, minute));
+            Ok(Some(CheckFault::OverCapacity { at, load }))
+        }
+        None => Ok(None),
+    }
+}

@@ -1,0 +1,54 @@
+//! Due minutes: the class of each kind of day has exactly those of the kind.
+ghost use Rattle.std.specs.Prelude.{◌≡◌, [], IfErr, IfOk};
+ghost use Rattle.cs_cert.specs.Claim.{said};
+ghost use Rattle.cs_check.specs.Case.{claim_fault};
+ghost use Rattle.cs_check.specs.Checked.{Tells};
+ghost use Rattle.cs_check.specs.ClassDays.{IsBasisOf};
+
+use crate::fault::CheckError;
+use cs_cert::Claim;
+use cs_classes::{Workers, first_unlike, occupied};
+use cs_decl::Plan;
+use cs_report::CheckFault;
+use cs_wait::Backlog;
+use cs_windows::Occupied;
+use std::alloc::Global;
+
+/// A plan and a certificate whose classes have the due minutes of their kinds.
+#[derive(Drop)]
+pub(crate) struct Basis<'a> {
+    pub(crate) plan: &'a Plan,
+    pub(crate) claim: &'a Claim<'a>,
+    /// What each job occupies, by number.
+    pub(crate) occupied: Vec<Occupied<'a>>,
+    /// The bound of groups that have none.
+    pub(crate) none: &'a Backlog,
+}
+
+/// The basis of a plan and a certificate, or the fault of the first kind of day whose class has
+/// other due minutes.
+pub(crate) fn basis_of<'a, W: Workers>(
+    workers: &W,
+    alloc: Global,
+    plan: &'a Plan,
+    claim: &'a Claim<'a>,
+    none: &'a Backlog,
+) -> Result<Basis<'a>, CheckError>
+    requires ready { W.can_work workers.now }
+    requires none { none.now ≡ [] }
+    ensures ok { IfOk result (IsBasisOf plan.now (said claim.now)) }
+    ensures fault { IfErr result (Tells (claim_fault plan.now (said claim.now))) }
+{
+    let _jobs = plan.jobs();
+    let unlike = first_unlike(workers, alloc, plan, claim)?;
+    let occupied = occupied(alloc, plan, claim.reach())?;
+    if let Some(kind) = unlike {
+        return Err(CheckError::Fault(CheckFault::ClassNotDue(kind)));
+    }
+    Ok(Basis {
+        plan,
+        claim,
+        occupied,
+        none,
+    })
+}

@@ -1,0 +1,52 @@
+//! Leaves: where windows are listed, each minute's leaf on the last day lists all that hold it.
+ghost use Rattle.std.specs.Prelude.{◌≡◌, IfOk, IsTrue, option_map};
+ghost use Rattle.cs_cert.specs.Claim.{said};
+ghost use Rattle.cs_check.specs.Stretches.{IsCase, IsInUse, claim_of, plan_of, seen_of, leaves_fault};
+ghost use Rattle.cs_report.specs.Told.{told};
+ghost use Rattle.cs_theorem.specs.Accepted.{ListsAll};
+
+use crate::case::{Case, civil, minute_on};
+use cs_classes::UsedStretch;
+use cs_overlap::missing;
+use cs_report::CheckFault;
+use cs_windows::Window;
+use std::alloc::{AllocError, Global};
+
+/// Whether the leaves of a stretch in use list these windows, if the version lists windows.
+pub(crate) fn holds(case: &Case<'_>, used: &UsedStretch<'_>, windows: &[Window]) -> bool
+    requires { IsInUse (said case.now.claim.now) case.now.days used.now }
+    ensures { IsTrue result → ListsAll (seen_of case.now used.now).tree windows.now }
+{
+    if case.claim.version() == 3 {
+        return true;
+    }
+    used.stretch.tree.covers(windows)
+}
+
+/// The first minute of the last day, and the first window there, that isn't listed.
+pub(crate) fn first_fault(
+    alloc: Global,
+    case: &Case<'_>,
+    used: &UsedStretch<'_>,
+) -> Result<Option<CheckFault>, AllocError>
+    requires case { IsCase case.now }
+    requires in_use { IsInUse (said case.now.claim.now) case.now.days used.now }
+    ensures { IfOk result (λ found. option_map told found
+        ≡ leaves_fault (plan_of case.now) (claim_of case.now) case.now.days
+        (seen_of case.now used.now)) }
+{
+    if case.claim.version() == 3 {
+        return Ok(None);
+    }
+    let windows = case.windows(alloc, used)?;
+    if holds(case, used, windows.as_slice()) {
+        return Ok(None);
+    }
+    match missing(alloc, &used.stretch.tree, windows.as_slice())? {
+        Some((minute, window)) => {
+            let at = civil(minute_on(case, used, minute));
+            Ok(Some(CheckFault::WindowMissing { window, at }))
+        }
+        None => Ok(None),
+    }
+}

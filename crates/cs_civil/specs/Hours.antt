@@ -1,0 +1,11 @@
+-- The catch-up hours.
+use Rattle.std.specs.Prelude.{ℕ, ◌<◌, ◌≤◌}
+
+-- the minutes of a day from one up to, and without, another
+pub record CatchUpHours : Type 0 where
+  pub from : ℕ
+  pub to : ℕ
+
+-- some minutes of one day
+abbrev pub ArePossible : CatchUpHours → Type 0
+ArePossible hours = (hours.from < hours.to) × (hours.to ≤ 1440)

@@ -1,0 +1,7 @@
+use Rattle.std.proofs.Common.{◌≡◌, ◌<◌, ℕ, true}
+use Rattle.cs_cert.specs.Claim.{said}
+use Rattle.cs_classes.proofs.Alike.{job_alike}
+use Rattle.cs_classes.proofs.unlike.is_alike.Given as goal
+
+abbrev pub invariant-loop-number : goal.invariant-loop-number
+invariant-loop-number l = (j : ℕ) → j < l.number → job_alike l.plan (said l.claim) l.kind j ≡ true

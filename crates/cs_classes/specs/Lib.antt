@@ -1,0 +1,14 @@
+pub mod Claim
+pub mod DayMinutes
+pub mod GroupDays
+pub mod Planned
+pub mod Reaches
+pub mod Work
+pub mod StandsFor
+pub mod Chains
+pub mod Used
+pub mod Days
+pub mod Fitting
+pub mod Likeness
+pub mod ByClasses
+pub mod WorkedOut

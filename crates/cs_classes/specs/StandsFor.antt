@@ -1,0 +1,97 @@
+-- What a certificate stands for. Versions 1 and 2 list all. Version 3 has which kinds of days are
+-- alike, what is left over at midnight and the reaches; due minutes, the bounds of each day and the
+-- stretches are worked out from the plan.
+use Rattle.std.specs.Prelude.{ℕ, List, [], ◌∷◌, ◌++◌, Option, Some, None, if◌then◌else◌, ◌==◌, filter, find, flat_map, fold, length, map}
+use Rattle.std.specs.List.{list_any}
+use Rattle.cs_civil.specs.Calendar.{Kind}
+use Rattle.cs_civil.specs.Order.{all_kinds}
+use Rattle.cs_windows.specs.Windows.{day_minutes}
+use Rattle.cs_windows.specs.Tree.{leaf}
+use Rattle.cs_wait.specs.Bounds.{following}
+use Rattle.cs_history.specs.Lists.{below}
+use Rattle.cs_decl.specs.Plan.{Declared, as_plan, crons}
+use Rattle.cs_cert.specs.Certificate.{bound_in, class_of}
+use Rattle.cs_cert.specs.Content.{Content, StretchTree}
+use Rattle.cs_cert.specs.declared.class.Class.{Class}
+use Rattle.cs_cert.specs.declared.class.DueList.{DueList}
+use Rattle.cs_cert.specs.declared.class.GroupBacklog.{GroupBacklog}
+use Rattle.cs_theorem.specs.Faults.{chains, has_waiter, same_list, stretch_length}
+use Rattle.cs_classes.specs.Claim.{class_at}
+use Rattle.cs_classes.specs.Planned.{due_on, reach_by}
+use Rattle.cs_classes.specs.Work.{arrivals_in}
+
+-- the first kind of day, in the order of all kinds, that has the class
+abbrev pub first_kind : Content → ℕ → Option Kind
+first_kind c class = find (λ kind. class_of c kind == class) all_kinds
+
+-- a job with the minutes at which it is due, if there are any
+abbrev pub due_list : ℕ → List ℕ → List DueList
+due_list job [] = []
+due_list job (m ∷ ms) = record { job = job; minutes = m ∷ ms } ∷ []
+
+-- when each cron job is due on days of a kind (crontab(5))
+abbrev pub due_of : Declared → Option Kind → List DueList
+due_of d None = []
+due_of d (Some kind) =
+    flat_map (λ j. due_list j (filter (due_on d j kind) day_minutes)) (below (crons d))
+
+-- such a day, with no bounds
+abbrev pub unbounded : Declared → Option Kind → Class
+unbounded d kind = record { due = due_of d kind; backlog = [] }
+
+-- the bound of a group on such a day: what is left over from before, and then by the arrivals
+abbrev pub bound_of : Declared → Class → ℕ → ℕ → GroupBacklog
+bound_of d day carry g = record {
+  group = g;
+  backlog = following carry (map (arrivals_in (as_plan d) day g) day_minutes);
+}
+
+-- the groups with a job that waits
+abbrev pub waited_groups : Declared → List ℕ
+waited_groups d = filter (has_waiter (as_plan d)) (below (as_plan d).groups)
+
+-- a class with what is left over at midnight, on days of a kind
+abbrev pub worked_class : Declared → Option Kind → Class → Class
+worked_class d kind class = record {
+  due = due_of d kind;
+  backlog = map (λ g. bound_of d (unbounded d kind) (bound_in class g 0) g) (waited_groups d);
+}
+
+-- the class with a number, on days of the first kind that has it
+abbrev pub worked_of : Declared → Content → ℕ → Class
+worked_of d c n = worked_class d (first_kind c n) (class_at c.classes n)
+
+-- the classes, by number
+abbrev pub worked_classes : Declared → Content → List Class
+worked_classes d c = map (worked_of d c) (below (length c.classes))
+
+-- one more of the lists, unless it is among them
+abbrev pub with_list : List (List ℕ) → List ℕ → List (List ℕ)
+with_list lists classes =
+    if list_any (λ list. same_list list classes) lists then lists else lists ++ classes ∷ []
+
+-- each of the lists once, where it comes first
+abbrev pub distinct : List (List ℕ) → List (List ℕ)
+distinct lists = fold with_list [] lists
+
+-- the classes that n successive days can have, in the order of the kinds that first have them
+abbrev pub class_lists : Content → ℕ → List (List ℕ)
+class_lists c n = distinct (map (map (class_of c)) (chains n))
+
+-- such days, with no tree
+abbrev pub bare : List ℕ → StretchTree
+bare classes = record { of = classes; tree = leaf [] }
+
+-- the length of the stretches: the plan and the reaches decide it
+abbrev pub days_for : Declared → Content → ℕ
+days_for d c = stretch_length (as_plan d) (due_on d) (reach_by d c.reach)
+
+-- what the certificate stands for under the plan
+abbrev pub claimed : Declared → Content → Content
+claimed d c = record {
+  version = c.version;
+  classes = if c.version == 3 then worked_classes d c else c.classes;
+  kinds = c.kinds;
+  stretches = if c.version == 3 then map bare (class_lists c (days_for d c)) else c.stretches;
+  reach = c.reach;
+}

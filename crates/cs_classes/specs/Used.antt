@@ -1,0 +1,41 @@
+-- The stretches that successive days have.
+use Rattle.std.specs.Prelude.{◌≡◌, ℕ, Bool, List, All, Contains, length, map}
+use Rattle.cs_civil.specs.Calendar.{Kind}
+use Rattle.cs_theorem.specs.Accepted.{IsChain}
+use Rattle.cs_theorem.specs.Certificate.{Stretch}
+use Rattle.cs_theorem.specs.Faults.{chains, same_list}
+use Rattle.cs_cert.specs.Certificate.{class_of}
+use Rattle.cs_cert.specs.Content.{Content, stretch_of}
+use Rattle.cs_classes.specs.Claim.{as_stretch}
+use Rattle.cs_classes.specs.declared.classed.ClassedChain.{ClassedChain}
+use Rattle.cs_classes.specs.declared.used.UsedStretch.{UsedStretch}
+
+-- the kinds and the classes of a chain
+abbrev pub kinds_in : ClassedChain → List Kind
+kinds_in chain = chain.kinds.items
+
+abbrev pub classes_in : ClassedChain → List ℕ
+classes_in chain = chain.classes.items
+
+abbrev pub has_classes : List ℕ → ClassedChain → Bool
+has_classes classes chain = same_list (classes_in chain) classes
+
+-- all chains of n kinds, each with the classes of its kinds
+pub record AreClassed (c : Content) (n : ℕ) (listed : List ClassedChain) : Type 0 where
+  pub all : map kinds_in listed ≡ chains n
+  pub classes : All (λ chain. classes_in chain ≡ map (class_of c) (kinds_in chain)) listed
+
+-- the kinds of n successive days have these classes
+pub record HaveClasses (c : Content) (n : ℕ) (named : List ℕ) (kinds : List Kind) : Type 0 where
+  pub chain : IsChain kinds
+  pub long : length kinds ≡ n
+  pub classes : map (class_of c) kinds ≡ named
+
+-- these are the kinds of a chain in the list that has these classes
+abbrev pub IsOneOf : List ClassedChain → List ℕ → List Kind → Type 0
+IsOneOf chains named kinds = (chain : ClassedChain) × Contains chains chain
+    × (classes_in chain ≡ named) × (kinds_in chain ≡ kinds)
+
+-- a stretch of what is claimed, as the rules see it
+abbrev pub seen : Content → UsedStretch → Stretch
+seen c used = as_stretch c.version (stretch_of used.stretch.now)

@@ -1,0 +1,67 @@
+//! Chains and stretches by their classes.
+ghost use Rattle.std.specs.Prelude.{◌≡◌, ◌++◌, ◌∷◌, [], ℕ, List, Contains, IfNone, IfOk, IfSome, OnOk, false};
+ghost use Rattle.std.specs.List.{list_any};
+ghost use Rattle.cs_theorem.specs.Faults.{same_list};
+ghost use Rattle.cs_classes.specs.ByClasses.{LeadTo, is_among};
+ghost use Rattle.cs_classes.specs.Used.{has_classes};
+ghost use Rattle.cs_classes.specs.declared.classed.ClassedChain.{ClassedChain};
+
+use crate::classed::ClassedChain;
+use cs_cert::Stretch;
+use indexmap::{IndexMap, IndexSet};
+use std::alloc::{AllocError, Global};
+
+/// Chains by their classes: the first with those classes.
+pub(crate) type ByClasses<'a> = IndexMap<&'a [u32], &'a ClassedChain>;
+
+/// A chain that has these classes, if there is one.
+pub(crate) fn chain_with<'a>(chains: &ByClasses<'a>, classes: &[u32]) -> Option<&'a ClassedChain>
+    ensures found { (listed : List ClassedChain) → LeadTo listed chains.now
+        → IfSome result (λ chain.
+        Contains listed chain.now × (chain.now.classes.items ≡ classes.now)) }
+    ensures none { (listed : List ClassedChain) → LeadTo listed chains.now
+        → IfNone result (list_any (has_classes classes.now) listed ≡ false) }
+{
+    chains.get(classes).copied()
+}
+
+/// Adds a chain, unless one with its classes is there.
+fn add<'a>(chains: &mut ByClasses<'a>, chain: &'a ClassedChain) -> Result<(), AllocError>
+    ensures { (listed : List ClassedChain) → LeadTo listed chains.old
+        → OnOk result (LeadTo (listed ++ chain.now ∷ []) chains.new) }
+{
+    let classes = chain.classes.as_slice();
+    if chain_with(chains, classes).is_none() {
+        chains.insert(classes, chain)?;
+    }
+    Ok(())
+}
+
+/// These chains by their classes. The only error is out of memory.
+pub(crate) fn by_classes(
+    alloc: Global,
+    chains: &[ClassedChain],
+) -> Result<ByClasses<'_>, AllocError>
+    ensures { IfOk result (λ by. LeadTo chains.now by) }
+{
+    let mut by = IndexMap::new(alloc);
+    for chain in chains {
+        add(&mut by, chain)?;
+    }
+    Ok(by)
+}
+
+/// The lists of classes that the stretches have. The only error is out of memory.
+pub(crate) fn class_lists(
+    alloc: Global,
+    stretches: &[Stretch],
+) -> Result<IndexSet<&[u32]>, AllocError>
+    ensures { IfOk result (λ lists. (classes : List ℕ)
+        → is_among lists.keys classes ≡ list_any (λ s. same_list s.of classes) stretches.now) }
+{
+    let mut lists = IndexSet::new(alloc);
+    for stretch in stretches {
+        lists.insert(stretch.of.as_slice())?;
+    }
+    Ok(lists)
+}

@@ -1,0 +1,44 @@
+//! The kinds of successive days with their classes.
+ghost use Rattle.std.specs.Prelude.{◌≡◌, ◌≤◌, IfOk, map};
+ghost use Rattle.cs_cert.specs.Certificate.{class_of};
+ghost use Rattle.cs_cert.specs.Claim.{said};
+ghost use Rattle.cs_classes.specs.Used.{AreClassed};
+
+use crate::chain::{Chain, chains};
+use arrayvec::ArrayVec;
+use cs_cert::Claim;
+use std::alloc::{AllocError, Global};
+
+/// Kinds that successive days can have, and the class of each.
+#[derive(Debug, Drop)]
+pub(crate) struct ClassedChain {
+    pub(crate) kinds: Chain,
+    pub(crate) classes: ArrayVec<u32, 4>,
+}
+
+pub(crate) fn classes_of(claim: &Claim<'_>, chain: &Chain) -> ArrayVec<u32, 4>
+    ensures { result.items ≡ map (class_of (said claim.now)) chain.now.items }
+{
+    let mut classes = ArrayVec::new();
+    for kind in chain.as_slice() {
+        classes.push(claim.class_of(*kind));
+    }
+    classes
+}
+
+/// All chains of this many days with their classes.
+pub(crate) fn classed_chains(
+    alloc: Global,
+    claim: &Claim<'_>,
+    days: u8,
+) -> Result<Vec<ClassedChain>, AllocError>
+    requires { (1 ≤ days) × (days ≤ 4) }
+    ensures { IfOk result (λ classed. AreClassed (said claim.now) days classed.items) }
+{
+    let mut classed = Vec::new(alloc);
+    for kinds in chains(alloc, days)? {
+        let classes = classes_of(claim, &kinds);
+        classed.push(ClassedChain { kinds, classes })?;
+    }
+    Ok(classed)
+}

@@ -1,0 +1,76 @@
+//! Whether each class of a certificate has the due minutes of its kinds of days.
+ghost use Rattle.std.specs.Prelude.{◌≡◌, IfOk, option_map};
+ghost use Rattle.cs_theorem.specs.Faults.{ClassNotDue, due_fault, is_due_alike};
+ghost use Rattle.cs_cert.specs.Claim.{said};
+ghost use Rattle.cs_classes.specs.Likeness.{AreLikenesses, is_due_day, likeness_on};
+ghost use Rattle.cs_classes.specs.Claim.{as_certificate};
+ghost use Rattle.cs_classes.specs.Planned.{due_on};
+ghost use Rattle.cs_decl.specs.Plan.{as_plan};
+
+use crate::likeness::{Likeness, is_due_day};
+use crate::workers::Workers;
+use cs_cert::Claim;
+use cs_civil::{DayKind, Sequence, all_kinds};
+use cs_crontab::Line;
+use cs_decl::Plan;
+use std::alloc::{AllocError, Global};
+
+/// Whether a class has a cron job's due minutes on days of this kind, by what it is to the job.
+fn is_job_alike(likeness: Likeness, line: &Line, kind: DayKind) -> bool
+    ensures { result ≡ likeness_on likeness (is_due_day line.now.when kind) }
+{
+    if is_due_day(line, kind) {
+        likeness.when_due
+    } else {
+        likeness.when_not
+    }
+}
+
+/// Whether the class of this kind has the due minutes of each cron job, by the rows of the classes.
+fn is_alike(plan: &Plan, claim: &Claim<'_>, rows: &[Sequence<Likeness>], kind: DayKind) -> bool
+    requires { AreLikenesses plan.now (said claim.now) rows.now }
+    ensures { result
+        ≡ is_due_alike (as_plan plan.now) (due_on plan.now) (as_certificate (said claim.now)) kind }
+{
+    let class = claim.class_of(kind) as usize;
+    let row = rows[class].as_slice();
+    for (number, line) in plan.crontab().lines().iter().enumerate() {
+        if !is_job_alike(row[number], line, kind) {
+            return false;
+        }
+    }
+    true
+}
+
+/// The first kind of day, in the order of [`all_kinds`], whose class doesn't have the due minutes
+/// of each cron job, by the rows of the classes.
+fn first_by_rows(plan: &Plan, claim: &Claim<'_>, rows: &[Sequence<Likeness>]) -> Option<DayKind>
+    requires { AreLikenesses plan.now (said claim.now) rows.now }
+    ensures { option_map ClassNotDue result
+        ≡ due_fault (as_plan plan.now) (due_on plan.now) (as_certificate (said claim.now)) }
+{
+    for kind in all_kinds() {
+        if !is_alike(plan, claim, rows, kind) {
+            return Some(kind);
+        }
+    }
+    None
+}
+
+/// Returns the first kind of day, in the order of [`all_kinds`], whose class doesn't have exactly
+/// the due minutes of the plan's cron jobs on such days (`crontab(5)`). The only error is out of
+/// memory.
+pub fn first_unlike<W: Workers>(
+    workers: &W,
+    alloc: Global,
+    plan: &Plan,
+    claim: &Claim<'_>,
+) -> Result<Option<DayKind>, AllocError>
+    requires { W.can_work workers.now }
+    ensures { IfOk result (λ found.
+        option_map ClassNotDue found
+        ≡ due_fault (as_plan plan.now) (due_on plan.now) (as_certificate (said claim.now))) }
+{
+    let rows = workers.likenesses(alloc, plan, claim)?;
+    Ok(first_by_rows(plan, claim, rows.as_slice()))
+}

@@ -1,0 +1,149 @@
+//! What a class of version 3 stands for on days of a kind.
+ghost use Rattle.std.specs.Prelude.{◌≡◌, ◌≤◌, ◌<◌, ◌++◌, [], Some, IfOk, OnOk, filter, map};
+ghost use Rattle.cs_cert.specs.Certificate.{bound_in};
+ghost use Rattle.cs_classes.specs.Planned.{is_due_on};
+ghost use Rattle.cs_classes.specs.StandsFor.{bound_of, due_list, due_of, unbounded, waited_groups, worked_class};
+ghost use Rattle.cs_decl.specs.Plan.{as_plan};
+ghost use Rattle.cs_windows.specs.Windows.{day_minutes};
+
+use crate::locks::has_waiter;
+use crate::steps::{arrivals_in, backlog_of};
+use cs_cert::{Class, DueList, GroupBacklog};
+use cs_civil::{DayKind, Sequence};
+use cs_crontab::{Line, When};
+use cs_decl::Plan;
+use cs_schedule::MinuteSet;
+use cs_wait::{Backlog, MAX_BACKLOG};
+use std::alloc::{AllocError, Global};
+
+/// The minutes at which a command is due on days of a kind.
+fn minutes_on(line: &Line, kind: DayKind) -> MinuteSet
+    ensures { result ≡ filter (is_due_on line.now.when kind) day_minutes }
+{
+    match line.when() {
+        When::At(schedule) => schedule.minutes_of(kind),
+        When::Reboot => MinuteSet::new(),
+    }
+}
+
+/// The minutes of a set, rising.
+fn listed(alloc: Global, minutes: &MinuteSet) -> Result<Sequence<u16>, AllocError>
+    ensures { IfOk result (λ listed. listed ≡ minutes.now) }
+{
+    let mut listed = Sequence::new(alloc);
+    for minute in minutes.iter() {
+        listed.push(minute)?;
+    }
+    Ok(listed)
+}
+
+/// Adds a list of the minutes for a job, if there are any.
+fn add_list(
+    alloc: Global,
+    due: &mut Sequence<DueList>,
+    job: u16,
+    minutes: &MinuteSet,
+) -> Result<(), AllocError>
+    ensures { OnOk result (due.new ≡ due.old ++ due_list job minutes.now) }
+{
+    let minutes = listed(alloc, minutes)?;
+    if minutes.is_empty() {
+        return Ok(());
+    }
+    due.push(DueList { job, minutes })
+}
+
+/// When each cron job is due on days of a kind.
+fn due_on(alloc: Global, plan: &Plan, kind: DayKind) -> Result<Sequence<DueList>, AllocError>
+    ensures { IfOk result (λ due. due ≡ due_of plan.now (Some kind)) }
+{
+    let mut due = Sequence::new(alloc);
+    for (job, line) in plan.crontab().lines().iter().enumerate() {
+        add_list(alloc, &mut due, job as u16, &minutes_on(line, kind))?;
+    }
+    Ok(due)
+}
+
+/// Such a day, without bounds: nothing is due without a kind.
+fn unbounded(alloc: Global, plan: &Plan, kind: Option<DayKind>) -> Result<Class, AllocError>
+    ensures { IfOk result (λ day. day ≡ unbounded plan.now kind) }
+{
+    let due = match kind {
+        Some(kind) => due_on(alloc, plan, kind)?,
+        None => Sequence::new(alloc),
+    };
+    Ok(Class {
+        due,
+        backlog: Sequence::new(alloc),
+    })
+}
+
+/// The bound of a class for a group at minute 0.
+fn left_over(class: &Class, group: usize, none: &Backlog) -> u32
+    requires { none.now ≡ [] }
+    ensures value { result ≡ bound_in class.now group 0 }
+    ensures within { result ≤ MAX_BACKLOG }
+{
+    let backlog = backlog_of(class, group, none);
+    let _pieces = backlog.pieces();
+    backlog.at(0)
+}
+
+/// The bound of a group on such a day: it begins with what is left over, and follows the arrivals.
+fn bound_on(
+    alloc: Global,
+    plan: &Plan,
+    day: &Class,
+    carry: u32,
+    group: usize,
+) -> Result<GroupBacklog, AllocError>
+    requires within { carry ≤ MAX_BACKLOG }
+    requires few { group < 64 }
+    ensures { IfOk result (λ bound. bound ≡ bound_of plan.now day.now carry group) }
+{
+    let arrivals = arrivals_in(plan, day, group);
+    let backlog = Backlog::following(alloc, carry, &arrivals)?;
+    Ok(GroupBacklog {
+        group: group as u8,
+        backlog,
+    })
+}
+
+/// The bound of each group with a job that waits, from that of the class at minute 0.
+fn bounds_on(
+    alloc: Global,
+    plan: &Plan,
+    day: &Class,
+    class: &Class,
+) -> Result<Sequence<GroupBacklog>, AllocError>
+    ensures { IfOk result (λ bounds. bounds
+        ≡ map (λ g. bound_of plan.now day.now (bound_in class.now g 0) g)
+        (waited_groups plan.now)) }
+{
+    let none = Backlog::none(alloc);
+    let mut bounds = Sequence::new(alloc);
+    for group in 0..plan.groups().len() {
+        if has_waiter(plan, group) {
+            let carry = left_over(class, group, &none);
+            bounds.push(bound_on(alloc, plan, day, carry, group)?)?;
+        }
+    }
+    Ok(bounds)
+}
+
+/// Returns what a class of version 3 stands for on days of a kind: the due minutes of each cron job
+/// (`crontab(5)`), and for each group with a job that waits the bound that begins with what is left
+/// over and follows the arrivals, up to [`MAX_BACKLOG`](cs_wait::MAX_BACKLOG). Without a kind
+/// nothing is due. The only error is out of memory.
+pub fn worked_class(
+    alloc: Global,
+    plan: &Plan,
+    kind: Option<DayKind>,
+    class: &Class,
+) -> Result<Class, AllocError>
+    ensures { IfOk result (λ worked. worked ≡ worked_class plan.now kind class.now) }
+{
+    let mut day = unbounded(alloc, plan, kind)?;
+    day.backlog = bounds_on(alloc, plan, &day, class)?;
+    Ok(day)
+}

@@ -1,0 +1,68 @@
+-- What a history breaks first.
+use Rattle.std.specs.Prelude.{ℕ, Bool, not, ◌&&◌, List, [], ◌∷◌, Option, Some, None, if◌then◌else◌, nat_lt}
+use Rattle.std.specs.Option.{option_or}
+use Rattle.cs_history.specs.Lists.{total}
+use Rattle.cs_history.specs.Plan.{Plan, rivals, both_share}
+use Rattle.cs_history.specs.History.{History, From, ◌▸◌, now, running, Answer, Starts, Waits, Skips, answer}
+use Rattle.cs_history.specs.declared.run.Going.{Going}
+use Rattle.cs_history.specs.declared.event.Event.{Event}
+use Rattle.cs_history.specs.declared.event.Event.TheVariants.{Minute, Begin, Got, Catch, End, Down, Up}
+use Rattle.cs_counterexample.specs.declared.shown.Shown.{Shown}
+use Rattle.cs_counterexample.specs.declared.shown.Shown.TheVariants.{Together, Load, Skipped}
+
+-- runs of these jobs may not go on at once, that of i having started first: both are of one
+-- exclusive group, and not both share its lock (flock(1), -s)
+abbrev pub clash : Plan → ℕ → ℕ → Bool
+clash p i j = rivals p j i && not (both_share p j i)
+
+-- the run and the first of these with which it may not go on
+abbrev pub clash_of : Plan → Going → List Going → Option Shown
+clash_of p r [] = None
+clash_of p r (q ∷ qs) =
+    if clash p r.run.job q.run.job then Some (Together r.run q.run) else clash_of p r qs
+
+-- of the runs in order of start, the first two that may not overlap, by the earlier one
+abbrev pub first_clash : Plan → List Going → Option Shown
+first_clash p [] = None
+first_clash p (r ∷ rs) = option_or (clash_of p r rs) (first_clash p rs)
+
+-- what the runs weigh together, as declared
+abbrev pub weight_of : Plan → List Going → ℕ
+weight_of p rs = total (λ r. p.weight r.run.job) rs
+
+-- a weight that is more than the declared capacity
+abbrev pub overload : Plan → ℕ → Option Shown
+overload p n = if nat_lt p.capacity n then Some (Load n) else None
+
+-- the weight of the runs, where it is more than the capacity
+abbrev pub overload_of : Plan → List Going → Option Shown
+overload_of p rs = overload p (weight_of p rs)
+
+-- what these runs break by going on at once: two of them before the weight of all
+abbrev pub break_among : Plan → List Going → Option Shown
+break_among p rs = option_or (first_clash p rs) (overload_of p rs)
+
+-- a run that is skipped, since its lock is held (flock(1), -n)
+abbrev pub skip_of : Answer → ℕ → ℕ → Option Shown
+skip_of Starts j t = None
+skip_of Waits j t = None
+skip_of Skips j t = Some (Skipped j t)
+
+-- the run that the event has give up, where these run at minute t
+abbrev pub skip_by : Plan → List Going → ℕ → Event → Option Shown
+skip_by p rs t (Minute u) = None
+skip_by p rs t (Begin j) = skip_of (answer p rs j) j t
+skip_by p rs t (Got j d) = None
+skip_by p rs t (Catch j) = None
+skip_by p rs t (End r) = None
+skip_by p rs t Down = None
+skip_by p rs t (Up u) = None
+
+-- what the event breaks: by what runs then, or by a skip
+abbrev pub break_by : Plan → History → Event → Option Shown
+break_by p h e = option_or (break_among p (running p (h ▸ e))) (skip_by p (running p h) (now h) e)
+
+-- what the first event breaks that breaks something
+abbrev pub first_break : Plan → History → Option Shown
+first_break p (From s) = None
+first_break p (h ▸ e) = option_or (first_break p h) (break_by p h e)

@@ -1,0 +1,89 @@
+//! What an event breaks: by the run that it starts, or by one that is skipped. No other event
+//! breaks anything, since fewer runs break no more.
+ghost use Rattle.std.specs.Prelude.{◌≡◌, ◌≤◌, ◌<◌};
+ghost use Rattle.cs_decl.specs.Plan.{as_plan};
+ghost use Rattle.cs_counterexample.specs.Break.{weight_of};
+ghost use Rattle.cs_counterexample.specs.Trial.{break_by_reply, break_by_run, clash_before, run_by};
+
+use crate::rules::{clash, weight};
+use crate::shown::Shown;
+use cs_decl::Plan;
+use cs_history::{Event, Reply, Run};
+use cs_roster::Roster;
+
+/// The run that the event may start at this minute.
+pub(crate) fn run_by(event: &Event, now: u64) -> Option<Run>
+    ensures { result ≡ run_by event.now now }
+{
+    match *event {
+        Event::Minute(_) => None,
+        Event::Begin(job) => Some(Run { job, at: now }),
+        Event::Got(job, due) => Some(Run { job, at: due }),
+        Event::Catch(job) => Some(Run { job, at: now }),
+        Event::End(_) => None,
+        Event::Down => None,
+        Event::Up(_) => None,
+    }
+}
+
+/// The first of these with which the run clashes.
+fn clash_before(plan: &Plan, earlier: &Roster, run: Run) -> Option<Shown>
+    ensures { result ≡ clash_before (as_plan plan.now) earlier.now run }
+{
+    for going in earlier.iter() {
+        if clash(plan, going.run.job, run.job) {
+            return Some(Shown::Together(going.run, run));
+        }
+    }
+    None
+}
+
+/// What the runs weigh together.
+fn weigh(plan: &Plan, running: &Roster) -> u64
+    requires { weight_of (as_plan plan.now) running.now < 256 }
+    ensures { result ≡ weight_of (as_plan plan.now) running.now }
+{
+    let mut sum = 0;
+    for going in running.iter() {
+        sum += u64::from(weight(plan, going.run.job));
+    }
+    sum
+}
+
+/// What the run breaks if it starts after these, which break nothing.
+pub(crate) fn break_by_run(plan: &Plan, earlier: &Roster, run: Run) -> Option<Shown>
+    requires { weight_of (as_plan plan.now) earlier.now ≤ (as_plan plan.now).capacity }
+    ensures { result ≡ break_by_run (as_plan plan.now) earlier.now run }
+{
+    if let Some(shown) = clash_before(plan, earlier, run) {
+        return Some(shown);
+    }
+    let capacity = u64::from(plan.capacity());
+    let load = weigh(plan, earlier) + u64::from(weight(plan, run.job));
+    if load > capacity {
+        return Some(Shown::Load(load));
+    }
+    None
+}
+
+/// What an event with this reply breaks, if its run would break `at_start`.
+pub(crate) fn break_by_reply(
+    reply: Reply,
+    run: Option<Run>,
+    at_start: Option<Shown>,
+) -> Option<Shown>
+    ensures { result ≡ break_by_reply reply run at_start }
+{
+    match reply {
+        Reply::Started(_) => at_start,
+        Reply::Skipped => match run {
+            Some(run) => Some(Shown::Skipped(run.job, run.at)),
+            None => None,
+        },
+        Reply::Clock => None,
+        Reply::Waiting => None,
+        Reply::Ended(_) => None,
+        Reply::Went => None,
+        Reply::Came => None,
+    }
+}

@@ -1,6 +1,0 @@
-use Rattle.std.proofs.Common.{◌≡◌, ◌++◌, map}
-use Rattle.cs_crontab.specs.Environment.{shown}
-use Rattle.cs_crontab.proofs.environment.copied.Given as goal
-
-abbrev pub invariant-loop-name : goal.invariant-loop-name
-invariant-loop-name l = l.copies.items ++ map shown l.name-iterator ≡ map shown l.variables.entries

@@ -1,4 +1,0 @@
-use Rattle.cs_daemon_rows.proofs.keep_rows.go.Given as goal
-
-abbrev pub ghosts-open_and_go : goal.ghosts-open_and_go
-ghosts-open_and_go g a = record { name = a.blank.name; parts = a.blank.parts }

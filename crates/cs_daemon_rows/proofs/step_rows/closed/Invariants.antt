@@ -1,4 +1,0 @@
-use Rattle.cs_daemon_rows.proofs.step_rows.closed.Given as goal
-
-abbrev pub ghosts-close_keep : goal.ghosts-close_keep
-ghosts-close_keep g a = record { name = a.blank.name; parts = a.blank.parts }

@@ -1,4 +1,0 @@
-use Rattle.cs_daemon_rows.proofs.step_rows.minutes_are_counted.Given as goal
-
-abbrev pub ghosts-count_minutes : goal.ghosts-count_minutes
-ghosts-count_minutes g a = record { name = a.blank.name; parts = a.blank.parts }

@@ -1,0 +1,165 @@
+-- What is answered of a fault.
+use Rattle.std.proofs.Common.{◌≡◌, ◌≢◌, ◌≤◌, ◌⊎◌, ◌∙◌, ℕ, true, List, [], ◌++◌, Option, Some, None, IfSome, Result, Ok, Err, length, nat_lt, option_map, inl, inr, refl, sym, ap, subst, arith}
+use Rattle.std.proofs.lemmas.Bool.{lt-ltb}
+use Rattle.clap.specs.Words.{Text}
+use Rattle.cs_crontab.specs.Crontab.{Table}
+use Rattle.cs_anacrontab.specs.Anacrontab.{Table as JobTable}
+use Rattle.cs_decl.specs.Join.{joined}
+use Rattle.cs_decl.specs.Meaning.{declared_by}
+use Rattle.cs_decl.specs.Plan.{Declared}
+use Rattle.cs_decl.specs.declared.entries.Entries.{Entries}
+use Rattle.cs_report.specs.Faults.{Means as MeansScript}
+use Rattle.cs_report.specs.Grammar.{Numbered}
+use Rattle.cs_report.specs.Script.{Fault as ScriptFault}
+use Rattle.cs_report.specs.declared.script.TheConstants.{MAX_SCRIPT}
+use Rattle.cs_cert.specs.Content.{Content}
+use Rattle.cs_cert.specs.Denoted.{certificate_by}
+use Rattle.cs_cert.specs.declared.fault.CertFault.{CertFault}
+use Rattle.cs_cert.specs.declared.limits.TheConstants.{MAX_CERTIFICATE}
+use Rattle.cs_report.specs.Warning.{warnings as warnings_text}
+use Rattle.cs_io.specs.Files.{Failed, IsFresh, IsReadOut, IsTooLong, IsUpTo, Reads}
+use Rattle.cs_io.specs.declared.inputs.TheConstants.{MOST_READS}
+use Rattle.cs_files.specs.Reads.{AndThen, Answered, IsRead, IsUnreadWhole, MeansIt, ReadsAs, ReadsDeclared}
+use Rattle.cs_files.specs.Response.{Ending, complaint}
+use Rattle.cs_files.specs.Trouble.{CameTo, IsHonest, IsHonestOf, IsUnread, TellsPath, Trouble, ends, trouble, trouble_status, trouble_text}
+use Rattle.cs_files.specs.declared.fault.Fault.{Fault}
+
+-- what is there is the same
+pub some_is : {X : Type 0} (x y : X) → Some x ≡ Some y → x ≡ y
+some_is x y e = cc
+
+-- its text and its status make the ending
+pub is_ending : (w t : List ℕ) (s : ℕ) (o : Option Trouble) → option_map trouble_text o ≡ Some t → IfSome o (λ x. s ≡ trouble_status x)
+    → option_map (ends w) o ≡ Some (record { status = s; out = []; err = w ++ complaint t })
+is_ending w t s None e is = absurd (cc)
+is_ending w t s (Some x) e is =
+    let text : trouble_text x ≡ t = some_is (trouble_text x) t e in
+    rw (is, ← text) refl
+
+-- what was read means what the file means
+meant : {M F : Type 0} (limit : ℕ) (means : List ℕ → Result M F → Type 0) (m : Result M F) (bytes : List ℕ) → ((text : List ℕ) → IsUpTo limit text bytes → means bytes m → means text m)
+    → (whole left : Option (List ℕ)) → IfSome whole (λ text. left ≡ Some text) → IfSome left (λ text. IsUpTo limit text bytes) → means bytes m → IfSome whole (λ text. means text m)
+meant limit means m bytes same None left fresh read is = fresh
+meant limit means m bytes same (Some text) left fresh read is = same text (subst (λ o. IfSome o (λ t. IsUpTo limit t bytes)) fresh read) is
+
+-- where all of it was read
+meant_whole : {M F : Type 0} (means : List ℕ → Result M F → Type 0) (m : Result M F) (bytes : List ℕ) (whole left : Option (List ℕ)) → IfSome whole (λ text. left ≡ Some text) → IfSome left (λ text. bytes ≡ text) → means bytes m → IfSome whole (λ text. means text m)
+meant_whole means m bytes None left fresh read is = fresh
+meant_whole means m bytes (Some text) left fresh read is =
+    let e : bytes ≡ text = subst (λ o. IfSome o (λ t. bytes ≡ t)) fresh read in
+    subst (λ b. means b m) e is
+
+-- declarations, and the plan that they make
+pub plan_read : (files left : List ℕ → Option (List ℕ)) (path : Text) (bytes : List ℕ) (tables : Table × JobTable) (d : Entries) (plan : Declared) (before after : Failed)
+    → after ≡ before → IsFresh files left → IfSome (left path) (λ text. bytes ≡ text) → declared_by bytes ≡ Ok d → joined tables.0 tables.1 d ≡ Ok plan
+    → ReadsDeclared files tables path before after (Ok plan)
+plan_read files left path bytes tables d plan before after works fresh read is joins =
+    inr (d, inl (refl, meant_whole (λ b r. declared_by b ≡ r) (Ok d) bytes (files path) (left path) (fresh path) read is), (works, rw joins refl))
+
+-- declarations that could not be read, or not to their end
+pub plan_unread : (files left : List ℕ → Option (List ℕ)) (path : Text) (tables : Table × JobTable) (before after : Failed) (old new : Reads) (e : Fault)
+    → IsFresh files left → IsUnreadWhole path left before after old new e → IfSome (trouble e) (λ t. ReadsDeclared files tables path before after (Err t))
+plan_unread files left path tables before after old new e fresh = by_trouble (trouble e)
+  where
+    too_long : (whole rest : Option (List ℕ)) → IfSome whole (λ text. rest ≡ Some text) → IfSome rest (λ text. MOST_READS ≤ length text) → IfSome whole (λ text. MOST_READS ≤ length text)
+    too_long None rest same long = same
+    too_long (Some text) rest same long = subst (λ o. IfSome o (λ t. MOST_READS ≤ length t)) same long
+
+    by_trouble : (o : Option Trouble) → IfSome o (λ t. TellsPath path t × ((after path ≡ true) ⊎ ((after ≡ before) × IsReadOut path old new × IsTooLong path left)))
+        → IfSome o (λ t. ReadsDeclared files tables path before after (Err t))
+    by_trouble None h = h
+    by_trouble (Some t) (is, inl failed) = inl (t, inl (inl (failed, is)), refl)
+    by_trouble (Some t) (is, inr (same, out, long)) = inl (t, inr (same, too_long (files path) (left path) (fresh path) long, (t, is, refl)), refl)
+
+-- a file of which the bytes that were read mean this, or have that fault
+pub came_read : {M F : Type 0} (limit : ℕ) (means : List ℕ → Result M F → Type 0) (told : F → Trouble) (files left : List ℕ → Option (List ℕ)) (path : Text) (bytes : List ℕ) (before after : Failed) (result : Result M Fault)
+    → ((m : Result M F) (text : List ℕ) → IsUpTo limit text bytes → means bytes m → means text m)
+    → after ≡ before → IsFresh files left → IsRead limit path left bytes → MeansIt means told bytes result → CameTo (ReadsAs files path means told before after) result
+came_read limit means told files left path bytes before after (Ok m) same works fresh read tells =
+    (works, meant limit means (Ok m) bytes (same (Ok m)) (files path) (left path) (fresh path) read tells)
+came_read limit means told files left path bytes before after (Err e) same works fresh read tells = by_trouble (trouble e) tells
+  where
+    by_trouble : (o : Option Trouble) → IfSome o (λ t. (fault : _) × (t ≡ told fault) × means bytes (Err fault)) → IfSome o (λ t. ReadsAs files path means told before after (Err t))
+    by_trouble None h = h
+    by_trouble (Some t) (fault, is, stands) = inr (works, (fault, is, meant limit means (Err fault) bytes (same (Err fault)) (files path) (left path) (fresh path) read stands))
+
+-- scripts that are too long have one fault
+pub same_script : (d : Declared) (bytes : List ℕ) (m : Result Numbered ScriptFault) (text : List ℕ) → IsUpTo MAX_SCRIPT text bytes → MeansScript d bytes m → MeansScript d text m
+same_script d bytes m text (inl e) means = subst (λ (b : List ℕ). MeansScript d b m) e means
+same_script d bytes (Ok script) text (inr long) means = absurd (let l = long.0 in omega (arith, means.short, l))
+same_script d bytes (Err fault) text (inr long) (inl (past, none, is)) = inl (long.1, none, is)
+same_script d bytes (Err fault) text (inr long) (inr (inl (empty, none, is))) = absurd (let l = long.0 in omega (arith, empty.short, l))
+same_script d bytes (Err fault) text (inr long) (inr (inr first)) = absurd (let l = long.0 in omega (arith, first.short, l))
+
+-- and so have certificates
+pub same_certificate : (bytes : List ℕ) (m : Result Content CertFault) (text : List ℕ) → IsUpTo MAX_CERTIFICATE text bytes → certificate_by bytes ≡ m → certificate_by text ≡ m
+unfolding certificate_by
+same_certificate bytes m text (inl e) is = ap certificate_by (sym e) ∙ is
+same_certificate bytes m text (inr long) is =
+    let a : nat_lt MAX_CERTIFICATE (length bytes) ≡ true = lt-ltb MAX_CERTIFICATE (length bytes) long.0 in
+    let b : nat_lt MAX_CERTIFICATE (length text) ≡ true = lt-ltb MAX_CERTIFICATE (length text) long.1 in
+    rw b (rw a at is)
+
+-- ---- one step after the other
+
+pub goes_on : {X Y : Type 0} (first : Failed → Failed → Result X Trouble → Type 0) (next : X → Failed → Failed → Result Y Trouble → Type 0) (before after : Failed) (x : X) (result : Result Y Fault)
+    → first before before (Ok x) → CameTo (next x before after) result → CameTo (AndThen first next before after) result
+goes_on first next before after x (Ok y) one other = inr (x, one, other)
+goes_on first next before after x (Err e) one other = by_trouble (trouble e) other
+  where
+    by_trouble : (o : Option Trouble) → IfSome o (λ t. next x before after (Err t)) → IfSome o (λ t. AndThen first next before after (Err t))
+    by_trouble None h = h
+    by_trouble (Some t) h = inr (x, one, h)
+
+pub stops : {X Y : Type 0} (first : Failed → Failed → Result X Trouble → Type 0) (next : X → Failed → Failed → Result Y Trouble → Type 0) (before after : Failed) (e : Fault)
+    → IfSome (trouble e) (λ t. first before after (Err t)) → IfSome (trouble e) (λ t. AndThen first next before after (Err t))
+stops first next before after e = by_trouble (trouble e)
+  where
+    by_trouble : (o : Option Trouble) → IfSome o (λ t. first before after (Err t)) → IfSome o (λ t. AndThen first next before after (Err t))
+    by_trouble None h = h
+    by_trouble (Some t) h = inl (t, h, refl)
+
+-- where whole and failed are as they were
+pub moved : (P : (List ℕ → Option (List ℕ)) → Failed → Type 0) (w v : List ℕ → Option (List ℕ)) (f g : Failed) → w ≡ v → f ≡ g → P w f → P v g
+moved P w v f g same kept h = subst (λ (b : Failed). P v b) kept (subst (λ (o : List ℕ → Option (List ℕ)). P o f) same h)
+
+-- ---- behind what is to be warned of
+
+pub answered : (tables : Failed → Failed → Result (Table × JobTable) Trouble → Type 0) (next : Table × JobTable → Failed → Failed → Result Ending Trouble → Type 0) (before after : Failed) (both : Table × JobTable) (w : List ℕ) (answer ending : Ending)
+    → tables before before (Ok both) → w ≡ warnings_text both.0 both.1 → next both before after (Ok answer) → ending ≡ record answer { err = w } → Answered tables next before after ending
+answered tables next before after both w answer ending one warned other is =
+    inr (both, one, (Ok answer, other, is ∙ ap (λ v. record answer { err = v }) warned))
+
+pub answered_fault : (tables : Failed → Failed → Result (Table × JobTable) Trouble → Type 0) (next : Table × JobTable → Failed → Failed → Result Ending Trouble → Type 0) (before after : Failed) (both : Table × JobTable) (w : List ℕ) (fault : Fault) (ending : Ending)
+    → tables before before (Ok both) → w ≡ warnings_text both.0 both.1 → IfSome (trouble fault) (λ t. next both before after (Err t)) → option_map (ends w) (trouble fault) ≡ Some ending → Answered tables next before after ending
+answered_fault tables next before after both w fault ending one warned other is = by_trouble (trouble fault) other is
+  where
+    by_trouble : (o : Option Trouble) → IfSome o (λ t. next both before after (Err t)) → option_map (ends w) o ≡ Some ending → Answered tables next before after ending
+    by_trouble None h e = absurd (cc)
+    by_trouble (Some t) h e = inr (both, one, (Err t, h, sym (some_is (ends w t) ending e) ∙ ap (λ v. ends v t) warned))
+
+-- both tables were not read
+pub answered_stop : (tables : Failed → Failed → Result (Table × JobTable) Trouble → Type 0) (next : Table × JobTable → Failed → Failed → Result Ending Trouble → Type 0) (before after : Failed) (fault : Fault) (ending : Ending)
+    → IfSome (trouble fault) (λ t. tables before after (Err t)) → option_map (ends []) (trouble fault) ≡ Some ending → Answered tables next before after ending
+answered_stop tables next before after fault ending = by_trouble (trouble fault)
+  where
+    by_trouble : (o : Option Trouble) → IfSome o (λ t. tables before after (Err t)) → option_map (ends []) o ≡ Some ending → Answered tables next before after ending
+    by_trouble None h e = absurd (cc)
+    by_trouble (Some t) h e = inl (t, h, sym (some_is (ends [] t) ending e))
+
+-- ---- the status of a failed device
+
+-- a fault that is told
+pub honest_fault : (failed : Failed) (reads : Reads) (w : List ℕ) (e : Fault) (r : Ending) → IsHonestOf failed reads e → option_map (ends w) (trouble e) ≡ Some r → IsHonest failed reads r
+honest_fault failed reads w e r = by_trouble (trouble e)
+  where
+    by_trouble : (o : Option Trouble) → IfSome o (λ t. trouble_status t ≡ 6 → (path : Text) × IsUnread path failed reads × TellsPath path t) → option_map (ends w) o ≡ Some r → IsHonest failed reads r
+    by_trouble None h is = absurd (cc)
+    by_trouble (Some t) h is = λ six.
+        let same : ends w t ≡ r = some_is (ends w t) r is in
+        let (path, unread, (reason, told)) = h (ap (λ (x : Ending). x.status) same ∙ six) in
+        record { path = path; unread = unread; warnings = w; reason = reason; told = sym same ∙ ap (ends w) told }
+
+-- and an answer that has another one
+pub honest_answer : (failed : Failed) (reads : Reads) (r s : Ending) (w : List ℕ) → r.status ≢ 6 → s ≡ record r { err = w } → IsHonest failed reads s
+honest_answer failed reads r s w other is = λ six. absurd (other (sym (ap (λ (x : Ending). x.status) is) ∙ six))

@@ -1,0 +1,123 @@
+-- What is read file after file, until a fault ends the call.
+use Rattle.std.specs.Prelude.{◌≡◌, ◌⊎◌, ℕ, true, List, [], Option, Some, None, IfSome, Result}
+use Rattle.std.specs.Prelude.{Ok, Err}
+use Rattle.std.specs.Result.{result_map_both}
+use Rattle.clap.specs.Words.{Text}
+use Rattle.cs_crontab.specs.Crontab.{Table}
+use Rattle.cs_crontab.specs.Faults.{Means}
+use Rattle.cs_anacrontab.specs.Anacrontab.{Table as JobTable, no_lines as no_jobs}
+use Rattle.cs_anacrontab.specs.Faults.{Means as MeansJobs}
+use Rattle.cs_decl.specs.Faults.{Fault as DeclaredFault}
+use Rattle.cs_decl.specs.Join.{joined}
+use Rattle.cs_decl.specs.Meaning.{declared_by}
+use Rattle.cs_decl.specs.Plan.{Declared}
+use Rattle.cs_decl.specs.declared.entries.Entries.{Entries}
+use Rattle.cs_report.specs.Warning.{warnings as warnings_text}
+use Rattle.cs_io.specs.Files.{Failed, IsReadOut, IsTooLong, IsUpTo, Reads}
+use Rattle.cs_files.specs.Response.{Ending}
+use Rattle.cs_files.specs.Trouble.{InAnacrontab, InCrontab, InDeclarations, TellsPath, Trouble, ends}
+use Rattle.cs_files.specs.Trouble.{trouble}
+use Rattle.cs_files.specs.declared.fault.Fault.{Fault}
+
+-- Each step says of which paths reads had failed before it, of which they have after it, and what it
+-- gave.
+
+-- the file at a path means a value; or it could not be read, or has a fault. Where its bytes are
+-- not known nothing is said of their meaning.
+abbrev pub ReadsAs : {M F : Type 0} → (List ℕ → Option (List ℕ)) → Text
+    → (List ℕ → Result M F → Type 0) → (F → Trouble) → Failed → Failed → Result M Trouble → Type 0
+ReadsAs files path means told before after (Ok m) =
+    (after ≡ before) × IfSome (files path) (λ bytes. means bytes (Ok m))
+ReadsAs files path means told before after (Err t) =
+    ((after path ≡ true) × TellsPath path t)
+    ⊎ ((after ≡ before)
+    × ((fault : _) × (t ≡ told fault) × IfSome (files path) (λ bytes. means bytes (Err fault))))
+
+-- nothing is read, and this is given
+abbrev pub Gives : {X : Type 0} → Result X Trouble → Failed → Failed → Result X Trouble → Type 0
+Gives given before after r = (after ≡ before) × (r ≡ given)
+
+-- nothing is read, and something is given of which this holds
+abbrev pub GivesSome : {X : Type 0} → (X → Type 0) → Failed → Failed → Result X Trouble → Type 0
+GivesSome R before after r = (after ≡ before) × ((x : _) × R x × (r ≡ Ok x))
+
+-- one step, and then another on what it gave; the first fault ends the call
+abbrev pub AndThen : {X Y : Type 0} → (Failed → Failed → Result X Trouble → Type 0)
+    → (X → Failed → Failed → Result Y Trouble → Type 0) → Failed → Failed → Result Y Trouble
+    → Type 0
+AndThen first next before after r =
+    ((t : Trouble) × first before after (Err t) × (r ≡ Err t))
+    ⊎ ((x : _) × first before before (Ok x) × next x before after r)
+
+-- the anacrontab, if there is one
+abbrev pub ReadsJobs : (List ℕ → Option (List ℕ)) → Option Text → Failed → Failed
+    → Result JobTable Trouble → Type 0
+ReadsJobs files None = Gives (Ok no_jobs)
+ReadsJobs files (Some path) = ReadsAs files path MeansJobs InAnacrontab
+
+-- both tables
+abbrev pub ReadsTables : (List ℕ → Option (List ℕ)) → Text → Option Text → Failed → Failed
+    → Result (Table × JobTable) Trouble → Type 0
+ReadsTables files table anacrontab = AndThen (ReadsAs files table Means InCrontab)
+    (λ t. AndThen (ReadsJobs files anacrontab) (λ jobs. Gives (Ok (t, jobs))))
+
+-- a plan, or the fault of declarations for which there is none
+abbrev pub planned : Result Declared DeclaredFault → Result Declared Trouble
+planned plan = result_map_both (λ p. p) InDeclarations plan
+
+-- the declarations at a path: of any length, but of no more reads than a path may take
+abbrev pub ReadsEntries : (List ℕ → Option (List ℕ)) → Text → Failed → Failed
+    → Result Entries Trouble → Type 0
+ReadsEntries files path before after r =
+    ReadsAs files path (λ bytes d. declared_by bytes ≡ d) InDeclarations before after r
+    ⊎ ((after ≡ before) × IsTooLong path files
+    × ((t : Trouble) × TellsPath path t × (r ≡ Err t)))
+
+-- the plan of both tables as the declarations at a path have it
+abbrev pub ReadsDeclared : (List ℕ → Option (List ℕ)) → Table × JobTable → Text → Failed → Failed
+    → Result Declared Trouble → Type 0
+ReadsDeclared files tables path =
+    AndThen (ReadsEntries files path) (λ d. Gives (planned (joined tables.0 tables.1 d)))
+
+-- an answer, or what is answered of a fault
+abbrev pub ended : Result Ending Trouble → Ending
+ended (Ok answer) = answer
+ended (Err t) = ends [] t
+
+-- an answer behind what is to be warned of, or what is answered of a fault
+abbrev pub behind : List ℕ → Result Ending Trouble → Ending
+behind warnings (Ok answer) = record answer { err = warnings }
+behind warnings (Err t) = ends warnings t
+
+-- both tables are read, and then what follows comes behind what is to be warned of them
+abbrev pub Answered : (Failed → Failed → Result (Table × JobTable) Trouble → Type 0)
+    → (Table × JobTable → Failed → Failed → Result Ending Trouble → Type 0) → Failed → Failed
+    → Ending
+    → Type 0
+Answered tables next before after ending =
+    ((t : Trouble) × tables before after (Err t) × (ending ≡ ends [] t))
+    ⊎ ((both : Table × JobTable) × tables before before (Ok both)
+    × ((r : Result Ending Trouble) × next both before after r
+    × (ending ≡ behind (warnings_text both.0 both.1) r)))
+
+-- bytes mean the value that is given, or have the fault that is told
+abbrev pub MeansIt : {M F : Type 0} → (List ℕ → Result M F → Type 0) → (F → Trouble) → List ℕ
+    → Result M Fault → Type 0
+MeansIt means told bytes (Ok m) = means bytes (Ok m)
+MeansIt means told bytes (Err e) =
+    IfSome (trouble e) (λ t. (fault : _) × (t ≡ told fault) × means bytes (Err fault))
+
+-- this path could not be read
+abbrev pub IsUnreadAt : Text → Failed → Fault → Type 0
+IsUnreadAt path failed e = IfSome (trouble e) (λ t. (failed path ≡ true) × TellsPath path t)
+
+-- or it took as many reads as it may
+abbrev pub IsUnreadWhole : Text → (List ℕ → Option (List ℕ)) → Failed → Failed → Reads → Reads
+    → Fault → Type 0
+IsUnreadWhole path left before after old new e = IfSome (trouble e) (λ t. TellsPath path t
+    × ((after path ≡ true)
+    ⊎ ((after ≡ before) × IsReadOut path old new × IsTooLong path left)))
+
+-- bs is what was left of this path, where that is known, or both are longer than a limit
+abbrev pub IsRead : ℕ → Text → (List ℕ → Option (List ℕ)) → List ℕ → Type 0
+IsRead limit path left bs = IfSome (left path) (λ text. IsUpTo limit text bs)

@@ -1,0 +1,162 @@
+-- Why a call ends before all of it was done, and what is answered of it.
+use Rattle.std.specs.Prelude.{◌≡◌, ◌≢◌, ◌⊎◌, ℕ, true, List, [], ◌++◌, Option, Some, None, IfSome}
+use Rattle.std.specs.Prelude.{Result, Ok, Err, codes, decimal, option_map}
+use Rattle.clap.specs.Words.{Text}
+use Rattle.cs_table.specs.Table.{Found}
+use Rattle.cs_crontab.specs.Printed.{fault_text as crontab_fault_text}
+use Rattle.cs_anacrontab.specs.Printed.{fault_text as anacrontab_fault_text}
+use Rattle.cs_crontab.specs.declared.fault.LineFault.{LineFault}
+use Rattle.cs_table.specs.declared.fault.TableFault.{TableFault}
+use Rattle.cs_table.specs.declared.fault.TableFault.TheVariants as table_fault
+use Rattle.cs_anacrontab.specs.declared.fault.JobFault.{JobFault}
+use Rattle.cs_decl.specs.Faults.{Fault as DeclaredFault}
+use Rattle.cs_decl.specs.Printed.{error_text}
+use Rattle.cs_decl.specs.declared.fault.DeclError.{DeclError}
+use Rattle.cs_decl.specs.declared.fault.DeclError.TheVariants as decl_error
+use Rattle.cs_report.specs.Printed.{fault_text as script_fault_text}
+use Rattle.cs_report.specs.Script.{Fault as ScriptFault}
+use Rattle.cs_report.specs.declared.script_fault.ScriptError.{ScriptError}
+use Rattle.cs_report.specs.declared.script_fault.ScriptError.TheVariants as script_error
+use Rattle.cs_cert.specs.Printed.{fault_text as certificate_fault_text}
+use Rattle.cs_cert.specs.declared.fault.CertFault.{CertFault}
+use Rattle.cs_cert.specs.declared.fault.CertError.{CertError}
+use Rattle.cs_cert.specs.declared.fault.CertError.TheVariants as cert_error
+use Rattle.cs_args.specs.Words.{word_fault}
+use Rattle.cs_args.specs.declared.question.WordFault.{WordFault}
+use Rattle.cs_io.specs.Files.{Failed, IsReadOut, Reads}
+use Rattle.cs_io.specs.Reasons.{reason_text}
+use Rattle.cs_io.specs.declared.reason.Reason.{Reason}
+use Rattle.cs_files.specs.Response.{Ending, complaint}
+use Rattle.cs_files.specs.declared.fault.Fault.{Fault}
+use Rattle.cs_files.specs.declared.fault.Fault.TheVariants.{Anacrontab, CannotRead, Certificate}
+use Rattle.cs_files.specs.declared.fault.Fault.TheVariants.{Crontab, Declarations, OutOfMemory}
+use Rattle.cs_files.specs.declared.fault.Fault.TheVariants.{Script, Words}
+
+-- why a call ends: its words hold a fault, this path can't be read, or what was read holds a fault
+pub data Trouble : Type 0 where
+  InWords : WordFault → Trouble
+  Unread : Text → Reason → Trouble
+  InCrontab : Found LineFault → Trouble
+  InAnacrontab : Found JobFault → Trouble
+  InDeclarations : DeclaredFault → Trouble
+  InScript : ScriptFault → Trouble
+  InCertificate : CertFault → Trouble
+
+-- `crontab line 2: 5 BadNumber`: the line with a fault, or 0 for all of the crontab, and the fault
+abbrev pub crontab_line : Found LineFault → List ℕ
+crontab_line fault =
+    codes "crontab line " ++ (decimal fault.line ++ (codes ": " ++ crontab_fault_text fault.fault))
+
+-- and of an anacrontab
+abbrev pub anacrontab_line : Found JobFault → List ℕ
+anacrontab_line fault =
+    codes "anacrontab line " ++ (decimal fault.line ++ (codes ": " ++ anacrontab_fault_text fault.fault))
+
+-- `certificate: 5 TooDeep`
+abbrev pub certificate_line : CertFault → List ℕ
+certificate_line fault = codes "certificate: " ++ certificate_fault_text fault
+
+-- `declarations: 6 BadMax at cron 2`
+abbrev pub declared_line : DeclaredFault → List ℕ
+declared_line fault = codes "declarations: " ++ error_text (decl_error.At fault.0 fault.1)
+
+-- `script line 3: 2 BadLine`
+abbrev pub script_line : ScriptFault → List ℕ
+script_line fault =
+    codes "script line " ++ (decimal fault.0 ++ (codes ": " ++ script_fault_text fault.1))
+
+-- what is told of it
+abbrev pub trouble_text : Trouble → List ℕ
+trouble_text (InWords fault) = word_fault fault
+trouble_text (Unread path reason) = codes "can't read " ++ (path ++ reason_text reason)
+trouble_text (InCrontab fault) = crontab_line fault
+trouble_text (InAnacrontab fault) = anacrontab_line fault
+trouble_text (InDeclarations fault) = declared_line fault
+trouble_text (InScript fault) = script_line fault
+trouble_text (InCertificate fault) = certificate_line fault
+
+-- 6 where a path can't be read, and 3 for each fault
+abbrev pub trouble_status : Trouble → ℕ
+trouble_status (InWords fault) = 3
+trouble_status (Unread path reason) = 6
+trouble_status (InCrontab fault) = 3
+trouble_status (InAnacrontab fault) = 3
+trouble_status (InDeclarations fault) = 3
+trouble_status (InScript fault) = 3
+trouble_status (InCertificate fault) = 3
+
+-- what is answered of it, behind what is to be warned of
+abbrev pub ends : List ℕ → Trouble → Ending
+ends warnings t =
+    record { status = trouble_status t; out = []; err = warnings ++ complaint (trouble_text t) }
+
+-- what a fault says, unless it is want of memory
+abbrev pub table_trouble : TableFault LineFault → Option Trouble
+table_trouble (table_fault.At line column size fault) =
+    Some (InCrontab (record { line = line; column = column; size = size; fault = fault }))
+table_trouble table_fault.OutOfMemory = None
+
+abbrev pub jobs_trouble : TableFault JobFault → Option Trouble
+jobs_trouble (table_fault.At line column size fault) =
+    Some (InAnacrontab (record { line = line; column = column; size = size; fault = fault }))
+jobs_trouble table_fault.OutOfMemory = None
+
+abbrev pub declared_trouble : DeclError → Option Trouble
+declared_trouble (decl_error.At fault place) = Some (InDeclarations (fault, place))
+declared_trouble decl_error.OutOfMemory = None
+
+abbrev pub script_trouble : ScriptError → Option Trouble
+script_trouble (script_error.At line fault) = Some (InScript (line, fault))
+script_trouble script_error.OutOfMemory = None
+
+abbrev pub certificate_trouble : CertError → Option Trouble
+certificate_trouble (cert_error.Fault fault) = Some (InCertificate fault)
+certificate_trouble cert_error.OutOfMemory = None
+
+abbrev pub trouble : Fault → Option Trouble
+trouble (Words fault) = Some (InWords fault)
+trouble (CannotRead path reason) = Some (Unread path.now reason)
+trouble (Crontab fault) = table_trouble fault
+trouble (Anacrontab fault) = jobs_trouble fault
+trouble (Declarations fault) = declared_trouble fault
+trouble (Script fault) = script_trouble fault
+trouble (Certificate fault) = certificate_trouble fault
+trouble OutOfMemory = None
+
+-- this is the text of what a fault says
+abbrev pub Says : Option Trouble → List ℕ → Type 0
+Says said text = option_map trouble_text said ≡ Some text
+
+-- a read of this path has failed, or the last reads were all of it, as many as it may take
+abbrev pub IsUnread : Text → Failed → Reads → Type 0
+IsUnread path failed reads = (failed path ≡ true) ⊎ ((before : Reads) × IsReadOut path before reads)
+
+-- it is told that this path can't be read, and perhaps why
+abbrev pub TellsPath : Text → Trouble → Type 0
+TellsPath path t = (reason : Reason) × (t ≡ Unread path reason)
+
+-- a call that ends so tells which path was unread
+pub record TellsUnread (failed : Failed) (reads : Reads) (ending : Ending) : Type 0 where
+  pub path : Text
+  pub unread : IsUnread path failed reads
+  pub warnings : List ℕ
+  pub reason : Reason
+  pub told : ending ≡ ends warnings (Unread path reason)
+
+-- the status of a failed device is answered only where a path was unread, which is told
+abbrev pub IsHonest : Failed → Reads → Ending → Type 0
+IsHonest failed reads ending = ending.status ≡ 6 → TellsUnread failed reads ending
+
+-- and so of a fault: it is such a path, or has another status
+abbrev pub IsHonestOf : Failed → Reads → Fault → Type 0
+IsHonestOf failed reads fault = IfSome (trouble fault)
+    (λ t. trouble_status t ≡ 6 → (path : Text) × IsUnread path failed reads × TellsPath path t)
+
+-- a fault of what was read, and not of reading
+abbrev pub IsOfContent : Fault → Type 0
+IsOfContent fault = IfSome (trouble fault) (λ t. trouble_status t ≢ 6)
+
+-- what a function answered, where memory did not run out, is such a value or such a fault
+abbrev pub CameTo : {X : Type 0} → (Result X Trouble → Type 0) → Result X Fault → Type 0
+CameTo R (Ok x) = R (Ok x)
+CameTo R (Err fault) = IfSome (trouble fault) (λ t. R (Err t))

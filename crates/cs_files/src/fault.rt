@@ -1,0 +1,252 @@
+//! Why a call ends before all of it was done, and what is answered of it.
+ghost use Rattle.std.specs.Prelude.{◌≡◌, ◌++◌, IfErr, IfOk, IfSome, Some, codes, decimal, option_map};
+ghost use Rattle.cs_args.specs.Words.{word_fault};
+ghost use Rattle.cs_io.specs.Reasons.{reason_text};
+ghost use Rattle.cs_files.specs.Response.{status_of};
+ghost use Rattle.cs_files.specs.Trouble.{Says, certificate_trouble, declared_trouble, ends};
+ghost use Rattle.cs_files.specs.Trouble.{jobs_trouble, script_trouble, table_trouble, trouble};
+ghost use Rattle.cs_files.specs.Trouble.{trouble_status};
+ghost use Rattle.cs_files.specs.declared.fault.Fault.TheVariants.{Anacrontab, Crontab, Declarations};
+ghost use Rattle.cs_files.specs.declared.fault.Fault.TheVariants.{OutOfMemory, Words};
+
+use crate::ran_out::RanOut;
+use crate::response::{Response, Status};
+use cs_anacrontab::AnacronFault;
+use cs_args::WordFault;
+use cs_cert::CertError;
+use cs_civil::{Bytes, push_number};
+use cs_crontab::TableFault;
+use cs_decl::DeclError;
+use cs_io::Reason;
+use cs_report::ScriptError;
+use std::alloc::{AllocError, AllocFailed, Global};
+
+/// Why a call ends before all of it was done.
+#[derive(Drop)]
+pub enum Fault<'a> {
+    /// The words hold a fault.
+    Words(WordFault),
+    /// This path can't be read, for this reason.
+    CannotRead(&'a str, Reason),
+    /// The crontab holds a fault.
+    Crontab(TableFault),
+    /// The anacrontab holds a fault.
+    Anacrontab(AnacronFault),
+    /// The declarations, or the plan that they make of the tables, hold a fault.
+    Declarations(DeclError),
+    /// The script holds a fault.
+    Script(ScriptError),
+    /// The text of the certificate holds a fault.
+    Certificate(CertError),
+    /// Memory ran out.
+    OutOfMemory,
+}
+
+impl<'a> From<AllocError> for Fault<'a> {
+    ghost from_gives = { λ _ fault. fault ≡ OutOfMemory };
+
+    fn from(_error: AllocError) -> Fault<'a> {
+        Fault::OutOfMemory
+    }
+}
+
+impl<'a, T: Drop> From<AllocFailed<T>> for Fault<'a> {
+    ghost from_gives = { λ _ fault. fault ≡ OutOfMemory };
+
+    fn from(_error: AllocFailed<T>) -> Fault<'a> {
+        Fault::OutOfMemory
+    }
+}
+
+impl<'a> From<WordFault> for Fault<'a> {
+    ghost from_gives = { λ error fault. fault ≡ Words error };
+
+    fn from(error: WordFault) -> Fault<'a> {
+        Fault::Words(error)
+    }
+}
+
+impl<'a> From<TableFault> for Fault<'a> {
+    ghost from_gives = { λ error fault. fault ≡ Crontab error };
+
+    fn from(error: TableFault) -> Fault<'a> {
+        Fault::Crontab(error)
+    }
+}
+
+impl<'a> From<AnacronFault> for Fault<'a> {
+    ghost from_gives = { λ error fault. fault ≡ Anacrontab error };
+
+    fn from(error: AnacronFault) -> Fault<'a> {
+        Fault::Anacrontab(error)
+    }
+}
+
+impl<'a> From<DeclError> for Fault<'a> {
+    ghost from_gives = { λ error fault. fault ≡ Declarations error };
+
+    fn from(error: DeclError) -> Fault<'a> {
+        Fault::Declarations(error)
+    }
+}
+
+/// The name of a file with a line's number, and what is wrong with the line.
+fn line_text(alloc: Global, file: &[u8], line: u32, fault: &str) -> Result<Vec<u8>, AllocError>
+    ensures { IfOk result
+        (λ text. text.items ≡ file.now ++ (decimal line ++ (codes ": " ++ fault.now))) }
+{
+    let mut text = Vec::from_slice(alloc, file)?;
+    push_number(alloc, &mut text, u128::from(line))?;
+    text.extend_from_slice(b": ")?;
+    text.extend_from_slice(fault.as_bytes())?;
+    Ok(text)
+}
+
+/// A name, and what stands behind it.
+fn named_text(alloc: Global, name: &[u8], rest: &[u8]) -> Result<Vec<u8>, AllocError>
+    ensures { IfOk result (λ text. text.items ≡ name.now ++ rest.now) }
+{
+    let mut text = Vec::from_slice(alloc, name)?;
+    text.extend_from_slice(rest)?;
+    Ok(text)
+}
+
+/// What is told of a path that can't be read.
+fn unread_text(alloc: Global, path: &str, reason: Reason) -> Result<Vec<u8>, AllocError>
+    ensures { IfOk result (λ text. text.items ≡
+        codes "can't read " ++ (path.now ++ reason_text reason)) }
+{
+    let mut text = Vec::from_slice(alloc, b"can't read ".as_slice())?;
+    text.extend_from_slice(path.as_bytes())?;
+    text.extend_from_slice(reason.text().as_bytes())?;
+    Ok(text)
+}
+
+/// What is told of a fault of a crontab.
+fn crontab_text(alloc: Global, fault: TableFault) -> Result<Vec<u8>, AllocError>
+    ensures { IfOk result (λ text. Says (table_trouble fault) text.items) }
+{
+    match fault {
+        TableFault::At { line, fault, .. } => {
+            line_text(alloc, b"crontab line ".as_slice(), line, fault.text())
+        }
+        TableFault::OutOfMemory => Err(AllocError),
+    }
+}
+
+/// What is told of a fault of an anacrontab.
+fn anacrontab_text(alloc: Global, fault: AnacronFault) -> Result<Vec<u8>, AllocError>
+    ensures { IfOk result (λ text. Says (jobs_trouble fault) text.items) }
+{
+    match fault {
+        AnacronFault::At { line, fault, .. } => {
+            line_text(alloc, b"anacrontab line ".as_slice(), line, fault.text())
+        }
+        AnacronFault::OutOfMemory => Err(AllocError),
+    }
+}
+
+/// What is told of a fault of a script.
+fn script_text(alloc: Global, fault: ScriptError) -> Result<Vec<u8>, AllocError>
+    ensures { IfOk result (λ text. Says (script_trouble fault) text.items) }
+{
+    match fault {
+        ScriptError::At { line, fault } => {
+            line_text(alloc, b"script line ".as_slice(), line, fault.text())
+        }
+        ScriptError::OutOfMemory => Err(AllocError),
+    }
+}
+
+/// What is told of a fault of a certificate's text.
+fn certificate_text(alloc: Global, fault: CertError) -> Result<Vec<u8>, AllocError>
+    ensures { IfOk result (λ text. Says (certificate_trouble fault) text.items) }
+{
+    match fault {
+        CertError::Fault(fault) => {
+            named_text(alloc, b"certificate: ".as_slice(), fault.text().as_bytes())
+        }
+        CertError::OutOfMemory => Err(AllocError),
+    }
+}
+
+/// What is told of a fault of declarations or of a plan.
+fn declared_text(alloc: Global, fault: &DeclError) -> Result<Vec<u8>, AllocError>
+    ensures { IfOk result (λ text. Says (declared_trouble fault.now) text.items) }
+{
+    let text = fault.text(alloc)?;
+    match fault {
+        DeclError::At { .. } => named_text(alloc, b"declarations: ".as_slice(), text.as_slice()),
+        DeclError::OutOfMemory => Err(AllocError),
+    }
+}
+
+/// What is told of a fault of the words.
+fn word_text(alloc: Global, fault: WordFault) -> Result<Vec<u8>, AllocError>
+    ensures { IfOk result (λ text. text.items ≡ word_fault fault) }
+{
+    match fault {
+        WordFault::Date(fault) => {
+            named_text(alloc, b"date: ".as_slice(), fault.text().as_bytes())
+        }
+        WordFault::BadMax => Vec::from_slice(alloc, b"declarations: 6 BadMax".as_slice()),
+        WordFault::BadHours => Vec::from_slice(alloc, b"declarations: 12 BadHours".as_slice()),
+    }
+}
+
+impl Fault<'_> {
+    /// What is told of it. The only error is want of memory, its own too.
+    fn text(&self, alloc: Global) -> Result<Vec<u8>, AllocError>
+        ensures { IfOk result (λ text. Says (trouble self.now) text.items) }
+    {
+        match self {
+            Fault::Words(fault) => word_text(alloc, *fault),
+            Fault::CannotRead(path, reason) => unread_text(alloc, path, *reason),
+            Fault::Crontab(fault) => crontab_text(alloc, *fault),
+            Fault::Anacrontab(fault) => anacrontab_text(alloc, *fault),
+            Fault::Declarations(fault) => declared_text(alloc, fault),
+            Fault::Script(fault) => script_text(alloc, *fault),
+            Fault::Certificate(fault) => certificate_text(alloc, *fault),
+            Fault::OutOfMemory => Err(AllocError),
+        }
+    }
+
+    /// The status that a call ends with for it.
+    fn status(&self) -> Status
+        ensures { IfSome (trouble self.now) (λ t. status_of result ≡ trouble_status t) }
+    {
+        match self {
+            Fault::CannotRead(_, _) => Status::DeviceFailed,
+            Fault::OutOfMemory => Status::NoMemory,
+            Fault::Words(_) => Status::BadInput,
+            Fault::Crontab(_) => Status::BadInput,
+            Fault::Anacrontab(_) => Status::BadInput,
+            Fault::Declarations(_) => Status::BadInput,
+            Fault::Script(_) => Status::BadInput,
+            Fault::Certificate(_) => Status::BadInput,
+        }
+    }
+
+    /// What is answered of it, behind what is to be warned of.
+    #[tactic(auto, using(crate::proofs::TroubleLemmas::is_ending))]
+    pub fn response(&self, alloc: Global, warnings: &[u8]) -> Result<Response, AllocError>
+        ensures { IfOk result (λ r. option_map (ends warnings.now) (trouble self.now) ≡ Some r) }
+    {
+        let text = self.text(alloc)?;
+        Response::fault(alloc, self.status(), warnings, text.as_slice())
+    }
+
+    /// The same, where the warnings are kept for the case that memory runs out.
+    pub fn response_behind(&self, alloc: Global, warnings: Bytes) -> Result<Response, RanOut>
+        ensures told { IfOk result
+            (λ r. option_map (ends warnings) (trouble self.now) ≡ Some r) }
+        ensures warned { IfErr result (λ e. e.warnings ≡ Some warnings) }
+    {
+        match self.response(alloc, warnings.as_slice()) {
+            Ok(response) => Ok(response),
+            Err(AllocError) => Err(RanOut {
+                warnings: Some(warnings),
+            }),
+        }
+    }
+}

@@ -1,0 +1,190 @@
+//! What a call of the program writes, and the status that it ends with.
+ghost use Rattle.std.specs.Prelude.{◌≡◌, ◌++◌, [], IfOk, if◌then◌else◌};
+ghost use Rattle.cs_files.specs.Response.{complaint, done, status_of};
+
+use cs_civil::Bytes;
+use std::alloc::{AllocError, Global};
+use std::marker::Model;
+
+/// How a call of the program ends.
+#[derive(Clone, Copy, Debug, PartialEq, Eq)]
+pub enum Status {
+    /// What is asked was done, or help was shown.
+    Done,
+    /// A plan is unsafe, or an event of a script, or a certificate, was refused.
+    Refused,
+    /// Whether a plan is safe is not known.
+    Unknown,
+    /// The words or a file hold a fault.
+    BadInput,
+    /// The words are no call.
+    NoCall,
+    /// Memory ran out.
+    NoMemory,
+    /// A file could not be read, or standard output not written.
+    DeviceFailed,
+}
+
+impl Status {
+    /// The number that the process ends with.
+    pub fn code(self) -> u8
+        ensures { result ≡ status_of self }
+    {
+        match self {
+            Status::Done => 0,
+            Status::Refused => 1,
+            Status::Unknown => 2,
+            Status::BadInput => 3,
+            Status::NoCall => 4,
+            Status::NoMemory => 5,
+            Status::DeviceFailed => 6,
+        }
+    }
+}
+
+/// A status, what is written to standard output, and what to standard error.
+#[derive(Debug, Drop)]
+pub struct Response {
+    ends: Status,
+    shown: Bytes,
+    told: Bytes,
+}
+
+impl Model for Response {
+    ghost use Rattle.cs_files.specs.Response.{Ending, status_of};
+
+    ghost Value = { Ending };
+
+    ghost view = { λ r. record { status = status_of r.ends; out = r.shown; err = r.told } };
+}
+
+impl Response {
+    /// The status.
+    pub fn status(&self) -> Status
+        ensures { status_of result ≡ self.now.status }
+    {
+        self.ends
+    }
+
+    /// What is written to standard output.
+    pub fn out(&self) -> &[u8]
+        ensures { result.now ≡ self.now.out }
+    {
+        self.shown.as_slice()
+    }
+
+    /// What is written to standard error.
+    pub fn err(&self) -> &[u8]
+        ensures { result.now ≡ self.now.err }
+    {
+        self.told.as_slice()
+    }
+
+    /// What is written to standard error, alone.
+    pub fn into_err(self) -> Bytes
+        ensures { result ≡ self.err }
+    {
+        self.told
+    }
+
+    /// What is asked was done, and this is to be warned of.
+    pub fn done(text: Vec<u8>, warnings: Bytes) -> Response
+        ensures { result ≡ done text.items warnings }
+    {
+        Response {
+            ends: Status::Done,
+            shown: Bytes::from_vec(text),
+            told: warnings,
+        }
+    }
+
+    /// The words are no call.
+    pub fn no_call(alloc: Global, text: Vec<u8>) -> Response
+        ensures { result ≡ record { status = 4; out = []; err = text.items } }
+    {
+        Response {
+            ends: Status::NoCall,
+            shown: Bytes::new(alloc),
+            told: Bytes::from_vec(text),
+        }
+    }
+
+    /// A script was replayed: what is told of it, whether an event was refused, and what is to be warned of.
+    pub fn replayed(text: Vec<u8>, refused: bool, warnings: Bytes) -> Response
+        ensures { result
+            ≡ record { status = if refused then 1 else 0; out = text.items; err = warnings } }
+    {
+        let ends = if refused {
+            Status::Refused
+        } else {
+            Status::Done
+        };
+        Response {
+            ends,
+            shown: Bytes::from_vec(text),
+            told: warnings,
+        }
+    }
+
+    /// A certificate was refused: why, and what is to be warned of.
+    pub fn refused(text: Vec<u8>, warnings: Bytes) -> Response
+        ensures { result ≡ record { status = 1; out = text.items; err = warnings } }
+    {
+        Response {
+            ends: Status::Refused,
+            shown: Bytes::from_vec(text),
+            told: warnings,
+        }
+    }
+
+    /// A plan was judged: the status, what is told of it, and what is to be warned of.
+    pub fn told(status: Status, text: Vec<u8>, warnings: Bytes) -> Response
+        ensures { result ≡ record { status = status_of status; out = text.items; err = warnings } }
+    {
+        Response {
+            ends: status,
+            shown: Bytes::from_vec(text),
+            told: warnings,
+        }
+    }
+
+    /// The same, behind what is to be warned of.
+    pub fn behind(self, warnings: Bytes) -> Response
+        ensures { result ≡ record self { err = warnings } }
+    {
+        Response {
+            ends: self.ends,
+            shown: self.shown,
+            told: warnings,
+        }
+    }
+
+    /// A fault ended the call with this status, behind what is to be warned of.
+    pub fn fault(
+        alloc: Global,
+        status: Status,
+        warnings: &[u8],
+        fault: &[u8],
+    ) -> Result<Response, AllocError>
+        ensures { IfOk result (λ r. r ≡ record
+            { status = status_of status; out = []; err = warnings.now ++ complaint fault.now }) }
+    {
+        Ok(Response {
+            ends: status,
+            shown: Bytes::new(alloc),
+            told: complaint_behind(alloc, warnings, fault)?,
+        })
+    }
+}
+
+/// The line of a fault behind what is to be warned of.
+#[tactic(auto, unfolding(crate::specs::Response::complaint))]
+fn complaint_behind(alloc: Global, warnings: &[u8], fault: &[u8]) -> Result<Bytes, AllocError>
+    ensures { IfOk result (λ text. text ≡ warnings.now ++ complaint fault.now) }
+{
+    let mut text = Vec::from_slice(alloc, warnings)?;
+    text.extend_from_slice(b"cronsafe: ")?;
+    text.extend_from_slice(fault)?;
+    text.extend_from_slice(b"\n")?;
+    Ok(Bytes::from_vec(text))
+}

@@ -1,0 +1,281 @@
+//! The slow finders: the first fault in the windows of one stretch, minute by minute.
+ghost use Rattle.std.specs.Prelude.{◌≡◌, ◌≤◌, ◌<◌, ℕ, IfOk, Some, find, not};
+ghost use Rattle.cs_theorem.specs.Faults.{first_of, first_pair, missing_in};
+ghost use Rattle.cs_windows.specs.Entries.{lists};
+ghost use Rattle.cs_windows.specs.Tree.{SplitsInside, tree_of};
+ghost use Rattle.cs_theorem.specs.Windows.{holders};
+ghost use Rattle.cs_overlap.specs.Found.{blocked_at, blocked_by, blocked_of, clash_in, collision_at, collision_of, collision_by, missing_at, overload_at, overload_by, role_blocks};
+
+use crate::load::load;
+use crate::role::{Role, clash, role_of, share_group};
+use cs_civil::MINUTES_OF_DAY;
+use cs_windows::{Entry, MinuteTree, Window, lists, touches};
+use std::alloc::{AllocError, Global};
+
+/// The windows that hold a minute of the day looked at, in order.
+fn holders(alloc: Global, windows: &[Window], minute: u16) -> Result<Vec<Window>, AllocError>
+    requires { minute < 1440 }
+    ensures { IfOk result (λ held. held.items ≡ holders minute windows.now) }
+{
+    let mut held = Vec::new(alloc);
+    for window in windows {
+        if touches(window, minute, minute + 1) {
+            held.push(*window)?;
+        }
+    }
+    Ok(held)
+}
+
+/// Whether the first window is of this group and may not overlap the other.
+fn clash_in(roles: &[Role], group: usize, one: &Window, other: &Window) -> bool
+    ensures { result ≡ clash_in roles.now group one.now other.now }
+{
+    let role = role_of(roles, one);
+    let is_in_group = match role.group {
+        Some(number) => usize::from(number) == group,
+        None => false,
+    };
+    is_in_group && clash(role, role_of(roles, other))
+}
+
+/// The first of these windows that this one may not overlap.
+fn rival_of(roles: &[Role], group: usize, one: &Window, others: &[Window]) -> Option<Window>
+    ensures { result ≡ find (clash_in roles.now group one.now) others.now }
+{
+    for other in others {
+        if clash_in(roles, group, one, other) {
+            return Some(*other);
+        }
+    }
+    None
+}
+
+/// The first two windows of a group that may not overlap.
+fn first_clash(roles: &[Role], group: usize, held: &[Window]) -> Option<(Window, Window)>
+    ensures { result ≡ first_pair (clash_in roles.now group) held.now }
+{
+    for (place, one) in held.iter().enumerate() {
+        if let Some(other) = rival_of(roles, group, one, &held[place + 1..]) {
+            return Some((*one, other));
+        }
+    }
+    None
+}
+
+/// The first two windows of this group that may not both hold this minute.
+fn collision_of(
+    roles: &[Role],
+    group: usize,
+    held: &[Window],
+    minute: u16,
+) -> Option<(u16, Window, Window)>
+    ensures { result ≡ collision_of roles.now minute held.now group }
+{
+    let (one, other) = first_clash(roles, group, held)?;
+    Some((minute, one, other))
+}
+
+/// The first two windows that may not both hold this minute, by group.
+fn collision_at(
+    alloc: Global,
+    roles: &[Role],
+    groups: usize,
+    windows: &[Window],
+    minute: u16,
+) -> Result<Option<(u16, Window, Window)>, AllocError>
+    requires { minute < 1440 }
+    ensures { IfOk result (λ found. found ≡ collision_at roles.now groups windows.now minute) }
+{
+    let held = holders(alloc, windows, minute)?;
+    for group in 0..groups {
+        if let Some(found) = collision_of(roles, group, held.as_slice(), minute) {
+            return Ok(Some(found));
+        }
+    }
+    Ok(None)
+}
+
+/// The first minute of the day, and the first two windows there that may not both hold it.
+pub(crate) fn collision(
+    alloc: Global,
+    roles: &[Role],
+    groups: usize,
+    windows: &[Window],
+) -> Result<Option<(u16, Window, Window)>, AllocError>
+    ensures { IfOk result (λ found. found ≡ collision_by roles.now groups windows.now) }
+{
+    for minute in 0..MINUTES_OF_DAY {
+        if let Some(found) = collision_at(alloc, roles, groups, windows, minute)? {
+            return Ok(Some(found));
+        }
+    }
+    Ok(None)
+}
+
+/// The load at this minute, if it exceeds the capacity.
+fn overload_at(
+    alloc: Global,
+    roles: &[Role],
+    groups: usize,
+    capacity: u8,
+    windows: &[Window],
+    minute: u16,
+) -> Result<Option<(u16, u128)>, AllocError>
+    requires few { groups ≤ 64 }
+    requires day { minute < 1440 }
+    ensures { IfOk result (λ found.
+        found ≡ overload_at roles.now groups capacity windows.now minute) }
+{
+    let held = holders(alloc, windows, minute)?;
+    let weight = load(roles, groups, held.as_slice());
+    if weight <= u128::from(capacity) {
+        return Ok(None);
+    }
+    Ok(Some((minute, weight)))
+}
+
+/// The first minute of the day at which the load exceeds the capacity, and the load.
+pub(crate) fn overload(
+    alloc: Global,
+    roles: &[Role],
+    groups: usize,
+    capacity: u8,
+    windows: &[Window],
+) -> Result<Option<(u16, u128)>, AllocError>
+    requires few { groups ≤ 64 }
+    ensures { IfOk result (λ found. found ≡ overload_by roles.now groups capacity windows.now) }
+{
+    for minute in 0..MINUTES_OF_DAY {
+        if let Some(found) = overload_at(alloc, roles, groups, capacity, windows, minute)? {
+            return Ok(Some(found));
+        }
+    }
+    Ok(None)
+}
+
+/// Whether a window keeps the lock from a skip job whose window begins at this minute.
+fn blocks(roles: &[Role], minute: u16, skip: &Window, other: &Window) -> bool
+    ensures { result ≡ role_blocks roles.now minute skip.now other.now }
+{
+    let role = role_of(roles, skip);
+    let holder = role_of(roles, other);
+    let is_same = skip.job == other.job
+        && skip.day_back == other.day_back
+        && skip.from == other.from;
+    (role.mode.skips() && skip.day_back == 0 && skip.from == minute)
+        && (!is_same && holder.mode.takes_lock() && share_group(role, holder))
+}
+
+/// The first of these windows that keeps the lock from a skip job.
+fn blocker_of(roles: &[Role], minute: u16, skip: &Window, held: &[Window]) -> Option<Window>
+    ensures { result ≡ find (role_blocks roles.now minute skip.now) held.now }
+{
+    for other in held {
+        if blocks(roles, minute, skip, other) {
+            return Some(*other);
+        }
+    }
+    None
+}
+
+/// The first window that keeps the lock from this skip job.
+fn blocked_by(
+    roles: &[Role],
+    minute: u16,
+    skip: &Window,
+    held: &[Window],
+) -> Option<(u16, Window, Window)>
+    ensures { result ≡ blocked_of roles.now minute held.now skip.now }
+{
+    let other = blocker_of(roles, minute, skip, held)?;
+    Some((minute, *skip, other))
+}
+
+/// The first of these windows that is of a skip job from which a lock is kept at this minute.
+fn first_blocked(roles: &[Role], minute: u16, held: &[Window]) -> Option<(u16, Window, Window)>
+    ensures { result ≡ first_of (blocked_of roles.now minute held.now) held.now }
+{
+    for skip in held {
+        if let Some(found) = blocked_by(roles, minute, skip, held) {
+            return Some(found);
+        }
+    }
+    None
+}
+
+/// The first skip job from which a lock is kept at this minute, and the window that keeps it.
+fn blocked_at(
+    alloc: Global,
+    roles: &[Role],
+    windows: &[Window],
+    minute: u16,
+) -> Result<Option<(u16, Window, Window)>, AllocError>
+    requires { minute < 1440 }
+    ensures { IfOk result (λ found. found ≡ blocked_at roles.now windows.now minute) }
+{
+    let held = holders(alloc, windows, minute)?;
+    Ok(first_blocked(roles, minute, held.as_slice()))
+}
+
+/// The first minute of the day at which a skip job finds its lock held, its window, and the other.
+pub(crate) fn blocked(
+    alloc: Global,
+    roles: &[Role],
+    windows: &[Window],
+) -> Result<Option<(u16, Window, Window)>, AllocError>
+    ensures { IfOk result (λ found. found ≡ blocked_by roles.now windows.now) }
+{
+    for minute in 0..MINUTES_OF_DAY {
+        if let Some(found) = blocked_at(alloc, roles, windows, minute)? {
+            return Ok(Some(found));
+        }
+    }
+    Ok(None)
+}
+
+/// The first of these windows that isn't listed.
+fn unlisted(entries: &[Entry], held: &[Window]) -> Option<Window>
+    ensures { result ≡ find (λ w. not (lists entries.now w)) held.now }
+{
+    for window in held {
+        if !lists(entries, window) {
+            return Some(*window);
+        }
+    }
+    None
+}
+
+/// A window that holds this minute and isn't in its leaf.
+fn missing_at(
+    alloc: Global,
+    tree: &MinuteTree,
+    windows: &[Window],
+    minute: u16,
+) -> Result<Option<(u16, Window)>, AllocError>
+    requires day { minute < 1440 }
+    requires splits { SplitsInside (tree_of tree.now) 0 1440 }
+    ensures { IfOk result (λ found. found ≡ missing_at (tree_of tree.now) windows.now minute) }
+{
+    let held = holders(alloc, windows, minute)?;
+    match unlisted(tree.leaf_at(minute).entries, held.as_slice()) {
+        Some(window) => Ok(Some((minute, window))),
+        None => Ok(None),
+    }
+}
+
+/// Returns the first minute of the day, and the first window that holds it, that its leaf lacks.
+pub fn missing(
+    alloc: Global,
+    tree: &MinuteTree,
+    windows: &[Window],
+) -> Result<Option<(u16, Window)>, AllocError>
+    requires { SplitsInside (tree_of tree.now) 0 1440 }
+    ensures { IfOk result (λ found. found ≡ missing_in (Some (tree_of tree.now)) windows.now) }
+{
+    for minute in 0..MINUTES_OF_DAY {
+        if let Some(found) = missing_at(alloc, tree, windows, minute)? {
+            return Ok(Some(found));
+        }
+    }
+    Ok(None)
+}

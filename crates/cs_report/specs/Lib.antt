@@ -1,0 +1,15 @@
+pub mod Told
+pub mod Refused
+pub mod Printed
+pub mod Dates
+pub mod Names
+pub mod Grammar
+pub mod Faults
+pub mod Reading
+pub mod Entries
+pub mod Script
+pub mod Seen
+pub mod ScriptText
+pub mod Reply
+pub mod ReadBack
+pub mod Warning

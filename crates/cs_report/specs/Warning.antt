@@ -1,0 +1,50 @@
+-- The warnings that come with two tables.
+use Rattle.std.specs.Prelude.{ℕ, Bool, ◌||◌, List, [], ◌++◌, Option, Some, None, codes}
+use Rattle.std.specs.Fmt.{decimal}
+use Rattle.std.specs.List.{filter, find, flat_map}
+use Rattle.std.specs.Str.{bytes_eq}
+use Rattle.cs_anacrontab.specs.Anacrontab.{Table as JobTable}
+use Rattle.cs_crontab.specs.Crontab.{CommandLine, Table}
+use Rattle.cs_table.specs.Setting.{SettingLine}
+use Rattle.cs_table.specs.Text.{front, is_solid}
+
+-- Other daemons heed these settings of a crontab or an anacrontab.
+abbrev pub is_unheeded : SettingLine → Bool
+is_unheeded setting = bytes_eq setting.name (codes "CRON_TZ")
+    || (bytes_eq setting.name (codes "RANDOM_DELAY")
+    || bytes_eq setting.name (codes "START_HOURS_RANGE"))
+
+-- `warning: NAME on line N of the TABLE has no effect` and a newline
+abbrev pub warning : List ℕ → SettingLine → List ℕ
+warning table setting =
+    codes "warning: "
+    ++ (setting.name
+    ++ (codes " on line "
+    ++ (decimal setting.number ++ (codes " of the " ++ (table ++ codes " has no effect\n")))))
+
+-- such a line for each of those settings, in their order
+unfoldable pub warnings_of : List ℕ → List SettingLine → List ℕ
+warnings_of table settings = flat_map (warning table) (filter is_unheeded settings)
+
+-- a command with `root` as its first word: in tables with a user column, as /etc/crontab and those of
+-- /etc/cron.d, a user stands before each command (crontab(5))
+abbrev pub is_as_root : CommandLine → Bool
+is_as_root line = bytes_eq (front is_solid line.command) (codes "root")
+
+-- `warning: the command on line N of the crontab begins with root, as in a table with a user column`
+-- and a newline
+abbrev pub user_warning : CommandLine → List ℕ
+user_warning line = codes "warning: the command on line " ++ (decimal line.number
+    ++ codes " of the crontab begins with root, as in a table with a user column\n")
+
+-- such a line for the first such command
+abbrev pub user_warning_of : Option CommandLine → List ℕ
+user_warning_of None = []
+user_warning_of (Some line) = user_warning line
+
+-- those of the crontab's settings, that of the first command that begins with `root`, and then those
+-- of the anacrontab's settings
+abbrev pub warnings : Table → JobTable → List ℕ
+warnings crontab anacrontab = warnings_of (codes "crontab") crontab.settings
+    ++ (user_warning_of (find is_as_root crontab.lines)
+    ++ warnings_of (codes "anacrontab") anacrontab.settings)

@@ -1,0 +1,27 @@
+//! What is read and printed in words: why a certificate is refused, scripts of events, replies, and
+//! the warnings of two tables.
+#![tactic(auto)]
+
+mod check_fault;
+mod dates;
+mod entry;
+mod form;
+mod nameable;
+mod names;
+mod partial_script;
+mod refusal;
+mod reply;
+mod script;
+mod script_fault;
+mod warning;
+mod words;
+mod writing;
+
+pub use check_fault::CheckFault;
+pub use nameable::is_nameable;
+pub use refusal::fault_text;
+pub use reply::{push_reply, reply_text};
+pub use script::{MAX_SCRIPT, NumberedScript, read_numbered_script, read_script};
+pub use script_fault::{ScriptError, ScriptFault};
+pub use warning::warnings;
+pub use writing::script_text;

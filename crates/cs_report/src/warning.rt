@@ -1,0 +1,140 @@
+ghost use Rattle.std.specs.Prelude.{◌≡◌, ◌++◌, IfOk, OnOk};
+ghost use Rattle.std.specs.Fmt.{decimal};
+ghost use Rattle.std.specs.List.{find};
+ghost use Rattle.std.specs.Option.{option_map};
+ghost use Rattle.cs_report.specs.Warning.{is_as_root, is_unheeded, user_warning, user_warning_of};
+ghost use Rattle.cs_report.specs.Warning.{warning, warnings, warnings_of};
+
+use cs_anacrontab::Anacrontab;
+use cs_civil::{Bytes, push_number};
+use cs_crontab::{Crontab, Line};
+use cs_table::Setting;
+use cs_table::text::word;
+use std::alloc::{AllocError, Global};
+
+/// Whether other daemons heed the setting.
+fn is_unheeded(setting: &Setting) -> bool
+    ensures { result ≡ is_unheeded setting.now }
+{
+    let name = setting.name();
+    name == b"CRON_TZ".as_slice()
+        || name == b"RANDOM_DELAY".as_slice()
+        || name == b"START_HOURS_RANGE".as_slice()
+}
+
+/// Writes the warning of one setting behind the text.
+fn push_warning(
+    alloc: Global,
+    text: &mut Vec<u8>,
+    table: &[u8],
+    setting: &Setting,
+) -> Result<(), AllocError>
+    ensures { OnOk result (text.new.items ≡ text.old.items ++ warning table.now setting.now) }
+{
+    text.extend_from_slice(b"warning: ")?;
+    text.extend_from_slice(setting.name())?;
+    text.extend_from_slice(b" on line ")?;
+    push_number(alloc, text, u128::from(setting.number()))?;
+    text.extend_from_slice(b" of the ")?;
+    text.extend_from_slice(table)?;
+    text.extend_from_slice(b" has no effect\n")
+}
+
+/// Writes the warnings of a table behind the text.
+fn push_warnings(
+    alloc: Global,
+    text: &mut Vec<u8>,
+    table: &[u8],
+    settings: &[Setting],
+) -> Result<(), AllocError>
+    ensures { OnOk result (text.new.items ≡ text.old.items ++ warnings_of table.now settings.now) }
+{
+    for setting in settings {
+        if is_unheeded(setting) {
+            push_warning(alloc, text, table, setting)?;
+        }
+    }
+    Ok(())
+}
+
+/// Whether the command begins with the word `root`.
+fn is_as_root(line: &Line) -> bool
+    ensures { result ≡ is_as_root line.now }
+{
+    let (first, _) = word(line.command());
+    first == b"root".as_slice()
+}
+
+/// The first of the lines whose command begins with the word `root`.
+fn first_as_root(lines: &[Line]) -> Option<&Line>
+    ensures { option_map (λ line. line.now) result ≡ find is_as_root lines.now }
+{
+    lines.iter().find(|line| is_as_root(line))
+}
+
+/// Writes a number between two texts behind the text.
+fn push_numbered(
+    alloc: Global,
+    text: &mut Vec<u8>,
+    front: &[u8],
+    number: u32,
+    end: &[u8],
+) -> Result<(), AllocError>
+    ensures { OnOk result (text.new.items
+        ≡ text.old.items ++ (front.now ++ (decimal number ++ end.now))) }
+{
+    text.extend_from_slice(front)?;
+    push_number(alloc, text, u128::from(number))?;
+    text.extend_from_slice(end)
+}
+
+/// Writes the warning of a command that begins with `root` behind the text.
+fn push_user_warning(alloc: Global, text: &mut Vec<u8>, line: &Line) -> Result<(), AllocError>
+    ensures { OnOk result (text.new.items ≡ text.old.items ++ user_warning line.now) }
+{
+    push_numbered(
+        alloc,
+        text,
+        b"warning: the command on line ",
+        line.number(),
+        b" of the crontab begins with root, as in a table with a user column\n",
+    )
+}
+
+/// Writes the warning of the first such command behind the text.
+fn push_first_user_warning(
+    alloc: Global,
+    text: &mut Vec<u8>,
+    lines: &[Line],
+) -> Result<(), AllocError>
+    ensures { OnOk result (text.new.items
+        ≡ text.old.items ++ user_warning_of (find is_as_root lines.now)) }
+{
+    match first_as_root(lines) {
+        Some(line) => push_user_warning(alloc, text, line),
+        None => Ok(()),
+    }
+}
+
+/// A line for each setting that other daemons heed and this profile reads as a plain setting: `CRON_TZ`,
+/// `RANDOM_DELAY` and `START_HOURS_RANGE` of crontab(5) and anacrontab(5); and one for a crontab with a
+/// user column, as /etc/crontab and those of /etc/cron.d have it.
+///
+/// A setting's is `warning: CRON_TZ on line 1 of the crontab has no effect`, or `.. of the anacrontab ..`.
+/// The first command that begins with the word `root` has `warning: the command on line 1 of the
+/// crontab begins with root, as in a table with a user column`. The settings of the crontab come first,
+/// in order of their numbers, then the command, then the settings of the anacrontab, each line with a
+/// newline. Where there is nothing to warn of, no text. The only error is want of memory.
+pub fn warnings(
+    alloc: Global,
+    crontab: &Crontab,
+    anacrontab: &Anacrontab,
+) -> Result<Bytes, AllocError>
+    ensures { IfOk result (λ text. text ≡ warnings crontab.now anacrontab.now) }
+{
+    let mut text = Vec::new(alloc);
+    push_warnings(alloc, &mut text, b"crontab", crontab.settings())?;
+    push_first_user_warning(alloc, &mut text, crontab.lines())?;
+    push_warnings(alloc, &mut text, b"anacrontab", anacrontab.settings())?;
+    Ok(Bytes::from_vec(text))
+}

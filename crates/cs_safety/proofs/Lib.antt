@@ -1,7 +1,0 @@
-pub mod Locks
-pub mod Kept
-pub mod Passes
-pub mod Runs
-pub mod Safety
-pub mod Listed
-pub mod Examples

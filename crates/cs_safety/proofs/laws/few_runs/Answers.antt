@@ -1,5 +1,0 @@
-use Rattle.cs_safety.proofs.Safety.{few_runs}
-use Rattle.cs_safety.proofs.laws.few_runs.Goals as goal
-
-pub returns : goal.returns
-returns c p reaches b h plan bounded calm legal time = few_runs p reaches b plan bounded calm h legal time

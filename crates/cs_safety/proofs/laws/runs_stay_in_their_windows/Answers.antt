@@ -1,5 +1,0 @@
-use Rattle.cs_safety.proofs.Runs.{runs_in_windows}
-use Rattle.cs_safety.proofs.laws.runs_stay_in_their_windows.Goals as goal
-
-pub returns : goal.returns
-returns c p reaches b h plan bounded legal time = runs_in_windows p reaches b plan bounded h legal time

@@ -1,8 +1,0 @@
-use Rattle.std.proofs.Common.{arith, subst, sym}
-use Rattle.cs_decl.specs.Plan.{as_plan}
-use Rattle.cs_shown.specs.Trial.{IsDeadline}
-use Rattle.cs_shown.proofs.deadline.first_deadline.Goals as goal
-
-pub loop-going-preserved : goal.loop-going-preserved
-loop-going-preserved c = λ n less rest.
-    c.loop-going.invariant n (omega (arith, less, c.min-first.ensures)) (subst (IsDeadline (as_plan c.args.plan.now) n) (sym c.in-Some.ensures.steps) (omega (arith, less, c.min-first.ensures, c.end_of.ensures), rest))

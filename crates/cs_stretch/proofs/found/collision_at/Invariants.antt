@@ -1,9 +1,0 @@
-use Rattle.std.proofs.Common.{◌≡◌, None}
-use Rattle.std.specs.List.{range_with_len}
-use Rattle.cs_accepted.specs.Faults.{first_of}
-use Rattle.cs_accepted.specs.Windows.{holders}
-use Rattle.cs_stretch.specs.Found.{collision_of}
-use Rattle.cs_stretch.proofs.found.collision_at.Given as goal
-
-abbrev pub invariant-loop-group : goal.invariant-loop-group
-invariant-loop-group l = first_of (collision_of l.roles l.minute (holders l.minute l.windows)) (range_with_len 0 l.group) ≡ None

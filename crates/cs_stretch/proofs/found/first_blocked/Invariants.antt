@@ -1,7 +1,0 @@
-use Rattle.std.proofs.Common.{◌≡◌, drop}
-use Rattle.cs_accepted.specs.Faults.{first_of}
-use Rattle.cs_stretch.specs.Found.{blocked_of}
-use Rattle.cs_stretch.proofs.found.first_blocked.Given as goal
-
-abbrev pub invariant-loop-skip : goal.invariant-loop-skip
-invariant-loop-skip l = first_of (blocked_of l.roles l.minute l.held) (drop l.skip-index l.held) ≡ first_of (blocked_of l.roles l.minute l.held) l.held

@@ -1,7 +1,0 @@
-use Rattle.std.proofs.Common.{◌≡◌, drop}
-use Rattle.cs_accepted.specs.Faults.{first_pair}
-use Rattle.cs_stretch.specs.Found.{clash_in}
-use Rattle.cs_stretch.proofs.found.first_clash.Given as goal
-
-abbrev pub invariant-loop-place : goal.invariant-loop-place
-invariant-loop-place l = first_pair (clash_in l.roles l.group) l.held ≡ first_pair (clash_in l.roles l.group) (drop l.place l.held)

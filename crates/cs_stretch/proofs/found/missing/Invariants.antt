@@ -1,9 +1,0 @@
-use Rattle.std.proofs.Common.{◌≡◌, None}
-use Rattle.std.specs.List.{range_with_len}
-use Rattle.cs_accepted.specs.Faults.{first_of}
-use Rattle.cs_windows.specs.Tree.{tree_of}
-use Rattle.cs_stretch.specs.Found.{missing_at}
-use Rattle.cs_stretch.proofs.found.missing.Given as goal
-
-abbrev pub invariant-loop-minute : goal.invariant-loop-minute
-invariant-loop-minute l = first_of (missing_at (tree_of l.tree) l.windows) (range_with_len 0 l.minute) ≡ None

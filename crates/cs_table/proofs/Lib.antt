@@ -1,0 +1,11 @@
+pub mod Fronts
+pub mod Lines
+pub mod Spans
+pub mod Quotes
+pub mod Settings
+pub mod SettingAnswers
+pub mod Variables
+pub mod Loop
+pub mod Tables
+pub mod Results
+pub mod Places

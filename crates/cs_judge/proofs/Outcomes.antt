@@ -5,8 +5,8 @@ use Rattle.cs_check.specs.Checked.{IsHeadline, certificate_in}
 use Rattle.cs_decl.specs.Plan.{Declared, as_plan}
 use Rattle.cs_judge.specs.Answer.{IsAnswer, IsSafeMade, IsStory, unknown_outcome}
 use Rattle.cs_judge.specs.Judged.{IsJudgement}
-use Rattle.cs_maker.specs.declared.made.Reason.{Reason}
-use Rattle.cs_maker.specs.declared.made.Reason.TheVariants.{TooManyClasses, LeafTooLong, TooDeep, NoReach, NoScript, NotChecked, NoMemory}
+use Rattle.cs_maker.specs.declared.reason.Reason.{Reason}
+use Rattle.cs_maker.specs.declared.reason.Reason.TheVariants.{TooManyClasses, LeafTooLong, TooDeep, NoReach, NoScript, NotChecked, NoMemory}
 use Rattle.cs_judge.specs.declared.answers.Outcome.{Outcome}
 use Rattle.cs_judge.specs.declared.answers.Outcome.TheVariants as outcome
 use Rattle.cs_judge.specs.declared.answers.Wanted.{Wanted}

@@ -12,8 +12,8 @@ use Rattle.cs_check.specs.Checked.{certificate_in}
 use Rattle.cs_report.specs.Refused.{fault_text}
 use Rattle.cs_report.specs.Told.{told}
 use Rattle.cs_maker.specs.Reason.{reason_name}
-use Rattle.cs_maker.specs.declared.made.Reason.{Reason}
-use Rattle.cs_maker.specs.declared.made.Reason.TheVariants.{TooManyClasses, LeafTooLong, TooDeep, NoReach, NoScript, NotChecked, NoMemory}
+use Rattle.cs_maker.specs.declared.reason.Reason.{Reason}
+use Rattle.cs_maker.specs.declared.reason.Reason.TheVariants.{TooManyClasses, LeafTooLong, TooDeep, NoReach, NoScript, NotChecked, NoMemory}
 use Rattle.cs_report.specs.ScriptText.{script_text}
 use Rattle.cs_counterexample.specs.ShownText.{shown_text}
 use Rattle.cs_counterexample.specs.declared.shown.Shown.{Shown}

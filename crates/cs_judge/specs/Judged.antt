@@ -50,13 +50,17 @@ pub record Shows (plan : Declared) (script : Script) (shown : Shown) : Type 0 wh
   pub breaks : IsShown (as_plan plan) script shown
   pub tellable : IsTellable (as_plan plan) shown
 
--- the checker refuses some certificate of the plan so
+-- a compact certificate is one of version 3
+abbrev pub IsCompact : Content → Type 0
+IsCompact c = c.version ≡ 3
+
+-- the checker refuses a compact certificate of the plan so
 abbrev pub IsRefusal : Declared → CheckFault → Type 0
-IsRefusal plan fault = (c : Content) × (fault_of plan c ≡ Some (told fault))
+IsRefusal plan fault = (c : Content) × IsCompact c × (fault_of plan c ≡ Some (told fault))
 
 -- what is known of a plan is so: where it is called safe, the checker has accepted it, every legal
 -- history in time is safe and each minute is calm; where it is called unsafe, the script shows it;
--- and a refusal is the checker's
+-- and a refusal is the checker's, of a compact certificate
 pub record IsJudgement (plan : Declared) (judged : Judged) : Type 0 where
   pub safe : IfSafe judged (IsCheckedFor plan)
   pub headline : IfSafe judged (λ checked. IsHeadline (as_plan plan))

@@ -1,140 +1,121 @@
-ghost use Rattle.std.specs.Prelude.{◌≡◌, IfSome};
+ghost use Rattle.std.specs.Prelude.{IfErr, IfOk, IfSome};
 ghost use Rattle.cs_cert.specs.Certificate.{content};
-ghost use Rattle.cs_check.specs.Checked.{IsHeadline, certificate_in};
-ghost use Rattle.cs_decl.specs.Plan.{as_plan};
-ghost use Rattle.cs_judge.specs.Form.{IsCompact, IsJudgedBy};
-ghost use Rattle.cs_judge.specs.Judged.{IfRefused, IfSafe, IfUnsafe, IsCalmBy, IsCheckedFor};
-ghost use Rattle.cs_judge.specs.Judged.{IsRefusal, Shows};
+ghost use Rattle.cs_check.specs.Checked.{certificate_in};
+ghost use Rattle.cs_judge.specs.Form.{IsJudgedBy};
+ghost use Rattle.cs_judge.specs.Judged.{IsCompact, IsJudgement, IsRefusal, Shows};
+ghost use Rattle.cs_judge.specs.declared.judged.Judged.TheVariants.{Safe};
 
 use crate::answers::Wanted;
 use crate::judged::Judged;
 use cs_cert::Certificate;
-use cs_check::{CheckError, check_parallel};
-use cs_counterexample::{NotShown, prove_unsafe};
+use cs_check::{CheckError, Checked, check_parallel};
+use cs_counterexample::{NotShown, Shown, prove_unsafe};
 use cs_decl::Plan;
 use cs_history::Script;
-use cs_maker::{Form, Made, Reason, make, propose};
-use cs_report::is_nameable;
+use cs_maker::{Maker, Reason};
+use cs_report::{CheckFault, is_nameable};
 use std::alloc::{AllocError, Global};
 use std::thread::Threads;
 
-/// The checker's verdict on a certificate; the plan is unknown for this reason if it is refused.
-fn confirm<R: Threads + Sync>(
+/// The plan checked with a certificate of the maker, or why the checker refuses that, if there is
+/// one.
+fn check<R: Threads + Sync>(
     rt: &R,
     alloc: Global,
     plan: &Plan,
-    certificate: Certificate,
-    reason: Reason,
-) -> Judged
-    ensures safe { IfSafe result (IsCheckedFor plan.now) }
-    ensures headline { IfSafe result (λ checked. IsHeadline (as_plan plan.now)) }
-    ensures calm { IfSafe result (IsCalmBy plan.now) }
-    ensures shown { IfUnsafe result (Shows plan.now) }
-    ensures refused { IfRefused result (IsRefusal plan.now) }
-    ensures certificate { IfSafe result (λ checked. certificate_in checked ≡ content certificate) }
+    made: Option<Certificate>,
+) -> Result<Result<Checked, Option<CheckFault>>, AllocError>
+    ensures known { IfOk result (λ found.
+        IfOk found (λ checked. IsJudgement plan.now (Safe checked))) }
+    ensures form { IfSome made (λ certificate. IsCompact (content certificate))
+        → IfOk result (λ found. IfOk found (λ checked. IsCompact (certificate_in checked))) }
+    ensures refused { IfSome made (λ certificate. IsCompact (content certificate))
+        → IfOk result (λ found. IfErr found (λ refusal. IfSome refusal (IsRefusal plan.now))) }
 {
-    match check_parallel(rt, alloc, plan, certificate) {
-        Ok(checked) => Judged::Safe(checked),
-        Err(CheckError::Fault(fault)) => Judged::Unknown(reason, Some(fault)),
-        Err(CheckError::OutOfMemory) => Judged::Unknown(Reason::NoMemory, None),
-    }
-}
-
-/// What a script shows, if it can be written and shows the plan unsafe.
-fn show(alloc: Global, plan: &Plan, script: Script) -> Judged
-    ensures safe { IfSafe result (IsCheckedFor plan.now) }
-    ensures headline { IfSafe result (λ checked. IsHeadline (as_plan plan.now)) }
-    ensures calm { IfSafe result (IsCalmBy plan.now) }
-    ensures shown { IfUnsafe result (Shows plan.now) }
-    ensures refused { IfRefused result (IsRefusal plan.now) }
-    ensures unsure { IfSafe result (λ checked. ⊥) }
-{
-    if !is_nameable(plan, &script) {
-        return Judged::Unknown(Reason::NotChecked, None);
-    }
-    match prove_unsafe(alloc, plan, &script) {
-        Ok(shown) => Judged::Unsafe(script, shown),
-        Err(NotShown::OutOfMemory) => Judged::Unknown(Reason::NoMemory, None),
-        Err(_) => Judged::Unknown(Reason::NotChecked, None),
-    }
-}
-
-/// The plan checked with a proposed certificate, none if it is refused.
-fn accepted<R: Threads + Sync>(
-    rt: &R,
-    alloc: Global,
-    plan: &Plan,
-    certificate: Certificate,
-) -> Option<Judged>
-    ensures safe { IfSome result (λ judged. IfSafe judged (IsCheckedFor plan.now)) }
-    ensures headline { IfSome result (λ judged.
-        IfSafe judged (λ checked. IsHeadline (as_plan plan.now))) }
-    ensures calm { IfSome result (λ judged. IfSafe judged (IsCalmBy plan.now)) }
-    ensures shown { IfSome result (λ judged. IfUnsafe judged (Shows plan.now)) }
-    ensures refused { IfSome result (λ judged. IfRefused judged (IsRefusal plan.now)) }
-    ensures certificate { IfSome result (λ judged.
-        IfSafe judged (λ checked. certificate_in checked ≡ content certificate)) }
-{
-    match confirm(rt, alloc, plan, certificate, Reason::NotChecked) {
-        Judged::Unknown(_, Some(_)) => None,
-        judged => Some(judged),
-    }
-}
-
-/// The verdict by the compact certificate of the least bounds; none if there is none, or the
-/// checker refuses it.
-fn judged_by_bounds<R: Threads + Sync>(rt: &R, alloc: Global, plan: &Plan) -> Option<Judged>
-    ensures safe { IfSome result (λ judged. IfSafe judged (IsCheckedFor plan.now)) }
-    ensures headline { IfSome result (λ judged.
-        IfSafe judged (λ checked. IsHeadline (as_plan plan.now))) }
-    ensures calm { IfSome result (λ judged. IfSafe judged (IsCalmBy plan.now)) }
-    ensures shown { IfSome result (λ judged. IfUnsafe judged (Shows plan.now)) }
-    ensures refused { IfSome result (λ judged. IfRefused judged (IsRefusal plan.now)) }
-    ensures form { IfSome result (λ judged. IfSafe judged IsCompact) }
-{
-    match propose(alloc, plan, Form::Compact) {
-        Ok(Some(certificate)) => accepted(rt, alloc, plan, certificate),
-        Ok(None) => None,
-        Err(AllocError) => Some(Judged::Unknown(Reason::NoMemory, None)),
-    }
-}
-
-/// Like `judged_by_bounds`, with the certificate that lists the windows of these bounds; none too
-/// if no file can hold it.
-fn judged_by_list<R: Threads + Sync>(rt: &R, alloc: Global, plan: &Plan) -> Option<Judged>
-    ensures safe { IfSome result (λ judged. IfSafe judged (IsCheckedFor plan.now)) }
-    ensures headline { IfSome result (λ judged.
-        IfSafe judged (λ checked. IsHeadline (as_plan plan.now))) }
-    ensures calm { IfSome result (λ judged. IfSafe judged (IsCalmBy plan.now)) }
-    ensures shown { IfSome result (λ judged. IfUnsafe judged (Shows plan.now)) }
-    ensures refused { IfSome result (λ judged. IfRefused judged (IsRefusal plan.now)) }
-{
-    let certificate = match propose(alloc, plan, Form::Listed) {
-        Ok(Some(certificate)) => certificate,
-        Ok(None) => return None,
-        Err(AllocError) => return Some(Judged::Unknown(Reason::NoMemory, None)),
+    let Some(certificate) = made else {
+        return Ok(Err(None));
     };
-    if certificate.version() == 3 {
-        return None;
+    match check_parallel(rt, alloc, plan, certificate) {
+        Ok(checked) => Ok(Ok(checked)),
+        Err(CheckError::Fault(fault)) => Ok(Err(Some(fault))),
+        Err(CheckError::OutOfMemory) => Err(AllocError),
     }
-    accepted(rt, alloc, plan, certificate)
 }
 
-/// The verdict by the maker's answer if no certificate of the least bounds is accepted: a script
-/// that shows the plan unsafe, or why the plan is unknown.
-fn judged_by_story<R: Threads + Sync>(rt: &R, alloc: Global, plan: &Plan) -> Judged
-    ensures safe { IfSafe result (IsCheckedFor plan.now) }
-    ensures headline { IfSafe result (λ checked. IsHeadline (as_plan plan.now)) }
-    ensures calm { IfSafe result (IsCalmBy plan.now) }
-    ensures shown { IfUnsafe result (Shows plan.now) }
-    ensures refused { IfRefused result (IsRefusal plan.now) }
-    ensures form { IfSafe result IsCompact }
+/// The verdict on a plan that was accepted with a compact certificate: with the one that lists
+/// windows if that is wanted and accepted too.
+fn accept<R: Threads + Sync>(
+    rt: &R,
+    alloc: Global,
+    plan: &Plan,
+    maker: &Maker<'_>,
+    wanted: Wanted,
+    compact: Checked,
+) -> Result<Judged, AllocError>
+    requires known { IsJudgement plan.now (Safe compact) }
+    requires form { IsCompact (certificate_in compact) }
+    ensures known { IfOk result (IsJudgement plan.now) }
+    ensures form { IfOk result (IsJudgedBy wanted) }
 {
-    match make(alloc, plan, Form::Compact) {
-        Made::Safe(certificate) => confirm(rt, alloc, plan, certificate, Reason::NotChecked),
-        Made::Refused(certificate, reason) => confirm(rt, alloc, plan, certificate, reason),
-        Made::Unsafe(script) => show(alloc, plan, script),
-        Made::Unknown(reason) => Judged::Unknown(reason, None),
+    match wanted {
+        Wanted::Verdict | Wanted::Compact => Ok(Judged::Safe(compact)),
+        Wanted::Certificate => match check(rt, alloc, plan, maker.listed(alloc)?)? {
+            Ok(listed) => Ok(Judged::Safe(listed)),
+            Err(_) => Ok(Judged::Safe(compact)),
+        },
+    }
+}
+
+/// What a script breaks first, if it can be written and shows the plan unsafe.
+fn show(alloc: Global, plan: &Plan, script: &Script) -> Result<Option<Shown>, AllocError>
+    ensures { IfOk result (λ shown. IfSome shown (Shows plan.now script.now)) }
+{
+    if !is_nameable(plan, script) {
+        return Ok(None);
+    }
+    match prove_unsafe(alloc, plan, script) {
+        Ok(shown) => Ok(Some(shown)),
+        Err(NotShown::OutOfMemory) => Err(AllocError),
+        Err(_) => Ok(None),
+    }
+}
+
+/// The maker's counterexample and what it breaks first, or why there is none that shows the plan
+/// unsafe.
+fn refute(
+    alloc: Global,
+    plan: &Plan,
+    maker: &Maker<'_>,
+) -> Result<Result<(Script, Shown), Reason>, AllocError>
+    ensures { IfOk result (λ found. IfOk found (λ it. Shows plan.now it.0 it.1)) }
+{
+    let script = match maker.counterexample(alloc)? {
+        Ok(script) => script,
+        Err(reason) => return Ok(Err(reason)),
+    };
+    match show(alloc, plan, &script)? {
+        Some(shown) => Ok(Ok((script, shown))),
+        None => Ok(Err(Reason::NotChecked)),
+    }
+}
+
+/// The verdict on a plan, by what its maker makes. The only error is out of memory.
+fn decide<R: Threads + Sync>(
+    rt: &R,
+    alloc: Global,
+    plan: &Plan,
+    wanted: Wanted,
+) -> Result<Judged, AllocError>
+    ensures known { IfOk result (IsJudgement plan.now) }
+    ensures form { IfOk result (IsJudgedBy wanted) }
+{
+    let maker = Maker::of(alloc, plan)?;
+    match check(rt, alloc, plan, maker.compact(alloc)?)? {
+        Ok(compact) => accept(rt, alloc, plan, &maker, wanted, compact),
+        Err(refusal) => match refute(alloc, plan, &maker)? {
+            Ok((script, shown)) => Ok(Judged::Unsafe(script, shown)),
+            Err(reason) => Ok(Judged::Unknown(reason, refusal)),
+        },
     }
 }
 
@@ -144,32 +125,20 @@ fn judged_by_story<R: Threads + Sync>(rt: &R, alloc: Global, plan: &Plan) -> Jud
 ///
 /// `Safe`: every legal history in which each run ends within its declared time is safe. `Unsafe`
 /// shows one that isn't. `Unknown` has the maker's reason, `NotChecked` if its answer wasn't
-/// confirmed, or `NoMemory` if memory ran out. The certificate is of version 3, unless one that
-/// lists windows is wanted and a file can hold it.
+/// confirmed, or `NoMemory` if memory ran out; and the checker's refusal if there was a
+/// certificate. The certificate is of version 3, unless one that lists windows is wanted and a file
+/// can hold it.
 pub fn judge<R: Threads + Sync>(rt: &R, alloc: Global, plan: &Plan, wanted: Wanted) -> Judged
     // a `Safe` plan was accepted by the checker: every legal history in time is safe, and each
-    // minute from 1970-01-04 on is calm
-    ensures safe { IfSafe result (IsCheckedFor plan.now) }
-    ensures headline { IfSafe result (λ checked. IsHeadline (as_plan plan.now)) }
-    ensures calm { IfSafe result (IsCalmBy plan.now) }
+    // minute from 1970-01-04 on is calm; an `Unsafe` one is shown unsafe by a script that can be
+    // written; the refusal of an `Unknown` one is the checker's, of a certificate of version 3
+    ensures known { IsJudgement plan.now result }
 
-    // an `Unsafe` plan is shown unsafe by a script that can be written
-    ensures shown { IfUnsafe result (Shows plan.now) }
-
-    // the refusal of an `Unknown` plan is the checker's
-    ensures refused { IfRefused result (IsRefusal plan.now) }
-
-    // and if a compact certificate is wanted, a `Safe` plan has one
+    // and a `Safe` plan was accepted with a certificate of version 3, unless a list is wanted
     ensures form { IsJudgedBy wanted result }
 {
-    let Some(judged) = judged_by_bounds(rt, alloc, plan) else {
-        return judged_by_story(rt, alloc, plan);
-    };
-    match (wanted, judged) {
-        (Wanted::Certificate, Judged::Safe(checked)) => match judged_by_list(rt, alloc, plan) {
-            Some(listed) => listed,
-            None => Judged::Safe(checked),
-        },
-        (_, judged) => judged,
+    match decide(rt, alloc, plan, wanted) {
+        Ok(judged) => judged,
+        Err(AllocError) => Judged::Unknown(Reason::NoMemory, None),
     }
 }

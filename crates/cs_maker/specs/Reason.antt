@@ -1,7 +1,7 @@
 -- The names of the reasons for which nothing is known of a plan.
 use Rattle.std.specs.Prelude.{ℕ, List, codes}
-use Rattle.cs_maker.specs.declared.made.Reason.{Reason}
-use Rattle.cs_maker.specs.declared.made.Reason.TheVariants.{TooManyClasses, LeafTooLong, TooDeep, NoReach, NoScript, NotChecked, NoMemory}
+use Rattle.cs_maker.specs.declared.reason.Reason.{Reason}
+use Rattle.cs_maker.specs.declared.reason.Reason.TheVariants.{TooManyClasses, LeafTooLong, TooDeep, NoReach, NoScript, NotChecked, NoMemory}
 
 abbrev pub reason_name : Reason → List ℕ
 reason_name TooManyClasses = codes "TooManyClasses"

@@ -2,8 +2,8 @@
 ghost use Rattle.std.specs.Prelude.{◌≤◌, length};
 
 use crate::breaches::{breach_on, broken_by};
+use crate::search::Search;
 use crate::stretches::days_of;
-use crate::subject::Subject;
 use cs_bound::ExactWaits;
 use cs_civil::{Day, MINUTES_OF_DAY, kind_of};
 use cs_classes::{Chain, occupied};
@@ -78,7 +78,7 @@ struct Bounded<'a> {
 /// before and after.
 fn breach_until(
     alloc: Global,
-    subject: &Subject<'_>,
+    search: &Search<'_>,
     waits: &ExactWaits<'_>,
     bounded: &Bounded<'_>,
     last_day: u64,
@@ -89,13 +89,13 @@ fn breach_until(
     let kinds = kinds_until(last_day, bounded.days);
     let windows = windows_on(alloc, bounded.occupied.as_slice(), kinds.as_slice())?;
     *looks = looks.saturating_sub(looks_at_open(windows.as_slice()));
-    let quiet = subject.roles.quiet(alloc, windows.as_slice())?;
+    let quiet = search.roles.quiet(alloc, windows.as_slice())?;
     if quiet.by_all() {
         return Ok(None);
     }
     *looks = looks.saturating_sub(looks_by_minute(windows.as_slice()));
     let exact = waits.cut(alloc, last_day, bounded.days, windows.as_slice())?;
-    match broken_by(alloc, subject.roles, quiet, exact.as_slice())? {
+    match broken_by(alloc, &search.roles, quiet, exact.as_slice())? {
         Some(found) => Ok(Some(breach_on(alloc, last_day, exact.as_slice(), found)?)),
         None => Ok(None),
     }
@@ -105,7 +105,7 @@ fn breach_until(
 /// none, many breaches have none, or the search took too many looks.
 fn story_on(
     alloc: Global,
-    subject: &Subject<'_>,
+    search: &Search<'_>,
     waits: &ExactWaits<'_>,
     bounded: &Bounded<'_>,
     last_days: &[u64],
@@ -118,17 +118,11 @@ fn story_on(
         if looks == 0 {
             return Ok(None);
         }
-        let found = breach_until(alloc, subject, waits, bounded, *last_day, &mut looks)?;
+        let found = breach_until(alloc, search, waits, bounded, *last_day, &mut looks)?;
         let Some(breach) = found else {
             continue;
         };
-        let told = tell(
-            alloc,
-            subject.plan,
-            subject.facts,
-            subject.calendar,
-            &breach,
-        )?;
+        let told = tell(alloc, search.plan, search.facts, &search.calendar, &breach)?;
         untold = untold.saturating_add(1);
         if told.is_some() || untold == MOST_BREACHES {
             return Ok(told);
@@ -141,13 +135,13 @@ fn story_on(
 /// reaches of the jobs that wait are no less than the exact ones. The only error is out of memory.
 pub(crate) fn exact_story(
     alloc: Global,
-    subject: &Subject<'_>,
+    search: &Search<'_>,
     reaches: &[JobReach],
 ) -> Result<Option<Script>, AllocError> {
-    let waits = ExactWaits::of(alloc, subject.facts, subject.calendar)?;
-    let occupied = occupied(alloc, subject.plan, reaches)?;
+    let waits = ExactWaits::of(alloc, search.facts, &search.calendar)?;
+    let occupied = occupied(alloc, search.plan, reaches)?;
     let days = days_of(occupied.as_slice());
     let bounded = Bounded { occupied, days };
     let last_days = waits.last_days(alloc, days)?;
-    story_on(alloc, subject, &waits, &bounded, last_days.as_slice())
+    story_on(alloc, search, &waits, &bounded, last_days.as_slice())
 }

@@ -1,17 +1,15 @@
 //! The maker: finds a certificate for a plan, or a script that breaks it. It is not trusted; it
-//! promises only to return, and the form of a certificate.
+//! promises only to return, and that a compact certificate is of version 3.
 #![tactic(auto)]
 
 mod breaches;
-mod encoding;
 mod exact;
-mod form;
-mod made;
-mod making;
+mod listed;
+mod maker;
+mod reason;
+mod search;
 mod stretches;
-mod subject;
 mod sweep;
 
-pub use form::Form;
-pub use made::{Made, Reason};
-pub use making::{make, propose};
+pub use maker::Maker;
+pub use reason::Reason;

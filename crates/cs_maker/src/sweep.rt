@@ -3,8 +3,8 @@ ghost use Rattle.std.specs.Prelude.{IfOk, ◌≤◌, length};
 ghost use Rattle.cs_windows.specs.Window.{IsRising};
 
 use crate::breaches::{Found, breach_on, broken_by, last_day};
+use crate::search::Search;
 use crate::stretches::{days_of, stretches_by};
-use crate::subject::Subject;
 use cs_classes::occupied;
 use cs_overlap::Roles;
 use cs_story::Breach;
@@ -24,17 +24,17 @@ fn found_in(alloc: Global, roles: &Roles, windows: &[Window]) -> Result<Option<F
 /// the reaches. The only error is out of memory.
 pub(crate) fn first_breach(
     alloc: Global,
-    subject: &Subject<'_>,
+    search: &Search<'_>,
     reaches: &[JobReach],
 ) -> Result<Option<Breach>, AllocError> {
-    let occupied = occupied(alloc, subject.plan, reaches)?;
+    let occupied = occupied(alloc, search.plan, reaches)?;
     let days = days_of(occupied.as_slice());
-    let stretches = stretches_by(alloc, days, subject.facts.profiles())?;
+    let stretches = stretches_by(alloc, days, search.facts.profiles())?;
     for (profiles, kinds) in &stretches {
         let windows = windows_on(alloc, occupied.as_slice(), kinds.as_slice())?;
         let windows = windows.as_slice();
-        if let Some(found) = found_in(alloc, subject.roles, windows)? {
-            let day = last_day(subject.calendar, profiles.as_slice());
+        if let Some(found) = found_in(alloc, &search.roles, windows)? {
+            let day = last_day(&search.calendar, profiles.as_slice());
             return Ok(Some(breach_on(alloc, day, windows, found)?));
         }
     }

@@ -1,9 +1,6 @@
 ghost use Rattle.std.specs.Prelude.{◌≡◌};
 ghost use Rattle.cs_maker.specs.Reason.{reason_name};
 
-use cs_cert::Certificate;
-use cs_history::Script;
-
 /// Why the maker finds neither a certificate nor a script that breaks the plan.
 #[derive(Clone, Copy, Debug, PartialEq, Eq)]
 pub enum Reason {
@@ -21,19 +18,6 @@ pub enum Reason {
     NotChecked,
     /// Memory ran out.
     NoMemory,
-}
-
-/// The maker's answer for a plan.
-#[derive(Debug, Drop)]
-pub enum Made {
-    /// A certificate that the checker should accept.
-    Safe(Certificate),
-    /// A script that should show the plan unsafe.
-    Unsafe(Script),
-    /// The least certificate, whose windows break a rule, and why there is no script.
-    Refused(Certificate, Reason),
-    /// Neither a certificate nor a script, and why.
-    Unknown(Reason),
 }
 
 impl Reason {

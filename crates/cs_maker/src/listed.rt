@@ -1,16 +1,13 @@
-//! The certificate of bounds.
-ghost use Rattle.std.specs.Prelude.{◌≤◌, IfOk, length};
-ghost use Rattle.cs_maker.specs.Form.{IsInForm};
+//! The certificate that lists windows.
+ghost use Rattle.std.specs.Prelude.{◌≤◌, length};
 
-use crate::form::Form;
-use crate::made::Reason;
+use crate::maker::Maker;
 use crate::stretches::{Stretches, days_of, stretches_by};
 use cs_bound::Bounds;
 use cs_cert::{Certificate, MAX_CERTIFICATE, MAX_CLASSES, Stretch, least_text};
 use cs_civil::Sequence;
 use cs_classes::occupied;
-use cs_decl::Plan;
-use cs_encode::{certificate, compact_certificate, stretch};
+use cs_encode::{certificate, stretch};
 use cs_profile::{Classing, Facts};
 use cs_windows::{Occupied, windows_on};
 use std::alloc::{AllocError, Global};
@@ -64,10 +61,9 @@ fn with_windows(
 }
 
 /// The certificate that lists the windows of these bounds, if a file can hold it.
-fn listed_certificate(
+fn listed_by(
     alloc: Global,
-    plan: &Plan,
-    facts: &Facts,
+    maker: &Maker<'_>,
     bounds: &Bounds,
 ) -> Result<Option<Certificate>, AllocError> {
     let classing = &bounds.classing;
@@ -75,36 +71,27 @@ fn listed_certificate(
         return Ok(None);
     }
     let reaches = bounds.reaches.as_slice();
-    let occupied = occupied(alloc, plan, reaches)?;
+    let occupied = occupied(alloc, maker.plan, reaches)?;
     let days = days_of(occupied.as_slice());
     let in_use = stretches_by(alloc, days, classing.class_of.as_slice())?;
-    if least_entries(facts, classing, &in_use) >= MAX_CERTIFICATE as u64 {
+    if least_entries(&maker.facts, classing, &in_use) >= MAX_CERTIFICATE as u64 {
         return Ok(None);
     }
     let stretches = with_windows(alloc, occupied.as_slice(), &in_use)?;
-    match certificate(alloc, facts, classing, stretches, reaches)? {
+    match certificate(alloc, &maker.facts, classing, stretches, reaches)? {
         Ok(listed) if least_text(&listed) < MAX_CERTIFICATE as u64 => Ok(Some(listed)),
         _ => Ok(None),
     }
 }
 
-/// The certificate of these bounds in this form, or why none. The only error is out of memory.
-pub(crate) fn certificate_of(
-    alloc: Global,
-    plan: &Plan,
-    facts: &Facts,
-    bounds: &Bounds,
-    form: Form,
-) -> Result<Result<Certificate, Reason>, AllocError>
-    ensures { IfOk result (λ made. IfOk made (IsInForm form)) }
-{
-    if form == Form::Listed {
-        if let Some(listed) = listed_certificate(alloc, plan, facts, bounds)? {
-            return Ok(Ok(listed));
+impl Maker<'_> {
+    /// Returns the certificate of the least bounds that lists their windows, which is of version 1
+    /// or 2: the caller has it checked. None if there are no bounds, or no file can hold it. The
+    /// only error is out of memory.
+    pub fn listed(&self, alloc: Global) -> Result<Option<Certificate>, AllocError> {
+        match &self.bounds {
+            Some(bounds) => listed_by(alloc, self, bounds),
+            None => Ok(None),
         }
-    }
-    match compact_certificate(alloc, &bounds.classing, bounds.reaches.as_slice())? {
-        Ok(compact) => Ok(Ok(compact)),
-        Err(_) => Ok(Err(Reason::NotChecked)),
     }
 }

@@ -69,4 +69,4 @@ quiet_is_none k us is listed good reaches =
     let c = said k.claim.now in
     subst (λ (n : ℕ). first_fault (as_plan d) (due_on d) (as_certificate c) n ≡ None) is.long
     (good_is_none (as_plan d) is.fit.plan (due_on d) (as_certificate c) k.days (omega (arith, (days_range k is).0))
-    (subst (AllByRecursion (IsGood (as_plan d) (as_certificate c) k.days)) listed.listed (recursion_from (IsGood (as_plan d) (as_certificate c) k.days) (seen c) us good)) is.due listed.complete reaches)
+    (subst (AllByRecursion (IsGood (as_plan d) (as_certificate c) k.days)) listed.listed (recursion_from (IsGood (as_plan d) (as_certificate c) k.days) seen us good)) is.due listed.complete reaches)

@@ -1,10 +1,8 @@
 -- What a complete tree lists at each minute.
-use Rattle.std.proofs.Common.{◌≡◌, ℕ, ◌+◌, ◌<◌, Bool, true, false, List, Some, refl, subst, arith}
-use Rattle.std.specs.Prelude.{◌==◌}
-use Rattle.cs_theorem.specs.Accepted.{ListsAll}
-use Rattle.cs_cert.specs.Content.{Content}
+use Rattle.std.proofs.Common.{◌≡◌, ℕ, ◌+◌, ◌<◌, true, Bor, List, None, Some, option_map, ap, subst, arith}
 use Rattle.cs_classes.specs.Used.{seen}
 use Rattle.cs_classes.specs.declared.used.UsedStretch.{UsedStretch}
+use Rattle.cs_windows.specs.declared.tree.MinuteTree.{MinuteTree}
 use Rattle.std.specs.List.{AllByRecursion}
 use Rattle.cs_history.proofs.Lists.{all_zip, all-filter, all_passes}
 use Rattle.cs_windows.specs.declared.window.Window.{Window}
@@ -24,7 +22,9 @@ covered_from tree ws complete m lt =
     all_zip (Has ws) (λ w. touches w m (m + 1) ≡ true) (λ w. lists (entries_at tree m) w ≡ true) (holders m ws) (λ w has t. complete m lt w (has_contains ws w has) (held w m t))
     (all-filter (Has ws) (λ w. touches w m (m + 1)) ws (all_from_has (Has ws) ws (λ w h. h))) (all_passes (λ w. touches w m (m + 1)) ws)
 
--- the tree of a stretch counts where the version has trees
-pub listed_or_not : (c : Content) (u : UsedStretch) (ws : List Window) (b : Bool) → (c.version == 3) ≡ b → (b ≡ false → ListsAll (Some (tree_of u.stretch.now.tree)) ws) → ListsAll (seen c u).tree ws
-listed_or_not c u ws true e h = rw e tt
-listed_or_not c u ws false e h = rw e (h refl)
+-- the tree of a stretch in use, if there is one
+pub tree_seen : (u : UsedStretch) (tree : Bor MinuteTree) → u.tree ≡ Some tree → (seen u).tree ≡ Some (tree_of tree.now)
+tree_seen u tree is = ap (option_map (λ (b : Bor MinuteTree). tree_of b.now)) is
+
+pub none_seen : (u : UsedStretch) → u.tree ≡ None → (seen u).tree ≡ None
+none_seen u is = ap (option_map (λ (b : Bor MinuteTree). tree_of b.now)) is

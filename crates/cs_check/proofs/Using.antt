@@ -1,13 +1,14 @@
 -- What follows for a stretch in use.
-use Rattle.std.proofs.Common.{◌≡◌, ℕ, ◌<◌, ◌≤◌, List, [], ◌∷◌, ◌++◌, ◌+◌, zero, suc, map, take, length, slice_set, Bor, All, None, Some, true, ap, sym, ◌∙◌, subst, arith, get_or}
-use Rattle.std.specs.Prelude.{slice_get}
+use Rattle.std.proofs.Common.{◌≡◌, ℕ, ◌<◌, ◌≤◌, List, [], ◌∷◌, ◌++◌, ◌+◌, zero, suc, map, take, length, slice_set, Bor, All, None, Some, Bool, true, false, cond, ap, sym, ◌∙◌, subst, arith, get_or}
+use Rattle.std.specs.Prelude.{◌==◌, slice_get}
+use Rattle.std.specs.List.{list_all}
 use Rattle.std.proofs.lemmas.List.{length-map, map-append, take_more_set}
 use Rattle.std.proofs.Math.Seq.{take-suc}
 use Rattle.std.proofs.lemmas.List.Elements.{All-map, All-head, All-tail}
 use Rattle.std.proofs.lemmas.List.Sums.{AllPass-from_list_all}
 use Rattle.cs_civil.specs.Calendar.{Kind}
 use Rattle.cs_decl.specs.Plan.{Declared, as_plan}
-use Rattle.cs_cert.specs.Content.{Content, StretchTree, stretch_of}
+use Rattle.cs_cert.specs.Content.{Content, StretchTree}
 use Rattle.cs_classes.specs.declared.used.UsedStretch.{UsedStretch}
 use Rattle.cs_cert.specs.Certificate.{class_of}
 use Rattle.cs_cert.specs.Judged.{IsClaim}
@@ -15,19 +16,20 @@ use Rattle.cs_cert.specs.Rules.{is_split_well}
 use Rattle.cs_cert.proofs.Splits.{inside_so}
 use Rattle.cs_classes.specs.Planned.{due_on, planned}
 use Rattle.cs_windows.specs.Windows.{windows_on}
-use Rattle.cs_classes.specs.Claim.{as_certificate}
+use Rattle.cs_classes.specs.Claim.{as_certificate, as_stretch}
 use Rattle.cs_theorem.specs.Accepted.{windows_of}
+use Rattle.cs_theorem.specs.Certificate.{Stretch}
 use Rattle.cs_theorem.specs.Faults.{due_fault}
 use Rattle.cs_theorem.proofs.ByKind.{by_kinds}
 use Rattle.cs_theorem.proofs.Points.{says_one}
-use Rattle.cs_classes.specs.Used.{HaveClasses}
+use Rattle.cs_classes.specs.Used.{HaveClasses, seen}
 use Rattle.cs_check.specs.Case.{IsFit, length_for}
 use Rattle.cs_cert.specs.Claim.{said}
 use Rattle.cs_cert.specs.declared.class.Class.{Class}
 use Rattle.cs_classes.specs.Claim.{class_at}
 use Rattle.cs_theorem.specs.Accepted.{nth}
 use Rattle.cs_check.specs.declared.case.Case.{Case}
-use Rattle.cs_check.specs.Stretches.{IsCase, IsInUse}
+use Rattle.cs_check.specs.Stretches.{AreInside, IsCase, IsInUse}
 use Rattle.cs_check.proofs.Headline.{length_of}
 
 -- the windows of the kinds are those that the rules speak of
@@ -74,8 +76,15 @@ at_place P [] i x h e = absurd (cc)
 at_place P (y ∷ ys) zero x h e = subst P (cc) (All-head P y ys h)
 at_place P (y ∷ ys) (suc i) x h e = at_place P ys i x (All-tail P y ys h) e
 
+-- a tree that is there has its splits inside their ranges
+inside_if : (none : Bool) (s : StretchTree) → is_split_well s ≡ true → AreInside (cond none None (Some s.tree))
+inside_if true s h = tt
+inside_if false s h = inside_so s.tree 0 1440 h
+
+all_inside : (version : ℕ) (ss : List StretchTree) → list_all is_split_well ss ≡ true → All (λ (s : Stretch). AreInside s.tree) (map (as_stretch version) ss)
+all_inside version ss h = All-map (λ (s : Stretch). AreInside s.tree) (as_stretch version) ss (λ k d lt. inside_if (version == 3) (get_or ss k d) (AllPass-from_list_all is_split_well ss h k d lt))
+
 -- the stretches that are found are in use
-pub found_in_use : (c : Content) (n : ℕ) (us : List UsedStretch) → IsClaim c → All (λ u. HaveClasses c n u.stretch.now.of u.kinds.items) us → All (λ u. slice_get c.stretches u.number ≡ Some (stretch_of u.stretch.now)) us → All (IsInUse c n) us
+pub found_in_use : (c : Content) (n : ℕ) (us : List UsedStretch) → IsClaim c → All (λ u. HaveClasses c n u.of.now u.kinds.items) us → All (λ u. slice_get (as_certificate c).stretches u.number ≡ Some (seen u)) us → All (IsInUse c n) us
 found_in_use c n us claim kinds numbers = λ k d lt.
-    let split = at_place (λ (s : StretchTree). is_split_well s ≡ true) c.stretches (get_or us k d).number (stretch_of (get_or us k d).stretch.now) (AllPass-from_list_all is_split_well c.stretches claim.splits) (numbers k d lt) in
-    record { kinds = kinds k d lt; splits = inside_so (stretch_of (get_or us k d).stretch.now).tree 0 1440 split }
+    record { kinds = kinds k d lt; splits = at_place (λ (s : Stretch). AreInside s.tree) (as_certificate c).stretches (get_or us k d).number (seen (get_or us k d)) (all_inside c.version c.stretches claim.splits) (numbers k d lt) }

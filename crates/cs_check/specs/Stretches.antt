@@ -1,5 +1,5 @@
 -- What is asked of one stretch.
-use Rattle.std.specs.Prelude.{◌≡◌, ℕ, ◌-◌, ◌<◌, ◌≤◌, length, true, false, Bool, not, ◌||◌, List, [], map, Option, None, Some, option_map, unwrap_or, All}
+use Rattle.std.specs.Prelude.{◌≡◌, ℕ, ◌-◌, ◌<◌, ◌≤◌, length, true, false, Bool, not, ◌||◌, List, [], map, Option, None, Some, option_map, unwrap_or, All, ⊤}
 use Rattle.std.specs.List.{list_all}
 use Rattle.cs_windows.specs.Occupied.{job_of}
 use Rattle.cs_windows.specs.Windows.{day_minutes}
@@ -20,29 +20,26 @@ use Rattle.cs_classes.specs.Planned.{due_on, planned}
 use Rattle.cs_check.specs.Case.{IsFit, length_for}
 use Rattle.cs_check.specs.ClassDays.{AreClassDays}
 use Rattle.cs_check.specs.declared.case.Case.{Case}
-use Rattle.cs_windows.specs.Tree.{SplitsInside, tree_of}
+use Rattle.cs_windows.specs.Tree.{SplitsInside, Tree}
 use Rattle.cs_windows.specs.declared.window.Window.{Window}
 use Rattle.cs_classes.specs.Used.{HaveClasses, seen}
 use Rattle.cs_classes.specs.declared.used.UsedStretch.{UsedStretch}
 use Rattle.cs_check.specs.declared.order.Rule.{Rule}
 use Rattle.cs_check.specs.declared.order.Rule.TheVariants as rules
 
--- the plan of a case, its certificate, and a stretch in use, as the rules see them
+-- the plan of a case and its certificate, as the rules see them
 abbrev pub plan_of : Case → Plan
 plan_of k = as_plan k.plan.now
 
 abbrev pub claim_of : Case → Certificate
 claim_of k = as_certificate (said k.claim.now)
 
-abbrev pub seen_of : Case → UsedStretch → Stretch
-seen_of k u = seen (said k.claim.now) u
-
 -- the classes of a stretch in use, and the windows there
 abbrev pub classes_in : Case → UsedStretch → List Class
-classes_in k u = map (class_at (said k.claim.now).classes) u.stretch.now.of
+classes_in k u = map (class_at (said k.claim.now).classes) u.of.now
 
 abbrev pub windows_in : Case → UsedStretch → List Window
-windows_in k u = windows_of (plan_of k) (claim_of k) u.stretch.now.of
+windows_in k u = windows_of (plan_of k) (claim_of k) u.of.now
 
 -- the fault of a stretch by each of the rules that are looked at stretch by stretch
 abbrev pub steps_fault : Plan → Certificate → ℕ → Stretch → Option Fault
@@ -104,12 +101,17 @@ pub record IsGood (p : Plan) (a : Certificate) (n : ℕ) (s : Stretch) : Type 0 
   pub skips : AreFree p (windows_of p a s.of)
 
 abbrev pub IsGoodIn : Case → UsedStretch → Type 0
-IsGoodIn k u = IsGood (plan_of k) (claim_of k) k.days (seen_of k u)
+IsGoodIn k u = IsGood (plan_of k) (claim_of k) k.days (seen u)
+
+-- the splits of a tree, where there is one, are inside their ranges
+abbrev pub AreInside : Option Tree → Type 0
+AreInside None = ⊤
+AreInside (Some tree) = SplitsInside tree 0 1440
 
 -- the kinds are of days of the stretch's classes, and its tree's splits are inside their ranges
 pub record IsInUse (c : Content) (n : ℕ) (u : UsedStretch) : Type 0 where
-  pub kinds : HaveClasses c n u.stretch.now.of u.kinds.items
-  pub splits : SplitsInside (tree_of u.stretch.now.tree) 0 1440
+  pub kinds : HaveClasses c n u.of.now u.kinds.items
+  pub splits : AreInside (seen u).tree
 
 -- the classes have the due minutes of their kinds, and the rest is the plan's and the certificate's
 pub record IsCase (k : Case) : Type 0 where
@@ -149,8 +151,8 @@ later_fault p a n stretches = or_else (first_of (steps_fault p a n) stretches)
     (or_else (reaches_fault p a stretches) (windows_fault p a n stretches))
 
 -- the stretches in use, as the rules see them
-abbrev pub all_seen : Case → List UsedStretch → List Stretch
-all_seen k stretches = map (seen_of k) stretches
+abbrev pub all_seen : List UsedStretch → List Stretch
+all_seen stretches = map seen stretches
 
 -- each stretch is good
 abbrev pub AreGood : Case → List UsedStretch → Type 0
@@ -158,7 +160,7 @@ AreGood k stretches = All (IsGoodIn k) stretches
 
 -- these are the stretches in use, and none is missing
 pub record AreStretches (k : Case) (stretches : List UsedStretch) : Type 0 where
-  pub listed : map (seen (said k.claim.now)) stretches
+  pub listed : map seen stretches
       ≡ used_stretches (as_certificate (said k.claim.now)) k.days
   pub in_use : All (IsInUse (said k.claim.now) k.days) stretches
   pub complete : stretch_fault (as_certificate (said k.claim.now)) k.days ≡ None

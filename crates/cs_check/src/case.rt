@@ -2,7 +2,8 @@
 ghost use Rattle.std.specs.Prelude.{◌≡◌, ◌<◌, ◌≤◌, IfOk, length, map, take};
 ghost use Rattle.cs_cert.specs.Claim.{said};
 ghost use Rattle.cs_check.specs.ClassDays.{AreClassDays, IsBasis, IsClassDay};
-ghost use Rattle.cs_check.specs.Stretches.{IsCase, IsCaseOf, IsInUse, claim_of, classes_in, seen_of, windows_in};
+ghost use Rattle.cs_check.specs.Stretches.{IsCase, IsCaseOf, IsInUse, claim_of, classes_in, windows_in};
+ghost use Rattle.cs_classes.specs.Used.{seen};
 ghost use Rattle.cs_civil.specs.Calendar.{first_minute, last_minute};
 ghost use Rattle.cs_classes.specs.Claim.{class_at};
 ghost use Rattle.cs_theorem.specs.Accepted.{nth};
@@ -61,9 +62,9 @@ impl<'a> Case<'a> {
         requires in_use { IsInUse (said self.now.claim.now) self.now.days used.now }
         requires within { place < self.now.days }
         ensures { result.now
-            ≡ class_at (said self.now.claim.now).classes (nth used.now.stretch.now.of place) }
+            ≡ class_at (said self.now.claim.now).classes (nth used.now.of.now place) }
     {
-        let number = used.stretch.of.as_slice()[place];
+        let number = used.of[place];
         &self.claim.classes()[number as usize]
     }
 
@@ -89,9 +90,9 @@ impl<'a> Case<'a> {
         requires in_use { IsInUse (said self.now.claim.now) self.now.days used.now }
         requires within { place < self.now.days }
         ensures { IsClassDay self.now.plan.now (said self.now.claim.now)
-            (nth used.now.stretch.now.of place) result.now }
+            (nth used.now.of.now place) result.now }
     {
-        let number = used.stretch.of.as_slice()[place];
+        let number = used.of[place];
         &self.class_days.as_slice()[number as usize]
     }
 
@@ -146,10 +147,10 @@ pub(crate) fn civil(number: u64) -> Minute
 pub(crate) fn minute_on(case: &Case<'_>, used: &UsedStretch<'_>, minute: u16) -> u64
     requires { IsCase case.now }
     ensures value { result
-        ≡ minute_of (claim_of case.now) case.now.days (seen_of case.now used.now) minute }
+        ≡ minute_of (claim_of case.now) case.now.days (seen used.now) minute }
     ensures range { (2880 ≤ result) × (result < 20000000) }
 {
     let _days = case.days();
-    let last = last_day(case.claim, used.stretch.of.as_slice(), case.days);
+    let last = last_day(case.claim, used.of, case.days);
     1_440 * u64::from(last) + u64::from(minute)
 }

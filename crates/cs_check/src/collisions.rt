@@ -1,7 +1,8 @@
 //! Collisions: at no minute of the last day do two windows of an exclusive group clash.
 ghost use Rattle.std.specs.Prelude.{◌≡◌, IfOk, option_map};
 ghost use Rattle.cs_cert.specs.Claim.{said};
-ghost use Rattle.cs_check.specs.Stretches.{IsCase, IsInUse, claim_of, plan_of, seen_of, collisions_fault};
+ghost use Rattle.cs_check.specs.Stretches.{IsCase, IsInUse, claim_of, plan_of, collisions_fault};
+ghost use Rattle.cs_classes.specs.Used.{seen};
 ghost use Rattle.cs_report.specs.Told.{told};
 
 use crate::case::{Case, civil, minute_on};
@@ -19,7 +20,7 @@ pub(crate) fn first_fault(
     requires in_use { IsInUse (said case.now.claim.now) case.now.days used.now }
     ensures { IfOk result (λ found. option_map told found
         ≡ collisions_fault (plan_of case.now) (claim_of case.now) case.now.days
-        (seen_of case.now used.now)) }
+        (seen used.now)) }
 {
     let windows = case.windows(alloc, used)?;
     let quiet = case.roles.quiet(alloc, windows.as_slice())?;

@@ -26,7 +26,7 @@ pub(crate) fn is_good(
         return Ok(false);
     }
     let windows = case.windows(alloc, used)?;
-    if !leaves::holds(case, used, windows.as_slice()) {
+    if !leaves::holds(used, windows.as_slice()) {
         return Ok(false);
     }
     let quiet = case.roles.quiet(alloc, windows.as_slice())?;

@@ -1,7 +1,8 @@
 //! Leaves: where windows are listed, each minute's leaf on the last day lists all that hold it.
 ghost use Rattle.std.specs.Prelude.{◌≡◌, IfOk, IsTrue, option_map};
 ghost use Rattle.cs_cert.specs.Claim.{said};
-ghost use Rattle.cs_check.specs.Stretches.{IsCase, IsInUse, claim_of, plan_of, seen_of, leaves_fault};
+ghost use Rattle.cs_check.specs.Stretches.{AreInside, IsCase, IsInUse, claim_of, plan_of, leaves_fault};
+ghost use Rattle.cs_classes.specs.Used.{seen};
 ghost use Rattle.cs_report.specs.Told.{told};
 ghost use Rattle.cs_theorem.specs.Accepted.{ListsAll};
 
@@ -12,15 +13,15 @@ use cs_report::CheckFault;
 use cs_windows::Window;
 use std::alloc::{AllocError, Global};
 
-/// Whether the leaves of a stretch in use list these windows, if the version lists windows.
-pub(crate) fn holds(case: &Case<'_>, used: &UsedStretch<'_>, windows: &[Window]) -> bool
-    requires { IsInUse (said case.now.claim.now) case.now.days used.now }
-    ensures { IsTrue result → ListsAll (seen_of case.now used.now).tree windows.now }
+/// Whether the leaves of a stretch in use list these windows, if it has any.
+pub(crate) fn holds(used: &UsedStretch<'_>, windows: &[Window]) -> bool
+    requires { AreInside (seen used.now).tree }
+    ensures { IsTrue result → ListsAll (seen used.now).tree windows.now }
 {
-    if case.claim.version() == 3 {
-        return true;
+    match used.tree {
+        Some(tree) => tree.covers(windows),
+        None => true,
     }
-    used.stretch.tree.covers(windows)
 }
 
 /// The first minute of the last day, and the first window there, that isn't listed.
@@ -33,16 +34,17 @@ pub(crate) fn first_fault(
     requires in_use { IsInUse (said case.now.claim.now) case.now.days used.now }
     ensures { IfOk result (λ found. option_map told found
         ≡ leaves_fault (plan_of case.now) (claim_of case.now) case.now.days
-        (seen_of case.now used.now)) }
+        (seen used.now)) }
 {
-    if case.claim.version() == 3 {
-        return Ok(None);
-    }
+    let tree = match used.tree {
+        Some(tree) => tree,
+        None => return Ok(None),
+    };
     let windows = case.windows(alloc, used)?;
-    if holds(case, used, windows.as_slice()) {
+    if holds(used, windows.as_slice()) {
         return Ok(None);
     }
-    match missing(alloc, &used.stretch.tree, windows.as_slice())? {
+    match missing(alloc, tree, windows.as_slice())? {
         Some((minute, window)) => {
             let at = civil(minute_on(case, used, minute));
             Ok(Some(CheckFault::WindowMissing { window, at }))

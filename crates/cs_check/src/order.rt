@@ -1,7 +1,8 @@
 //! The first fault of the stretches in use, in the order of the rules.
 ghost use Rattle.std.specs.Prelude.{◌≡◌, All, IfOk, option_map};
 ghost use Rattle.cs_cert.specs.Claim.{said};
-ghost use Rattle.cs_check.specs.Stretches.{IsCase, IsInUse, all_seen, claim_of, fault_by, later_fault, plan_of, seen_of, windows_fault};
+ghost use Rattle.cs_check.specs.Stretches.{IsCase, IsInUse, all_seen, claim_of, fault_by, later_fault, plan_of, windows_fault};
+ghost use Rattle.cs_classes.specs.Used.{seen};
 ghost use Rattle.cs_report.specs.Told.{told};
 ghost use Rattle.cs_theorem.specs.Faults.{first_of};
 
@@ -32,7 +33,7 @@ fn fault_by(
     requires in_use { IsInUse (said case.now.claim.now) case.now.days used.now }
     ensures { IfOk result (λ found. option_map told found
         ≡ fault_by rule (plan_of case.now) (claim_of case.now) case.now.days
-        (seen_of case.now used.now)) }
+        (seen used.now)) }
 {
     match rule {
         Rule::Steps => steps::first_fault(alloc, case, used),
@@ -54,7 +55,7 @@ fn first_by(
     requires in_use { All (IsInUse (said case.now.claim.now) case.now.days) stretches.now }
     ensures { IfOk result (λ found. option_map told found
         ≡ first_of (fault_by rule (plan_of case.now) (claim_of case.now) case.now.days)
-        (all_seen case.now stretches.now)) }
+        (all_seen stretches.now)) }
 {
     for used in stretches {
         if let Some(fault) = fault_by(alloc, case, rule, used)? {
@@ -75,7 +76,7 @@ fn first_by_windows(
     requires in_use { All (IsInUse (said case.now.claim.now) case.now.days) stretches.now }
     ensures { IfOk result (λ found. option_map told found
         ≡ windows_fault (plan_of case.now) (claim_of case.now) case.now.days
-        (all_seen case.now stretches.now)) }
+        (all_seen stretches.now)) }
 {
     if let Some(fault) = first_by(alloc, case, Rule::Leaves, stretches)? {
         return Ok(Some(fault));
@@ -100,7 +101,7 @@ pub(crate) fn later_fault(
     requires in_use { All (IsInUse (said case.now.claim.now) case.now.days) stretches.now }
     ensures { IfOk result (λ found. option_map told found
         ≡ later_fault (plan_of case.now) (claim_of case.now) case.now.days
-        (all_seen case.now stretches.now)) }
+        (all_seen stretches.now)) }
 {
     if let Some(fault) = first_by(alloc, case, Rule::Steps, stretches)? {
         return Ok(Some(fault));

@@ -3,7 +3,8 @@ ghost use Rattle.std.specs.Prelude.{◌≡◌, ◌<◌, ℕ, All, IsTrue, Some, 
 ghost use Rattle.std.specs.List.{list_all};
 ghost use Rattle.cs_cert.specs.Claim.{said};
 ghost use Rattle.cs_check.specs.ClassDays.{IsBasis, Settle, Settles};
-ghost use Rattle.cs_check.specs.Stretches.{HaveReaches, IsCase, IsInUse, ReachHolds, ReachesHold, all_seen, claim_of, classes_in, clears_on, is_far, plan_of, reaches_fault, seen_of};
+ghost use Rattle.cs_check.specs.Stretches.{HaveReaches, IsCase, IsInUse, ReachHolds, ReachesHold, all_seen, claim_of, classes_in, clears_on, is_far, plan_of, reaches_fault};
+ghost use Rattle.cs_classes.specs.Used.{seen};
 ghost use Rattle.cs_decl.specs.Plan.{crons};
 ghost use Rattle.cs_history.specs.Plan.{waits};
 ghost use Rattle.cs_report.specs.Told.{told};
@@ -81,7 +82,7 @@ fn clears_on<'a>(
     requires classes { map (λ class. class.now) classes.now ≡ classes_in case.now used.now }
     requires cron { number < crons case.now.plan.now }
     ensures { result ≡ clears_on (plan_of case.now) (claim_of case.now) number reach
-        (seen_of case.now used.now) }
+        (seen used.now) }
 {
     let _days = case.days();
     clears(case.plan, number, reach, classes, case.none)
@@ -99,7 +100,7 @@ fn reach_holds<'a>(
     requires classes { map (λ class. class.now) classes.now ≡ classes_in case.now used.now }
     requires cron { number < crons case.now.plan.now }
     ensures { IsTrue result → ReachHolds (plan_of case.now) (claim_of case.now)
-        (seen_of case.now used.now) number }
+        (seen used.now) number }
 {
     if !waits(case.plan, number) {
         return true;
@@ -116,7 +117,7 @@ pub(crate) fn holds(case: &Case<'_>, used: &UsedStretch<'_>) -> bool
     requires case { IsCase case.now }
     requires in_use { IsInUse (said case.now.claim.now) case.now.days used.now }
     ensures { IsTrue result → ReachesHold (plan_of case.now) (claim_of case.now)
-        (seen_of case.now used.now) }
+        (seen used.now) }
 {
     let days = case.days();
     if case.day_on(used, 0).settles {
@@ -140,7 +141,7 @@ fn is_far_on(case: &Case<'_>, used: &UsedStretch<'_>, number: usize, reach: u16)
     requires waits { waits (plan_of case.now) number ≡ true }
     requires reach { (claim_of case.now).reach number ≡ Some reach }
     ensures { result ≡ clears_on (plan_of case.now) (claim_of case.now) number reach
-        (seen_of case.now used.now) }
+        (seen used.now) }
 {
     let days = case.days();
     if case.day_on(used, 0).settles {
@@ -158,7 +159,7 @@ fn is_far_on_all(case: &Case<'_>, stretches: &[UsedStretch<'_>], number: usize, 
     requires waits { waits (plan_of case.now) number ≡ true }
     requires reach { (claim_of case.now).reach number ≡ Some reach }
     ensures { result ≡ list_all (clears_on (plan_of case.now) (claim_of case.now) number reach)
-        (all_seen case.now stretches.now) }
+        (all_seen stretches.now) }
 {
     for used in stretches {
         if !is_far_on(case, used, number, reach) {
@@ -174,7 +175,7 @@ fn is_far(case: &Case<'_>, stretches: &[UsedStretch<'_>], number: usize) -> bool
     requires in_use { All (IsInUse (said case.now.claim.now) case.now.days) stretches.now }
     requires cron { number < crons case.now.plan.now }
     ensures { result
-        ≡ is_far (plan_of case.now) (claim_of case.now) (all_seen case.now stretches.now) number }
+        ≡ is_far (plan_of case.now) (claim_of case.now) (all_seen stretches.now) number }
 {
     if !waits(case.plan, number) {
         return true;
@@ -190,7 +191,7 @@ pub(crate) fn first_fault(case: &Case<'_>, stretches: &[UsedStretch<'_>]) -> Opt
     requires case { IsCase case.now }
     requires in_use { All (IsInUse (said case.now.claim.now) case.now.days) stretches.now }
     ensures { option_map told result
-        ≡ reaches_fault (plan_of case.now) (claim_of case.now) (all_seen case.now stretches.now) }
+        ≡ reaches_fault (plan_of case.now) (claim_of case.now) (all_seen stretches.now) }
 {
     for job in 0..case.plan.crons() {
         if !is_far(case, stretches, job) {

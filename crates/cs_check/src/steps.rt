@@ -1,7 +1,8 @@
 //! Backlog steps: bounds of groups follow the arrivals, from the last day but one to the last.
 ghost use Rattle.std.specs.Prelude.{◌≡◌, IfOk, IsTrue, option_map};
 ghost use Rattle.cs_cert.specs.Claim.{said};
-ghost use Rattle.cs_check.specs.Stretches.{IsCase, IsInUse, StepsHold, claim_of, plan_of, seen_of, steps_fault};
+ghost use Rattle.cs_check.specs.Stretches.{IsCase, IsInUse, StepsHold, claim_of, plan_of, steps_fault};
+ghost use Rattle.cs_classes.specs.Used.{seen};
 ghost use Rattle.cs_report.specs.Told.{told};
 
 use crate::case::{Case, civil, minute_on};
@@ -14,7 +15,7 @@ pub(crate) fn holds(case: &Case<'_>, used: &UsedStretch<'_>) -> bool
     requires case { IsCase case.now }
     requires in_use { IsInUse (said case.now.claim.now) case.now.days used.now }
     ensures { IsTrue result → StepsHold (plan_of case.now) (claim_of case.now) case.now.days
-        (seen_of case.now used.now) }
+        (seen used.now) }
 {
     let days = case.days();
     let eve = case.day_on(used, days - 2);
@@ -33,7 +34,7 @@ pub(crate) fn first_fault(
     requires in_use { IsInUse (said case.now.claim.now) case.now.days used.now }
     ensures { IfOk result (λ found. option_map told found
         ≡ steps_fault (plan_of case.now) (claim_of case.now) case.now.days
-        (seen_of case.now used.now)) }
+        (seen used.now)) }
 {
     if holds(case, used) {
         return Ok(None);

@@ -1,12 +1,12 @@
 -- The stretches that successive days have.
-use Rattle.std.specs.Prelude.{◌≡◌, ℕ, Bool, List, All, Contains, length, map}
+use Rattle.std.specs.Prelude.{◌≡◌, ℕ, Bool, List, All, Contains, length, map, option_map}
 use Rattle.cs_civil.specs.Calendar.{Kind}
 use Rattle.cs_theorem.specs.Accepted.{IsChain}
 use Rattle.cs_theorem.specs.Certificate.{Stretch}
 use Rattle.cs_theorem.specs.Faults.{chains, same_list}
 use Rattle.cs_cert.specs.Certificate.{class_of}
-use Rattle.cs_cert.specs.Content.{Content, stretch_of}
-use Rattle.cs_classes.specs.Claim.{as_stretch}
+use Rattle.cs_cert.specs.Content.{Content}
+use Rattle.cs_windows.specs.Tree.{tree_of}
 use Rattle.cs_classes.specs.declared.classed.ClassedChain.{ClassedChain}
 use Rattle.cs_classes.specs.declared.used.UsedStretch.{UsedStretch}
 
@@ -36,6 +36,6 @@ abbrev pub IsOneOf : List ClassedChain → List ℕ → List Kind → Type 0
 IsOneOf chains named kinds = (chain : ClassedChain) × Contains chains chain
     × (classes_in chain ≡ named) × (kinds_in chain ≡ kinds)
 
--- a stretch of what is claimed, as the rules see it
-abbrev pub seen : Content → UsedStretch → Stretch
-seen c used = as_stretch c.version (stretch_of used.stretch.now)
+-- a stretch in use, as the rules see it
+abbrev pub seen : UsedStretch → Stretch
+seen used = record { of = used.of.now; tree = option_map (λ tree. tree_of tree.now) used.tree }

@@ -13,6 +13,6 @@ returns-then-quiet c =
     let k = c.args.case.now in
     let p = as_plan k.plan.now in
     let a = as_certificate (said k.claim.now) in
-    let s = seen (said k.claim.now) c.args.used.now in
+    let s = seen c.args.used.now in
     let same : c.as_slice.result.now ≡ windows_of p a s.of = c.as_slice.ensures.value ∙ c.in_ok-windows.ensures.value in
     sym (collisions_pass p c.requires.case.fit.plan a k.days (omega (arith, (days_range k c.requires.case).0)) s (subst (AreApart p) same (c.in_ok-quiet.ensures.apart c.if-quiet.true p c.requires.case.roles)))

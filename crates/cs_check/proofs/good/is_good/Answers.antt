@@ -11,7 +11,7 @@ pub returns : goal.returns
 returns c =
     let p = as_plan c.args.case.now.plan.now in
     let k = said c.args.case.now.claim.now in
-    let s = seen (said c.args.case.now.claim.now) c.args.used.now in
+    let s = seen c.args.used.now in
     let n = c.args.case.now.days in
     let ws = windows_of p (as_certificate k) s.of in
     let one : c.as_slice.result.now ≡ ws = c.as_slice.ensures.value ∙ c.in_ok-windows.ensures.value in

@@ -1,13 +1,16 @@
-use Rattle.std.proofs.Common.{refl}
-use Rattle.std.specs.Prelude.{◌==◌}
-use Rattle.cs_cert.specs.Claim.{said}
-use Rattle.cs_windows.specs.Tree.{tree_of}
-use Rattle.cs_check.proofs.Covering.{covered_from, listed_or_not}
+use Rattle.std.proofs.Common.{Option, subst, sym}
+use Rattle.cs_theorem.specs.Accepted.{ListsAll}
+use Rattle.cs_windows.specs.Tree.{SplitsInside, Tree, tree_of}
+use Rattle.cs_check.proofs.Covering.{covered_from, none_seen, tree_seen}
+use Rattle.cs_check.specs.Stretches.{AreInside}
 use Rattle.cs_check.proofs.leaves.holds.Goals as goal
 
-pub returns : goal.returns
-returns c = λ covers.
-    let k = said c.args.case.now.claim.now in
-    let tree = tree_of c.args.used.now.stretch.now.tree in
-    listed_or_not k c.args.used.now c.args.windows.now (k.version == 3) refl
-    (λ _. covered_from tree c.args.windows.now ((c.covers.ensures.complete c.requires.splits).0 covers))
+pub returns-in-Some : goal.returns-in-Some
+returns-in-Some c = λ covers.
+    let tree = tree_of c.in-Some.tree.now in
+    let seen = tree_seen c.args.used.now c.in-Some.tree c.in-Some.is in
+    let inside : SplitsInside tree 0 1440 = subst AreInside seen c.requires in
+    subst (λ (t : Option Tree). ListsAll t c.args.windows.now) (sym seen) (covered_from tree c.args.windows.now ((c.covers.ensures.complete inside).0 covers))
+
+pub returns-in-None : goal.returns-in-None
+returns-in-None c = λ _. subst (λ (t : Option Tree). ListsAll t c.args.windows.now) (sym (none_seen c.args.used.now c.in-None.is)) tt

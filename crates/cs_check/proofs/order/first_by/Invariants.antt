@@ -8,4 +8,4 @@ use Rattle.cs_check.specs.Stretches.{fault_by}
 use Rattle.cs_check.proofs.order.first_by.Given as goal
 
 abbrev pub invariant-loop-used : goal.invariant-loop-used
-invariant-loop-used l = first_of (fault_by l.rule (as_plan l.case.plan.now) (as_certificate (said l.case.claim.now)) l.case.days) (map (seen (said l.case.claim.now)) l.stretches) ≡ first_of (fault_by l.rule (as_plan l.case.plan.now) (as_certificate (said l.case.claim.now)) l.case.days) (map (seen (said l.case.claim.now)) (drop l.used-index l.stretches))
+invariant-loop-used l = first_of (fault_by l.rule (as_plan l.case.plan.now) (as_certificate (said l.case.claim.now)) l.case.days) (map seen l.stretches) ≡ first_of (fault_by l.rule (as_plan l.case.plan.now) (as_certificate (said l.case.claim.now)) l.case.days) (map seen (drop l.used-index l.stretches))

@@ -11,7 +11,7 @@ use Rattle.cs_check.proofs.reaches.first_fault.Goals as goal
 
 pub returns-then-not-is_far : goal.returns-then-not-is_far
 returns-then-not-is_far c =
-    let far = is_far (as_plan c.args.case.now.plan.now) (as_certificate (said c.args.case.now.claim.now)) (map (seen (said c.args.case.now.claim.now)) c.args.stretches.now) in
+    let far = is_far (as_plan c.args.case.now.plan.now) (as_certificate (said c.args.case.now.claim.now)) (map seen c.args.stretches.now) in
     let f : ℕ → Option Fault = λ j. unless (far j) (ReachTooShort j) in
     let no : c.is_far.result ≡ false = search rules in
     let lt : c.loop-job.job < crons c.args.case.now.plan.now = omega (arith, c.loop-job-test.true, c.crons-job-end.ensures.value) in
@@ -19,14 +19,14 @@ returns-then-not-is_far c =
 
 pub loop-job-preserved : goal.loop-job-preserved
 loop-job-preserved c =
-    let far = is_far (as_plan c.args.case.now.plan.now) (as_certificate (said c.args.case.now.claim.now)) (map (seen (said c.args.case.now.claim.now)) c.args.stretches.now) in
+    let far = is_far (as_plan c.args.case.now.plan.now) (as_certificate (said c.args.case.now.claim.now)) (map seen c.args.stretches.now) in
     let f : ℕ → Option Fault = λ j. unless (far j) (ReachTooShort j) in
     let yes : c.is_far.result ≡ true = search rules in
     first_of-more f c.loop-job.job c.loop-job.invariant (ap (λ (b : Bool). unless b (ReachTooShort c.loop-job.job)) (sym c.is_far.ensures ∙ yes))
 
 pub returns : goal.returns
 returns c =
-    let far = is_far (as_plan c.args.case.now.plan.now) (as_certificate (said c.args.case.now.claim.now)) (map (seen (said c.args.case.now.claim.now)) c.args.stretches.now) in
+    let far = is_far (as_plan c.args.case.now.plan.now) (as_certificate (said c.args.case.now.claim.now)) (map seen c.args.stretches.now) in
     let f : ℕ → Option Fault = λ j. unless (far j) (ReachTooShort j) in
     let e : c.loop-job.job ≡ crons c.args.case.now.plan.now = omega (arith, c.crons-job-end.ensures.value) in
     sym (ap (λ (k : ℕ). first_of f (below k)) (sym e) ∙ below-none f c.loop-job.job c.loop-job.invariant)

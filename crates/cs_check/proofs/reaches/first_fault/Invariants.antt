@@ -9,4 +9,4 @@ use Rattle.cs_decl.specs.Plan.{as_plan}
 use Rattle.cs_check.proofs.reaches.first_fault.Given as goal
 
 abbrev pub invariant-loop-job : goal.invariant-loop-job
-invariant-loop-job l = first_of (λ j. unless (is_far (as_plan l.case.plan.now) (as_certificate (said l.case.claim.now)) (map (seen (said l.case.claim.now)) l.stretches) j) (ReachTooShort j)) (range_with_len 0 l.job) ≡ None
+invariant-loop-job l = first_of (λ j. unless (is_far (as_plan l.case.plan.now) (as_certificate (said l.case.claim.now)) (map seen l.stretches) j) (ReachTooShort j)) (range_with_len 0 l.job) ≡ None

@@ -7,4 +7,4 @@ use Rattle.cs_check.specs.Stretches.{ReachHolds}
 use Rattle.cs_check.proofs.reaches.holds.Given as goal
 
 abbrev pub invariant-loop-number : goal.invariant-loop-number
-invariant-loop-number l = (j : ℕ) → j < l.number → ReachHolds (as_plan l.case.plan.now) (as_certificate (said l.case.claim.now)) (seen (said l.case.claim.now) l.used) j
+invariant-loop-number l = (j : ℕ) → j < l.number → ReachHolds (as_plan l.case.plan.now) (as_certificate (said l.case.claim.now)) (seen l.used) j

@@ -8,4 +8,4 @@ use Rattle.cs_check.specs.Stretches.{clears_on}
 use Rattle.cs_check.proofs.reaches.is_far_on_all.Given as goal
 
 abbrev pub invariant-loop-used : goal.invariant-loop-used
-invariant-loop-used l = list_all (clears_on (as_plan l.case.plan.now) (as_certificate (said l.case.claim.now)) l.number l.reach) (map (seen (said l.case.claim.now)) l.stretches) ≡ list_all (clears_on (as_plan l.case.plan.now) (as_certificate (said l.case.claim.now)) l.number l.reach) (map (seen (said l.case.claim.now)) (drop l.used-index l.stretches))
+invariant-loop-used l = list_all (clears_on (as_plan l.case.plan.now) (as_certificate (said l.case.claim.now)) l.number l.reach) (map seen l.stretches) ≡ list_all (clears_on (as_plan l.case.plan.now) (as_certificate (said l.case.claim.now)) l.number l.reach) (map seen (drop l.used-index l.stretches))

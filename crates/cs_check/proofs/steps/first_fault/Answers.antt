@@ -15,7 +15,7 @@ pub returns-in-Some : goal.returns-in-Some
 returns-in-Some c =
     let p = as_plan c.args.case.now.plan.now in
     let k = said c.args.case.now.claim.now in
-    let s = seen (said c.args.case.now.claim.now) c.args.used.now in
+    let s = seen c.args.used.now in
     let n = c.args.case.now.days in
     let f : ℕ × ℕ → Fault = λ f. BacklogRises f.1 (minute_of (as_certificate k) n s f.0 - 1440) in
     let eve = c.class_on-eve.ensures ∙ ap (λ (d : ℕ). class_at k.classes (nth s.of (d - 2))) c.days-days.ensures.value in
@@ -27,7 +27,7 @@ pub returns-in-None : goal.returns-in-None
 returns-in-None c =
     let p = as_plan c.args.case.now.plan.now in
     let k = said c.args.case.now.claim.now in
-    let s = seen (said c.args.case.now.claim.now) c.args.used.now in
+    let s = seen c.args.used.now in
     let n = c.args.case.now.days in
     let f : ℕ × ℕ → Fault = λ f. BacklogRises f.1 (minute_of (as_certificate k) n s f.0 - 1440) in
     let eve = c.class_on-eve.ensures ∙ ap (λ (d : ℕ). class_at k.classes (nth s.of (d - 2))) c.days-days.ensures.value in
@@ -39,4 +39,4 @@ pub returns-then-holds : goal.returns-then-holds
 returns-then-holds c =
     let k = c.args.case.now in
     let steps = c.holds.ensures c.if-holds.true in
-    sym (steps_pass (as_plan k.plan.now) c.requires.case.fit.plan (as_certificate (said k.claim.now)) k.days (omega (arith, (days_range k c.requires.case).0)) (seen (said k.claim.now) c.args.used.now) steps)
+    sym (steps_pass (as_plan k.plan.now) c.requires.case.fit.plan (as_certificate (said k.claim.now)) k.days (omega (arith, (days_range k c.requires.case).0)) (seen c.args.used.now) steps)

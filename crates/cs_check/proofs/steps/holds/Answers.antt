@@ -11,7 +11,7 @@ pub returns : goal.returns
 returns c =
     let p = as_plan c.args.case.now.plan.now in
     let k = said c.args.case.now.claim.now in
-    let of = c.args.used.now.stretch.now.of in
+    let of = c.args.used.now.of.now in
     let eve = subst (λ (days : List GroupDay). AreGroupDays p (class_at k.classes (nth of (c.days-days.result - 2))) days) (sym c.as_slice.ensures.value) c.day_on-eve.ensures.groups in
     let last = subst (λ (days : List GroupDay). AreGroupDays p (class_at k.classes (nth of (c.days-days.result - 1))) days) (sym c.as_slice-2.ensures.value) c.day_on-last.ensures.groups in
     let eve = subst (λ (n : ℕ). AreGroupDays p (class_at k.classes (nth of (n - 2))) c.as_slice.result.now) c.days-days.ensures.value eve in

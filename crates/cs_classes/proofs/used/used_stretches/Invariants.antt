@@ -10,7 +10,7 @@ use Rattle.cs_classes.proofs.used.used_stretches.Given as goal
 -- the stretches in use so far, and those among the stretches that are left
 abbrev pub invariant-loop-number : goal.invariant-loop-number
 invariant-loop-number l = record {
-  listed : map (seen (said l.claim)) l.used.items ++ filter (λ s. is_used (as_certificate (said l.claim)) l.days s.of) (map (λ s. as_stretch (said l.claim).version (stretch_of s)) (drop l.number l.stretches)) ≡ filter (λ s. is_used (as_certificate (said l.claim)) l.days s.of) (map (λ s. as_stretch (said l.claim).version (stretch_of s)) l.stretches);
-  kinds : All (λ u. HaveClasses (said l.claim) l.days u.stretch.now.of u.kinds.items) l.used.items;
-  numbers : All (λ u. slice_get (map stretch_of l.stretches) u.number ≡ Some (stretch_of u.stretch.now)) l.used.items;
+  listed : map seen l.used.items ++ filter (λ s. is_used (as_certificate (said l.claim)) l.days s.of) (map (λ s. as_stretch (said l.claim).version (stretch_of s)) (drop l.number l.stretches)) ≡ filter (λ s. is_used (as_certificate (said l.claim)) l.days s.of) (map (λ s. as_stretch (said l.claim).version (stretch_of s)) l.stretches);
+  kinds : All (λ u. HaveClasses (said l.claim) l.days u.of.now u.kinds.items) l.used.items;
+  numbers : All (λ u. slice_get (map (λ s. as_stretch (said l.claim).version (stretch_of s)) l.stretches) u.number ≡ Some (seen u)) l.used.items;
 }

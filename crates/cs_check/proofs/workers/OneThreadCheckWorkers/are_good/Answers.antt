@@ -11,8 +11,8 @@ use Rattle.cs_check.proofs.workers.OneThreadCheckWorkers.are_good.Goals as goal
 
 pub loop-used-preserved : goal.loop-used-preserved
 loop-used-preserved c =
-    let here = subst (λ (u : UsedStretch). IsGood (as_plan c.args.case.now.plan.now) (as_certificate (said c.args.case.now.claim.now)) c.args.case.now.days (seen (said c.args.case.now.claim.now) u)) c.used-item.is (c.in_ok-is_good.ensures c.if-not-branch.false) in
-    All-more (λ u. IsGood (as_plan c.args.case.now.plan.now) (as_certificate (said c.args.case.now.claim.now)) c.args.case.now.days (seen (said c.args.case.now.claim.now) u)) c.args.stretches.now c.loop-used.used-index c.used-item.result (omega arith) c.loop-used.invariant here
+    let here = subst (λ (u : UsedStretch). IsGood (as_plan c.args.case.now.plan.now) (as_certificate (said c.args.case.now.claim.now)) c.args.case.now.days (seen u)) c.used-item.is (c.in_ok-is_good.ensures c.if-not-branch.false) in
+    All-more (λ u. IsGood (as_plan c.args.case.now.plan.now) (as_certificate (said c.args.case.now.claim.now)) c.args.case.now.days (seen u)) c.args.stretches.now c.loop-used.used-index c.used-item.result (omega arith) c.loop-used.invariant here
 
 pub returns : goal.returns
 returns c = λ _. subst (AreGood c.args.case.now) (take_all c.loop-used.used-index c.args.stretches.now (omega arith)) c.loop-used.invariant

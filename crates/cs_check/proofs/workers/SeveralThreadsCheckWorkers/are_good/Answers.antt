@@ -11,4 +11,4 @@ pub returns-then-good : goal.returns-then-good
 returns-then-good g c t =
     let h = c.if-good.ensures in
     let slice = ap (λ it. it.slice.now) c.with_min_len.ensures.base ∙ c.par_iter.ensures in
-    slice-All h.0 c.args.stretches.now (h.1 ∙ slice) (λ u. IsGood (as_plan c.args.case.now.plan.now) (as_certificate (said c.args.case.now.claim.now)) c.args.case.now.days (seen (said c.args.case.now.claim.now) u)) (λ k d lt. h.2 k d lt refl)
+    slice-All h.0 c.args.stretches.now (h.1 ∙ slice) (λ u. IsGood (as_plan c.args.case.now.plan.now) (as_certificate (said c.args.case.now.claim.now)) c.args.case.now.days (seen u)) (λ k d lt. h.2 k d lt refl)

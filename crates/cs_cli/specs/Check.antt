@@ -1,7 +1,7 @@
 -- What is answered to `check`: whether a certificate is accepted for the tables as they are
 -- declared, or the first rule that isn't met.
-use Rattle.std.specs.Prelude.{◌≡◌, ◌≢◌, ℕ, List, ◌∷◌, ◌++◌, [], Option, Some, None, Result, Ok}
-use Rattle.std.specs.Prelude.{codes}
+use Rattle.std.specs.Prelude.{◌≡◌, ℕ, List, ◌∷◌, ◌++◌, [], Option, Some, None, Result, Ok, Err}
+use Rattle.std.specs.Prelude.{codes, ⊤}
 use Rattle.std.specs.Result.{result_map_both}
 use Rattle.clap.specs.Words.{Text}
 use Rattle.cs_crontab.specs.Crontab.{Table}
@@ -21,6 +21,8 @@ use Rattle.cs_io.specs.Files.{Failed}
 use Rattle.cs_files.specs.Response.{Ending, done}
 use Rattle.cs_files.specs.Reads.{AndThen, Answered, Gives, ReadsAs, ReadsDeclared, ReadsTables}
 use Rattle.cs_files.specs.Trouble.{InCertificate, Trouble}
+use Rattle.cs_cli.specs.declared.check.Examined.{Examined}
+use Rattle.cs_cli.specs.declared.check.Examined.TheVariants.{Accepted, Ended}
 
 -- what a certificate says that was read, wherever it lies in memory
 abbrev pub said : {E : Type 0} → Result Certificate E → Result Content E
@@ -52,14 +54,10 @@ Judges files a tables = AndThen (ReadsDeclared files tables a.declarations) (λ 
     AndThen (ReadsCertificate files a.certificate) (λ c.
     Gives (Ok (verdict plan (fault_of plan c)))))
 
--- the answer alone, without the plan and the certificate that were accepted
-abbrev pub answer_of : {E : Type 0} → Result (Ending × Option Checked) E → Result Ending E
-answer_of judged = result_map_both (λ r. r.0) (λ e. e) judged
-
--- `safe` is answered exactly where a plan with its certificate is handed on
-abbrev pub IsSafeWith : Ending → Option Checked → Type 0
-IsSafeWith ending (Some checked) = ending ≡ done safe_text ending.err
-IsSafeWith ending None = ending.status ≢ 0
+-- `safe` where the checker has accepted the plan, else what it says of the first rule
+abbrev pub answer_of : Result Checked Ending → Ending
+answer_of (Ok checked) = done safe_text []
+answer_of (Err answer) = answer
 
 -- the declarations and the certificate are read, and denote what was accepted
 pub record AreRead (files : List ℕ → Option (List ℕ)) (a : AskedCheck) (tables : Table × JobTable)
@@ -80,3 +78,18 @@ abbrev pub AnswersCheck : AskedCheck → (List ℕ → Option (List ℕ)) → Fa
     → Type 0
 AnswersCheck a files =
     Answered (ReadsTables files a.table a.anacrontab) (λ both. Judges files a both)
+
+-- the answer to `check` by what the files come to: `safe`, with what is to be warned of, or another
+abbrev pub ending_of : Examined → Ending
+ending_of (Accepted checked warnings) = done safe_text warnings
+ending_of (Ended answer) = answer
+
+-- what holds of the plan and of the warnings where the checker has accepted it
+abbrev pub IfAccepted : Examined → (Checked → List ℕ → Type 0) → Type 0
+IfAccepted (Accepted checked warnings) P = P checked warnings
+IfAccepted (Ended answer) P = ⊤
+
+-- and of the answer where it has not
+abbrev pub IfEnded : Examined → (Ending → Type 0) → Type 0
+IfEnded (Accepted checked warnings) P = ⊤
+IfEnded (Ended answer) P = P answer

@@ -1,18 +1,18 @@
 //! The subcommand `check`.
-ghost use Rattle.std.specs.Prelude.{◌≡◌, ◌≢◌, [], ◌∷◌, IfErr, IfOk, IfSome, None, OnOk, Some};
+ghost use Rattle.std.specs.Prelude.{◌≡◌, ◌≢◌, ◌∷◌, [], IfErr, IfOk, None, OnOk, Some};
+ghost use Rattle.std.specs.Result.{result_map_both};
 ghost use Rattle.cs_check.specs.Checked.{certificate_in, plan_in};
 ghost use Rattle.cs_cert.specs.Certificate.{content};
 ghost use Rattle.cs_check.specs.Case.{fault_of};
 ghost use Rattle.cs_report.specs.Told.{told};
-ghost use Rattle.cs_decl.specs.Plan.{Declared};
 ghost use Rattle.cs_args.specs.Asked.{asked_check};
 ghost use Rattle.cs_io.specs.Files.{AreReadInTurn, IsFresh, IsReadAlone};
-ghost use Rattle.cs_cli.specs.Check.{AnswersCheck, AreRead, IsProofOf, IsSafeWith, Judges};
-ghost use Rattle.cs_cli.specs.Check.{ReadsCertificate, answer_of, safe_text, said, verdict};
+ghost use Rattle.cs_cli.specs.Check.{AnswersCheck, AreRead, IfAccepted, IfEnded, Judges};
+ghost use Rattle.cs_cli.specs.Check.{ReadsCertificate, answer_of, ending_of, safe_text, said, verdict};
 ghost use Rattle.cs_files.specs.RanOut.{IsWarned};
 ghost use Rattle.cs_files.specs.Response.{done};
 ghost use Rattle.cs_files.specs.Reads.{MeansIt};
-ghost use Rattle.cs_cli.specs.Safe.{AreSafe, IsSafe};
+ghost use Rattle.cs_cli.specs.Safe.{AreSafe, IsAcceptance, IsSafe};
 ghost use Rattle.cs_files.specs.Trouble.{CameTo, InCertificate, IsHonest, IsHonestOf, IsOfContent};
 ghost use Rattle.cs_files.specs.Turn.{check_paths};
 ghost use Rattle.cs_cert.specs.Denoted.{certificate_by};
@@ -59,16 +59,6 @@ fn certificate_from<'a, I: Inputs>(
     certificate_in(alloc, bytes.as_slice())
 }
 
-/// What is answered where no rule is broken.
-#[tactic(auto, unfolding(crate::specs::Check::verdict_text, crate::specs::Check::safe_text))]
-fn acceptance(alloc: Global) -> Result<Response, AllocError>
-    ensures verdict { IfOk result (λ answer. (plan : Declared) → answer ≡ verdict plan None) }
-    ensures safe { IfOk result (λ answer. answer ≡ done safe_text []) }
-{
-    let text = Vec::from_slice(alloc, b"safe\n".as_slice())?;
-    Ok(Response::done(text, Bytes::new(alloc)))
-}
-
 /// What is answered of a rule that is broken.
 #[tactic(auto, unfolding(crate::specs::Check::verdict_text))]
 fn refusal(alloc: Global, plan: &Plan, fault: &CheckFault) -> Result<Response, AllocError>
@@ -79,79 +69,84 @@ fn refusal(alloc: Global, plan: &Plan, fault: &CheckFault) -> Result<Response, A
     Ok(Response::refused(text, Bytes::new(alloc)))
 }
 
-/// What the checker says of a certificate, by as many threads as the machine has processors, and the
-/// two where it has accepted them.
-#[tactic(auto, using(crate::proofs::CheckLemmas::is_safe))]
-fn judge<R: Threads + Sync>(
+/// What the checker rules, by as many threads as the machine has processors: the plan and the
+/// certificate that it accepts, or what is answered of the first rule that isn't met.
+#[tactic(auto, unfolding(crate::specs::Check::verdict_text))]
+fn ruling<R: Threads + Sync>(
     rt: &R,
     alloc: Global,
     plan: Plan,
     certificate: Certificate,
-) -> Result<(Response, Option<Checked>), AllocError>
+) -> Result<Result<Checked, Response>, AllocError>
     ensures answer { IfOk result
-        (λ r. r.0 ≡ verdict plan (fault_of plan (content certificate))) }
-    ensures same { IfOk result (λ r. IfSome r.1
+        (λ found. answer_of found ≡ verdict plan (fault_of plan (content certificate))) }
+    ensures same { IfOk result (λ found. IfOk found
         (λ checked. (plan_in checked ≡ plan) × (certificate_in checked ≡ content certificate))) }
-    ensures safe { IfOk result (λ r. IsSafeWith r.0 r.1) }
-    ensures headline { IfOk result (λ r. IfSome r.1 IsSafe) }
+    ensures safe { IfOk result (λ found. IfOk found IsSafe) }
+    ensures refused { IfOk result (λ found. IfErr found (λ answer. answer.status ≡ 1)) }
 {
     match check_parallel(rt, alloc, &plan, certificate) {
         Ok(checked) => {
             checked.is_safe();
-            Ok((acceptance(alloc)?, Some(checked)))
+            Ok(Ok(checked))
         }
-        Err(CheckError::Fault(fault)) => Ok((refusal(alloc, &plan, &fault)?, None)),
+        Err(CheckError::Fault(fault)) => Ok(Err(refusal(alloc, &plan, &fault)?)),
         Err(CheckError::OutOfMemory) => Err(AllocError),
     }
 }
 
-/// What is answered once both tables were read.
-fn judged<'a, R: Threads + Sync, I: Inputs>(
+/// What the checker rules of the declarations and the certificate, once both tables were read.
+fn ruling_on_files<'a, R: Threads + Sync, I: Inputs>(
     rt: &R,
     alloc: Global,
     inputs: &mut I,
     request: &CheckWords<'a>,
     table: Crontab,
     jobs: Anacrontab,
-) -> Result<(Response, Option<Checked>), Fault<'a>>
+) -> Result<Result<Checked, Response>, Fault<'a>>
     ensures step { IsFresh (I.whole inputs.old) (I.left inputs.old)
         → CameTo (Judges (I.whole inputs.old) (asked_check request.now) (table, jobs)
-        (I.failed inputs.old) (I.failed inputs.new)) (answer_of result) }
+        (I.failed inputs.old) (I.failed inputs.new)) (result_map_both answer_of (λ e. e) result) }
     ensures read { IsFresh (I.whole inputs.old) (I.left inputs.old)
-        → IfOk result (λ r. IfSome r.1 (AreRead (I.whole inputs.old) (asked_check request.now)
+        → IfOk result (λ found. IfOk found (AreRead (I.whole inputs.old) (asked_check request.now)
         (table, jobs) (I.failed inputs.old))) }
-    ensures safe { IfOk result (λ r. IsSafeWith r.0 r.1) }
-    ensures headline { IfOk result (λ r. IfSome r.1 IsSafe) }
+    ensures safe { IfOk result (λ found. IfOk found IsSafe) }
+    ensures refused { IfOk result (λ found. IfErr found (λ answer. answer.status ≡ 1)) }
     ensures status { IfErr result (IsHonestOf (I.failed inputs.new) (I.reads inputs.new)) }
-    ensures done { IfOk result (λ r. r.0.status ≢ 6) }
     ensures turn { AreReadInTurn ((asked_check request.now).declarations
         ∷ (asked_check request.now).certificate ∷ [])
         (I.reads inputs.old) (I.reads inputs.new) }
 {
     let plan = declared_plan_from(alloc, inputs, request.declarations, table, jobs)?;
     let certificate = certificate_from(alloc, inputs, request.certificate)?;
-    Ok(judge(rt, alloc, plan, certificate)?)
+    Ok(ruling(rt, alloc, plan, certificate)?)
 }
 
-/// The answer to `check TABLE DECLS CERT [--anacrontab FILE]`, and the plan with its certificate
-/// where it is `safe`.
-#[tactic(auto, using(crate::proofs::CheckLemmas::safe_behind, crate::proofs::CheckLemmas::fault_fails))]
-pub(crate) fn checked_answer<R: Threads + Sync, I: Inputs>(
+/// What the files of a call come to.
+#[derive(Drop)]
+pub(crate) enum Examined {
+    /// The plan, with the certificate that the checker has accepted, and what is to be warned of.
+    Accepted(Checked, Bytes),
+    /// A fault, or the first rule that isn't met, ends the call.
+    Ended(Response),
+}
+
+/// Examines the files of `check TABLE DECLS CERT [--anacrontab FILE]`. The only error is want of
+/// memory.
+pub(crate) fn examine<R: Threads + Sync, I: Inputs>(
     rt: &R,
     alloc: Global,
     request: &CheckWords<'_>,
     inputs: &mut I,
-) -> Result<(Response, Option<Checked>), RanOut>
+) -> Result<Examined, RanOut>
     ensures value { IsFresh (I.whole inputs.old) (I.left inputs.old)
-        → IfOk result (λ r. AnswersCheck (asked_check request.now) (I.whole inputs.old)
-        (I.failed inputs.old) (I.failed inputs.new) r.0) }
-    ensures proof { IsFresh (I.whole inputs.old) (I.left inputs.old)
-        → IfOk result (λ r. IfSome r.1
-        (IsProofOf (I.whole inputs.old) (asked_check request.now) (I.failed inputs.old))) }
-    ensures safe { IfOk result (λ r. IsSafeWith r.0 r.1) }
-    ensures headline { IfOk result (λ r. IfSome r.1 IsSafe) }
-    ensures status { IfOk result
-        (λ r. IsHonest (I.failed inputs.new) (I.reads inputs.new) r.0) }
+        → IfOk result (λ found. AnswersCheck (asked_check request.now) (I.whole inputs.old)
+        (I.failed inputs.old) (I.failed inputs.new) (ending_of found)) }
+    ensures accepted { IsFresh (I.whole inputs.old) (I.left inputs.old)
+        → IfOk result (λ found. IfAccepted found (IsAcceptance (I.whole inputs.old)
+        (asked_check request.now) (I.failed inputs.old))) }
+    ensures ended { IfOk result (λ found. IfEnded found (λ answer. (answer.status ≢ 0)
+        × IsHonest (I.failed inputs.new) (I.reads inputs.new) answer)) }
     ensures warned { IsFresh (I.whole inputs.old) (I.left inputs.old)
         → IfErr result (λ e. IsWarned (I.whole inputs.old) (asked_check request.now).table
         (asked_check request.now).anacrontab (I.failed inputs.old)
@@ -161,12 +156,31 @@ pub(crate) fn checked_answer<R: Threads + Sync, I: Inputs>(
 {
     let (table, jobs) = match read_tables(alloc, inputs, request.table, request.anacrontab) {
         Ok(tables) => tables,
-        Err(fault) => return Ok((fault.response(alloc, b"".as_slice())?, None)),
+        Err(fault) => return Ok(Examined::Ended(fault.response(alloc, b"".as_slice())?)),
     };
     let warnings = warnings(alloc, &table, &jobs)?;
-    match judged(rt, alloc, inputs, request, table, jobs) {
-        Ok((answer, checked)) => Ok((answer.behind(warnings), checked)),
-        Err(fault) => Ok((fault.response_behind(alloc, warnings)?, None)),
+    let ruling = match ruling_on_files(rt, alloc, inputs, request, table, jobs) {
+        Ok(ruling) => ruling,
+        Err(fault) => return Ok(Examined::Ended(fault.response_behind(alloc, warnings)?)),
+    };
+    match ruling {
+        Ok(checked) => Ok(Examined::Accepted(checked, warnings)),
+        Err(answer) => Ok(Examined::Ended(answer.behind(warnings))),
+    }
+}
+
+/// What is answered where no rule is broken, behind what is to be warned of. If memory runs out,
+/// the warnings are told all the same.
+#[tactic(auto, unfolding(crate::specs::Check::safe_text))]
+fn acceptance(alloc: Global, warnings: Bytes) -> Result<Response, RanOut>
+    ensures told { IfOk result (λ answer. answer ≡ done safe_text warnings) }
+    ensures warned { IfErr result (λ e. e.warnings ≡ Some warnings) }
+{
+    match Vec::from_slice(alloc, b"safe\n".as_slice()) {
+        Ok(text) => Ok(Response::done(text, warnings)),
+        Err(AllocError) => Err(RanOut {
+            warnings: Some(warnings),
+        }),
     }
 }
 
@@ -191,8 +205,8 @@ pub fn answer_check<R: Threads + Sync, I: Inputs>(
     ensures turn { AreReadInTurn (check_paths (asked_check request.now))
         (I.reads inputs.old) (I.reads inputs.new) }
 {
-    match checked_answer(rt, alloc, request, inputs)? {
-        (answer, Some(_checked)) => Ok(answer),
-        (answer, None) => Ok(answer),
+    match examine(rt, alloc, request, inputs)? {
+        Examined::Accepted(_checked, warnings) => acceptance(alloc, warnings),
+        Examined::Ended(answer) => Ok(answer),
     }
 }

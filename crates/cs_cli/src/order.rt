@@ -8,7 +8,7 @@ ghost use Rattle.cs_files.specs.Trouble.{IsHonest};
 ghost use Rattle.cs_files.specs.Turn.{check_paths};
 
 use crate::answer::{Answer, Order};
-use crate::check::checked_answer;
+use crate::check::{Examined, examine};
 use cs_args::RunWords;
 use cs_files::RanOut;
 use cs_io::Inputs;
@@ -35,16 +35,13 @@ pub fn answer_run<'a, R: Threads + Sync, I: Inputs>(
     ensures turn { AreReadInTurn (check_paths (asked_check request.now.check))
         (I.reads inputs.old) (I.reads inputs.new) }
 {
-    match checked_answer(rt, alloc, &request.check, inputs)? {
-        (response, Some(checked)) => {
-            checked.is_safe();
-            Ok(Answer::Runs(Order {
-                checked,
-                warnings: response.into_err(),
-                stamps: request.stamps,
-                minutes: request.minutes,
-            }))
-        }
-        (response, None) => Ok(Answer::Ends(response)),
+    match examine(rt, alloc, &request.check, inputs)? {
+        Examined::Accepted(checked, warnings) => Ok(Answer::Runs(Order {
+            checked,
+            warnings,
+            stamps: request.stamps,
+            minutes: request.minutes,
+        })),
+        Examined::Ended(answer) => Ok(Answer::Ends(answer)),
     }
 }

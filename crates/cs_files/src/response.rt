@@ -80,13 +80,6 @@ impl Response {
         self.told.as_slice()
     }
 
-    /// What is written to standard error, alone.
-    pub fn into_err(self) -> Bytes
-        ensures { result ≡ self.err }
-    {
-        self.told
-    }
-
     /// What is asked was done, and this is to be warned of.
     pub fn done(text: Vec<u8>, warnings: Bytes) -> Response
         ensures { result ≡ done text.items warnings }

@@ -12,7 +12,7 @@ use Rattle.cs_cli.proofs.CheckLemmas.{are_read}
 use Rattle.cs_files.proofs.TroubleLemmas.{goes_on, moved, stops}
 use Rattle.cs_io.specs.Files.{Failed}
 use Rattle.cs_files.proofs.TurnLemmas.{first_read}
-use Rattle.cs_cli.proofs.check.judged.Goals as goal
+use Rattle.cs_cli.proofs.check.ruling_on_files.Goals as goal
 
 pub returns-in_err-certificate-clause-step : goal.returns-in_err-certificate-clause-step
 returns-in_err-certificate-clause-step g c = λ fresh.
@@ -39,7 +39,7 @@ returns-clause-step g c = λ fresh.
     let one = subst (λ (f : Failed). ReadsDeclared files (c.args.table, c.args.jobs) a.declarations before f (Ok plan)) c.in_ok-plan.ensures.works (c.in_ok-plan.ensures.step fresh) in
     let two = moved (λ w f. ReadsCertificate w a.certificate f after (Ok x)) (g.I.Inputs.whole c.declared_plan_from.new.inputs) files (g.I.Inputs.failed c.declared_plan_from.new.inputs) before c.declared_plan_from.ensures.whole c.in_ok-plan.ensures.works (c.in_ok-certificate.ensures.step (c.in_ok-plan.ensures.fresh fresh)) in
     let same : after ≡ before = c.in_ok-certificate.ensures.works ∙ c.in_ok-plan.ensures.works in
-    inr (plan, one, inr (x, subst (λ (f : Failed). ReadsCertificate files a.certificate before f (Ok x)) same two, (same, ap Ok c.in_ok-judge.ensures.answer)))
+    inr (plan, one, inr (x, subst (λ (f : Failed). ReadsCertificate files a.certificate before f (Ok x)) same two, (same, ap Ok c.in_ok-ruling.ensures.answer)))
 
 pub returns-clause-read : goal.returns-clause-read
 returns-clause-read g c = λ fresh.
@@ -52,8 +52,8 @@ returns-clause-read g c = λ fresh.
     let one = subst (λ (f : Failed). ReadsDeclared files (c.args.table, c.args.jobs) a.declarations before f (Ok plan)) c.in_ok-plan.ensures.works (c.in_ok-plan.ensures.step fresh) in
     let two = moved (λ w f. ReadsCertificate w a.certificate f after (Ok x)) (g.I.Inputs.whole c.declared_plan_from.new.inputs) files (g.I.Inputs.failed c.declared_plan_from.new.inputs) before c.declared_plan_from.ensures.whole c.in_ok-plan.ensures.works (c.in_ok-certificate.ensures.step (c.in_ok-plan.ensures.fresh fresh)) in
     let same : after ≡ before = c.in_ok-certificate.ensures.works ∙ c.in_ok-plan.ensures.works in
-    are_read files a (c.args.table, c.args.jobs) before plan x c.in_ok-judge.field-0.1 one
-    (subst (λ (f : Failed). ReadsCertificate files a.certificate before f (Ok x)) same two) c.in_ok-judge.ensures.same
+    are_read files a (c.args.table, c.args.jobs) before plan x c.in_ok-ruling.field-0 one
+    (subst (λ (f : Failed). ReadsCertificate files a.certificate before f (Ok x)) same two) c.in_ok-ruling.ensures.same
 
 pub returns-in_err-plan-clause-turn : goal.returns-in_err-plan-clause-turn
 returns-in_err-plan-clause-turn g c =

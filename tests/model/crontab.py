@@ -38,9 +38,10 @@ FIELDS = (
 # The numbers of a field, and whether its text begins with `*`.
 Choice = namedtuple("Choice", "numbers is_star")
 Schedule = namedtuple("Schedule", "minute hour day month weekday")
-# A setting on its line, and a command line: no schedule is `@reboot`, no input is `None`.
+# A setting on its line, and a command line: no schedule is `@reboot`, `text` is all behind it, and
+# no input is `None`.
 Setting = namedtuple("Setting", "line name value")
-Command = namedtuple("Command", "line schedule command input environment")
+Command = namedtuple("Command", "line schedule text command input environment")
 Crontab = namedtuple("Crontab", "settings commands")
 
 
@@ -182,7 +183,7 @@ def command_of(number, line, settings, commands):
         raise Wrong("NoCommand")
     if len(commands) == MOST_COMMANDS:
         raise Wrong("TooManyJobs")
-    return Command(number, schedule, *parts_of(text), environment_of(settings))
+    return Command(number, schedule, text, *parts_of(text), environment_of(settings))
 
 
 def read_crontab(text):

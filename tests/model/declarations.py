@@ -19,7 +19,7 @@ GREATEST_OFFSET = 1_439
 # What the bytes say; `mode` of an anacron entry is whether it has one.
 Declared = namedtuple("Declared", "capacity offset hours pass_minute groups cron anacron")
 Group = namedtuple("Group", "name exclusive")
-Entry = namedtuple("Entry", "job max weight group mode")
+Entry = namedtuple("Entry", "job max weight group mode command", defaults=[None])
 # The jobs of a plan are those of the crontab first.
 Plan = namedtuple("Plan", "crontab anacrontab jobs groups capacity hours pass_minute offset")
 
@@ -71,14 +71,15 @@ def list_of(read):
 REQUIRED = object()
 GROUP = {"name": (text, REQUIRED), "exclusive": (boolean, REQUIRED)}
 COMMON = {"max": (whole, REQUIRED), "weight": (whole, 1), "group": (text, None)}
-CRON = {"line": (whole, REQUIRED), "mode": (mode, "none"), **COMMON}
+CRON = {"line": (whole, REQUIRED), "mode": (mode, "none"), "command": (text, None), **COMMON}
 ANACRON = {"id": (text, REQUIRED), "mode": (lambda _: True, False), **COMMON}
 
 
 def members(value, shape):
-    """Returns the members of an object as that shape has them."""
-    if not isinstance(value, dict) or any(name not in shape for name in value):
+    """Returns the members of an object as that shape has them; any may have a note besides."""
+    if not isinstance(value, dict) or any(name not in (*shape, "note") for name in value):
         raise OtherShape
+    text(value.get("note", ""))
     found = {}
     for name, (read, default) in shape.items():
         if name not in value and default is REQUIRED:
@@ -170,9 +171,15 @@ def faults_alone(declared):
 
 
 def faults_of_tables(declared, crontab, anacrontab):
-    """Yields the faults of declarations that have none alone beside their tables, by number."""
-    names = {it.line for it in crontab.commands} | set(map(identifier_text, anacrontab.jobs))
+    """Yields the faults of declarations that have none alone beside their tables, in order."""
+    commands = {it.line: it.text for it in crontab.commands}
+    names = set(commands) | set(map(identifier_text, anacrontab.jobs))
     yield "NoSuchLine", places_of_entries(declared, lambda it: it.job not in names)
+
+    def is_other(it):
+        return it.command is not None and it.command.encode() != commands[it.job]
+
+    yield "OtherCommand", places(b"cron", map(is_other, declared.cron))
     yield "Undeclared", undeclared(declared, crontab, anacrontab)
     yield "RebootLine", reboot_places(crontab)
 

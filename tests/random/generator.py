@@ -42,8 +42,10 @@ def with_lines(rng, modes, groups, schedules, longest_times, capacities):
     """Returns a crontab of these schedules, and its declarations."""
     crontab, cron = "", []
     for line, schedule in enumerate(schedules, 1):
-        crontab += f"{schedule} /bin/job\n"
-        cron.append({"line": line, **declared(rng, MODES[modes], groups, next(longest_times))})
+        crontab += f"{schedule} /bin/job{line}\n"
+        said = declared(rng, MODES[modes], groups, next(longest_times))
+        bound = {"command": f"/bin/job{line}"} if line % 2 else {}
+        cron.append({"line": line, **bound, **said})
     said = {"capacity": rng.choice(capacities)}
     said["groups"] = [{"name": f"g{it}", "exclusive": rng.random() < 0.8} for it in range(groups)]
     return crontab, {**said, "cron": cron}

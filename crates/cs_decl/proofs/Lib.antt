@@ -5,4 +5,5 @@ pub mod Order
 pub mod Validity
 pub mod Positions
 pub mod Wholes
+pub mod Commands
 pub mod Firsts

@@ -90,7 +90,7 @@ facts d v =
 
 -- ---- numbers in their ranges
 
-yes : (b : Bool) → not b ≡ false → b ≡ true
+pub yes : (b : Bool) → not b ≡ false → b ≡ true
 yes true e = refl
 yes false e = absurd cc
 
@@ -110,7 +110,7 @@ placed : (groups : List GroupEntry) (name : Option (List ℕ)) → is_none name 
 placed groups None some listed = absurd cc
 placed groups (Some n) some listed = any_position (λ g. bytes_eq n g.name) groups (yes _ listed)
 
-locked : (a b : Bool) → (a && b) ≡ false → a ≡ true → b ≡ false
+pub locked : (a b : Bool) → (a && b) ≡ false → a ≡ true → b ≡ false
 locked true b e t = e
 locked false b e t = absurd cc
 

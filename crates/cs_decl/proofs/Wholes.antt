@@ -22,9 +22,9 @@ use Rattle.cs_decl.specs.Job.{DeclaredJob, IsPossible}
 use Rattle.cs_decl.specs.Plan.{DeclaredGroup, IsWhole, IsTimed, IsListed, places_of}
 use Rattle.cs_decl.specs.Faults.{first_again, first_twice, first_fault, at_cron, at_anacron}
 use Rattle.cs_decl.specs.Meaning.{IsValid}
-use Rattle.cs_decl.specs.Join.{is_reboot, is_of_line, is_of_job, cron_terms, anacron_terms, cron_job, anacron_job, jobs_from, declared_group, plan_of, join_faults, at_line, at_job, has_no_line, has_no_job, is_undeclared, is_undeclared_job, reboot_fault}
+use Rattle.cs_decl.specs.Join.{is_reboot, is_of_line, is_of_job, cron_terms, anacron_terms, cron_job, anacron_job, jobs_from, declared_group, plan_of, join_faults, at_line, at_job, has_no_line, has_no_job, has_other_command, is_undeclared, is_undeclared_job, reboot_fault}
 use Rattle.cs_decl.specs.declared.fault.DeclFault.TheVariants as faults
-use Rattle.cs_decl.specs.declared.fault.Place.TheVariants.{Line}
+use Rattle.cs_decl.specs.declared.fault.Place.TheVariants.{Cron, Line}
 use Rattle.cs_decl.specs.declared.limits.TheConstants.{MAX_MINUTES}
 use Rattle.cs_decl.specs.Plain.{plain_job, plain_plan}
 use Rattle.cs_decl.proofs.Positions.{find_none}
@@ -58,26 +58,31 @@ timed_line Reboot e = absurd cc
 pub timed : (lines : List CommandLine) → find (λ line. is_reboot line.when) lines ≡ None → All IsTimed lines
 timed lines e = All-weaker (λ line. is_reboot line.when ≡ false) IsTimed (λ line h. timed_line line.when h) lines (find_none (λ line. is_reboot line.when) lines e)
 
-pub no_reboot : (c : Crontab) (a : Anacrontab) (d : Entries) → first_fault (join_faults c a d) ≡ None → find (λ line. is_reboot line.when) c.lines ≡ None
+-- where no fault stands, no entry has another command than its line, and no line is an `@reboot`
+pub no_fault_stands : (c : Crontab) (a : Anacrontab) (d : Entries) → first_fault (join_faults c a d) ≡ None → (position (has_other_command c.lines) d.cron ≡ None) × (find (λ line. is_reboot line.when) c.lines ≡ None)
 unfolding join_faults
-no_reboot c a d e =
+no_fault_stands c a d e =
     let e4 = reboot_fault c.lines ∷ [] in
     let e3 = at_job faults.Undeclared (find (is_undeclared_job d.anacron) a.lines) ∷ e4 in
     let e2 = at_line faults.Undeclared (find (is_undeclared d.cron) c.lines) ∷ e3 in
-    let e1 = at_anacron faults.NoSuchLine (position (has_no_job a.lines) d.anacron) ∷ e2 in
+    let other = at_cron faults.OtherCommand (position (has_other_command c.lines) d.cron) in
+    let e1 = at_anacron faults.NoSuchLine (position (has_no_job a.lines) d.anacron) ∷ (other ∷ e2) in
     let r0 = no_row (at_cron faults.NoSuchLine (position (has_no_line c.lines) d.cron)) e1 e in
-    let r1 = no_row (at_anacron faults.NoSuchLine (position (has_no_job a.lines) d.anacron)) e2 r0.1 in
-    let r2 = no_row (at_line faults.Undeclared (find (is_undeclared d.cron) c.lines)) e3 r1.1 in
+    let r1 = no_row (at_anacron faults.NoSuchLine (position (has_no_job a.lines) d.anacron)) (other ∷ e2) r0.1 in
+    let same = no_row other e2 r1.1 in
+    let r2 = no_row (at_line faults.Undeclared (find (is_undeclared d.cron) c.lines)) e3 same.1 in
     let r3 = no_row (at_job faults.Undeclared (find (is_undeclared_job d.anacron) a.lines)) e4 r2.1 in
-    let r4 = no_row (reboot_fault c.lines) [] r3.1 in
-    mapped_none (λ (l : CommandLine). (faults.RebootLine, Some (Line l.number))) (find (λ line. is_reboot line.when) c.lines) r4.0
+    let r4 = no_row (reboot_fault c.lines) [] r3.1 in (
+      mapped_none (λ k. (faults.OtherCommand, Some (Cron k))) (position (has_other_command c.lines) d.cron) same.0,
+      mapped_none (λ (l : CommandLine). (faults.RebootLine, Some (Line l.number))) (find (λ line. is_reboot line.when) c.lines) r4.0,
+    )
 
 -- ---- names that differ
 
 other : (a b : List ℕ) → bytes_eq a b ≡ false → b ≢ a
 other a b e = λ same. let t = (bytes_eq-Decides a b).1 (sym same) in absurd cc
 
-or_none : (a b : Bool) → (a || b) ≡ false → (a ≡ false) × (b ≡ false)
+pub or_none : (a b : Bool) → (a || b) ≡ false → (a ≡ false) × (b ≡ false)
 or_none false b e = (refl, e)
 or_none true b e = absurd cc
 

@@ -1,5 +1,5 @@
 -- From two tables and declarations to a plan.
-use Rattle.std.specs.Prelude.{ℕ, ℤ, ◌+◌, pos, unsigned_abs, List, [], ◌∷◌, ◌++◌, map, Option, None, Some, option_map, option_and_then, Bool, true, false, not, ◌&&◌, bytes_eq, Result, position}
+use Rattle.std.specs.Prelude.{◌≡◌, ℕ, ℤ, ◌+◌, pos, unsigned_abs, List, [], ◌∷◌, ◌++◌, map, Option, None, Some, option_map, option_and_then, Bool, true, false, not, ◌&&◌, bytes_eq, Result, position, IfSome}
 use Rattle.std.specs.Ordering.{int_eq}
 use Rattle.std.specs.List.{list_any, find}
 use Rattle.cs_crontab.specs.Crontab.{Table as Crontab, CommandLine}
@@ -36,6 +36,16 @@ has_no_line lines e = not (list_any (λ line. is_of_line line.number e) lines)
 abbrev pub has_no_job : List JobLine → AnacronEntry → Bool
 has_no_job lines e = not (list_any (λ line. is_of_job line.identifier e) lines)
 
+-- a command is told, and it isn't these bytes
+abbrev pub is_unlike : List ℕ → Option (List ℕ) → Bool
+is_unlike command None = false
+is_unlike command (Some told) = not (bytes_eq told command)
+
+-- the entry's line has another command than the entry tells
+abbrev pub has_other_command : List CommandLine → CronEntry → Bool
+has_other_command lines e =
+    list_any (λ line. is_of_line line.number e && is_unlike line.command e.command) lines
+
 abbrev pub is_reboot : When → Bool
 is_reboot (At schedule) = false
 is_reboot Reboot = true
@@ -47,6 +57,10 @@ is_undeclared entries line =
 
 abbrev pub is_undeclared_job : List AnacronEntry → JobLine → Bool
 is_undeclared_job entries line = not (list_any (is_of_job line.identifier) entries)
+
+-- an entry of that line tells no command, or the line's own
+abbrev pub TellsOf : CronEntry → CommandLine → Type 0
+TellsOf e line = e.line ≡ pos line.number → IfSome e.command (λ told. told ≡ line.command)
 
 -- ---- the table of faults
 
@@ -60,11 +74,13 @@ at_job fault line = option_map (λ l. (fault, Some (Job l.identifier))) line
 abbrev pub reboot_fault : List CommandLine → Option Fault
 reboot_fault lines = at_line faults.RebootLine (find (λ line. is_reboot line.when) lines)
 
--- by number, and of one number by entry, and by job
+-- entries without a line, entries with another command than their line, lines without an entry,
+-- and `@reboot` lines; of one kind by entry, and by job
 unfoldable pub join_faults : Crontab → Anacrontab → Entries → List (Option Fault)
 join_faults crontab anacrontab d =
     at_cron faults.NoSuchLine (position (has_no_line crontab.lines) d.cron)
     ∷ at_anacron faults.NoSuchLine (position (has_no_job anacrontab.lines) d.anacron)
+    ∷ at_cron faults.OtherCommand (position (has_other_command crontab.lines) d.cron)
     ∷ at_line faults.Undeclared (find (is_undeclared d.cron) crontab.lines)
     ∷ at_job faults.Undeclared (find (is_undeclared_job d.anacron) anacrontab.lines)
     ∷ reboot_fault crontab.lines

@@ -24,6 +24,7 @@ fault_text faults.BadHours = codes "12 BadHours"
 fault_text faults.ModeOnAnacron = codes "13 ModeOnAnacron"
 fault_text faults.RebootLine = codes "14 RebootLine"
 fault_text faults.BadPassMinute = codes "15 BadPassMinute"
+fault_text faults.OtherCommand = codes "16 OtherCommand"
 
 -- an entry is counted from 1, a line is named by its number, and a job by its identifier
 abbrev pub place_text : Place → List ℕ

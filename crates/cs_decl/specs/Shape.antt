@@ -1,9 +1,9 @@
 -- The shape of declarations, member by member: what a JSON value declares, or BadShape.
-use Rattle.std.specs.Prelude.{List, [], ◌∷◌, ℕ, pos, Option, None, Some, option_and_then, is_some, if◌then◌else◌, Bool, bytes_eq, codes, Result, Ok}
+use Rattle.std.specs.Prelude.{List, [], ◌∷◌, ℕ, pos, Option, None, Some, option_and_then, is_some, if◌then◌else◌, Bool, bytes_eq, codes, Result, Ok, ⊤}
 use Rattle.serde_json.specs.Data.{Data}
 use Rattle.serde_json.specs.Find.{as_str, get}
 use Rattle.cs_json.specs.Gives.{◌>>=◌}
-use Rattle.cs_json.specs.Shape.{or_bad_shape, whole_number, text, flag, list_as, pair_as, member_as, member_or_default, member_or_none, object_with, is_among}
+use Rattle.cs_json.specs.Shape.{or_bad_shape, check, whole_number, text, flag, list_as, pair_as, member_as, member_or_default, member_or_none, object_with, is_among}
 use Rattle.cs_json.specs.declared.fault.JsonFault.{JsonFault}
 use Rattle.cs_history.specs.declared.mode.Mode.{Mode}
 use Rattle.cs_history.specs.declared.mode.Mode.TheVariants.{Plain, Skip, Wait, Shared}
@@ -26,47 +26,64 @@ mode_of d = or_bad_shape (option_and_then mode_named (as_str d))
 
 -- the members of an entry of `groups`
 unfoldable pub is_group_member : List ℕ → Bool
-is_group_member = is_among (codes "exclusive" ∷ codes "name" ∷ [])
+is_group_member = is_among (codes "exclusive" ∷ codes "name" ∷ codes "note" ∷ [])
 
 -- the members of an entry of `cron`
 unfoldable pub is_cron_member : List ℕ → Bool
-is_cron_member =
-    is_among (codes "group" ∷ codes "line" ∷ codes "max" ∷ codes "mode" ∷ codes "weight" ∷ [])
+is_cron_member = is_among
+    (codes "command" ∷ codes "group" ∷ codes "line" ∷ codes "max" ∷ codes "mode" ∷ codes "note"
+    ∷ codes "weight" ∷ [])
 
 -- the members of an entry of `anacron`
 unfoldable pub is_anacron_member : List ℕ → Bool
-is_anacron_member =
-    is_among (codes "group" ∷ codes "id" ∷ codes "max" ∷ codes "mode" ∷ codes "weight" ∷ [])
+is_anacron_member = is_among
+    (codes "group" ∷ codes "id" ∷ codes "max" ∷ codes "mode" ∷ codes "note" ∷ codes "weight" ∷ [])
 
 -- the members of declarations
 unfoldable pub is_member : List ℕ → Bool
 is_member = is_among
     (codes "anacron" ∷ codes "capacity" ∷ codes "cron" ∷ codes "groups" ∷ codes "hours"
-    ∷ codes "offset" ∷ codes "pass" ∷ [])
+    ∷ codes "note" ∷ codes "offset" ∷ codes "pass" ∷ [])
 
--- an entry of `groups`: both members have to be there
+-- a note, where there is one, is a text; nothing is read off it
+abbrev pub note_of : Data → Result ⊤ JsonFault
+note_of d = member_or_default (λ note. check (is_some (as_str note))) tt (codes "note") d
+
+-- an entry of `groups`: name and `exclusive` have to be there
 unfoldable pub group_of : Data → Result GroupEntry JsonFault
 group_of d = do
   o ← object_with is_group_member d
+  note ← note_of d
   name ← member_as text (codes "name") d
   exclusive ← member_as flag (codes "exclusive") d
   Ok (record { name = name; exclusive = exclusive })
 
--- an entry of `cron`: the weight is 1 and the mode `none` where they are absent
+-- an entry of `cron`: the weight is 1 and the mode `none` where they are absent; the command is
+-- the bytes of its text
 unfoldable pub cron_of : Data → Result CronEntry JsonFault
 cron_of d = do
   o ← object_with is_cron_member d
+  note ← note_of d
   line ← member_as whole_number (codes "line") d
+  command ← member_or_none text (codes "command") d
   max ← member_as whole_number (codes "max") d
   weight ← member_or_default whole_number (pos 1) (codes "weight") d
   group ← member_or_none text (codes "group") d
   mode ← member_or_default mode_of Plain (codes "mode") d
-  Ok (record { line = line; max = max; weight = weight; group = group; mode = mode })
+  Ok (record {
+    line = line;
+    command = command;
+    max = max;
+    weight = weight;
+    group = group;
+    mode = mode;
+  })
 
 -- an entry of `anacron`: of a mode it is known alone whether it is there
 unfoldable pub anacron_of : Data → Result AnacronEntry JsonFault
 anacron_of d = do
   o ← object_with is_anacron_member d
+  note ← note_of d
   identifier ← member_as text (codes "id") d
   max ← member_as whole_number (codes "max") d
   weight ← member_or_default whole_number (pos 1) (codes "weight") d
@@ -83,6 +100,7 @@ anacron_of d = do
 unfoldable pub entries_of : Data → Result Entries JsonFault
 entries_of d = do
   o ← object_with is_member d
+  note ← note_of d
   capacity ← member_as whole_number (codes "capacity") d
   offset ← member_or_default whole_number (pos 0) (codes "offset") d
   hours ← member_or_default (pair_as whole_number whole_number) (pos 0, pos 1440) (codes "hours") d

@@ -12,6 +12,7 @@ pub struct GroupEntry {
 #[derive(Debug, Drop)]
 pub struct CronEntry {
     pub(crate) line: i128,
+    pub(crate) command: Option<Bytes>,
     pub(crate) max: i128,
     pub(crate) weight: i128,
     pub(crate) group: Option<Bytes>,

@@ -40,6 +40,8 @@ pub enum DeclFault {
     RebootLine,
     /// The pass minute is not from 0 to 1,439.
     BadPassMinute,
+    /// The line of an entry has another command than the entry tells.
+    OtherCommand,
 }
 
 impl DeclFault {
@@ -63,6 +65,7 @@ impl DeclFault {
             DeclFault::ModeOnAnacron => "13 ModeOnAnacron",
             DeclFault::RebootLine => "14 RebootLine",
             DeclFault::BadPassMinute => "15 BadPassMinute",
+            DeclFault::OtherCommand => "16 OtherCommand",
         }
     }
 }

@@ -7,7 +7,9 @@ ghost use Rattle.cs_decl.specs.Join.{at_line, at_job, is_reboot, join_faults, de
 use crate::declarations::Declarations;
 use crate::entries::Entries;
 use crate::fault::{DeclError, DeclFault, Place};
-use crate::lookups::{first_reboot, first_undeclared, first_undeclared_job, jobless, lineless};
+use crate::lookups::{
+    first_other, first_reboot, first_undeclared, first_undeclared_job, jobless, lineless,
+};
 use crate::plan::Plan;
 use crate::rows::Found;
 use crate::terms::{groups_of, jobs_of, small, smaller};
@@ -43,7 +45,8 @@ fn at_job(
     }
 }
 
-/// The first fault of entries without a line, lines without an entry, and `@reboot` lines.
+/// The first fault of entries without a line or with another command than their line, lines without
+/// an entry, and `@reboot` lines.
 #[tactic(auto, unfolding(crate::specs::Join::join_faults))]
 fn join_fault(
     alloc: Global,
@@ -60,6 +63,9 @@ fn join_fault(
     }
     if let Some(i) = jobless(anacron, anacrontab.lines()) {
         return Ok(Some((DeclFault::NoSuchLine, Some(Place::Anacron(i)))));
+    }
+    if let Some(i) = first_other(cron, crontab.lines()) {
+        return Ok(Some((DeclFault::OtherCommand, Some(Place::Cron(i)))));
     }
     if let Some(line) = first_undeclared(cron, crontab.lines()) {
         return Ok(at_line(DeclFault::Undeclared, Some(line)));
@@ -132,12 +138,13 @@ fn plan_of(
     ))
 }
 
-/// Joins tables and declarations to a plan, or returns the fault with the smallest number.
+/// Joins tables and declarations to a plan, or returns their first fault.
 ///
 /// [`NoSuchLine`](DeclFault::NoSuchLine) if an entry has no command or job, cron entries first,
-/// each in order; [`Undeclared`](DeclFault::Undeclared) if a job has no entry, in the order of
-/// jobs; [`RebootLine`](DeclFault::RebootLine) if the crontab has an `@reboot`, declared or not, in
-/// order of line. Memory may run out.
+/// each in order; [`OtherCommand`](DeclFault::OtherCommand) if an entry tells another command than
+/// its line has, in the order of entries; [`Undeclared`](DeclFault::Undeclared) if a job has no
+/// entry, in the order of jobs; [`RebootLine`](DeclFault::RebootLine) if the crontab has an
+/// `@reboot`, declared or not, in order of line. Memory may run out.
 #[tactic(auto, unfolding(crate::specs::Join::joined))]
 pub fn join(
     alloc: Global,

@@ -26,6 +26,6 @@ pub use group::Group;
 pub use job::Job;
 pub use job_names::{identifier_of, push_command_name, push_due_name};
 pub use joining::join;
-pub use laws::first_of_faults;
+pub use laws::{commands_are_those_of_lines, first_of_faults};
 pub use limits::{MAX_CAPACITY, MAX_GROUPS, MAX_MINUTES, MAX_OFFSET, MAX_WEIGHT};
 pub use plan::Plan;

@@ -1,10 +1,11 @@
-//! Lines without an entry, and entries without a line.
+//! Lines without an entry, and entries without a line or with another command than their line.
 ghost use Rattle.std.specs.Prelude.{◌≡◌, option_map, position};
 ghost use Rattle.std.specs.List.{find, list_any};
-ghost use Rattle.cs_decl.specs.Join.{is_of_line, is_of_job, has_no_line, has_no_job, is_reboot, is_undeclared, is_undeclared_job};
+ghost use Rattle.cs_decl.specs.Join.{is_of_line, is_of_job, has_no_line, has_no_job, is_unlike, has_other_command, is_reboot, is_undeclared, is_undeclared_job};
 
 use crate::entries::{AnacronEntry, CronEntry};
 use cs_anacrontab::Job as JobLine;
+use cs_civil::Bytes;
 use cs_crontab::{Line, When};
 
 fn has_line(lines: &[Line], entry: &CronEntry) -> bool
@@ -21,6 +22,23 @@ fn has_job(lines: &[JobLine], entry: &AnacronEntry) -> bool
     lines
         .iter()
         .any(|line| entry.identifier.as_slice() == line.identifier())
+}
+
+fn is_unlike(command: &[u8], told: &Option<Bytes>) -> bool
+    ensures { result ≡ is_unlike command.now told.now }
+{
+    match told {
+        Some(told) => told.as_slice() != command,
+        None => false,
+    }
+}
+
+fn has_other_command(lines: &[Line], entry: &CronEntry) -> bool
+    ensures { result ≡ has_other_command lines.now entry.now }
+{
+    lines.iter().any(|line| {
+        entry.line == i128::from(line.number()) && is_unlike(line.command(), &entry.command)
+    })
 }
 
 fn is_reboot(line: &Line) -> bool
@@ -61,6 +79,15 @@ pub(crate) fn jobless(entries: &[AnacronEntry], lines: &[JobLine]) -> Option<usi
     ensures { result ≡ position (has_no_job lines.now) entries.now }
 {
     entries.iter().position(|entry| !has_job(lines, entry))
+}
+
+/// The index of the first cron entry whose line has another command than the entry tells.
+pub(crate) fn first_other(entries: &[CronEntry], lines: &[Line]) -> Option<usize>
+    ensures { result ≡ position (has_other_command lines.now) entries.now }
+{
+    entries
+        .iter()
+        .position(|entry| has_other_command(lines, entry))
 }
 
 pub(crate) fn first_undeclared<'a>(entries: &[CronEntry], lines: &'a [Line]) -> Option<&'a Line>

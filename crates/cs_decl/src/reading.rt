@@ -4,7 +4,7 @@ ghost use Rattle.serde_json.specs.Find.{get};
 ghost use Rattle.cs_json.specs.Gives.{Gives};
 ghost use Rattle.cs_json.specs.Shape.{check, text, whole_number, list_as, member_as, member_or_default, member_or_none, object_with};
 ghost use Rattle.cs_history.specs.declared.mode.Mode.TheVariants.{Plain};
-ghost use Rattle.cs_decl.specs.Shape.{mode_named, mode_of, group_of, cron_of, anacron_of, entries_of, is_group_member, is_cron_member, is_anacron_member, is_member};
+ghost use Rattle.cs_decl.specs.Shape.{mode_named, mode_of, note_of, group_of, cron_of, anacron_of, entries_of, is_group_member, is_cron_member, is_anacron_member, is_member};
 ghost use Rattle.cs_decl.specs.declared.entries.GroupEntry.{GroupEntry};
 ghost use Rattle.cs_decl.specs.declared.entries.CronEntry.{CronEntry};
 ghost use Rattle.cs_decl.specs.declared.entries.AnacronEntry.{AnacronEntry};
@@ -26,12 +26,25 @@ fn text_member(alloc: Global, value: &Value, name: &str) -> Result<Bytes, Misrea
     Ok(Bytes::from_vec(text.into_bytes()))
 }
 
-fn group_member(alloc: Global, value: &Value) -> Result<Option<Bytes>, Misread>
-    ensures { Gives (λ b. b) result (member_or_none text (codes "group") (view value.now)) }
+fn text_if_there(alloc: Global, value: &Value, name: &str) -> Result<Option<Bytes>, Misread>
+    ensures { Gives (λ b. b) result (member_or_none text name.now (view value.now)) }
 {
-    match value.get("group") {
-        Some(_) => Ok(Some(text_member(alloc, value, "group")?)),
+    match value.get(name) {
+        Some(_) => Ok(Some(text_member(alloc, value, name)?)),
         None => Ok(None),
+    }
+}
+
+/// Passes over a note, which is for people. `BadShape` if it isn't a text.
+fn pass_note(value: &Value) -> Result<(), Misread>
+    ensures { Gives (λ u. u) result (note_of (view value.now)) }
+{
+    let Some(note) = value.get("note") else {
+        return Ok(());
+    };
+    match note.as_str() {
+        Some(_) => Ok(()),
+        None => Err(BAD_SHAPE),
     }
 }
 
@@ -86,7 +99,7 @@ fn mode_member(value: &Value) -> Result<Mode, Misread>
 fn group_object(value: &Value) -> Result<(), Misread>
     ensures { Gives (λ u. u) result (object_with is_group_member (view value.now)) }
 {
-    only_members(value, ["exclusive", "name"].as_slice())
+    only_members(value, ["exclusive", "name", "note"].as_slice())
 }
 
 #[tactic(auto, unfolding(crate::specs::Shape::group_of))]
@@ -99,6 +112,7 @@ impl FromJson for GroupEntry {
 
     fn from_json(alloc: Global, value: &Value) -> Result<GroupEntry, Misread> {
         group_object(value)?;
+        pass_note(value)?;
         Ok(GroupEntry {
             name: text_member(alloc, value, "name")?,
             exclusive: member(alloc, value, "exclusive")?,
@@ -110,7 +124,10 @@ impl FromJson for GroupEntry {
 fn cron_object(value: &Value) -> Result<(), Misread>
     ensures { Gives (λ u. u) result (object_with is_cron_member (view value.now)) }
 {
-    only_members(value, ["group", "line", "max", "mode", "weight"].as_slice())
+    only_members(
+        value,
+        ["command", "group", "line", "max", "mode", "note", "weight"].as_slice(),
+    )
 }
 
 #[tactic(auto, unfolding(crate::specs::Shape::cron_of))]
@@ -123,11 +140,13 @@ impl FromJson for CronEntry {
 
     fn from_json(alloc: Global, value: &Value) -> Result<CronEntry, Misread> {
         cron_object(value)?;
+        pass_note(value)?;
         Ok(CronEntry {
             line: member(alloc, value, "line")?,
+            command: text_if_there(alloc, value, "command")?,
             max: member(alloc, value, "max")?,
             weight: weight_member(alloc, value)?,
-            group: group_member(alloc, value)?,
+            group: text_if_there(alloc, value, "group")?,
             mode: mode_member(value)?,
         })
     }
@@ -137,7 +156,10 @@ impl FromJson for CronEntry {
 fn anacron_object(value: &Value) -> Result<(), Misread>
     ensures { Gives (λ u. u) result (object_with is_anacron_member (view value.now)) }
 {
-    only_members(value, ["group", "id", "max", "mode", "weight"].as_slice())
+    only_members(
+        value,
+        ["group", "id", "max", "mode", "note", "weight"].as_slice(),
+    )
 }
 
 #[tactic(auto, unfolding(crate::specs::Shape::anacron_of))]
@@ -150,11 +172,12 @@ impl FromJson for AnacronEntry {
 
     fn from_json(alloc: Global, value: &Value) -> Result<AnacronEntry, Misread> {
         anacron_object(value)?;
+        pass_note(value)?;
         Ok(AnacronEntry {
             identifier: text_member(alloc, value, "id")?,
             max: member(alloc, value, "max")?,
             weight: weight_member(alloc, value)?,
-            group: group_member(alloc, value)?,
+            group: text_if_there(alloc, value, "group")?,
             has_mode: value.get("mode").is_some(),
         })
     }
@@ -169,7 +192,7 @@ fn whole_object(value: &Value) -> Result<(), Misread>
     only_members(
         value,
         [
-            "anacron", "capacity", "cron", "groups", "hours", "offset", "pass",
+            "anacron", "capacity", "cron", "groups", "hours", "note", "offset", "pass",
         ]
         .as_slice(),
     )
@@ -185,6 +208,7 @@ impl FromJson for Entries {
 
     fn from_json(alloc: Global, value: &Value) -> Result<Entries, Misread> {
         whole_object(value)?;
+        pass_note(value)?;
         Ok(Entries {
             capacity: member(alloc, value, "capacity")?,
             offset: member_or(alloc, value, "offset", 0)?,

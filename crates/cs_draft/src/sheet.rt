@@ -30,6 +30,18 @@ fn mode_text(mode: Mode) -> &'static str {
     }
 }
 
+/// The member that binds an entry to its command; nothing where the command isn't UTF-8, as no text
+/// of JSON is like it then. The only error is want of memory.
+fn command_member(alloc: Global, command: &[u8]) -> Result<String, AllocError> {
+    match str::from_utf8(command) {
+        Ok(text) => {
+            let text = quoted(alloc, text)?;
+            format!(in alloc; ", \"command\": {text}")
+        }
+        Err(_) => Ok(String::new(alloc)),
+    }
+}
+
 impl<'a> Sheet<'a> {
     /// No entries, for a longest time in minutes.
     pub(crate) fn new(alloc: Global, max: u64) -> Sheet<'a> {
@@ -66,48 +78,46 @@ impl<'a> Sheet<'a> {
         self.warnings.extend_from_slice(warning.as_bytes())
     }
 
-    /// Adds an entry with the longest time alone.
-    fn add_plain(&mut self, alloc: Global, number: u32) -> Result<(), AllocError> {
-        let max = self.max;
-        let entry = format!(in alloc; "{{\"line\": {number}, \"max\": {max}}}")?;
+    /// Adds an entry with the longest time, the members of a lock, and the command.
+    fn add_entry(&mut self, alloc: Global, line: &Line, lock: &str) -> Result<(), AllocError> {
+        let (number, max) = (line.number(), self.max);
+        let command = command_member(alloc, line.command())?;
+        let entry = format!(in alloc; "{{\"line\": {number}, \"max\": {max}{lock}{command}}}")?;
         self.cron.add(entry.as_str())
     }
 
-    /// Adds such an entry, and why it has no lock.
+    /// Adds an entry without a lock, and why it has none.
     fn add_unlocked(
         &mut self,
         alloc: Global,
-        number: u32,
+        line: &Line,
         reason: Unlocked,
     ) -> Result<(), AllocError> {
         self.warn(
             alloc,
             "the command",
-            number,
+            line.number(),
             "declared without a lock",
             reason.text(),
         )?;
-        self.add_plain(alloc, number)
+        self.add_entry(alloc, line, "")
     }
 
     /// Adds an entry that takes the lock of the file, unless there are too many files.
     fn add_locked(
         &mut self,
         alloc: Global,
-        number: u32,
+        line: &Line,
         file: &'a str,
         mode: Mode,
     ) -> Result<(), AllocError> {
         if !self.takes(file)? {
-            return self.add_unlocked(alloc, number, Unlocked::TooManyGroups);
+            return self.add_unlocked(alloc, line, Unlocked::TooManyGroups);
         }
-        let max = self.max;
         let group = quoted(alloc, file)?;
         let mode = mode_text(mode);
-        let entry = format!(in alloc;
-            "{{\"line\": {number}, \"max\": {max}, \"group\": {group}, \"mode\": \"{mode}\"}}"
-        )?;
-        self.cron.add(entry.as_str())
+        let lock = format!(in alloc; ", \"group\": {group}, \"mode\": \"{mode}\"")?;
+        self.add_entry(alloc, line, lock.as_str())
     }
 
     /// Adds a warning of a command that is started at startup.
@@ -124,15 +134,14 @@ impl<'a> Sheet<'a> {
     /// Adds the entry of a command, or a warning where it is started at startup. The only error is
     /// want of memory.
     pub(crate) fn add_line(&mut self, alloc: Global, line: &'a Line) -> Result<(), AllocError> {
-        let number = line.number();
         match line.when() {
-            When::Reboot => return self.warn_of_reboot(alloc, number),
+            When::Reboot => return self.warn_of_reboot(alloc, line.number()),
             When::At(_) => {}
         }
         match lock_of(alloc, line.command())? {
-            Lock::Absent => self.add_plain(alloc, number),
-            Lock::Of(file, mode) => self.add_locked(alloc, number, file, mode),
-            Lock::Unlike(reason) => self.add_unlocked(alloc, number, reason),
+            Lock::Absent => self.add_entry(alloc, line, ""),
+            Lock::Of(file, mode) => self.add_locked(alloc, line, file, mode),
+            Lock::Unlike(reason) => self.add_unlocked(alloc, line, reason),
         }
     }
 

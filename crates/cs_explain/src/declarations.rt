@@ -2,7 +2,7 @@
 use crate::meaning::Meaning;
 
 /// In the order of their numbers.
-pub(crate) static MEANINGS: [Meaning; 15] = [
+pub(crate) static MEANINGS: [Meaning; 16] = [
     Meaning {
         name: "NotJson",
         short: "the bytes aren't JSON",
@@ -19,8 +19,9 @@ right:
         name: "BadShape",
         short: "a member is unknown or absent, or has no value of its kind",
         text: r#"The members are capacity, offset, hours, pass, groups, cron and anacron; those
-of a cron entry are line, max, weight, group and mode. Numbers are whole and
-have no quotes; offset is -1439 to 1439.
+of a cron entry are line, command, max, weight, group and mode. Each object may
+have a note, a text. Numbers are whole and have no quotes; offset is -1439 to
+1439.
 crontab:
   30 23 * * * /usr/bin/backup
 wrong:
@@ -176,5 +177,21 @@ wrong:
   {"capacity": 1, "pass": 1440, "cron": [{"line": 1, "max": 30}]}
 right:
   {"capacity": 1, "pass": 0, "cron": [{"line": 1, "max": 30}]}"#,
+    },
+    Meaning {
+        name: "OtherCommand",
+        short: "the command on that line is another than the entry's",
+        text: r#"An edit has moved the command to another line, or changed it. Correct the line's
+number, or the command once you have seen that the entry's time and group still
+fit it. A command is compared byte for byte, up to the end of its line.
+crontab:
+  0 1 * * * /usr/bin/report
+  30 23 * * * /usr/bin/backup
+wrong:
+  {"capacity": 1, "cron": [{"line": 1, "max": 30, "command": "/usr/bin/backup"},
+                           {"line": 2, "max": 10}]}
+right:
+  {"capacity": 1, "cron": [{"line": 2, "max": 30, "command": "/usr/bin/backup"},
+                           {"line": 1, "max": 10}]}"#,
     },
 ];

@@ -3,6 +3,7 @@
 use crate::gap::shortest_gap;
 use crate::json::find_no_json;
 use crate::object::{Kind, Object};
+use crate::other::find_other;
 use crate::outline::{parts, trimmed};
 use crate::shape::{find_in_object, names_of};
 use crate::table::{Begun, TableLook};
@@ -218,6 +219,8 @@ impl<'b, 'v> Declared<'b, 'v> {
         let place = begun.partition_point(|command| i128::from(command.number) < line);
         match begun.get(place) {
             Some(command) if i128::from(command.number) == line => {
+                let text = tables.0.line_of(command);
+                find_other(&mut self.findings, entry, command.number, text)?;
                 self.find_overlap(entry, command)
             }
             _ => {

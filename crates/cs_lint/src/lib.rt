@@ -9,6 +9,7 @@ mod gap;
 mod json;
 mod line;
 mod object;
+mod other;
 mod outline;
 mod refusal;
 mod report;

@@ -29,25 +29,30 @@ enum Shape {
 
 /// The members of each object in alphabetical order: whether one has to be there, and what may
 /// stand in it.
-const MEMBERS: [(Kind, &str, bool, Shape); 19] = [
+const MEMBERS: [(Kind, &str, bool, Shape); 24] = [
     (Kind::Whole, "anacron", false, Shape::List),
     (Kind::Whole, "capacity", true, CAPACITY),
     (Kind::Whole, "cron", false, Shape::List),
     (Kind::Whole, "groups", false, Shape::List),
     (Kind::Whole, "hours", false, Shape::Hours),
+    (Kind::Whole, "note", false, Shape::Text),
     (Kind::Whole, "offset", false, OFFSET),
     (Kind::Whole, "pass", false, PASS),
     (Kind::Group, "exclusive", true, Shape::Flag),
     (Kind::Group, "name", true, Shape::Text),
+    (Kind::Group, "note", false, Shape::Text),
+    (Kind::Cron, "command", false, Shape::Text),
     (Kind::Cron, "group", false, Shape::Text),
     (Kind::Cron, "line", true, Shape::Whole),
     (Kind::Cron, "max", true, MAX),
     (Kind::Cron, "mode", false, Shape::Mode),
+    (Kind::Cron, "note", false, Shape::Text),
     (Kind::Cron, "weight", false, WEIGHT),
     (Kind::Anacron, "group", false, Shape::Text),
     (Kind::Anacron, "id", true, Shape::Text),
     (Kind::Anacron, "max", true, MAX),
     (Kind::Anacron, "mode", false, Shape::Any),
+    (Kind::Anacron, "note", false, Shape::Text),
     (Kind::Anacron, "weight", false, WEIGHT),
 ];
 

@@ -151,6 +151,12 @@ impl<'a> TableLook<'a> {
         self.is_whole.then_some(self.begun.as_slice())
     }
 
+    /// The line of what begins there, from its first word on.
+    pub(crate) fn line_of(&self, begun: &Begun) -> &'a [u8] {
+        let rest = &self.bytes[begun.place.from.min(self.bytes.len())..];
+        rest.split(|byte| *byte == b'\n').next().unwrap_or(rest)
+    }
+
     /// Whether it's known that no job has that identifier.
     pub(crate) fn lacks(&self, identifier: &str) -> bool {
         self.is_whole && !self.names.contains_key(identifier.as_bytes())

@@ -18,7 +18,7 @@ VALUES = (
 TEXTS = (
     rb'"" "g" "\u0067" "\u006" "\u00G7" "\u+067" "\u0000" "\ud834\udd1e" "\uD834\uDD1E"'
     rb' "\ud834" "\udd1e" "\ud834x" "\ud834\n" "\ud834\ud834" "\x41" "\a" "\/" "\"" "\\" "\"'
-    rb' "g g "none" "None" "wait"'
+    rb' "g g "none" "None" "wait" "a" "\u0061" "\u0061\u0000" "a\u0020"'
 ).split(b" ")
 RAW = (
     *(b'"%s"' % it for it in b"\0 \x1f \x7f \t \n \xff \xc3 \xc0\xaf \xed\xa0\x80".split(b" ")),
@@ -40,12 +40,17 @@ IN_AN_OBJECT = (
     b'"cron":[%s]',
     b'"cron":[{"line":%s,"max":1}]',
     b'"cron":[{"line":1,"max":%s}]',
+    b'"cron":[{"line":1,"max":1,"command":%s}]',
     b'"cron":[{"line":1,"max":1,"weight":%s}]',
     b'"cron":[{"line":1,"max":1,"mode":%s}]',
     b'"groups":[{"name":"g","exclusive":true}],"cron":[{"line":1,"max":1,"group":%s}]',
     b'"groups":[{"name":"","exclusive":true}],"cron":[{"line":1,"max":1,"group":"","mode":%s}]',
     b'"anacron":[{"id":%s,"max":1}]',
     b'"anacron":[{"id":"g","max":1,"mode":%s}]',
+    b'"note":%s',
+    b'"groups":[{"name":"g","exclusive":true,"note":%s}]',
+    b'"cron":[{"line":1,"max":1,"note":%s}]',
+    b'"anacron":[{"id":"g","max":1,"note":%s}]',
 )
 PLACES = (
     b"%s",
@@ -86,14 +91,14 @@ def doubled_members():
     tables = {b"crontab": JOB, b"anacrontab": b"1 0 b c\n"}
     others = (b"0", b"null", b"[]", b'"x"', b"true", b"2", b"[5,5]", b"{}")
     yield call_of("no member twice", b"declarations", WHOLE, tables)
-    for name in b"capacity offset hours pass groups cron anacron".split():
+    for name in b"capacity offset hours pass groups cron anacron note".split():
         for other in others:
             member = b'"' + name + b'":' + other
             texts = WHOLE[:-1] + b"," + member + b"}", b"{" + member + b"," + WHOLE[1:]
             for text in texts:
                 yield call_of(f"{member!r} too", b"declarations", text, tables)
-    for name in b"name exclusive line max weight group mode id".split():
-        for other in (*others, b'"g"', b'"b"', b"1"):
+    for name in b"name exclusive line command max weight group mode id note".split():
+        for other in (*others, b'"a"', b'"g"', b'"b"', b"1"):
             member = b'"' + name + b'":' + other
             for opened in (b'{"name"', b'{"line"', b'{"id"'):
                 text = WHOLE.replace(opened, b"{" + member + b"," + opened[1:])

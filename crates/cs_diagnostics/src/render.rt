@@ -1,8 +1,13 @@
 //! How findings are told: the place and the words, the line, and a mark under the place.
-use crate::file::File;
-use crate::findings::{Done, Finding, Findings};
+ghost use Rattle.std.specs.Prelude.{◌≡◌, ◌+◌, ◌++◌, ◌∷◌, [], true, false, OnOk, IfOk};
+ghost use Rattle.std.specs.String.{string_bytes};
+ghost use Rattle.cs_diagnostics.specs.Told.{IsPart, IsToldIn, head, is_told, tells};
+ghost use Rattle.cs_diagnostics.specs.declared.findings.FirstFault.{FirstFault};
+
+use crate::findings::{Done, Finding, Findings, Words};
 use crate::names::is_control;
 use crate::span::Span;
+use std::alloc::{AllocError, Global};
 
 /// The bytes of a line that are shown in front of a place at most.
 const IN_FRONT: usize = 100;
@@ -16,6 +21,28 @@ const CUT: &[u8] = b"...";
 /// What stands under that.
 const BELOW_CUT: &[u8] = b"   ";
 
+/// A file that is looked at.
+#[derive(Clone, Copy)]
+pub struct File<'a> {
+    /// Its path, as the caller names it: `-` is standard input.
+    pub path: &'a str,
+    /// What it holds.
+    pub bytes: &'a [u8],
+}
+
+impl<'a> File<'a> {
+    /// What it is called where it is spoken of.
+    fn name(&self) -> &'a str {
+        if self.path == "-" {
+            "standard input"
+        } else {
+            self.path
+        }
+    }
+}
+
+/// The part of a line that is shown, by the bytes of the file where the line begins and where the
+/// place does.
 fn shown(bytes: &[u8], start: usize, place: usize) -> Span {
     let mut from = start;
     if place.saturating_sub(start) > IN_FRONT {
@@ -33,7 +60,7 @@ fn goes_on(byte: u8) -> bool {
     0x80 <= byte && byte < 0xc0
 }
 
-fn newlines(bytes: &[u8]) -> u64 {
+pub(crate) fn newlines(bytes: &[u8]) -> u64 {
     bytes.iter().filter(|byte| **byte == b'\n').count() as u64
 }
 
@@ -44,45 +71,74 @@ fn add_line(text: &mut Vec<u8>, line: &[u8]) -> Done {
     Ok(())
 }
 
-fn add_gap(text: &mut Vec<u8>, line: &[u8]) -> Done {
-    for byte in line.iter().filter(|byte| !goes_on(**byte)) {
-        text.push(if *byte == b'\t' { b'\t' } else { b' ' })?;
+/// Adds what stands under the letters of a text: for each a tab or this byte.
+fn add_below(text: &mut Vec<u8>, letters: &[u8], mark: u8) -> Done {
+    for byte in letters.iter().filter(|byte| !goes_on(**byte)) {
+        text.push(if mark == b' ' && *byte == b'\t' {
+            b'\t'
+        } else {
+            mark
+        })?;
     }
     Ok(())
 }
 
-fn add_mark(text: &mut Vec<u8>, letters: &[u8]) -> Done {
-    text.push(b'^')?;
-    for byte in letters.iter().skip(1) {
-        if !goes_on(*byte) {
-            text.push(b'~')?;
-        }
-    }
-    text.push(b'\n')?;
-    Ok(())
-}
-
-/// Adds the line that begins at a byte, or a part of it round the place of a finding, and a mark
-/// under the place.
-fn add_place(text: &mut Vec<u8>, bytes: &[u8], start: usize, finding: &Finding) -> Done {
-    let from = finding.place.from.min(bytes.len());
+/// The line of a finding, or a part of it round the place, and a mark under the place.
+fn marked(alloc: Global, bytes: &[u8], finding: &Finding) -> Result<Vec<u8>, AllocError> {
+    let mut text = Vec::new(alloc);
+    let start = finding.start;
+    let place = finding.place.behind(start);
+    let from = place.from.min(bytes.len());
     let piece = shown(bytes, start, from);
     let is_cut = start < piece.from;
     let goes_further = !matches!(bytes.get(piece.to), None | Some(b'\n'));
     text.extend_from_slice(if is_cut { CUT } else { &[] })?;
-    add_line(text, piece.bytes(bytes))?;
+    add_line(&mut text, piece.bytes(bytes))?;
     text.extend_from_slice(if goes_further { CUT } else { &[] })?;
     text.push(b'\n')?;
     text.extend_from_slice(if is_cut { BELOW_CUT } else { &[] })?;
-    let gap = Span::between(piece.from, from.min(piece.to));
-    add_gap(text, gap.bytes(bytes))?;
-    let marked = Span::between(from, finding.place.to.min(piece.to));
-    add_mark(text, marked.bytes(bytes))
+    let end = piece.to;
+    add_below(
+        &mut text,
+        Span::between(piece.from, from.min(end)).bytes(bytes),
+        b' ',
+    )?;
+    text.push(b'^')?;
+    let behind = Span::between(from.saturating_add(1), place.to.min(end));
+    add_below(&mut text, behind.bytes(bytes), b'~')?;
+    text.push(b'\n')?;
+    Ok(text)
+}
+
+/// What is told of a finding in one line.
+fn heading(alloc: Global, name: &str, finding: &Finding) -> Words
+    ensures { IfOk result (λ text. finding.now.is_odd ≡ false → string_bytes text
+        ≡ name.now ++ head finding.now.line (finding.now.place.from + 1)
+        (string_bytes finding.now.words ++ (10 ∷ []))) }
+{
+    let (line, column) = (finding.line, finding.place.from as u128 + 1);
+    let words = finding.words.as_str();
+    if finding.is_odd {
+        return format!(in alloc; "{name}:{line}:{column}: odd: {words}\n");
+    }
+    format!(in alloc; "{name}:{line}:{column}: fault: {words}\n")
+}
+
+/// Adds what is told of a finding.
+fn add_finding(alloc: Global, text: &mut Vec<u8>, file: &File<'_>, finding: &Finding) -> Done
+    ensures told { OnOk result ((fault : FirstFault) → tells fault finding.now ≡ true
+        → IsToldIn text.new.items fault) }
+    ensures kept { OnOk result (IsPart text.old.items text.new.items) }
+{
+    let heading = heading(alloc, file.name(), finding)?;
+    let marked = marked(alloc, file.bytes, finding)?;
+    text.extend_from_slice(heading.as_bytes())?;
+    text.extend_from_slice(marked.as_slice())?;
+    Ok(())
 }
 
 impl Findings {
-    /// Adds what is told of the findings of a file, if there is one: what is wrong, then what is
-    /// odd, each by place.
+    /// Adds what is told of the findings of a file: what is wrong, then what is odd, each by place.
     ///
     /// Of each a line `FILE:LINE:COLUMN: fault: WORDS` or `FILE:LINE:COLUMN: odd: WORDS`, lines and
     /// columns counted from 1, columns in bytes; then the line of the place, a control byte other
@@ -90,36 +146,17 @@ impl Findings {
     /// line of more than 160 bytes a part round the place is shown, with `...` for what isn't.
     /// Behind [`MAX_TOLD`](crate::MAX_TOLD) of them stands `FILE: and N more`. The only error is
     /// want of memory.
-    pub fn tell(&self, file: Option<&File<'_>>, text: &mut Vec<u8>) -> Done {
-        let Some(file) = file else {
-            return Ok(());
-        };
-        let name = file.name();
-        let (mut line, mut start, mut seen) = (1u64, 0usize, 0usize);
+    pub fn tell(&self, file: &File<'_>, text: &mut Vec<u8>) -> Done
+        // Each fault that is among them is told at its line and column.
+        ensures told { OnOk result ((fault : FirstFault) → is_told fault self.now ≡ true
+            → IsToldIn text.new.items fault) }
+        ensures kept { OnOk result (IsPart text.old.items text.new.items) }
+    {
         for finding in self.first.iter() {
-            let place = finding.place.from;
-            if place < seen {
-                line = 1;
-                start = 0;
-                seen = 0;
-            }
-            let passed = Span::between(seen, place).bytes(file.bytes);
-            line = line.saturating_add(newlines(passed));
-            if let Some(at) = passed.iter().rposition(|byte| *byte == b'\n') {
-                start = seen.saturating_add(at).saturating_add(1);
-            }
-            seen = place;
-            let column = place
-                .min(file.bytes.len())
-                .saturating_sub(start)
-                .saturating_add(1);
-            let (kind, words) = (finding.kind(), finding.words.as_str());
-            let head = format!(in self.alloc; "{name}:{line}:{column}: {kind}: {words}\n")?;
-            text.extend_from_slice(head.as_bytes())?;
-            add_place(text, file.bytes, start, finding)?;
+            add_finding(self.alloc, text, file, finding)?;
         }
         if self.more > 0 {
-            let more = self.more;
+            let (name, more) = (file.name(), self.more);
             let last = format!(in self.alloc; "{name}: and {more} more\n")?;
             text.extend_from_slice(last.as_bytes())?;
         }

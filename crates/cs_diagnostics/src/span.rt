@@ -1,3 +1,5 @@
+ghost use Rattle.std.specs.Prelude.{◌≡◌};
+
 /// Bytes of a file, or of a line, that follow each other: from one on and below another, each
 /// counted from 0.
 #[derive(Clone, Copy, Debug, PartialEq, Eq)]
@@ -10,26 +12,32 @@ pub struct Span {
 
 impl Span {
     /// The bytes from one on and below another.
-    pub fn between(from: usize, to: usize) -> Span {
+    pub fn between(from: usize, to: usize) -> Span
+        ensures { result ≡ (record { from = from; to = to }) }
+    {
         Span { from, to }
     }
 
     /// So many bytes from one on.
-    pub fn of(from: usize, len: usize) -> Span {
+    pub fn of(from: usize, len: usize) -> Span
+        ensures { result.from ≡ from }
+    {
         Span::between(from, from.saturating_add(len))
+    }
+
+    /// How many there are.
+    pub fn len(self) -> usize {
+        self.to.saturating_sub(self.from)
     }
 
     /// Whether there are none.
     pub fn is_empty(self) -> bool {
-        self.to <= self.from
+        self.len() == 0
     }
 
     /// The same bytes, counted from further in front: the first is byte `start` there.
     pub fn behind(self, start: usize) -> Span {
-        Span::between(
-            self.from.saturating_add(start),
-            self.to.saturating_add(start),
-        )
+        Span::of(self.from.saturating_add(start), self.len())
     }
 
     /// What stands there, as far as the text goes.

@@ -1,18 +1,26 @@
--- Which files their readers refuse.
-use Rattle.std.specs.Prelude.{◌≡◌, ◌⊎◌, ℕ, List, Option, Some, None, Result, Ok, Err}
+-- Which files their readers refuse, and which fault is told.
+use Rattle.std.specs.Prelude.{◌≡◌, ◌≢◌, ◌≤◌, ◌-◌, ◌⊎◌, ℕ, List, Option, Some, None, IsSome, Result, Ok, Err}
 use Rattle.cs_table.specs.Table.{Found}
 use Rattle.cs_crontab.specs.Crontab.{Table}
 use Rattle.cs_crontab.specs.Faults.{Means}
+use Rattle.cs_crontab.specs.Printed as lines
 use Rattle.cs_crontab.specs.declared.fault.LineFault.{LineFault}
+use Rattle.cs_crontab.specs.declared.fault.LineFault.TheVariants as line_faults
 use Rattle.cs_anacrontab.specs.Anacrontab.{Table as JobTable, no_lines as no_jobs}
 use Rattle.cs_anacrontab.specs.Faults.{Means as MeansJobs}
+use Rattle.cs_anacrontab.specs.Printed as jobs
 use Rattle.cs_anacrontab.specs.declared.fault.JobFault.{JobFault}
+use Rattle.cs_anacrontab.specs.declared.fault.JobFault.TheVariants as job_faults
 use Rattle.cs_decl.specs.Faults.{Fault}
+use Rattle.cs_decl.specs.declared.fault.DeclFault.{DeclFault}
 use Rattle.cs_decl.specs.Join.{joined}
 use Rattle.cs_decl.specs.Meaning.{declared_by}
 use Rattle.cs_decl.specs.Plan.{Declared}
 use Rattle.cs_decl.specs.declared.entries.Entries.{Entries}
+use Rattle.cs_diagnostics.specs.Told.{IsToldIn}
+use Rattle.cs_diagnostics.specs.declared.findings.FirstFault.{FirstFault}
 use Rattle.cs_lint.specs.declared.refusal.Refusal.{Refusal}
+use Rattle.cs_lint.specs.declared.refusal.Refusal.TheVariants.{Table as OfTable, Jobs as OfJobs, Declared as OfPlan}
 use Rattle.cs_lint.specs.declared.report.Verdict.{Verdict}
 use Rattle.cs_lint.specs.declared.report.Verdict.TheVariants.{Clean, Odd, Faulty}
 
@@ -55,22 +63,61 @@ Judges Clean table jobs declarations = AreTaken table jobs declarations
 Judges Odd table jobs declarations = AreTaken table jobs declarations
 Judges Faulty table jobs declarations = AreRefused table jobs declarations
 
--- the same of a refusal that was looked for
+-- ---- which fault is told
+
+-- What is told of a fault that a reader found: its name, at its line and column. One of a setting
+-- may be told farther on in what is wrong.
+abbrev pub IsFirst : {Fault : Type 0} → (Fault → List ℕ) → Fault → Found Fault → FirstFault → Type 0
+IsFirst name setting found first =
+    (first.line ≡ found.line) × (first.from ≡ found.column - 1) × (first.more ≤ found.size)
+    × (found.fault ≢ setting → first.more ≡ 0) × (first.name.now ≡ name found.fault)
+
+abbrev pub IsFirstOfTable : List ℕ → FirstFault → Type 0
+IsFirstOfTable text first = (found : Found LineFault) × Means text (Err found)
+    × IsFirst lines.fault_text line_faults.BadSetting found first
+
+abbrev pub IsFirstOfJobs : Option (List ℕ) → FirstFault → Type 0
+IsFirstOfJobs text first = (found : Found JobFault) × MeansSome text (Err found)
+    × IsFirst jobs.fault_text job_faults.BadSetting found first
+
+-- Both tables are fine, or the text tells the first fault of the crontab, or where that is fine
+-- the first of the anacrontab.
+abbrev pub TellsFirst : List ℕ → List ℕ → Option (List ℕ) → Type 0
+TellsFirst text table jobs =
+    ((t : Table) × (j : JobTable) × Means table (Ok t) × MeansSome jobs (Ok j))
+    ⊎ (((first : FirstFault) × IsFirstOfTable table first × IsToldIn text first)
+    ⊎ ((t : Table) × (first : FirstFault) × Means table (Ok t) × IsFirstOfJobs jobs first
+    × IsToldIn text first))
+
+-- ---- the same of a refusal that was looked for
+
 abbrev pub Finds : Option Refusal → List ℕ → Option (List ℕ) → Option (List ℕ) → Type 0
 Finds None table jobs declarations = AreTaken table jobs declarations
-Finds (Some refusal) table jobs declarations = AreRefused table jobs declarations
+Finds (Some (OfTable first)) table jobs declarations = IsFirstOfTable table first
+Finds (Some (OfJobs first)) table jobs declarations =
+    (t : Table) × Means table (Ok t) × IsFirstOfJobs jobs first
+Finds (Some (OfPlan fault)) table jobs declarations =
+    (t : Table) × (j : JobTable) × Means table (Ok t) × MeansSome jobs (Ok j)
+    × HasNoPlan t j declarations
 
 -- of declarations beside tables that are fine
-abbrev pub FindsInPlan : Option Refusal → Table → JobTable → Option (List ℕ) → Type 0
+abbrev pub FindsInPlan : Option DeclFault → Table → JobTable → Option (List ℕ) → Type 0
 FindsInPlan None table jobs declarations = HasPlan table jobs declarations
-FindsInPlan (Some refusal) table jobs declarations = HasNoPlan table jobs declarations
+FindsInPlan (Some fault) table jobs declarations = HasNoPlan table jobs declarations
 
--- of an anacrontab: its jobs, or that it is refused
-abbrev pub FindsJobs : Result JobTable Refusal → Option (List ℕ) → Type 0
+-- of an anacrontab: its jobs, or its first fault
+abbrev pub FindsJobs : Result JobTable FirstFault → Option (List ℕ) → Type 0
 FindsJobs (Ok jobs) text = MeansSome text (Ok jobs)
-FindsJobs (Err refusal) text = (fault : Found JobFault) × MeansSome text (Err fault)
+FindsJobs (Err first) text = IsFirstOfJobs text first
 
 -- of a crontab
-abbrev pub FindsTable : Result Table Refusal → List ℕ → Type 0
+abbrev pub FindsTable : Result Table FirstFault → List ℕ → Type 0
 FindsTable (Ok table) text = Means text (Ok table)
-FindsTable (Err refusal) text = (fault : Found LineFault) × Means text (Err fault)
+FindsTable (Err first) text = IsFirstOfTable text first
+
+-- A text tells the first fault of a table that was found.
+abbrev pub TellsRefusal : {File : Type 0} → Option Refusal → Option File → List ℕ → Type 0
+TellsRefusal None jobs text = Unit {0}
+TellsRefusal (Some (OfTable first)) jobs text = IsToldIn text first
+TellsRefusal (Some (OfJobs first)) jobs text = IsSome jobs → IsToldIn text first
+TellsRefusal (Some (OfPlan fault)) jobs text = Unit {0}

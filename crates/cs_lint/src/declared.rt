@@ -85,6 +85,7 @@ impl<'b, 'v> Declared<'b, 'v> {
                 Ok(value) => declared.look_at_whole(value, tables)?,
                 Err(error) => find_no_json(&mut declared.findings, bytes, error)?,
             }
+            declared.findings.find_lines(bytes);
         }
         Ok(declared)
     }

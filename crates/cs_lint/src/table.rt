@@ -2,7 +2,7 @@
 use crate::declared::{Declared, plan_words};
 use crate::front::Front;
 use crate::gap::{days_named, is_ever_due};
-use crate::line::Line;
+use crate::line::{bad_setting, word_behind, word_from};
 use cs_anacrontab::{Entry as JobEntry, JobFault, MAX_JOBS, read_line as read_job_line};
 use cs_crontab::{Entry, LineFault, MAX_COMMANDS, Schedule, When, read_line};
 use cs_decl::{DeclFault, Place};
@@ -37,7 +37,7 @@ enum Content {
     Unread,
     /// A command, and when it's due.
     Command(When),
-    /// A job, by the place of its identifier.
+    /// A job, by the place of its identifier in the line.
     Job(Span),
 }
 
@@ -45,9 +45,11 @@ enum Content {
 #[derive(Drop)]
 pub(crate) struct Begun {
     pub(crate) number: u32,
+    /// The place of the line in the table.
+    start: usize,
     /// How many began before it.
     index: usize,
-    /// The place of its first word.
+    /// The place of its first word in the line.
     place: Span,
     content: Content,
 }
@@ -77,8 +79,8 @@ impl Begun {
                 let why = "\"cron\" has no entry for this line: add one";
                 plan_words(findings.alloc, DeclFault::Undeclared, place, why)?
             }
-            Content::Job(place) if declared.lacks_job(place.bytes(bytes)) => {
-                let name = shown(findings.alloc, place.bytes(bytes))?;
+            Content::Job(place) if declared.lacks_job(place.behind(self.start).bytes(bytes)) => {
+                let name = shown(findings.alloc, place.behind(self.start).bytes(bytes))?;
                 let words = format!(in findings.alloc;
                     "4 Undeclared at job {name}: \"anacron\" has no entry for this job: add one"
                 )?;
@@ -98,10 +100,10 @@ pub(crate) struct TableLook<'a> {
     kind: Kind,
     bytes: &'a [u8],
     /// The line that is looked at.
-    line: Line<'a>,
+    line: &'a [u8],
     begun: Vec<Begun>,
     /// The identifiers of jobs, with the lines on which they stood first.
-    names: IndexMap<&'a [u8], u32>,
+    names: IndexMap<&'a [u8], u64>,
     has_user: bool,
     /// Whether all of it was looked at.
     is_whole: bool,
@@ -114,11 +116,7 @@ impl<'a> TableLook<'a> {
             findings: Findings::new(alloc),
             kind,
             bytes,
-            line: Line {
-                number: 1,
-                start: 0,
-                text: bytes,
-            },
+            line: bytes,
             begun: Vec::new(alloc),
             names: IndexMap::new(alloc),
             has_user: false,
@@ -129,19 +127,24 @@ impl<'a> TableLook<'a> {
         } else {
             let why = "a table has at most 1,048,576 bytes: remove what begins here";
             look.fault(Span::of(MAX_TABLE, 1), LineFault::TooLong.text(), why)?;
+            look.findings.find_lines(bytes);
         }
         Ok(look)
     }
 
     fn look_at_lines(&mut self) -> Done {
         for text in self.bytes.split(|byte| *byte == b'\n') {
-            self.line.text = text;
+            self.line = text;
             match self.kind {
                 Kind::Crontab => self.look_at_line()?,
                 Kind::Anacrontab => self.look_at_job_line()?,
             }
-            self.line.number = self.line.number.saturating_add(1);
-            self.line.start = self.line.start.saturating_add(text.len()).saturating_add(1);
+            self.findings.line = self.findings.line.saturating_add(1);
+            self.findings.start = self
+                .findings
+                .start
+                .saturating_add(text.len())
+                .saturating_add(1);
         }
         Ok(())
     }
@@ -153,7 +156,8 @@ impl<'a> TableLook<'a> {
 
     /// The line of what begins there, from its first word on.
     pub(crate) fn line_of(&self, begun: &Begun) -> &'a [u8] {
-        let rest = &self.bytes[begun.place.from.min(self.bytes.len())..];
+        let from = begun.place.behind(begun.start).from;
+        let rest = &self.bytes[from.min(self.bytes.len())..];
         rest.split(|byte| *byte == b'\n').next().unwrap_or(rest)
     }
 
@@ -164,19 +168,15 @@ impl<'a> TableLook<'a> {
 
     fn fault(&mut self, span: Span, fault: &str, why: &str) -> Done {
         let words = format!(in self.findings.alloc; "{fault}: {why}")?;
-        self.findings
-            .fault(span.behind(self.line.start), words.as_str())
-    }
-
-    fn odd(&mut self, span: Span, words: &str) -> Done {
-        self.findings.odd(span.behind(self.line.start), words)
+        self.findings.fault(span, words.as_str())
     }
 
     fn begin(&mut self, content: Content) -> Done {
         self.begun.push(Begun {
-            number: self.line.number,
+            number: u32::try_from(self.findings.line).unwrap_or(u32::MAX),
+            start: self.findings.start,
             index: self.begun.len(),
-            place: self.line.word_from(0).behind(self.line.start),
+            place: word_from(self.line, 0),
             content,
         })?;
         Ok(())
@@ -184,20 +184,20 @@ impl<'a> TableLook<'a> {
 
     fn look_at_bad(&mut self, fault: LineFault) -> Done {
         if fault == LineFault::BadSetting {
-            let (span, why) = self.line.bad_setting();
+            let (span, why) = bad_setting(self.line);
             return self.fault(span, fault.text(), why);
         }
         self.begin(Content::Unread)?;
         match fault {
             LineFault::TooLong => {
-                let len = self.line.text.len();
+                let len = self.line.len();
                 let why = format!(in self.findings.alloc;
                     "a line has at most 4,096 bytes, not {len}: shorten it"
                 )?;
                 self.fault(Span::of(MAX_LINE, 1), fault.text(), why.as_str())
             }
             LineFault::NulByte => {
-                let at = self.line.text.iter().position(|byte| *byte == 0);
+                let at = self.line.iter().position(|byte| *byte == 0);
                 let why = "this byte is zero: delete it, or save the file as UTF-8";
                 self.fault(Span::of(at.unwrap_or(0), 1), fault.text(), why)
             }
@@ -209,20 +209,24 @@ impl<'a> TableLook<'a> {
         let form = match self.kind {
             Kind::Crontab if name == COMMAND => {
                 let why = "the command is missing: add it here";
-                return self.fault(self.line.end(), LineFault::NoCommand.text(), why);
+                return self.fault(
+                    Span::of(self.line.len(), 0),
+                    LineFault::NoCommand.text(),
+                    why,
+                );
             }
             Kind::Crontab => "five fields and a command",
             Kind::Anacrontab => "PERIOD DELAY IDENTIFIER COMMAND",
         };
         let why = format!(in self.findings.alloc; "the {name} is missing: write {form}")?;
         let fault = LineFault::MissingField.text();
-        self.fault(self.line.end(), fault, why.as_str())
+        self.fault(Span::of(self.line.len(), 0), fault, why.as_str())
     }
 
     fn find_in(&mut self, front: Front, word: Span) -> Done {
         let mut from = word.from;
         let has_items = front.has_items();
-        let text = word.bytes(self.line.text);
+        let text = word.bytes(self.line);
         for item in text.split(|byte| has_items && *byte == b',') {
             if let Some((fault, why)) = front.wrong(self.findings.alloc, item)? {
                 self.fault(Span::of(from, item.len()), fault, why.as_str())?;
@@ -233,7 +237,7 @@ impl<'a> TableLook<'a> {
     }
 
     fn fronts(&self) -> &'static [Front] {
-        let word = self.line.word_from(0).bytes(self.line.text);
+        let word = word_from(self.line, 0).bytes(self.line);
         match self.kind {
             Kind::Crontab if word.starts_with(b"@") => &[Front::Word],
             Kind::Crontab => &FIELDS,
@@ -244,20 +248,20 @@ impl<'a> TableLook<'a> {
     fn find_in_parts(&mut self) -> Done {
         let mut word = Span::of(0, 0);
         for front in self.fronts() {
-            word = self.line.word_from(word.to);
+            word = word_from(self.line, word.to);
             if word.is_empty() {
                 return self.find_missing(front.name());
             }
             self.find_in(*front, word)?;
         }
-        if self.line.word_from(word.to).is_empty() {
+        if word_from(self.line, word.to).is_empty() {
             return self.find_missing(COMMAND);
         }
         Ok(())
     }
 
     fn look_at_line(&mut self) -> Done {
-        match read_line(self.line.text) {
+        match read_line(self.line) {
             Ok(Entry::Nothing) => Ok(()),
             Ok(Entry::Setting(name, _)) => self.find_unheeded(name),
             Ok(Entry::Command(when, command)) => self.look_at_command(when, command),
@@ -281,19 +285,20 @@ impl<'a> TableLook<'a> {
         let words = format!(in self.findings.alloc;
             "never due: its first day is {first}, but its longest month has {longest} days: change either"
         )?;
-        let (dom, month) = (self.line.word_behind(2), self.line.word_behind(3));
-        self.odd(Span::between(dom.from, month.to), words.as_str())
+        let (dom, month) = (word_behind(self.line, 2), word_behind(self.line, 3));
+        self.findings
+            .odd(Span::between(dom.from, month.to), words.as_str())
     }
 
     fn find_user(&mut self, command: &[u8]) -> Done {
-        let from = self.line.text.len().saturating_sub(command.len());
-        let user = self.line.word_from(from);
-        if self.has_user || user.bytes(self.line.text) != b"root".as_slice() {
+        let from = self.line.len().saturating_sub(command.len());
+        let user = word_from(self.line, from);
+        if self.has_user || user.bytes(self.line) != b"root".as_slice() {
             return Ok(());
         }
         self.has_user = true;
         let why = "here `root` is the command: this table has no user column, so remove it";
-        self.odd(user, why)
+        self.findings.odd(user, why)
     }
 
     /// Adds that a setting of that name has no effect, if it's one that other daemons heed
@@ -307,12 +312,12 @@ impl<'a> TableLook<'a> {
         };
         let name = shown(self.findings.alloc, name)?;
         let words = format!(in self.findings.alloc; "{name} has no effect: {why}")?;
-        let place = Span::between(self.line.word_from(0).from, self.line.text.len());
-        self.odd(place, words.as_str())
+        let place = Span::between(word_from(self.line, 0).from, self.line.len());
+        self.findings.odd(place, words.as_str())
     }
 
     fn look_at_job_line(&mut self) -> Done {
-        match read_job_line(self.line.text) {
+        match read_job_line(self.line) {
             Ok(JobEntry::Nothing) => Ok(()),
             Ok(JobEntry::Setting(name, _)) => self.find_unheeded(name),
             Ok(JobEntry::Job(_, _, _, _)) => self.look_at_job(),
@@ -322,30 +327,30 @@ impl<'a> TableLook<'a> {
     }
 
     fn look_at_continued(&mut self) -> Done {
-        let last = Span::of(self.line.text.len().saturating_sub(1), 1);
+        let last = Span::of(self.line.len().saturating_sub(1), 1);
         let why = "continued lines aren't read: write it all on one line";
         self.fault(last, JobFault::Continued.text(), why)?;
-        let kept = self.line.text.iter().rposition(|byte| *byte != b'\\');
+        let kept = self.line.iter().rposition(|byte| *byte != b'\\');
         let front = Span::of(0, kept.map_or(0, |at| at.saturating_add(1)));
-        self.line.text = front.bytes(self.line.text);
-        match read_job_line(self.line.text) {
+        self.line = front.bytes(self.line);
+        match read_job_line(self.line) {
             Err(wrong) => self.look_at_bad(as_in_crontab(wrong.fault)),
             Ok(_) => Ok(()),
         }
     }
 
     fn look_at_job(&mut self) -> Done {
-        let span = self.line.word_behind(2);
-        let (name, number) = (span.bytes(self.line.text), self.line.number);
+        let span = word_behind(self.line, 2);
+        let (name, line) = (span.bytes(self.line), self.findings.line);
         if let Some(first) = self.names.get(&name).copied() {
             let why = format!(in self.findings.alloc;
                 "line {first} has this identifier: choose another one"
             )?;
             self.fault(span, JobFault::TwiceNamed.text(), why.as_str())?;
         } else {
-            self.names.insert(name, number)?;
+            self.names.insert(name, line)?;
         }
-        self.begin(Content::Job(span.behind(self.line.start)))
+        self.begin(Content::Job(span))
     }
 
     /// Adds what doesn't fit the declarations, if there are any, and the first line that is one too
@@ -356,6 +361,8 @@ impl<'a> TableLook<'a> {
             Kind::Anacrontab => (MAX_JOBS, TOO_MANY_JOBS),
         };
         for begun in self.begun.iter() {
+            self.findings.line = u64::from(begun.number);
+            self.findings.start = begun.start;
             if declared.is_given {
                 begun.find_misfit(&mut self.findings, self.bytes, declared)?;
             }

@@ -8,5 +8,5 @@ returns c =
     let verdict = c.in_ok-report.report.verdict in
     let jobs = bytes_lent c.as_ref.result c.some_file-jobs.result (λ file. file.bytes.now) _ c.as_ref.ensures.value c.some_file-jobs.ensures in
     let declarations = bytes_lent c.as_ref-2.result c.some_file-declarations.result (λ file. file.bytes.now) _ c.as_ref-2.ensures.value c.some_file-declarations.ensures in
-    let judges = judges_same verdict _ _ _ _ _ _ c.file_of-table.ensures jobs declarations c.in_ok-report.ensures in
+    let judges = judges_same verdict _ _ _ _ _ _ c.file_of-table.ensures jobs declarations c.in_ok-report.ensures.verdict in
     (ap (λ (e : Ending). e.err) c.told.ensures ∙ c.new.ensures, (verdict, ap (λ (e : Ending). e.status) c.told.ensures ∙ c.status_for-status.ensures, judges))

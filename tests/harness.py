@@ -17,6 +17,9 @@ from concurrent.futures import ThreadPoolExecutor
 from contextlib import contextmanager
 from pathlib import Path
 
+# A draft tells the offset of the time zone.
+os.environ["TZ"] = "UTC"
+
 TOP = Path(__file__).resolve().parent.parent
 PROGRAM = TOP / "crates/cronsafe/out/cronsafe"
 NAME = os.path.relpath(os.path.realpath(sys.argv[0]), TOP)

@@ -25,6 +25,8 @@ FIRST = 'of two  words '
 * * * * * echo "$FIRST,${LATER-none},$SHELL,$OUTSIDE" >>settings
 * * * * * cat >>input; echo : >>input%one%two\%
 * * * * * cat >>nothing; echo : >>nothing
+* * * * * echo left out >>settings
+@reboot echo left out >>settings
 CRON_TZ = UTC
 FIRST = once more
 LATER =
@@ -32,13 +34,14 @@ LATER =
 LAST = '* * * * * echo "$FIRST,${LATER-none},$SHELL" >>others\n'
 
 
-def declared(capacity, lines=(), identifiers=(), groups=(), offset=0, **terms):
+def declared(capacity, lines=(), identifiers=(), groups=(), offset=0, left_out=(), **terms):
     """Returns declarations of jobs, each with the short time and the terms of its name.
 
     The name is the identifier, or line1 for line 1. The groups are exclusive.
     """
     return {
         "capacity": capacity,
+        "left_out": [{"line": it} for it in left_out],
         "offset": offset,
         "groups": [{"name": it, "exclusive": True} for it in groups],
         "cron": [{"line": it, "max": MAX, **terms.get(f"line{it}", {})} for it in lines],
@@ -62,16 +65,17 @@ def jobs_are_run(room):
     """Minutely commands and a job of an anacrontab, at an offset, with settings and inputs.
 
     For a daemon that starts nothing, starts what is due in the minute in which it comes up, a run
-    twice, or not in each minute; that goes by UTC in place of the offset; that loses or mixes up
-    settings, a shell, `%` or an input; that lets jobs read what is its own; that goes on.
+    twice, or not in each minute; that starts a line that is left out, or is mistaken about those
+    below it; that goes by UTC in place of the offset; that loses or mixes up settings, a shell, `%`
+    or an input; that lets jobs read what is its own; that goes on.
     """
     shell = room.folder / "shell"
     shell.write_text("#!/bin/sh\nprintf '%s\\n' \"$0 $1 $2\" >>words\nexec /bin/sh \"$@\"\n")
     shell.chmod(0o755)
     anacrontab = 'KIND=anacron\n7 0 a.b echo "$KIND %" >own; cat >>own\n'
-    lines = (3, 4, 5, 6, 11)
+    lines, left_out = (3, 4, 5, 6, 13), (7, 8)
     table = f"{TABLE}SHELL = {shell}\n{LAST}"
-    room.take(declared(11, lines, ["a.b"], offset=90), table, anacrontab)
+    room.take(declared(11, lines, ["a.b"], offset=90, left_out=left_out), table, anacrontab)
     first = early_minute() + 90
     room.run("--minutes", "3", seconds=4 * MINUTE)
     minutes = [first + 1, first + 2]
@@ -80,7 +84,8 @@ def jobs_are_run(room):
     wanted("minutes of the runs", minutes, started)
     room.holds(
         runs(f"job a.b at {date_text(first)}", *names),
-        said="warning: CRON_TZ on line 7 of the crontab has no effect\n",
+        said="warning: CRON_TZ on line 9 of the crontab has no effect\n"
+        "note: line 7 is left out of the plan\nnote: line 8 is left out of the plan\n",
         settings="of two  words ,none,/bin/sh,inherited\n" * 2,
         input="one\ntwo%:\n" * 2,
         nothing=":\n" * 2,

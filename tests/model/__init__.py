@@ -13,6 +13,7 @@ is wrong, or the words are unclear.
   declarations  the bytes of declarations and two tables to a plan
   script        the bytes of a script and a plan to a start, stamps and events, and back
   day           what `cronsafe day` prints
+  draft         what a draft declares
   replay        the rules of histories, and what `cronsafe replay` prints
   certificate   the bytes of a certificate to what it says
   claims        what a certificate stands for

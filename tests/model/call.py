@@ -2,7 +2,7 @@
 
 Words, files and standard input go in; out come the status and both outputs. Of `judge` and `make`
 only faults of what is read are known here: past them an answer is not told. Of `lint` it is known
-whether there is a fault, of `draft` whether there is one of the words or of a table.
+whether there is a fault, of `draft` whether there is one of the words or of a file.
 """
 import re
 from collections import namedtuple
@@ -11,7 +11,7 @@ from model import calendar, certificate, crontab, rules, script
 from model.anacrontab import NONE, read_anacrontab
 from model.calendar import DAY
 from model.day import day_answer
-from model.declarations import GREATEST_MAX, plain_plan, read_plan
+from model.declarations import GREATEST_MAX, plain_plan, read_declared, read_plan
 from model.faults import Fault
 from model.replay import replay_answer
 
@@ -23,7 +23,7 @@ CALLS = {
     b"make": (("TABLE", "DECLS"), ("ANACRONTAB",)),
     b"replay": (("TABLE", "SCRIPT"), ("ANACRONTAB", "DECLARATIONS", "max")),
     b"lint": (("TABLE", "DECLS"), ("ANACRONTAB",)),
-    b"draft": (("TABLE",), ("ANACRONTAB", "max")),
+    b"draft": (("TABLE",), ("ANACRONTAB", "max", "UPDATE")),
 }
 # How many of the last words of a subcommand may be left out.
 LEFT_OUT = {b"lint": 1}
@@ -133,8 +133,21 @@ def warnings_of(table, jobs):
     return of_settings + warnings_of_settings(jobs, b"anacrontab")
 
 
+def notes_of(plan):
+    """Returns what is told of a plan that is judged: what it leaves out, and what has the default.
+    """
+    told = [b"note: line %d is left out of the plan\n" % it for it in plan.left_out]
+    if plan.left_out and not plan.jobs:
+        told.append(b"note: the plan has no job\n")
+    if plan.defaulted == 1:
+        told.append(b"note: 1 job without an entry has the default\n")
+    elif plan.defaulted:
+        told.append(b"note: %d jobs without an entry have the default\n" % plan.defaulted)
+    return b"".join(told)
+
+
 class Call:
-    """A call that is answered, with what it has to warn of so far."""
+    """A call that is answered, with its warnings and notes so far."""
 
     def __init__(self, words, files, stdin, is_judged):
         self.words, self.files, self.stdin, self.is_judged = words, files, stdin, is_judged
@@ -155,6 +168,10 @@ class Call:
             jobs = read_anacrontab(self.bytes_of(found["ANACRONTAB"]))
         self.warned = warnings_of(table, jobs)
         return table, jobs
+
+    def read_plan(self, found):
+        tables = self.read_tables(found)
+        return read_plan(self.bytes_of(found["DECLS"]), *tables)
 
     def day(self, found):
         day = calendar.day_of_text(found["date"])
@@ -184,33 +201,35 @@ class Call:
     def draft(self, found):
         look_at_max(found.get("max", 60))
         self.read_tables(found)
+        if "UPDATE" in found:
+            read_declared(self.bytes_of(found["UPDATE"]))
         self.warned = None
         return 0, None
 
     def judge(self, found):
-        tables = self.read_tables(found)
-        read_plan(self.bytes_of(found["DECLS"]), *tables)
+        plan = self.read_plan(found)
+        self.warned += notes_of(plan)
         return None, None
 
     make = judge
 
     def check(self, found):
-        tables = self.read_tables(found)
-        plan = read_plan(self.bytes_of(found["DECLS"]), *tables)
-        text = self.bytes_of(found["CERT"])
-        if not self.is_judged:
+        """Notes are told beside a verdict alone, so not before a fault of the certificate."""
+        plan, text = self.read_plan(found), self.bytes_of(found["CERT"])
+        said = certificate.read(text) if self.is_judged else None
+        self.warned += notes_of(plan)
+        if said is None:
             return None, None
-        verdict = rules.verdict(plan, certificate.read(text))
+        verdict = rules.verdict(plan, said)
         return 0 if verdict == b"safe\n" else 1, verdict
 
     def replay(self, found):
-        longest = found.get("max", DAY)
-        if "DECLARATIONS" not in found:
-            look_at_max(longest)
         tables = self.read_tables(found)
         if "DECLARATIONS" in found:
             plan = read_plan(self.bytes_of(found["DECLARATIONS"]), *tables)
         else:
+            longest = found.get("max", DAY)
+            look_at_max(longest)
             plan = plain_plan(longest, *tables)
         return replay_answer(plan, script.read_script(self.bytes_of(found["SCRIPT"]), plan))
 

@@ -5,7 +5,7 @@
 
 Read are the cases of `day`, `check`, `judge`, `make`, `replay`, `lint` and `draft`, but for those
 of help. Where the wanted answer is one of what is read, the reading has to answer the same: status
-and both outputs. Where it comes later, all has to read well, with the wanted warnings.
+and both outputs. Where it comes later, all has to read well, with the wanted warnings and notes.
 
 Judged are certificates; the reading of `check` has to give the whole answer, its verdict too:
   of `check`   all cases but those that want help or say that the words are no call
@@ -28,18 +28,23 @@ from harness import Fault, count, end_with, words_of  # noqa: E402
 from model.call import CALLS, Answer, agrees, answer_of, asks_help, words_of_check  # noqa: E402
 
 SAFE = b"safe\n"
-# What standard error says after the warnings where the text of a certificate holds a fault.
+# What standard error says first; what it says after the warnings where the text of a certificate
+# holds a fault.
+WARNING, NOTE = b"warning: ", b"note: "
 OF_CERTIFICATES = b"cronsafe: certificate: "
+
+
+def lines_with(heads, text):
+    """Returns the lines of a text that begin with one of these."""
+    return b"".join(it for it in text.splitlines(True) if it.startswith(heads))
 
 
 def is_met(wanted, got):
     """Returns whether an answer is the wanted one, in what of it is told."""
     if got.status is None:
-        rest = wanted.err.removeprefix(got.err)
-        is_warned = wanted.err.startswith(got.err) and b"warning: " not in rest
         if wanted.status == 3:
-            return is_warned and rest.startswith(OF_CERTIFICATES)
-        return is_warned and rest == b"" and wanted.status in (0, 1, 2)
+            return wanted.err.startswith(lines_with(WARNING, got.err) + OF_CERTIFICATES)
+        return wanted.err == got.err and wanted.status in (0, 1, 2)
     return agrees(got, wanted)
 
 
@@ -65,8 +70,7 @@ def is_judged(case):
 def look_at_verdict(case):
     wanted = Answer(case.status, case.stdout, case.stderr)
     if case.words[0] != b"check" and case.status == 0:
-        warnings = [it for it in case.stderr.splitlines(True) if it.startswith(b"warning: ")]
-        wanted = Answer(0, SAFE, b"".join(warnings))
+        wanted = Answer(0, SAFE, lines_with((WARNING, NOTE), case.stderr))
     files = {**case.files, b"made": case.stdout}
     got = answer_of(words_of_check(case.words), files, case.stdin)
     if got != wanted:

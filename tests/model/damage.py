@@ -10,6 +10,7 @@ import re
 from model.calendar import DAY, KINDS
 from model.certificate import day_tree_said, stretches_of
 from model.claims import class_in
+from model.declarations import MODES
 
 NUMBERS = (0, -1, 64, 320, 512, 1440, 4320, 4321, 1_000_000, 1_000_001, 2**32, 2**64 - 1, 2**64)
 OTHERS = (1.0, None, True, "0", [], {})
@@ -128,12 +129,48 @@ def change_mode(chance, value):
         if "exclusive" in it:
             it["exclusive"] = not it["exclusive"]
         else:
-            it["mode"] = chance.choice(("none", "skip", "wait", "shared"))
+            it["mode"] = chance.choice(MODES)
+
+
+def change_name(chance, value):
+    """Gives an entry of a line, or one that is left out, another name, or a part of its name."""
+    names = value.get("cron", []) + value.get("left_out", [])
+    if names:
+        it, other = chance.choice(names), chance.choice(names)
+        part = chance.choice(("line", "command"))
+        if part in it and chance.random() < 0.5:
+            del it[part]
+        else:
+            it[part] = other.get(part, chance.choice((1, 2, "/bin/a1", "/bin/a2")))
+
+
+def leave_out(chance, value):
+    """Leaves out the line of an entry, which goes or stays; or has one left out declared."""
+    entries, out = value.get("cron", []), value.setdefault("left_out", [])
+    if out and chance.random() < 0.3:
+        entries.append({**out.pop(chance.randrange(len(out))), "max": 1})
+    elif entries:
+        it = chance.choice(entries)
+        out.append({name: it[name] for name in ("line", "command") if name in it})
+        if chance.random() < 0.8:
+            entries.remove(it)
+
+
+def change_default(chance, value):
+    """Takes out the default, or puts one in, mostly with an entry less."""
+    if "default" in value and chance.random() < 0.5:
+        del value["default"]
+    else:
+        value["default"] = {"max": chance.choice((1, 9, 60, 4320, 0, 4321))}
+        lists = [value[it] for it in ("cron", "anacron") if value.get(it)]
+        if lists and chance.random() < 0.8:
+            take_item(chance, chance.choice(lists))
 
 
 VALUE_CHANGES = (change_number,) * 8 + (take_out_part,) * 2 + (take_out_entry,) * 4
 VALUE_CHANGES += (take_out, double, swap, add_stretch, add_stretch, move_split)
-DECLARED_CHANGES = (change_number,) * 10 + (change_mode,) * 8 + (take_out,)
+DECLARED_CHANGES = (change_number,) * 10 + (change_mode,) * 8 + (change_name,) * 4
+DECLARED_CHANGES += (leave_out,) * 3 + (change_default,) * 3 + (take_out,)
 
 
 def changed_value(chance, value, changes):
@@ -201,22 +238,30 @@ def with_due_minute(chance, value):
     due[1] = sorted([*due[1], chance.choice([it for it in range(DAY) if it not in due[1]])])
 
 
-def lower(chance, lists):
-    """Makes the last number of an item of these lists a minute less."""
-    items, it = chance.choice([(items, it) for items in lists for it in items])
-    it[1] -= 1
-    if not it[1]:
-        items.remove(it)
+def lower(chance, bounds):
+    """Makes one of these bounds a minute less; each stands behind its group and its minute.
+
+    One at midnight is less in all classes that have so much left for the group: the maker may take
+    days to be alike of which some would need less.
+    """
+    group, minute, it = chance.choice(bounds)
+    alike = [found for *key, found in bounds if key == [group, 0] and found[1] == it[1]]
+    for found in [it] if minute else alike:
+        found[1] -= 1
 
 
 def with_lower_bound(chance, value):
-    lower(chance, [pieces for one in value["classes"] for _, pieces in one["backlog"]])
+    pairs = [pair for one in value["classes"] for pair in one["backlog"]]
+    lower(chance, [(group, it[0], it) for group, pieces in pairs for it in pieces])
     for one in value["classes"]:
-        one["backlog"] = [it for it in one["backlog"] if it[1]]
+        pairs = [[group, [it for it in pieces if it[1]]] for group, pieces in one["backlog"]]
+        one["backlog"] = [it for it in pairs if it[1]]
 
 
 def with_lower_carry(chance, value):
-    lower(chance, [one["carry"] for one in value["classes"]])
+    lower(chance, [(it[0], 0, it) for one in value["classes"] for it in one["carry"]])
+    for one in value["classes"]:
+        one["carry"] = [it for it in one["carry"] if it[1]]
 
 
 def without_reach(chance, value):

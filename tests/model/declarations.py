@@ -1,6 +1,5 @@
 """The bytes of declarations, joined with two tables to a plan, or their first fault."""
 import functools
-import itertools
 from collections import namedtuple
 
 from model.anacrontab import NONE, read_anacrontab
@@ -9,19 +8,30 @@ from model.crontab import Command, read_crontab
 from model.faults import Fault
 from model.json_text import NotJson, OtherShape, items_of, numbers_of, read_json, whole
 
-MODES = ("none", "skip", "wait", "shared")
+MODES = ("none", "skip", "try", "wait", "shared")
 MOST_GROUPS = 64
 GREATEST_MAX = 4_320
 GREATEST_WEIGHT = 64
 GREATEST_CAPACITY = 64
 GREATEST_OFFSET = 1_439
 
-# What the bytes say; `mode` of an anacron entry is whether it has one.
-Declared = namedtuple("Declared", "capacity offset hours pass_minute groups cron anacron")
+# What the bytes say; no default is none.
+Declared = namedtuple(
+    "Declared", "capacity offset hours pass_minute default groups cron anacron left_out"
+)
 Group = namedtuple("Group", "name exclusive")
-Entry = namedtuple("Entry", "job max weight group mode command", defaults=[None])
-# The jobs of a plan are those of the crontab first.
-Plan = namedtuple("Plan", "crontab anacrontab jobs groups capacity hours pass_minute offset")
+Default = namedtuple("Default", "max weight")
+# How a line of the crontab is named: by its number, by its command, or by both.
+LineName = namedtuple("LineName", "number command")
+# `job` is the name of a line; of an anacron entry an identifier, and `mode` is whether it has one.
+Entry = namedtuple("Entry", "job max weight group mode")
+# Tables without the lines that are left out, whose numbers rise; the jobs of a plan, of which so
+# many have the default, are those of the crontab first.
+Plan = namedtuple(
+    "Plan",
+    "crontab anacrontab jobs groups capacity hours pass_minute offset left_out defaulted",
+    defaults=[[], 0],
+)
 
 
 class Job:
@@ -33,6 +43,7 @@ class Job:
         self.name = b"line %d" % of.line if self.is_cron else of.identifier
         self.takes_lock, self.shares = mode != "none", mode == "shared"
         self.waits = mode in ("wait", "shared")
+        self.is_never_skipped, self.may_be_skipped = mode == "skip", mode == "try"
 
     @functools.cached_property
     def due(self):
@@ -70,8 +81,10 @@ def list_of(read):
 # The members of each kind of object: how each is read, and what it is where it is absent.
 REQUIRED = object()
 GROUP = {"name": (text, REQUIRED), "exclusive": (boolean, REQUIRED)}
-COMMON = {"max": (whole, REQUIRED), "weight": (whole, 1), "group": (text, None)}
-CRON = {"line": (whole, REQUIRED), "mode": (mode, "none"), "command": (text, None), **COMMON}
+DEFAULT = {"max": (whole, REQUIRED), "weight": (whole, 1)}
+LINE = {"line": (whole, None), "command": (text, None)}
+COMMON = {**DEFAULT, "group": (text, None)}
+CRON = {**LINE, "mode": (mode, "none"), **COMMON}
 ANACRON = {"id": (text, REQUIRED), "mode": (lambda _: True, False), **COMMON}
 
 
@@ -92,14 +105,30 @@ def group(value):
     return Group(**members(value, GROUP))
 
 
-def entry(shape, name):
-    """Returns the reader of entries of that shape, whose job has that name in them."""
+def default_entry(value):
+    return Default(**members(value, DEFAULT))
 
-    def read_entry(value):
-        found = members(value, shape)
-        return Entry(job=found.pop(name), **found)
 
-    return read_entry
+def name_in(found):
+    """Takes the name of a line out of members, which have its number or its command."""
+    name = LineName(found.pop("line"), found.pop("command"))
+    if name == (None, None):
+        raise OtherShape
+    return name
+
+
+def cron_entry(value):
+    found = members(value, CRON)
+    return Entry(name_in(found), **found)
+
+
+def anacron_entry(value):
+    found = members(value, ANACRON)
+    return Entry(found.pop("id"), **found)
+
+
+def left_out_line(value):
+    return name_in(members(value, LINE))
 
 
 DECLARATIONS = {
@@ -107,9 +136,11 @@ DECLARATIONS = {
     "offset": (offset, 0),
     "hours": (hours, (0, DAY)),
     "pass": (whole, None),
+    "default": (default_entry, None),
     "groups": (list_of(group), []),
-    "cron": (list_of(entry(CRON, "line")), []),
-    "anacron": (list_of(entry(ANACRON, "id")), []),
+    "cron": (list_of(cron_entry), []),
+    "anacron": (list_of(anacron_entry), []),
+    "left_out": (list_of(left_out_line), []),
 }
 
 
@@ -127,37 +158,31 @@ def places(word, are_wrong):
     return [word + b" %d" % at for at, is_wrong in enumerate(are_wrong, 1) if is_wrong]
 
 
-def second_times(word, keys):
-    """Returns the places of keys that come earlier too."""
-    return places(word, (key in keys[:at] for at, key in enumerate(keys)))
-
-
-def places_of_entries(declared, is_wrong):
-    """Returns the places of the entries that are wrong, of cron and then of anacron."""
-    of_cron = places(b"cron", map(is_wrong, declared.cron))
-    return of_cron + places(b"anacron", map(is_wrong, declared.anacron))
-
-
-def undeclared(declared, crontab, anacrontab):
-    """Returns the places of the jobs without an entry, but for commands at startup."""
-    lines, names = ([it.job for it in found] for found in (declared.cron, declared.anacron))
-    commands = [it for it in crontab.commands if it.schedule and it.line not in lines]
-    jobs = [it for it in anacrontab.jobs if identifier_text(it) not in names]
-    return [b"line %d" % it.line for it in commands] + [b"job " + it.identifier for it in jobs]
+def second_times(word, keys, taken=()):
+    """Returns the places of keys that are taken or come earlier too; none is no key."""
+    is_again = (key is not None and key in [*taken, *keys[:at]] for at, key in enumerate(keys))
+    return places(word, is_again)
 
 
 def faults_alone(declared):
     """Yields the faults after NotJson and BadShape, by number, each with the places of it."""
     groups = [it.name for it in declared.groups]
     twice = second_times(b"group", groups)
-    twice += second_times(b"cron", [it.job for it in declared.cron])
+    twice += second_times(b"cron", [it.job.number for it in declared.cron])
     yield "TwiceDeclared", twice + second_times(b"anacron", [it.job for it in declared.anacron])
 
     def of_entries(is_wrong):
-        return places_of_entries(declared, is_wrong)
+        """Returns the places of entries that are wrong, of cron and then of anacron."""
+        of_cron = places(b"cron", map(is_wrong, declared.cron))
+        return of_cron + places(b"anacron", map(is_wrong, declared.anacron))
 
-    yield "BadMax", of_entries(lambda it: not 1 <= it.max <= GREATEST_MAX)
-    yield "BadWeight", of_entries(lambda it: not 1 <= it.weight <= GREATEST_WEIGHT)
+    def of_numbers(is_wrong):
+        """Returns the same, and then no place where the default is wrong."""
+        is_default_wrong = declared.default is not None and is_wrong(declared.default)
+        return of_entries(is_wrong) + [b""] * is_default_wrong
+
+    yield "BadMax", of_numbers(lambda it: not 1 <= it.max <= GREATEST_MAX)
+    yield "BadWeight", of_numbers(lambda it: not 1 <= it.weight <= GREATEST_WEIGHT)
     yield "BadCapacity", [] if 1 <= declared.capacity <= GREATEST_CAPACITY else [b""]
     lacks_group = [it.mode != "none" and it.group is None for it in declared.cron]
     yield "ModeNeedsGroup", places(b"cron", lacks_group)
@@ -170,18 +195,54 @@ def faults_alone(declared):
     yield "BadPassMinute", [] if minute is None or 0 <= minute < DAY else [b""]
 
 
+def lines_named(name, crontab):
+    """Returns the numbers of the lines that a name means, with a number at most one."""
+    if name.number is not None:
+        return [it.line for it in crontab.commands if it.line == name.number]
+    return [it.line for it in crontab.commands if it.text == name.command.encode()]
+
+
+def is_other(name, crontab):
+    """Returns whether the line of a name's number has another command than the name tells."""
+    texts = [it.text for it in crontab.commands if it.line == name.number]
+    return None not in name and texts != [name.command.encode()]
+
+
 def faults_of_tables(declared, crontab, anacrontab):
-    """Yields the faults of declarations that have none alone beside their tables, in order."""
-    commands = {it.line: it.text for it in crontab.commands}
-    names = set(commands) | set(map(identifier_text, anacrontab.jobs))
-    yield "NoSuchLine", places_of_entries(declared, lambda it: it.job not in names)
+    """Yields the faults of declarations that have none alone beside their tables, in order.
 
-    def is_other(it):
-        return it.command is not None and it.command.encode() != commands[it.job]
+    All names are of lines of the whole table; where the first three are none, each means one line.
+    """
+    names, left_out = [it.job for it in declared.cron], declared.left_out
 
-    yield "OtherCommand", places(b"cron", map(is_other, declared.cron))
-    yield "Undeclared", undeclared(declared, crontab, anacrontab)
-    yield "RebootLine", reboot_places(crontab)
+    def of_names(is_wrong):
+        """Returns the places of names that are wrong, of cron and of left_out."""
+        return places(b"cron", map(is_wrong, names)), places(b"left_out", map(is_wrong, left_out))
+
+    identifiers = [identifier_text(it) for it in anacrontab.jobs]
+    absent = places(b"anacron", (it.job not in identifiers for it in declared.anacron))
+    of_cron, of_left_out = of_names(lambda it: not lines_named(it, crontab))
+    yield "NoSuchLine", of_cron + absent + of_left_out
+    yield "OtherCommand", sum(of_names(lambda it: is_other(it, crontab)), [])
+    yield "AmbiguousCommand", sum(of_names(lambda it: len(lines_named(it, crontab)) > 1), [])
+    lines = [line for it in names for line in lines_named(it, crontab)]
+    out = [line for it in left_out for line in lines_named(it, crontab)]
+    yield "TwiceDeclared", second_times(b"cron", lines) + second_times(b"left_out", out, lines)
+    rest = without_lines(crontab, out)
+    yield "Undeclared", [] if declared.default else undeclared(declared, rest, anacrontab, lines)
+    yield "RebootLine", reboot_places(rest)
+
+
+def without_lines(crontab, numbers):
+    return crontab._replace(commands=[it for it in crontab.commands if it.line not in numbers])
+
+
+def undeclared(declared, crontab, anacrontab, lines):
+    """Returns the places of jobs without an entry, the lines of which are given."""
+    names = [it.job for it in declared.anacron]
+    commands = [it.line for it in crontab.commands if it.schedule and it.line not in lines]
+    jobs = [it.identifier for it in anacrontab.jobs if identifier_text(it) not in names]
+    return [b"line %d" % it for it in commands] + [b"job " + it for it in jobs]
 
 
 def reboot_places(crontab):
@@ -190,28 +251,45 @@ def reboot_places(crontab):
 
 def joined(declared, crontab, anacrontab):
     """Returns the plan of tables and declarations in which no fault stands."""
-    numbers = {it.name: at for at, it in enumerate(declared.groups)} | {None: None}
-    entries = {it.job: it for it in (*declared.cron, *declared.anacron)}
-    jobs = []
-    for of in (*crontab.commands, *anacrontab.jobs):
-        it = entries[of.line if isinstance(of, Command) else identifier_text(of)]
-        jobs.append(Job(of, it.max, it.weight, numbers[it.group], it.mode or "none"))
-    rest = declared.groups, declared.capacity, declared.hours, declared.pass_minute
-    return Plan(crontab, anacrontab, jobs, *rest, declared.offset)
+    groups = {it.name: at for at, it in enumerate(declared.groups)} | {None: None}
+    entries = {it.job: it for it in declared.anacron}
+    entries |= {line: it for it in declared.cron for line in lines_named(it.job, crontab)}
+    left_out = sorted(line for it in declared.left_out for line in lines_named(it, crontab))
+    rest, jobs, defaulted = without_lines(crontab, left_out), [], 0
+    for of in (*rest.commands, *anacrontab.jobs):
+        it = entries.get(of.line if isinstance(of, Command) else identifier_text(of))
+        if it is None:
+            defaulted += 1
+            jobs.append(Job(of, *declared.default))
+        else:
+            jobs.append(Job(of, it.max, it.weight, groups[it.group], it.mode or "none"))
+    more = declared.groups, declared.capacity, declared.hours, declared.pass_minute
+    return Plan(rest, anacrontab, jobs, *more, declared.offset, left_out, defaulted)
 
 
-def read_plan(data, crontab, anacrontab):
-    """Returns the plan that the bytes of declarations make of two tables."""
+def tell_first(faults):
+    """Tells the first place of the first fault that has one."""
+    for name, places_found in faults:
+        for place in places_found:
+            raise Fault("declarations", name, place)
+
+
+def read_declared(data):
+    """Returns what the bytes of declarations say, without their tables."""
     try:
         declared = declared_of(read_json(data))
     except NotJson:
         raise Fault("declarations", "NotJson") from None
     except OtherShape:
         raise Fault("declarations", "BadShape") from None
-    found = faults_alone(declared), faults_of_tables(declared, crontab, anacrontab)
-    for name, places_found in itertools.chain(*found):
-        for place in places_found:
-            raise Fault("declarations", name, place)
+    tell_first(faults_alone(declared))
+    return declared
+
+
+def read_plan(data, crontab, anacrontab):
+    """Returns the plan that the bytes of declarations make of two tables."""
+    declared = read_declared(data)
+    tell_first(faults_of_tables(declared, crontab, anacrontab))
     return joined(declared, crontab, anacrontab)
 
 

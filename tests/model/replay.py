@@ -123,9 +123,9 @@ class Rules:
         state, run = state._replace(pending=pending), Run(event.job, state.minute, state.minute)
         if self.is_free(state, event.job):
             return state._replace(running=(*state.running, run)), "started"
-        if self.jobs[event.job].mode == "skip":
-            return state, "skipped"
-        return state._replace(waiting=(*state.waiting, run)), "waiting"
+        if self.jobs[event.job].waits:
+            return state._replace(waiting=(*state.waiting, run)), "waiting"
+        return state, "skipped"
 
     def got(self, state, event):
         """Gives the lock to the waiting run that was due at that minute."""

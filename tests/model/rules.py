@@ -209,7 +209,7 @@ def capacity_fault(claim):
 def first_block(minute, windows):
     """Returns the window of a skip job that is due, and another lock taker's of its group."""
     for skip, other in itertools.product(windows, repeat=2):
-        if skip.job.mode == "skip" and skip.start == minute and other != skip:
+        if skip.job.is_never_skipped and skip.start == minute and other != skip:
             if other.job.takes_lock and other.job.group == skip.job.group:
                 return skip, other
     return None

@@ -9,7 +9,7 @@ from collections import defaultdict
 
 from model.calendar import DAY, day_of_text, day_text, kind_of
 from model.rules import Window, by_minute, first_block, first_clash, load
-from waiting import exact_windows, least_windows
+from waiting import exact_windows, least_windows, windows_by_waiters
 
 # 28 years, in which each kind of day comes after each that it can follow, and some days before.
 FIRST, LAST = day_of_text(b"2023-12-22"), day_of_text(b"2052-01-11")
@@ -149,4 +149,6 @@ def allowed_answers(plan):
     exact = fault_of(plan, calendar, windows_by(exact_windows, plan, calendar))
     if not exact:
         return {"unknown"}, f"by the least bounds alone {fault}"
+    if not fault_of(plan, calendar, windows_by(windows_by_waiters, plan, calendar)):
+        return {"unsafe", "unknown"}, f"by runs that may be skipped {exact}"
     return {"unsafe"}, exact

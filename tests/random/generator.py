@@ -1,5 +1,6 @@
 """Random plans: the bytes of a crontab, of declarations and perhaps of an anacrontab, by names."""
 import json
+from functools import partial
 
 # day of the month, month, weekday
 DAYS = [
@@ -9,11 +10,13 @@ DAYS = [
     ("1,15", "*", "*"), ("1-7", "*", "mon"), ("*", "12", "sun"),
 ]
 MODES = {
-    "no waiting": ["none", "none", "skip"],
-    "waiting": ["none", "skip", "wait", "wait"],
-    "sharing": ["none", "skip", "wait", "shared", "shared"],
-    "all modes": ["none", "skip", "wait", "shared"],
+    "no waiting": ["none", "none", "skip", "try"],
+    "waiting": ["none", "skip", "try", "wait", "wait"],
+    "sharing": ["none", "skip", "try", "wait", "shared", "shared"],
+    "all modes": ["none", "skip", "try", "wait", "shared"],
 }
+# How an entry names its line.
+NAMES = [["line"], ["command"], ["line", "command"]]
 PERIODS = ["1", "7", "@daily", "@weekly", "@monthly", "30"]
 
 
@@ -38,17 +41,34 @@ def declared(rng, modes, groups, longest):
     return said
 
 
-def with_lines(rng, modes, groups, schedules, longest_times, capacities):
-    """Returns a crontab of these schedules, and its declarations."""
-    crontab, cron = "", []
+def name_of(rng, line):
+    """Returns how declarations name a line, whose command no other line has."""
+    whole = {"line": line, "command": f"/bin/job{line}"}
+    return {it: whole[it] for it in rng.choice(NAMES)}
+
+
+def has_entry(rng, said):
+    """Returns whether a job has an entry: beside a default some have none."""
+    return "default" not in said or rng.random() < 0.6
+
+
+def with_lines(rng, modes, groups, schedules, longest, capacities):
+    """Returns a crontab of these schedules, and its declarations: few lines are left out."""
+    crontab, said = "", {"capacity": rng.choice(capacities), "cron": [], "left_out": []}
+    said["groups"] = [{"name": f"g{it}", "exclusive": rng.random() < 0.8} for it in range(groups)]
+    if rng.random() < 0.2:
+        said["default"] = {"max": longest(), **rng.choice([{}, {}, {"weight": 2}])}
     for line, schedule in enumerate(schedules, 1):
         crontab += f"{schedule} /bin/job{line}\n"
-        said = declared(rng, MODES[modes], groups, next(longest_times))
-        bound = {"command": f"/bin/job{line}"} if line % 2 else {}
-        cron.append({"line": line, **bound, **said})
-    said = {"capacity": rng.choice(capacities)}
-    said["groups"] = [{"name": f"g{it}", "exclusive": rng.random() < 0.8} for it in range(groups)]
-    return crontab, {**said, "cron": cron}
+        name, its = name_of(rng, line), declared(rng, MODES[modes], groups, longest())
+        if rng.random() < 0.06:
+            said["left_out"].append(name)
+        elif has_entry(rng, said):
+            said["cron"].append({**name, **its})
+    if rng.random() < 0.06:
+        crontab += "@reboot /bin/at-startup\n"
+        said["left_out"].append({"command": "/bin/at-startup"})
+    return crontab, said
 
 
 def files_of(crontab, said, anacrontab):
@@ -62,7 +82,10 @@ def random_plan(rng, modes):
     count, often = rng.choice([1, 1, 2, 3]), rng.sample(range(1440), 8)
     lines = range(rng.randint(2, 6))
     schedules = (f"{minute_and_hour(rng, often)} {' '.join(rng.choice(DAYS))}" for _ in lines)
-    longest = (rng.randint(1, rng.choice([20, 90, 90, 600, 4320])) for _ in lines)
+
+    def longest():
+        return rng.randint(1, rng.choice([20, 90, 90, 600, 4320]))
+
     crontab, said = with_lines(rng, modes, count, schedules, longest, [2, 3, 4, 5, 6, 64])
     anacrontab = random_catch_up(rng, said, count) if rng.random() < 0.35 else ""
     return files_of(crontab, said, anacrontab)
@@ -82,7 +105,8 @@ def random_catch_up(rng, said, groups):
         its = {"id": f"job{number}", "max": most}
         if rng.random() < 0.5:
             its["group"] = f"g{rng.randrange(groups)}"
-        said["anacron"].append(its)
+        if has_entry(rng, said):
+            said["anacron"].append(its)
     return anacrontab
 
 
@@ -91,8 +115,8 @@ def tiny_plan(rng, modes, noon):
     count = rng.choice([1, 1, 2])
     lines = range(rng.randint(2, 4))
     schedules = (f"{rng.randint(0, 6)} {noon // 60} * * *" for _ in lines)
-    longest = (rng.randint(1, 4) for _ in lines)
-    crontab, said = with_lines(rng, modes, count, schedules, longest, [1, 2, 2, 3, 4, 64])
+    times = partial(rng.randint, 1, 4)
+    crontab, said = with_lines(rng, modes, count, schedules, times, [1, 2, 2, 3, 4, 64])
     anacrontab = ""
     if rng.random() < 0.3:
         first = noon + rng.randint(0, 6)
@@ -102,5 +126,6 @@ def tiny_plan(rng, modes, noon):
             its = {"id": f"job{number}", "max": rng.randint(1, 3)}
             if rng.random() < 0.6:
                 its["group"] = f"g{rng.randrange(count)}"
-            said["anacron"].append(its)
+            if has_entry(rng, said):
+                said["anacron"].append(its)
     return files_of(crontab, said, anacrontab)

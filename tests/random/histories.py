@@ -36,7 +36,7 @@ def breach(plan, state, event, reply):
     load = sum(plan.jobs[it.job].weight for it in state.running)
     if load > plan.capacity:
         return f"unsafe: load {load} of {plan.capacity}"
-    if reply == "skipped":
+    if reply == "skipped" and plan.jobs[event.job].is_never_skipped:
         return f"unsafe: {run_text(plan, event.job, state.minute)} is skipped"
     return ""
 

@@ -11,7 +11,8 @@ def exact_windows(plan, runs):
     """How late each run can end, where none shares the lock.
 
     A run can be put off by all that hold the lock one after the other, each to the last minute of
-    its time; those of runs that are due before it, and of any due meanwhile.
+    its time; those of runs that are due before it, and of any due meanwhile. A run of mode try
+    counts as if it waited, so that where there is one no run ends later, but some may end earlier.
     """
     after, busy = [], -1
     for due, job in runs:
@@ -30,6 +31,17 @@ def exact_windows(plan, runs):
                 start = max(due, after[last] - own) if waits else due
                 found.append((job, due, start + own + 1))
     return found
+
+
+def windows_by_waiters(plan, runs):
+    """The same, where runs of mode try put off no others: so late each run can end, if not later.
+
+    They begin when they are due, as those that hold the lock may end before, or end at once.
+    """
+    tried = [(due, job) for due, job in runs if plan.jobs[job].may_be_skipped]
+    others = [(due, job) for due, job in runs if not plan.jobs[job].may_be_skipped]
+    own = [(job, due, due + plan.jobs[job].max) for due, job in tried]
+    return exact_windows(plan, others) + own
 
 
 def clear_minutes(plan, runs):

@@ -1,5 +1,5 @@
 -- What is answered to the words of a call.
-use Rattle.std.specs.Prelude.{◌≡◌, ◌⊎◌, ℕ, List, [], Option}
+use Rattle.std.specs.Prelude.{◌≡◌, ◌⊎◌, ℕ, ℤ, List, [], Option}
 use Rattle.clap.specs.Words.{Text}
 use Rattle.cs_args.specs.CommandLine.{Asking, Asks, Chart, Check, Day, Draft, Explain, Help, Judge}
 use Rattle.cs_args.specs.CommandLine.{Lint, Make, Replay, Run}
@@ -22,19 +22,20 @@ use Rattle.cs_cli.specs.declared.answer.Answer.{Answer}
 abbrev pub ShowsHelp : Failed → Failed → Ending → Type 0
 ShowsHelp before failed ending = (failed ≡ before) × (ending.status ≡ 0) × (ending.err ≡ [])
 
--- what is answered to a subcommand
-abbrev pub AnswersAsked : Asking → (List ℕ → Option (List ℕ)) → Failed → Failed → Answer → Type 0
-AnswersAsked (Day a) files before failed = EndsAs (AnswersDay a files before failed)
-AnswersAsked (Replay a) files before failed = EndsAs (AnswersReplay a files before failed)
-AnswersAsked (Check a) files before failed = EndsAs (IsChecked a files before failed)
-AnswersAsked (Run a) files before failed = AnswersRun a files before failed
-AnswersAsked (Judge a) files before failed = EndsAs (AnswersJudge a files before failed)
-AnswersAsked (Make a) files before failed = EndsAs (AnswersMake a files before failed)
-AnswersAsked (Draft a) files before failed = EndsAs (AnswersDraft a files before failed)
-AnswersAsked (Lint a) files before failed = EndsAs (AnswersLint a files before failed)
-AnswersAsked (Chart a) files before failed = EndsAs (AnswersChart a files before failed)
-AnswersAsked (Explain name) files before failed = EndsAs (AnswersExplain before failed)
-AnswersAsked Help files before failed = EndsAs (ShowsHelp before failed)
+-- what is answered to a subcommand, where clocks show this offset
+abbrev pub AnswersAsked : ℤ → Asking → (List ℕ → Option (List ℕ)) → Failed → Failed → Answer
+    → Type 0
+AnswersAsked offset (Day a) files before failed = EndsAs (AnswersDay a files before failed)
+AnswersAsked offset (Replay a) files before failed = EndsAs (AnswersReplay a files before failed)
+AnswersAsked offset (Check a) files before failed = EndsAs (IsChecked a files before failed)
+AnswersAsked offset (Run a) files before failed = AnswersRun a files before failed
+AnswersAsked offset (Judge a) files before failed = EndsAs (AnswersJudge a files before failed)
+AnswersAsked offset (Make a) files before failed = EndsAs (AnswersMake a files before failed)
+AnswersAsked offset (Draft a) files before failed = EndsAs (AnswersDraft a offset files before failed)
+AnswersAsked offset (Lint a) files before failed = EndsAs (AnswersLint a files before failed)
+AnswersAsked offset (Chart a) files before failed = EndsAs (AnswersChart a files before failed)
+AnswersAsked offset (Explain name) files before failed = EndsAs (AnswersExplain before failed)
+AnswersAsked offset Help files before failed = EndsAs (ShowsHelp before failed)
 
 -- the version is shown
 abbrev pub ShowsVersion : Failed → Failed → Ending → Type 0
@@ -45,9 +46,9 @@ abbrev pub IsRejected : Failed → Failed → Ending → Type 0
 IsRejected before failed ending = (failed ≡ before) × (ending.status ≡ 4) × (ending.out ≡ [])
 
 -- what is answered to words: what they ask, help, the version, or that they are no call
-abbrev pub Answers : List Text → (List ℕ → Option (List ℕ)) → Failed → Failed → Answer → Type 0
-Answers words files before failed answer =
-    ((a : Asking) × Asks words a × AnswersAsked a files before failed answer)
+abbrev pub Answers : ℤ → List Text → (List ℕ → Option (List ℕ)) → Failed → Failed → Answer → Type 0
+Answers offset words files before failed answer =
+    ((a : Asking) × Asks words a × AnswersAsked offset a files before failed answer)
     ⊎ ((AsksHelp words × EndsAs (ShowsHelp before failed) answer)
     ⊎ ((AsksVersion words × EndsAs (ShowsVersion before failed) answer)
     ⊎ (IsNoCall words × EndsAs (IsRejected before failed) answer)))

@@ -1,5 +1,5 @@
 -- What a run of the program writes, and the status that it answers.
-use Rattle.std.specs.Prelude.{◌⊎◌, ℕ, List, Option}
+use Rattle.std.specs.Prelude.{◌⊎◌, ℕ, ℤ, List, Option}
 use Rattle.clap.specs.Words.{Text}
 use Rattle.cs_io.specs.Files.{Failed, Reads}
 use Rattle.cs_cli.specs.Answer.{IfEnds}
@@ -19,19 +19,19 @@ CarriesOut (answers.Runs order) out-old out-new err-old err-new status =
     Serves order out-old out-new err-old err-new status
 
 -- the words are answered so, and the answer is carried out
-abbrev pub Carries : List Text → (List ℕ → Option (List ℕ)) → Failed → Failed → Reads → Answer
-    → Sink
-    → Sink → Sink → Sink → ℕ → Type 0
-Carries words files before failed reads answer out-old out-new err-old err-new status =
-    Answers words files before failed answer
+abbrev pub Carries : ℤ → List Text → (List ℕ → Option (List ℕ)) → Failed → Failed → Reads
+    → Answer → Sink → Sink → Sink → Sink → ℕ → Type 0
+Carries offset words files before failed reads answer out-old out-new err-old err-new status =
+    Answers offset words files before failed answer
     × IfEnds (IsHonest failed reads) answer
     × CarriesOut answer out-old out-new err-old err-new status
 
 -- the words are answered, or memory ran out, behind what is to be warned of by then
-abbrev pub Runs : List Text → (List ℕ → Option (List ℕ)) → Failed → Failed → Reads → Reads → Sink
-    → Sink → Sink → Sink → ℕ → Type 0
-Runs words files before failed reads-old reads-new out-old out-new err-old err-new status =
+abbrev pub Runs : ℤ → List Text → (List ℕ → Option (List ℕ)) → Failed → Failed → Reads → Reads
+    → Sink → Sink → Sink → Sink → ℕ → Type 0
+Runs offset words files before failed reads-old reads-new out-old out-new err-old err-new status =
     ((answer : Answer)
-    × Carries words files before failed reads-new answer out-old out-new err-old err-new status)
+    × Carries offset words files before failed reads-new answer out-old out-new err-old err-new
+    status)
     ⊎ ((warnings : Option (List ℕ)) × RanOutOn words files before reads-old reads-new warnings
     × RunsOutBehind warnings out-old out-new err-old err-new status)

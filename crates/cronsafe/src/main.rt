@@ -2,6 +2,7 @@
 #![tactic(auto)]
 
 mod ending;
+mod offset;
 mod program;
 mod responding;
 mod run;

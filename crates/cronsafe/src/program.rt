@@ -1,4 +1,5 @@
 //! The program over the machine's words, files and clock.
+use crate::offset::local_offset;
 use crate::run::run_words;
 use cs_device::Runner;
 use cs_files::Status;
@@ -42,5 +43,6 @@ pub(crate) fn run_program<
     };
     let mut inputs = Machine::new(rt);
     let words = words.as_slice();
-    ExitCode::from(run_words(rt, alloc, words, &mut inputs, out, err, new_runner))
+    let offset = local_offset(rt).unwrap_or(0);
+    ExitCode::from(run_words(rt, alloc, words, offset, &mut inputs, out, err, new_runner))
 }

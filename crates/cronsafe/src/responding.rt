@@ -27,10 +27,11 @@ fn answer_asked<'a, R: Threads + Sync, I: Inputs>(
     rt: &R,
     alloc: Global,
     request: Request<'a>,
+    offset: i16,
     inputs: &mut I,
 ) -> Result<Answer<'a>, RanOut>
     ensures value { IsFresh (I.whole inputs.old) (I.left inputs.old)
-        → IfOk result (AnswersAsked (asking request.entry) (I.whole inputs.old)
+        → IfOk result (AnswersAsked offset (asking request.entry) (I.whole inputs.old)
         (I.failed inputs.old) (I.failed inputs.new)) }
     ensures status { IfOk result
         (IfEnds (IsHonest (I.failed inputs.new) (I.reads inputs.new))) }
@@ -47,7 +48,7 @@ fn answer_asked<'a, R: Threads + Sync, I: Inputs>(
         Request::Run(request) => answer_run(rt, alloc, &request, inputs),
         Request::Judge(request) => Ok(Answer::Ends(answer_judge(rt, alloc, &request, inputs)?)),
         Request::Make(request) => Ok(Answer::Ends(answer_make(rt, alloc, &request, inputs)?)),
-        Request::Draft(request) => Ok(Answer::Ends(answer_draft(alloc, &request, inputs)?)),
+        Request::Draft(request) => Ok(Answer::Ends(answer_draft(alloc, &request, offset, inputs)?)),
         Request::Lint(request) => Ok(Answer::Ends(answer_lint(alloc, &request, inputs)?)),
         Request::Chart(request) => Ok(Answer::Ends(answer_chart(alloc, &request, inputs)?)),
         Request::Explain(name) => Ok(Answer::Ends(answer_explain(alloc, name)?)),
@@ -62,17 +63,18 @@ fn show_version(alloc: Global) -> Result<Response, AllocError>
     Ok(Response::done(text, Bytes::new(alloc)))
 }
 
-/// The answer to the words of a call, of which the first is the program's name. A certificate is
-/// checked by the threads of `rt`. The only error is want of memory.
+/// The answer to the words of a call, of which the first is the program's name, where clocks are ahead
+/// of UTC by `offset` minutes. A certificate is checked by the threads of `rt`. The only error is want of memory.
 pub(crate) fn respond<'a, R: Threads + Sync, S: AsStr, I: Inputs>(
     rt: &R,
     alloc: Global,
     words: &'a [S],
+    offset: i16,
     inputs: &mut I,
 ) -> Result<Answer<'a>, RanOut>
     // Where each path of known bytes stands at its front.
     ensures value { IsFresh (I.whole inputs.old) (I.left inputs.old)
-        → IfOk result (Answers (map S.text words.now) (I.whole inputs.old)
+        → IfOk result (Answers offset (map S.text words.now) (I.whole inputs.old)
         (I.failed inputs.old) (I.failed inputs.new)) }
     ensures status { IfOk result
         (IfEnds (IsHonest (I.failed inputs.new) (I.reads inputs.new))) }
@@ -83,7 +85,7 @@ pub(crate) fn respond<'a, R: Threads + Sync, S: AsStr, I: Inputs>(
         (I.reads inputs.old) (I.reads inputs.new) }
 {
     match parse_words(alloc, words) {
-        Ok(request) => answer_asked(rt, alloc, request, inputs),
+        Ok(request) => answer_asked(rt, alloc, request, offset, inputs),
         Err(UsageFault::Help(text)) => {
             Ok(Answer::Ends(Response::done(text.into_bytes(), Bytes::new(alloc))))
         }

@@ -49,7 +49,8 @@ fn carry_out<
 /// folder of stamps, or a clock that can't be read or goes back.
 ///
 /// The words of `run` come back when the run has ended, and its log is written to standard output. Its
-/// commands are run by runners that `new_runner` makes.
+/// commands are run by runners that `new_runner` makes. A draft tells the offset of clocks: the minutes
+/// by which they are ahead of UTC.
 pub(crate) fn run_words<
     R: Threads + Wait + Sync + Files + Clock,
     S: AsStr,
@@ -58,11 +59,20 @@ pub(crate) fn run_words<
     E: Output,
     W: Runner + Send + Drop,
     F: Fn() -> W + Drop,
->(rt: &R, alloc: Global, words: &[S], inputs: &mut I, out: &mut O, err: &mut E, new_runner: F) -> u8
+>(
+    rt: &R,
+    alloc: Global,
+    words: &[S],
+    offset: i16,
+    inputs: &mut I,
+    out: &mut O,
+    err: &mut E,
+    new_runner: F,
+) -> u8
     requires { F.IsAlwaysCallable new_runner }
     // Where each path of known bytes stands at its front.
     ensures value { IsFresh (I.whole inputs.old) (I.left inputs.old)
-        → Runs (map S.text words.now) (I.whole inputs.old) (I.failed inputs.old)
+        → Runs offset (map S.text words.now) (I.whole inputs.old) (I.failed inputs.old)
         (I.failed inputs.new)
         (I.reads inputs.old) (I.reads inputs.new)
         (sink (O.Output.contents out.old) (O.Output.failed out.old))
@@ -73,7 +83,7 @@ pub(crate) fn run_words<
     ensures turn { ReadsInTurn (map S.text words.now)
         (I.reads inputs.old) (I.reads inputs.new) }
 {
-    match respond(rt, alloc, words, inputs) {
+    match respond(rt, alloc, words, offset, inputs) {
         Ok(answer) => carry_out(rt, alloc, answer, out, err, new_runner).code(),
         Err(ran_out) => run_out_behind(&ran_out, err).code(),
     }

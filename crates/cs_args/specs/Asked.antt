@@ -67,6 +67,7 @@ asked_draft d = record {
   table = d.table.now;
   max = d.max;
   anacrontab = option_map (λ path. path.now) d.anacrontab;
+  update = option_map (λ path. path.now) d.update;
 }
 
 abbrev pub asked_lint : LintWords → AskedLint

@@ -89,11 +89,12 @@ judge_app = plan_app (codes "judge")
 unfoldable pub make_app : App
 make_app = with_rule (plan_app (codes "make")) (flag_rule (codes "compact"))
 
--- `draft TABLE [--anacrontab FILE] [--max N]`
+-- `draft TABLE [--anacrontab FILE] [--max N] [--update OLD]`
 unfoldable pub draft_app : App
 draft_app =
-    with_rule (with_rule (with_rule (new_app (codes "draft")) (required_rule (codes "TABLE")))
-    (option_rule (codes "anacrontab"))) (option_rule (codes "max"))
+    with_rule (with_rule (with_rule (with_rule (new_app (codes "draft"))
+    (required_rule (codes "TABLE"))) (option_rule (codes "anacrontab")))
+    (option_rule (codes "max"))) (option_rule (codes "update"))
 
 -- `lint TABLE [DECLS] [--anacrontab FILE]`
 unfoldable pub lint_app : App
@@ -197,11 +198,13 @@ pub record AskedMake : Type 0 where
   pub judge : AskedJudge
   pub compact : Bool
 
--- what `draft` is asked: the paths of a table and of an anacrontab, and a longest time in minutes
+-- what `draft` is asked: the paths of a table, of an anacrontab and of declarations to update, and a
+-- longest time in minutes
 pub record AskedDraft : Type 0 where
   pub table : Text
   pub max : ℕ
   pub anacrontab : Option Text
+  pub update : Option Text
 
 -- what `lint` is asked: the paths of a table, of declarations and of an anacrontab
 pub record AskedLint : Type 0 where
@@ -351,8 +354,9 @@ abbrev pub draft_with : List Row → ℕ → Option AskedDraft
 draft_with rows max =
     let table = value_or [] (codes "TABLE") rows in
     let anacrontab = first_of (codes "anacrontab") rows in
-    if is_twice_standard table anacrontab then None
-    else Some (record { table = table; max = max; anacrontab = anacrontab })
+    let update = first_of (codes "update") rows in
+    if are_dashes table [] anacrontab update then None
+    else Some (record { table = table; max = max; anacrontab = anacrontab; update = update })
 
 -- what the entries of `draft` ask: `--max` has to be a number, by default 60, and standard input is named
 -- once at most

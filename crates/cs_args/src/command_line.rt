@@ -292,13 +292,15 @@ fn draft_words<'a>(alloc: Global, given: &ArgMatches<'a>) -> Result<DraftWords<'
     )?;
     let table = text_of(given, "TABLE", "");
     let anacrontab = value_of(given, "anacrontab");
-    if is_twice_standard(table, anacrontab) {
+    let update = value_of(given, "update");
+    if are_dashes(table, "", anacrontab, update) {
         return Err(UsageFault::NoCall(twice_standard(alloc, Subcommand::Draft)?));
     }
     Ok(DraftWords {
         table,
         max,
         anacrontab,
+        update,
     })
 }
 

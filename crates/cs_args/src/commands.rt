@@ -16,6 +16,7 @@ use crate::texts::{
     EXPLAIN_EXAMPLE, FROM_HELP, HELP_ABOUT, JUDGE_ABOUT, JUDGE_EXAMPLE, LINT_ABOUT, LINT_EXAMPLE,
     MAKE_ABOUT, MAKE_EXAMPLE, MAX_HELP, MINUTES_HELP, NAME_HELP, REPLAY_ABOUT, REPLAY_EXAMPLE,
     REPLAY_MAX_HELP, RUN_ABOUT, RUN_EXAMPLE, SCRIPT_HELP, STAMPS_HELP, TABLE_HELP, TO_HELP,
+    UPDATE_HELP,
 };
 use crate::version::version_text;
 use clap::error::ErrorKind;
@@ -259,7 +260,7 @@ fn make_command<'a>(alloc: Global) -> Result<Command<'a>, AllocError>
     with_arg(command, flag_arg(alloc, "compact", COMPACT_HELP))
 }
 
-/// `draft TABLE [--anacrontab FILE] [--max N]`.
+/// `draft TABLE [--anacrontab FILE] [--max N] [--update OLD]`.
 #[tactic(auto, unfolding(crate::specs::CommandLine::draft_app))]
 fn draft_command<'a>(alloc: Global) -> Result<Command<'a>, AllocError>
     ensures app { IfOk result (λ c. app_of c ≡ draft_app) }
@@ -268,7 +269,8 @@ fn draft_command<'a>(alloc: Global) -> Result<Command<'a>, AllocError>
     let command = described(alloc, "draft", DRAFT_ABOUT, DRAFT_EXAMPLE);
     let command = with_required(alloc, command, "TABLE", TABLE_HELP);
     let command = with_option(alloc, command, "anacrontab", "FILE", ANACRONTAB_HELP);
-    with_option(alloc, command, "max", "N", DRAFT_MAX_HELP)
+    let command = with_option(alloc, command, "max", "N", DRAFT_MAX_HELP);
+    with_option(alloc, command, "update", "OLD", UPDATE_HELP)
 }
 
 /// `lint TABLE [DECLS] [--anacrontab FILE]`.

@@ -85,10 +85,12 @@ pub struct MakeWords<'a> {
 pub struct DraftWords<'a> {
     /// The path of a crontab.
     pub table: &'a str,
-    /// The longest time of each job, in minutes.
+    /// The longest time of each new job, in minutes.
     pub max: u64,
     /// The path of an anacrontab.
     pub anacrontab: Option<&'a str>,
+    /// The path of the declarations to update.
+    pub update: Option<&'a str>,
 }
 
 /// What `lint` is asked.

@@ -11,8 +11,9 @@ use std::alloc::{AllocError, Global};
 ///
 /// A run that begins in minute s has ended before s and its longest time, so the next holder begins a minute before that at the
 /// latest: each link of a chain of runs loses a minute against the bounds of a certificate. What is told here comes about in some
-/// history of the plan, as long as no run that skips finds the lock held. Runs that share a lock may wait for longer than is told,
-/// and others for them: here they wait for all that are alone with it, and nothing waits for them.
+/// history of the plan, as long as no run of mode skip finds the lock held. Runs that share a lock may wait for longer than is
+/// told, and others for them: here they wait for all that are alone with it, and nothing waits for them. So may runs that wait
+/// beside one of mode try: here it gets the lock when it is due, and of those due before it only the run in question waits on.
 #[derive(Drop)]
 pub struct ExactWaits<'a> {
     facts: &'a Facts,

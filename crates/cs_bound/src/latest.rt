@@ -29,20 +29,54 @@ fn runs_over(alloc: Global, queue: &Queue, profiles: &[u16]) -> Result<Vec<Queue
     Ok(runs)
 }
 
+/// What comes behind a run in a queue.
+#[derive(Clone, Copy)]
+struct Behind {
+    /// When the next run is due.
+    due: u32,
+    /// When that one has had the lock, if it is of mode try and gets it.
+    tried: Option<u32>,
+    /// When a run has the lock that waits on behind all that can be before it. The queue up to here has it, and is longer by it.
+    last: u32,
+    /// The same, where the queue up to here isn't longer by it: since it was due a run of mode try has had the lock.
+    last_tried: u32,
+}
+
+impl Behind {
+    /// What comes behind the run before this one. The run that waits on keeps the lock for so long.
+    fn before(self, run: QueuedRun, work: u32) -> Behind {
+        let free = run.free.saturating_sub(work);
+        let goes_on = match self.tried {
+            Some(tried) if tried >= run.free => self.last_tried,
+            _ => self.last,
+        };
+        Behind {
+            due: run.due,
+            tried: run.tried(),
+            last: if self.due > free { free } else { goes_on },
+            last_tried: if self.due > run.free {
+                run.free
+            } else {
+                self.last_tried
+            },
+        }
+    }
+}
+
 /// Puts each run that keeps the lock for so long behind all that can be before it: it waits on as long as another is due by the
 /// minute at which the others have had the lock.
 fn put_last(runs: &mut [QueuedRun], work: u32) {
-    let mut next_due = u32::MAX;
-    let mut start = 0;
+    let mut behind = Behind {
+        due: u32::MAX,
+        tried: None,
+        last: 0,
+        last_tried: 0,
+    };
     for run in runs.iter_mut().rev() {
-        let free = run.free.saturating_sub(work);
-        if next_due > free {
-            start = free;
-        }
+        behind = behind.before(*run, work);
         if run.work == work {
-            run.start = start;
+            run.start = behind.last;
         }
-        next_due = run.due;
     }
 }
 

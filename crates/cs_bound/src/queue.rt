@@ -15,18 +15,40 @@ pub(crate) struct QueuedRun {
     /// For how many minutes it keeps the lock from the next: one less than its longest time, since the next begins in the
     /// minute in which it ends. A run that shares the lock keeps it from nobody: it is to wait until the others have had it.
     pub(crate) work: u32,
-    /// When the next has the lock, if all that are due up to this one have had it before.
+    /// Whether it is of mode try: it has the lock from its due minute on, as those before it have ended by then, or never.
+    pub(crate) is_tried: bool,
+    /// When the next has the lock, if all that are due up to this one have had it before that can.
     pub(crate) free: u32,
     /// When it has the lock at the latest.
     pub(crate) start: u32,
 }
 
+impl QueuedRun {
+    /// When it has had the lock, if it is of mode try and gets it.
+    pub(crate) fn tried(self) -> Option<u32> {
+        if self.is_tried {
+            Some(self.due.saturating_add(self.work))
+        } else {
+            None
+        }
+    }
+
+    /// When the next has the lock, if those before this one leave it free from this minute on. A run of mode try is left out if
+    /// they keep it for longer.
+    fn free_after(self, free: u32) -> u32 {
+        match self.tried() {
+            Some(tried) => free.max(tried),
+            None => free.max(self.due).saturating_add(self.work),
+        }
+    }
+}
+
 /// Who takes the lock on the days of a profile.
 #[derive(Drop)]
 pub(crate) struct QueueDay {
-    /// By the minute at which they are due.
+    /// By the minute at which they are due, those of mode try before others.
     pub(crate) runs: Vec<QueuedRun>,
-    /// For how long they keep the lock together.
+    /// For how long they keep the lock together, where those of mode try don't get it.
     work: u32,
     /// From when on it is free, if it is when the day begins.
     free: u32,
@@ -67,6 +89,7 @@ fn add_runs(runs: &mut Vec<QueuedRun>, job: u16, task: &Task) -> Result<(), Allo
             job,
             due,
             work: work_of(task),
+            is_tried: task.is_try(),
             free: 0,
             start: due,
         })?;
@@ -74,7 +97,8 @@ fn add_runs(runs: &mut Vec<QueuedRun>, job: u16, task: &Task) -> Result<(), Allo
     Ok(())
 }
 
-/// The runs on a day on which these jobs are due that take the lock of the group, by the minute at which they are due.
+/// The runs on a day on which these jobs are due that take the lock of the group, by the minute at which they are due, those of
+/// mode try before others.
 fn runs_on(
     alloc: Global,
     tasks: &[Task],
@@ -89,26 +113,28 @@ fn runs_on(
             }
         }
     }
-    runs.sort_by_key(|run| run.due)?;
+    runs.sort_by_key(|run| (run.due, !run.is_tried))?;
     Ok(runs)
 }
 
-/// Lets all of these runs have the lock one after the other, from the minute on at which it is free for them. When it is free
-/// after them.
+/// Lets all of these runs have the lock one after the other that can, from the minute on at which it is free for them. When it
+/// is free after them.
 pub(crate) fn line_up(runs: &mut [QueuedRun], free: u32) -> u32 {
     let mut free = free;
     for run in runs.iter_mut() {
-        free = free.max(run.due).saturating_add(run.work);
+        free = run.free_after(free);
         run.free = free;
     }
     free
 }
 
-/// For how long runs keep the lock together.
+/// For how long runs keep the lock together, where those of mode try don't get it.
 fn work_together(runs: &[QueuedRun]) -> u32 {
     let mut work: u32 = 0;
     for run in runs {
-        work = work.saturating_add(run.work);
+        if !run.is_tried {
+            work = work.saturating_add(run.work);
+        }
     }
     work
 }

@@ -38,6 +38,7 @@ fn mode_text(mode: Mode) -> &'static str {
     match mode {
         Mode::Plain => "",
         Mode::Skip => ", skips where its lock is held",
+        Mode::Try => ", may be skipped where its lock is held",
         Mode::Wait => ", waits for its lock",
         Mode::Shared => ", shares its lock",
     }

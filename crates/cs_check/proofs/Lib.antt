@@ -7,3 +7,4 @@ pub mod Covering
 pub mod Firsts
 pub mod Fitting
 pub mod Harmless
+pub mod Windows

@@ -20,9 +20,9 @@ abbrev pub IfEnds : (Ending → Type 0) → Answer → Type 0
 IfEnds P (Ends ending) = P ending
 IfEnds P (Runs order) = ⊤
 
--- `check` would answer `safe` and the same warnings, and what is to be run is the plan and the
--- certificate that the files denote, of which every legal history in time is safe, with the stamps
--- and the minutes that were asked
+-- `check` would answer `safe` and the same warnings and notes, and what is to be run is the plan and
+-- the certificate that the files denote, of which every legal history in time is safe, with the
+-- stamps and the minutes that were asked
 pub record IsOrder (a : AskedRun) (files : List ℕ → Option (List ℕ)) (before failed : Failed)
     (order : Order) : Type 0 where
   pub safe : AnswersCheck a.check files before failed (done safe_text order.warnings)

@@ -16,6 +16,7 @@ use Rattle.cs_check.specs.Case.{fault_of}
 use Rattle.cs_check.specs.Checked.{certificate_in, plan_in}
 use Rattle.cs_check.specs.declared.checked.Checked.{Checked}
 use Rattle.cs_report.specs.Refused.{fault_text}
+use Rattle.cs_report.specs.Warning.{plan_notes}
 use Rattle.cs_args.specs.CommandLine.{AskedCheck}
 use Rattle.cs_io.specs.Files.{Failed}
 use Rattle.cs_files.specs.Response.{Ending, done}
@@ -37,10 +38,12 @@ unfoldable pub verdict_text : Declared → Option Fault → List ℕ
 verdict_text plan None = safe_text
 verdict_text plan (Some fault) = fault_text plan fault ++ 10 ∷ []
 
--- what is answered of a certificate by its first fault: 0 where it is safe, 1 where it is refused
+-- what is answered of a certificate by its first fault: 0 where it is safe, 1 where it is refused,
+-- beside the notes on the plan
 abbrev pub verdict : Declared → Option Fault → Ending
-verdict plan None = done (verdict_text plan None) []
-verdict plan (Some fault) = record { status = 1; out = verdict_text plan (Some fault); err = [] }
+verdict plan None = done (verdict_text plan None) (plan_notes plan)
+verdict plan (Some fault) =
+    record { status = 1; out = verdict_text plan (Some fault); err = plan_notes plan }
 
 -- the certificate at a path
 abbrev pub ReadsCertificate : (List ℕ → Option (List ℕ)) → Text → Failed → Failed
@@ -54,9 +57,10 @@ Judges files a tables = AndThen (ReadsDeclared files tables a.declarations) (λ 
     AndThen (ReadsCertificate files a.certificate) (λ c.
     Gives (Ok (verdict plan (fault_of plan c)))))
 
--- `safe` where the checker has accepted the plan, else what it says of the first rule
+-- `safe` where the checker has accepted the plan, beside the notes on it, else what it says of the
+-- first rule
 abbrev pub answer_of : Result Checked Ending → Ending
-answer_of (Ok checked) = done safe_text []
+answer_of (Ok checked) = done safe_text (plan_notes (plan_in checked))
 answer_of (Err answer) = answer
 
 -- the declarations and the certificate are read, and denote what was accepted
@@ -79,9 +83,11 @@ abbrev pub AnswersCheck : AskedCheck → (List ℕ → Option (List ℕ)) → Fa
 AnswersCheck a files =
     Answered (ReadsTables files a.table a.anacrontab) (λ both. Judges files a both)
 
--- the answer to `check` by what the files come to: `safe`, with what is to be warned of, or another
+-- the answer to `check` by what the files come to: `safe`, with what is to be warned of and then the
+-- notes on the plan, or another
 abbrev pub ending_of : Examined → Ending
-ending_of (Accepted checked warnings) = done safe_text warnings
+ending_of (Accepted checked warnings) =
+    done safe_text (warnings ++ plan_notes (plan_in checked))
 ending_of (Ended answer) = answer
 
 -- what holds of the plan and of the warnings where the checker has accepted it

@@ -1,5 +1,5 @@
 -- What is answered to `judge` and to `make`: how the tables stand as they are declared.
-use Rattle.std.specs.Prelude.{◌≡◌, ℕ, Bool, true, false, List, [], Option, Result}
+use Rattle.std.specs.Prelude.{◌≡◌, ℕ, Bool, true, false, List, Option, Result}
 use Rattle.cs_crontab.specs.Crontab.{Table}
 use Rattle.cs_anacrontab.specs.Anacrontab.{Table as JobTable}
 use Rattle.cs_decl.specs.Plan.{Declared}
@@ -10,6 +10,7 @@ use Rattle.cs_judge.specs.declared.answers.Outcome.{Outcome}
 use Rattle.cs_judge.specs.declared.answers.Outcome.TheVariants.{NoMemory, Safe, Unknown, Unsafe}
 use Rattle.cs_judge.specs.declared.answers.Wanted.{Wanted}
 use Rattle.cs_judge.specs.declared.answers.Wanted.TheVariants.{Certificate, Compact, Verdict}
+use Rattle.cs_report.specs.Warning.{plan_notes}
 use Rattle.cs_args.specs.CommandLine.{AskedJudge, AskedMake}
 use Rattle.cs_io.specs.Files.{Failed}
 use Rattle.cs_files.specs.Response.{Ending}
@@ -23,14 +24,14 @@ outcome_status Unsafe = 1
 outcome_status Unknown = 2
 outcome_status NoMemory = 5
 
--- what is known of a plan is printed, and the status is by how it was found
+-- what is known of a plan is printed, beside the notes on it, and the status is by how it was found
 pub record IsJudged (wanted : Wanted) (plan : Declared) (ending : Ending) : Type 0 where
   pub judged : Judged
   pub known : IsJudgement plan judged
   pub found : Outcome
   pub printed : IsAnswer wanted plan judged found ending.out
   pub status : ending.status ≡ outcome_status found
-  pub err : ending.err ≡ []
+  pub err : ending.err ≡ plan_notes plan
 
 -- the declarations are read, and the plan is judged
 abbrev pub JudgesPlan : Wanted → (List ℕ → Option (List ℕ)) → AskedJudge → Table × JobTable → Failed

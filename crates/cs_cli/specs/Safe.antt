@@ -1,7 +1,5 @@
 -- What the word `safe` says of the files of a call.
-use Rattle.std.specs.Prelude.{◌≡◌, ℕ, List, Option, Ok}
-use Rattle.cs_crontab.specs.Crontab.{Table}
-use Rattle.cs_anacrontab.specs.Anacrontab.{Table as JobTable}
+use Rattle.std.specs.Prelude.{◌≡◌, ℕ, List, Option}
 use Rattle.cs_decl.specs.Plan.{as_plan}
 use Rattle.cs_check.specs.Case.{reach_for}
 use Rattle.cs_check.specs.Checked.{IsCalmThroughout, IsHeadline, certificate_in, plan_in}
@@ -9,9 +7,8 @@ use Rattle.cs_check.specs.declared.checked.Checked.{Checked}
 use Rattle.cs_args.specs.CommandLine.{AskedCheck}
 use Rattle.cs_io.specs.Files.{Failed}
 use Rattle.cs_cli.specs.Check.{AnswersCheck, IsProofOf}
-use Rattle.cs_files.specs.Reads.{ReadsTables}
+use Rattle.cs_files.specs.RanOut.{AreWarnings}
 use Rattle.cs_files.specs.Response.{Ending}
-use Rattle.cs_report.specs.Warning.{warnings as warnings_text}
 
 -- every legal history of its plan in which each run ends within its declared time is safe, and each
 -- minute from 1970-01-04 on is calm
@@ -27,18 +24,13 @@ pub record AreSafe (files : List ℕ → Option (List ℕ)) (a : AskedCheck)
   pub proof : IsProofOf files a failed checked
   pub safe : IsSafe checked
 
--- these are the warnings of the tables that the files denote
-abbrev pub AreWarnings : (List ℕ → Option (List ℕ)) → AskedCheck → Failed → List ℕ → Type 0
-AreWarnings files a failed warnings = (both : Table × JobTable)
-    × ReadsTables files a.table a.anacrontab failed failed (Ok both)
-    × (warnings ≡ warnings_text both.0 both.1)
-
 -- the files denote this plan with this certificate, of which that holds, and these are the warnings
+-- of its tables
 pub record IsAcceptance (files : List ℕ → Option (List ℕ)) (a : AskedCheck) (failed : Failed)
     (checked : Checked) (warnings : List ℕ) : Type 0 where
   pub proof : IsProofOf files a failed checked
   pub safe : IsSafe checked
-  pub warned : AreWarnings files a failed warnings
+  pub warned : AreWarnings files a.table a.anacrontab failed warnings
 
 -- what `check` answers; its status is 0 only where the files denote a plan that is safe
 pub record IsChecked (a : AskedCheck) (files : List ℕ → Option (List ℕ)) (before failed : Failed)

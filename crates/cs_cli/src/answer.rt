@@ -21,7 +21,7 @@ pub enum Answer<'a> {
 pub struct Order<'a> {
     /// The plan, with the certificate that the checker has accepted.
     pub checked: Checked,
-    /// What is to be warned of.
+    /// What is to be warned of, and behind it the notes on the plan.
     pub warnings: Bytes,
     /// The path of a folder of stamps.
     pub stamps: &'a str,

@@ -1,10 +1,11 @@
 //! The subcommand `check`.
-ghost use Rattle.std.specs.Prelude.{◌≡◌, ◌≢◌, ◌∷◌, [], IfErr, IfOk, None, OnOk, Some};
+ghost use Rattle.std.specs.Prelude.{◌≡◌, ◌≢◌, ◌∷◌, ◌++◌, [], IfErr, IfOk, None, OnOk, Some};
 ghost use Rattle.std.specs.Result.{result_map_both};
 ghost use Rattle.cs_check.specs.Checked.{certificate_in, plan_in};
 ghost use Rattle.cs_cert.specs.Certificate.{content};
 ghost use Rattle.cs_check.specs.Case.{fault_of};
 ghost use Rattle.cs_report.specs.Told.{told};
+ghost use Rattle.cs_report.specs.Warning.{plan_notes};
 ghost use Rattle.cs_args.specs.Asked.{asked_check};
 ghost use Rattle.cs_io.specs.Files.{AreReadInTurn, IsFresh, IsReadAlone};
 ghost use Rattle.cs_cli.specs.Check.{AnswersCheck, AreRead, IfAccepted, IfEnded, Judges};
@@ -24,9 +25,9 @@ use cs_check::{CheckError, CheckFault, Checked, check_parallel};
 use cs_civil::Bytes;
 use cs_crontab::Crontab;
 use cs_decl::Plan;
-use cs_files::{Fault, RanOut, Response, bytes_at, declared_plan_from, read_tables};
+use cs_files::{Fault, RanOut, Response, bytes_at, declared_plan_from, read_tables, text_behind};
 use cs_io::Inputs;
-use cs_report::{fault_text, warnings};
+use cs_report::{fault_text, plan_notes, warnings};
 use std::alloc::{AllocError, Global};
 use std::thread::Threads;
 
@@ -59,14 +60,14 @@ fn certificate_from<'a, I: Inputs>(
     certificate_in(alloc, bytes.as_slice())
 }
 
-/// What is answered of a rule that is broken.
+/// What is answered of a rule that is broken, beside the notes on the plan.
 #[tactic(auto, unfolding(crate::specs::Check::verdict_text))]
 fn refusal(alloc: Global, plan: &Plan, fault: &CheckFault) -> Result<Response, AllocError>
     ensures { IfOk result (λ answer. answer ≡ verdict plan.now (Some (told fault.now))) }
 {
     let mut text = Vec::from_slice(alloc, fault_text(alloc, plan, fault)?.as_slice())?;
     text.extend_from_slice(b"\n")?;
-    Ok(Response::refused(text, Bytes::new(alloc)))
+    Ok(Response::refused(text, plan_notes(alloc, plan)?))
 }
 
 /// What the checker rules, by as many threads as the machine has processors: the plan and the
@@ -165,19 +166,36 @@ pub(crate) fn examine<R: Threads + Sync, I: Inputs>(
     };
     match ruling {
         Ok(checked) => Ok(Examined::Accepted(checked, warnings)),
-        Err(answer) => Ok(Examined::Ended(answer.behind(warnings))),
+        Err(answer) => Ok(Examined::Ended(answer.behind(warnings)?)),
+    }
+}
+
+/// The notes on a plan behind what is to be warned of. If memory runs out, the warnings are kept.
+pub(crate) fn notes_behind(alloc: Global, plan: &Plan, warnings: Bytes) -> Result<Bytes, RanOut>
+    ensures told { IfOk result (λ text. text ≡ warnings ++ plan_notes plan.now) }
+    ensures warned { IfErr result (λ e. e.warnings ≡ Some warnings) }
+{
+    match plan_notes(alloc, plan) {
+        Ok(notes) => text_behind(warnings, notes.as_slice()),
+        Err(AllocError) => Err(RanOut {
+            warnings: Some(warnings),
+        }),
     }
 }
 
 /// What is answered where no rule is broken, behind what is to be warned of. If memory runs out,
 /// the warnings are told all the same.
 #[tactic(auto, unfolding(crate::specs::Check::safe_text))]
-fn acceptance(alloc: Global, warnings: Bytes) -> Result<Response, RanOut>
-    ensures told { IfOk result (λ answer. answer ≡ done safe_text warnings) }
+fn acceptance(alloc: Global, plan: &Plan, warnings: Bytes) -> Result<Response, RanOut>
+    ensures told { IfOk result
+        (λ answer. answer ≡ done safe_text (warnings ++ plan_notes plan.now)) }
     ensures warned { IfErr result (λ e. e.warnings ≡ Some warnings) }
 {
     match Vec::from_slice(alloc, b"safe\n".as_slice()) {
-        Ok(text) => Ok(Response::done(text, warnings)),
+        Ok(text) => match notes_behind(alloc, plan, warnings) {
+            Ok(told) => Ok(Response::done(text, told)),
+            Err(ran_out) => Err(ran_out),
+        },
         Err(AllocError) => Err(RanOut {
             warnings: Some(warnings),
         }),
@@ -206,7 +224,7 @@ pub fn answer_check<R: Threads + Sync, I: Inputs>(
         (I.reads inputs.old) (I.reads inputs.new) }
 {
     match examine(rt, alloc, request, inputs)? {
-        Examined::Accepted(_checked, warnings) => acceptance(alloc, warnings),
+        Examined::Accepted(checked, warnings) => acceptance(alloc, checked.plan(), warnings),
         Examined::Ended(answer) => Ok(answer),
     }
 }

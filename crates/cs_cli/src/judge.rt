@@ -11,13 +11,12 @@ ghost use Rattle.cs_files.specs.Turn.{judge_paths};
 
 use cs_anacrontab::Anacrontab;
 use cs_args::{JudgeWords, MakeWords};
-use cs_civil::Bytes;
 use cs_crontab::Crontab;
 use cs_decl::Plan;
 use cs_files::{Fault, RanOut, Response, Status, declared_plan_from, read_tables};
 use cs_io::Inputs;
 use cs_judge::{Outcome, Wanted, answer, judge};
-use cs_report::warnings;
+use cs_report::{plan_notes, warnings};
 use std::alloc::{AllocError, Global};
 use std::thread::Threads;
 
@@ -33,7 +32,7 @@ fn status_for(outcome: Outcome) -> Status
     }
 }
 
-/// What is answered of a plan.
+/// What is answered of a plan, beside the notes on it.
 fn judged<R: Threads + Sync>(
     rt: &R,
     alloc: Global,
@@ -42,9 +41,10 @@ fn judged<R: Threads + Sync>(
 ) -> Result<Response, AllocError>
     ensures { IfOk result (IsJudged wanted plan.now) }
 {
+    let notes = plan_notes(alloc, plan)?;
     let judged = judge(rt, alloc, plan, wanted);
     let (outcome, text) = answer(alloc, plan, wanted, &judged)?;
-    Ok(Response::told(status_for(outcome), text, Bytes::new(alloc)))
+    Ok(Response::told(status_for(outcome), text, notes))
 }
 
 /// What is answered once both tables were read.
@@ -94,7 +94,7 @@ fn answer_wanted<R: Threads + Sync, I: Inputs>(
     };
     let warnings = warnings(alloc, &table, &jobs)?;
     match told(rt, alloc, inputs, request, wanted, table, jobs) {
-        Ok(answer) => Ok(answer.behind(warnings)),
+        Ok(answer) => answer.behind(warnings),
         Err(fault) => fault.response_behind(alloc, warnings),
     }
 }

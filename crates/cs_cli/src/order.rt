@@ -8,7 +8,7 @@ ghost use Rattle.cs_files.specs.Trouble.{IsHonest};
 ghost use Rattle.cs_files.specs.Turn.{check_paths};
 
 use crate::answer::{Answer, Order};
-use crate::check::{Examined, examine};
+use crate::check::{Examined, examine, notes_behind};
 use cs_args::RunWords;
 use cs_files::RanOut;
 use cs_io::Inputs;
@@ -36,12 +36,15 @@ pub fn answer_run<'a, R: Threads + Sync, I: Inputs>(
         (I.reads inputs.old) (I.reads inputs.new) }
 {
     match examine(rt, alloc, &request.check, inputs)? {
-        Examined::Accepted(checked, warnings) => Ok(Answer::Runs(Order {
-            checked,
-            warnings,
-            stamps: request.stamps,
-            minutes: request.minutes,
-        })),
+        Examined::Accepted(checked, warnings) => {
+            let warnings = notes_behind(alloc, checked.plan(), warnings)?;
+            Ok(Answer::Runs(Order {
+                checked,
+                warnings,
+                stamps: request.stamps,
+                minutes: request.minutes,
+            }))
+        }
         Examined::Ended(answer) => Ok(Answer::Ends(answer)),
     }
 }

@@ -8,7 +8,7 @@ use Rattle.cs_history.specs.Lists.{number_of}
 use Rattle.cs_history.specs.Names.{AreNamed, jobs_left}
 use Rattle.cs_history.specs.Plan.{Plan, IsPlan, by_delay, is_cron, shares, takes as takes_by, takes_lock}
 use Rattle.cs_history.specs.declared.mode.Mode.{Mode}
-use Rattle.cs_history.specs.declared.mode.Mode.TheVariants.{Plain, Skip, Wait, Shared}
+use Rattle.cs_history.specs.declared.mode.Mode.TheVariants.{Plain, Skip, Try, Wait, Shared}
 use Rattle.cs_locks.proofs.PlanHolds.{takes_hold}
 use Rattle.cs_history.specs.Step.{State, after, is_catchable, is_turn, refusal}
 use Rattle.cs_history.specs.declared.event.Event.TheVariants.{Minute, Begin, Got, Catch, End, Down, Up}
@@ -223,6 +223,7 @@ waits_take p rs j plan is =
     of_mode : (m : Mode) → when_held m ≡ Waits → takes_by m ≡ true
     of_mode Plain e = absurd (cc)
     of_mode Skip e = absurd (cc)
+    of_mode Try e = absurd (cc)
     of_mode Wait e = refl
     of_mode Shared e = refl
 

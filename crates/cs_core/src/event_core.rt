@@ -201,9 +201,8 @@ impl Core {
         }
         match self.rules.mode(job) {
             Mode::Plain => true,
-            Mode::Skip => false,
-            Mode::Wait => false,
-            Mode::Shared => false,
+            Mode::Skip | Mode::Try => false,
+            Mode::Wait | Mode::Shared => false,
         }
     }
 

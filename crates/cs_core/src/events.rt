@@ -92,9 +92,8 @@ impl Core {
         }
         match self.rules.mode(job) {
             Mode::Plain => self.begin_run(job),
-            Mode::Skip => Ok(self.begin_skipped(job)),
-            Mode::Wait => self.begin_waiting(job),
-            Mode::Shared => self.begin_waiting(job),
+            Mode::Skip | Mode::Try => Ok(self.begin_skipped(job)),
+            Mode::Wait | Mode::Shared => self.begin_waiting(job),
         }
     }
 

@@ -44,8 +44,7 @@ fn hold_in(mode: Mode, group: u8) -> Hold
 {
     match mode {
         Mode::Plain => Hold::Nothing,
-        Mode::Skip => Hold::Alone(group),
-        Mode::Wait => Hold::Alone(group),
+        Mode::Skip | Mode::Try | Mode::Wait => Hold::Alone(group),
         Mode::Shared => Hold::Shared(group),
     }
 }

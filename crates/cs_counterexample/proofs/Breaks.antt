@@ -9,9 +9,9 @@ use Rattle.cs_history.specs.declared.event.Event.{Event}
 use Rattle.cs_history.specs.declared.event.Event.TheVariants.{Minute, Begin, Got, Catch, End, Down, Up}
 use Rattle.cs_history.proofs.Lists.{pairs-filter, total-filter, total_push}
 use Rattle.cs_counterexample.specs.declared.shown.Shown.{Shown}
-use Rattle.cs_counterexample.specs.declared.shown.Shown.TheVariants.{Together, Skipped}
+use Rattle.cs_counterexample.specs.declared.shown.Shown.TheVariants.{Together}
 use Rattle.std.specs.Option.{option_or}
-use Rattle.cs_counterexample.specs.Break.{clash, clash_of, first_clash, weight_of, overload, overload_of, break_among, skip_of, skip_by}
+use Rattle.cs_counterexample.specs.Break.{clash, clash_of, first_clash, weight_of, overload, overload_of, break_among, skip_shown, skip_of, skip_by}
 use Rattle.cs_counterexample.specs.FirstBreak.{AreFine}
 use Rattle.cs_counterexample.specs.Trial.{break_from, run_by, clash_before, break_by_run, break_by_start, break_by_reply}
 use Rattle.cs_counterexample.proofs.Safety.{neither, both_none, unless_some, apart_if, if_apart, light_if, if_light}
@@ -58,13 +58,13 @@ break-filter p t rs e =
     (if_apart p (filter t rs) (pairs-filter (AreFine p) t rs (apart_if p rs h.0)))
     (if_light p (filter t rs) (omega (arith, total-filter t (λ (x : Going). p.weight x.run.job) rs, light_if p rs h.1)))
 
-begin_break : (p : Plan) (rs : List Going) (j t : ℕ) (at_start : Option Shown) (a : Answer) → break_among p rs ≡ None → at_start ≡ break_among p (rs ++ going j t t ∷ []) → break_by_reply (said a (run_of j t)) (Some (run_of j t)) at_start ≡ option_or (break_among p (with_started a rs (going j t t))) (skip_of a j t)
+begin_break : (p : Plan) (rs : List Going) (j t : ℕ) (at_start : Option Shown) (a : Answer) → break_among p rs ≡ None → at_start ≡ break_among p (rs ++ going j t t ∷ []) → break_by_reply p (said a (run_of j t)) (Some (run_of j t)) at_start ≡ option_or (break_among p (with_started a rs (going j t t))) (skip_of p a j t)
 begin_break p rs j t at_start Starts b s = s ∙ sym (or_none (break_among p (rs ++ going j t t ∷ [])))
 begin_break p rs j t at_start Waits b s = sym (none_or (break_among p rs) None b)
-begin_break p rs j t at_start Skips b s = sym (none_or (break_among p rs) (Some (Skipped j t)) b)
+begin_break p rs j t at_start Skips b s = sym (none_or (break_among p rs) (skip_shown p j t) b)
 
 -- what is broken by an event that is replied to, where nothing was broken before
-pub break_is : (p : Plan) (s : State) (e : Event) (at_start : Option Shown) → break_among p s.running ≡ None → ((r : Run) (since : ℕ) → run_by e s.now ≡ Some r → at_start ≡ break_among p (s.running ++ record { run = r; since = since } ∷ [])) → break_by_reply (reply p s e) (run_by e s.now) at_start ≡ break_from p s e
+pub break_is : (p : Plan) (s : State) (e : Event) (at_start : Option Shown) → break_among p s.running ≡ None → ((r : Run) (since : ℕ) → run_by e s.now ≡ Some r → at_start ≡ break_among p (s.running ++ record { run = r; since = since } ∷ [])) → break_by_reply p (reply p s e) (run_by e s.now) at_start ≡ break_from p s e
 break_is p s (Minute t) at_start b f = sym (none_or (break_among p s.running) None b)
 break_is p s (Begin j) at_start b f = begin_break p s.running j s.now at_start (answer p s.running j) b (f (run_of j s.now) s.now refl)
 break_is p s (Got j d) at_start b f = f (run_of j d) s.now refl ∙ sym (or_none (break_among p (s.running ++ going j d s.now ∷ [])))
@@ -74,7 +74,7 @@ break_is p s Down at_start b f = sym (none_or (break_among p s.running) None b)
 break_is p s (Up t) at_start b f = sym (none_or (break_among p s.running) None b)
 
 -- so what was broken first stays known
-pub shown_next : (p : Plan) (s : State) (e : Event) (shown : Option Shown) → (shown ≡ None → break_among p s.running ≡ None) → option_or shown (break_by_reply (reply p s e) (run_by e s.now) (break_by_start p shown s.running (run_by e s.now))) ≡ option_or shown (break_from p s e)
+pub shown_next : (p : Plan) (s : State) (e : Event) (shown : Option Shown) → (shown ≡ None → break_among p s.running ≡ None) → option_or shown (break_by_reply p (reply p s e) (run_by e s.now) (break_by_start p shown s.running (run_by e s.now))) ≡ option_or shown (break_from p s e)
 shown_next p s e (Some x) b = refl
 shown_next p s e None b = break_is p s e (break_by_start p None s.running (run_by e s.now)) (b refl) (λ r since is. ap (λ o. break_by_start p None s.running o) is ∙ break_push p s.running r since (b refl))
 

@@ -1,7 +1,6 @@
 -- Runs that are over their declared time.
-use Rattle.std.proofs.Common.{get_or, length, sym, subst, take, ℕ, ◌+◌, ◌<◌, ◌≤◌, ◌≡◌, true, false, not, List, [], ◌∷◌, ◌++◌, arith, nat_le}
+use Rattle.std.proofs.Common.{ℕ, ◌+◌, ◌<◌, ◌≤◌, ◌≡◌, true, false, not, List, [], ◌∷◌, ◌++◌, arith, nat_le}
 use Rattle.std.specs.List.{AllByRecursion}
-use Rattle.std.proofs.lemmas.List.{take_more}
 use Rattle.std.proofs.lemmas.Bool.{leb-true, leb-false, lt-leb}
 use Rattle.cs_history.specs.Plan.{Plan}
 use Rattle.cs_history.specs.History.{History, ◌▸◌, running, Answer, Starts, Waits, Skips, answer, with_started, going, run_of, same_run, IsInTime, IsWithin}

@@ -3,8 +3,9 @@ use Rattle.std.proofs.Common.{ℕ, ◌<◌, ◌≡◌, Bool, true, false, if◌t
 use Rattle.std.specs.List.{AllByRecursion}
 use Rattle.std.proofs.lemmas.Bool.{ltb-true}
 use Rattle.std.proofs.lemmas.List.Sums.{fold_push}
-use Rattle.cs_history.specs.Plan.{Plan}
+use Rattle.cs_history.specs.Plan.{Plan, is_skip}
 use Rattle.cs_history.specs.History.{History, From, ◌▸◌, now, running, Answer, Starts, Waits, Skips, answer, IsSafeNow}
+use Rattle.cs_history.specs.declared.mode.Mode.TheVariants.{Skip}
 use Rattle.cs_history.specs.declared.run.Run.{Run}
 use Rattle.cs_history.specs.declared.run.Going.{Going}
 use Rattle.cs_history.specs.declared.event.Event.{Event}
@@ -14,7 +15,7 @@ use Rattle.cs_counterexample.specs.declared.shown.Shown.TheVariants.{Together, L
 use Rattle.std.specs.Option.{option_or}
 use Rattle.cs_counterexample.specs.Break.{clash, clash_of, first_clash, weight_of, overload_of, break_among, skip_of, skip_by, break_by, first_break}
 use Rattle.cs_counterexample.specs.FirstBreak.{AreFine, IsFirstPair, Breaks, IsFirstBreak}
-use Rattle.cs_counterexample.proofs.Safety.{fine_with, apart_if, safe_if, safe_now_if}
+use Rattle.cs_counterexample.proofs.Safety.{fine_with, apart_if, of_skip, safe_if, safe_now_if}
 
 none_some : (s : Shown) → None ≡ Some s → ⊥
 none_some s e = cc
@@ -99,14 +100,18 @@ has_load : (p : Plan) (n : ℕ) (s : Shown) (b : Bool) → nat_lt p.capacity n �
 has_load p n s true l e = (cc, ltb-true p.capacity n l)
 has_load p n s false l e = absurd (none_some s e)
 
-has_skip : (a : Answer) (j t : ℕ) (s : Shown) → skip_of a j t ≡ Some s → (s ≡ Skipped j t) × (a ≡ Skips)
-has_skip Starts j t s e = absurd (none_some s e)
-has_skip Waits j t s e = absurd (none_some s e)
-has_skip Skips j t s e = (cc, refl)
+shown_if : (b : Bool) (x s : Shown) → (if b then Some x else None) ≡ Some s → (b ≡ true) × (s ≡ x)
+shown_if true x s e = (refl, cc)
+shown_if false x s e = absurd (none_some s e)
+
+has_skip : (p : Plan) (a : Answer) (j t : ℕ) (s : Shown) → skip_of p a j t ≡ Some s → (s ≡ Skipped j t) × ((p.mode j ≡ Skip) × (a ≡ Skips))
+has_skip p Starts j t s e = absurd (none_some s e)
+has_skip p Waits j t s e = absurd (none_some s e)
+has_skip p Skips j t s e = let k = shown_if (is_skip (p.mode j)) (Skipped j t) s e in (k.1, (of_skip (p.mode j) k.0, refl))
 
 skip_breaks : (p : Plan) (h : History) (e : Event) (s : Shown) → IsSafeNow p (h ▸ e) → skip_by p (running p h) (now h) e ≡ Some s → Breaks p h e s
 skip_breaks p h (Minute t) s safe n = absurd (none_some s n)
-skip_breaks p h (Begin j) s safe n = let k = has_skip (answer p (running p h) j) j (now h) s n in subst (λ x. Breaks p h (Begin j) x) (sym k.0) (record { safe = safe; begin = refl; due = refl; skips = k.1 })
+skip_breaks p h (Begin j) s safe n = let k = has_skip p (answer p (running p h) j) j (now h) s n in subst (λ x. Breaks p h (Begin j) x) (sym k.0) (record { safe = safe; begin = refl; due = refl; mode = k.1.0; skips = k.1.1 })
 skip_breaks p h (Got j d) s safe n = absurd (none_some s n)
 skip_breaks p h (Catch j) s safe n = absurd (none_some s n)
 skip_breaks p h (End r) s safe n = absurd (none_some s n)

@@ -1,17 +1,19 @@
 -- What a history breaks first is what makes it unsafe.
 use Rattle.std.proofs.Common.{ℕ, ◌≤◌, ◌≡◌, Bool, true, false, ◌↔◌, if◌then◌else◌, List, [], ◌∷◌, refl, ap, ◌∙◌, arith, Option, Some, None, nat_lt}
 use Rattle.std.specs.List.{AllByRecursion}
-use Rattle.std.proofs.lemmas.Bool.{le-ltb, ltb-false}
+use Rattle.std.proofs.lemmas.Bool.{le-ltb, ltb-false, both_ways, false_from_ne_true}
 use Rattle.cs_history.specs.Lists.{EachPair}
-use Rattle.cs_history.specs.Plan.{Plan}
+use Rattle.cs_history.specs.Plan.{Plan, is_skip}
 use Rattle.cs_history.specs.History.{History, From, ◌▸◌, now, running, Answer, Starts, Waits, Skips, answer, IsSafe, IsSafeNow, IsNoSkip}
+use Rattle.cs_history.specs.declared.mode.Mode.{Mode}
+use Rattle.cs_history.specs.declared.mode.Mode.TheVariants.{Plain, Skip, Try, Wait, Shared}
 use Rattle.cs_history.specs.declared.run.Going.{Going}
 use Rattle.cs_history.specs.declared.event.Event.{Event}
 use Rattle.cs_history.specs.declared.event.Event.TheVariants.{Minute, Begin, Got, Catch, End, Down, Up}
 use Rattle.cs_counterexample.specs.declared.shown.Shown.{Shown}
-use Rattle.cs_counterexample.specs.declared.shown.Shown.TheVariants.{Together, Load}
+use Rattle.cs_counterexample.specs.declared.shown.Shown.TheVariants.{Together, Load, Skipped}
 use Rattle.std.specs.Option.{option_or}
-use Rattle.cs_counterexample.specs.Break.{clash, clash_of, first_clash, weight_of, overload_of, break_among, skip_of, skip_by, break_by, first_break}
+use Rattle.cs_counterexample.specs.Break.{clash, clash_of, first_clash, weight_of, overload_of, break_among, skip_shown, skip_of, skip_by, break_by, first_break}
 use Rattle.cs_counterexample.specs.FirstBreak.{AreFine}
 
 pub neither : (a b : Option Shown) → option_or a b ≡ None → (a ≡ None) × (b ≡ None)
@@ -53,19 +55,29 @@ safe_now_if p h e = let q = neither (first_clash p (running p h)) (overload_of p
 pub if_safe_now : (p : Plan) (h : History) → IsSafeNow p h → break_among p (running p h) ≡ None
 if_safe_now p h s = both_none (first_clash p (running p h)) (overload_of p (running p h)) (if_apart p (running p h) s.apart) (if_light p (running p h) s.load)
 
-no_skip_of : (a : Answer) (j t : ℕ) → skip_of a j t ≡ None → a ≡ Skips → ⊥
-no_skip_of Starts j t e s = cc
-no_skip_of Waits j t e s = cc
-no_skip_of Skips j t e s = cc
+pub of_skip : (m : Mode) → is_skip m ≡ true → m ≡ Skip
+of_skip Plain e = absurd (cc)
+of_skip Skip e = refl
+of_skip Try e = absurd (cc)
+of_skip Wait e = absurd (cc)
+of_skip Shared e = absurd (cc)
 
-skip_of_none : (a : Answer) (j t : ℕ) → (a ≡ Skips → ⊥) → skip_of a j t ≡ None
-skip_of_none Starts j t n = refl
-skip_of_none Waits j t n = refl
-skip_of_none Skips j t n = absurd (n refl)
+no_skip_of : (p : Plan) (a : Answer) (j t : ℕ) → skip_of p a j t ≡ None → p.mode j ≡ Skip → a ≡ Skips → ⊥
+no_skip_of p Starts j t e m s = cc
+no_skip_of p Waits j t e m s = cc
+no_skip_of p Skips j t e m s = both_ways (is_skip (p.mode j)) (unless_some (is_skip (p.mode j)) (Skipped j t) None e).0 (ap is_skip m)
+
+none_shown : (p : Plan) (j t : ℕ) → (p.mode j ≡ Skip → ⊥) → skip_shown p j t ≡ None
+none_shown p j t n = ap (λ (b : Bool). if b then Some (Skipped j t) else None) (false_from_ne_true (is_skip (p.mode j)) (λ e. n (of_skip (p.mode j) e)))
+
+skip_of_none : (p : Plan) (a : Answer) (j t : ℕ) → (p.mode j ≡ Skip → a ≡ Skips → ⊥) → skip_of p a j t ≡ None
+skip_of_none p Starts j t n = refl
+skip_of_none p Waits j t n = refl
+skip_of_none p Skips j t n = none_shown p j t (λ m. n m refl)
 
 no_skip_if : (p : Plan) (h : History) (e : Event) → skip_by p (running p h) (now h) e ≡ None → IsNoSkip p h e
 no_skip_if p h (Minute t) e = tt
-no_skip_if p h (Begin j) e = no_skip_of (answer p (running p h) j) j (now h) e
+no_skip_if p h (Begin j) e = no_skip_of p (answer p (running p h) j) j (now h) e
 no_skip_if p h (Got j d) e = tt
 no_skip_if p h (Catch j) e = tt
 no_skip_if p h (End r) e = tt
@@ -74,7 +86,7 @@ no_skip_if p h (Up t) e = tt
 
 if_no_skip : (p : Plan) (h : History) (e : Event) → IsNoSkip p h e → skip_by p (running p h) (now h) e ≡ None
 if_no_skip p h (Minute t) n = refl
-if_no_skip p h (Begin j) n = skip_of_none (answer p (running p h) j) j (now h) n
+if_no_skip p h (Begin j) n = skip_of_none p (answer p (running p h) j) j (now h) n
 if_no_skip p h (Got j d) n = refl
 if_no_skip p h (Catch j) n = refl
 if_no_skip p h (End r) n = refl

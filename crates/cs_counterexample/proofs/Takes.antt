@@ -17,10 +17,10 @@ pub taken_as : (old : Tried) (d : Declared) (s : State) (shown : Option Shown) (
 taken_as old d s shown e new a k = subst (λ (x : Tried). IsTaken (as_plan x.plan) e x new) a k
 
 -- what is known to be broken after an event that was taken
-pub shown_as : (p : Plan) (s : State) (e : Event) (shown : Option Shown) (r : Reply) (t : ℕ) (run : Option Run) (at b new : Option Shown) → (shown ≡ None → break_among p s.running ≡ None) → r ≡ reply p s e → t ≡ s.now → run ≡ run_by e t → at ≡ break_by_start p shown s.running run → b ≡ break_by_reply r run at → new ≡ option_or shown b → new ≡ option_or shown (break_from p s e)
+pub shown_as : (p : Plan) (s : State) (e : Event) (shown : Option Shown) (r : Reply) (t : ℕ) (run : Option Run) (at b new : Option Shown) → (shown ≡ None → break_among p s.running ≡ None) → r ≡ reply p s e → t ≡ s.now → run ≡ run_by e t → at ≡ break_by_start p shown s.running run → b ≡ break_by_reply p r run at → new ≡ option_or shown b → new ≡ option_or shown (break_from p s e)
 shown_as p s e shown r t run at b new quiet r_is t_is run_is at_is b_is new_is =
     let started : run ≡ run_by e s.now = run_is ∙ ap (λ n. run_by e n) t_is in
     let at_start : at ≡ break_by_start p shown s.running (run_by e s.now) = at_is ∙ ap (λ o. break_by_start p shown s.running o) started in
-    let broken : b ≡ break_by_reply (reply p s e) (run_by e s.now) (break_by_start p shown s.running (run_by e s.now)) =
-    b_is ∙ ap (λ x. break_by_reply x run at) r_is ∙ ap (λ o. break_by_reply (reply p s e) o at) started ∙ ap (λ o. break_by_reply (reply p s e) (run_by e s.now) o) at_start in
+    let broken : b ≡ break_by_reply p (reply p s e) (run_by e s.now) (break_by_start p shown s.running (run_by e s.now)) =
+    b_is ∙ ap (λ x. break_by_reply p x run at) r_is ∙ ap (λ o. break_by_reply p (reply p s e) o at) started ∙ ap (λ o. break_by_reply p (reply p s e) (run_by e s.now) o) at_start in
     new_is ∙ ap (λ o. option_or shown o) broken ∙ shown_next p s e shown quiet

@@ -2,7 +2,7 @@
 use Rattle.std.specs.Prelude.{ℕ, Bool, not, ◌&&◌, List, [], ◌∷◌, Option, Some, None, if◌then◌else◌, nat_lt}
 use Rattle.std.specs.Option.{option_or}
 use Rattle.cs_history.specs.Lists.{total}
-use Rattle.cs_history.specs.Plan.{Plan, rivals, both_share}
+use Rattle.cs_history.specs.Plan.{Plan, rivals, both_share, is_skip}
 use Rattle.cs_history.specs.History.{History, From, ◌▸◌, now, running, Answer, Starts, Waits, Skips, answer}
 use Rattle.cs_history.specs.declared.run.Going.{Going}
 use Rattle.cs_history.specs.declared.event.Event.{Event}
@@ -42,16 +42,20 @@ overload_of p rs = overload p (weight_of p rs)
 abbrev pub break_among : Plan → List Going → Option Shown
 break_among p rs = option_or (first_clash p rs) (overload_of p rs)
 
--- a run that is skipped, since its lock is held (flock(1), -n)
-abbrev pub skip_of : Answer → ℕ → ℕ → Option Shown
-skip_of Starts j t = None
-skip_of Waits j t = None
-skip_of Skips j t = Some (Skipped j t)
+-- the run of a job of mode skip; one of mode try may be skipped
+abbrev pub skip_shown : Plan → ℕ → ℕ → Option Shown
+skip_shown p j t = if is_skip (p.mode j) then Some (Skipped j t) else None
 
--- the run that the event has give up, where these run at minute t
+-- a run of mode skip that is skipped, since its lock is held (flock(1), -n)
+abbrev pub skip_of : Plan → Answer → ℕ → ℕ → Option Shown
+skip_of p Starts j t = None
+skip_of p Waits j t = None
+skip_of p Skips j t = skip_shown p j t
+
+-- the run of mode skip that the event has give up, where these run at minute t
 abbrev pub skip_by : Plan → List Going → ℕ → Event → Option Shown
 skip_by p rs t (Minute u) = None
-skip_by p rs t (Begin j) = skip_of (answer p rs j) j t
+skip_by p rs t (Begin j) = skip_of p (answer p rs j) j t
 skip_by p rs t (Got j d) = None
 skip_by p rs t (Catch j) = None
 skip_by p rs t (End r) = None

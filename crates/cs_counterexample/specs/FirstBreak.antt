@@ -4,6 +4,7 @@ use Rattle.std.specs.List.{AllByRecursion}
 use Rattle.cs_history.specs.Lists.{EachPair}
 use Rattle.cs_history.specs.Plan.{Plan}
 use Rattle.cs_history.specs.History.{History, ◌▸◌, now, running, Skips, answer, IsSafe, IsSafeNow}
+use Rattle.cs_history.specs.declared.mode.Mode.TheVariants.{Skip}
 use Rattle.cs_history.specs.declared.run.Run.{Run}
 use Rattle.cs_history.specs.declared.run.Going.{Going}
 use Rattle.cs_history.specs.declared.event.Event.{Event}
@@ -39,11 +40,13 @@ pub record IsOverload (p : Plan) (rs : List Going) (n : ℕ) : Type 0 where
   pub weight : n ≡ weight_of p rs
   pub more : p.capacity < n
 
--- the event begins job j at minute t, which finds its lock held and is skipped; what runs then may
+-- the event begins job j, of mode skip, at minute t; it finds its lock held and is skipped; what
+-- runs then may
 pub record IsSkip (p : Plan) (h : History) (e : Event) (j t : ℕ) : Type 0 where
   pub safe : IsSafeNow p (h ▸ e)
   pub begin : e ≡ Begin j
   pub due : t ≡ now h
+  pub mode : p.mode j ≡ Skip
   pub skips : answer p (running p h) j ≡ Skips
 
 -- the event breaks this after the history

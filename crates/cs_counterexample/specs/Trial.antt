@@ -1,5 +1,5 @@
 -- A history that is tried event by event.
-use Rattle.std.specs.Prelude.{◌≡◌, ℕ, ◌+◌, ◌≤◌, Bool, true, false, List, [], ◌∷◌, Option, Some, None, if◌then◌else◌, nat_le, option_map, ⊤}
+use Rattle.std.specs.Prelude.{◌≡◌, ℕ, ◌+◌, ◌≤◌, Bool, true, false, List, [], ◌∷◌, Option, Some, None, if◌then◌else◌, nat_le, ⊤}
 use Rattle.std.specs.List.{AllByRecursion, list_any}
 use Rattle.std.specs.Option.{option_or}
 use Rattle.cs_decl.specs.Plan.{Declared, as_plan}
@@ -14,9 +14,9 @@ use Rattle.cs_history.specs.declared.reply.Reply.{Reply}
 use Rattle.cs_history.specs.declared.reply.Reply.TheVariants as replies
 use Rattle.cs_history.specs.declared.refusal.Refusal.{Refusal}
 use Rattle.cs_history.specs.declared.refusal.Refusal.TheVariants as refusals
-use Rattle.cs_counterexample.specs.Break.{clash, weight_of, overload, break_among, skip_by}
+use Rattle.cs_counterexample.specs.Break.{clash, weight_of, overload, break_among, skip_by, skip_shown}
 use Rattle.cs_counterexample.specs.declared.shown.Shown.{Shown}
-use Rattle.cs_counterexample.specs.declared.shown.Shown.TheVariants.{Together, Skipped}
+use Rattle.cs_counterexample.specs.declared.shown.Shown.TheVariants.{Together}
 use Rattle.cs_counterexample.specs.declared.shown.NotShown.{NotShown}
 use Rattle.cs_counterexample.specs.declared.shown.NotShown.TheVariants.{Illegal, Late, NothingBroken, OutOfMemory}
 
@@ -93,15 +93,20 @@ break_by_start p None rs (Some r) = break_by_run p rs r
 abbrev pub break_at_start : Tried → Option Run → Option Shown
 break_at_start t run = break_by_start (as_plan t.plan) t.shown t.state.running run
 
+-- what it breaks that the run is skipped, if it is one
+abbrev pub break_by_skip : Plan → Option Run → Option Shown
+break_by_skip p None = None
+break_by_skip p (Some r) = skip_shown p r.job r.at
+
 -- what an event breaks that is so replied to, where its run would break at_start
-abbrev pub break_by_reply : Reply → Option Run → Option Shown → Option Shown
-break_by_reply replies.Clock run at_start = None
-break_by_reply (replies.Started r) run at_start = at_start
-break_by_reply replies.Waiting run at_start = None
-break_by_reply replies.Skipped run at_start = option_map (λ r. Skipped r.job r.at) run
-break_by_reply (replies.Ended b) run at_start = None
-break_by_reply replies.Went run at_start = None
-break_by_reply replies.Came run at_start = None
+abbrev pub break_by_reply : Plan → Reply → Option Run → Option Shown → Option Shown
+break_by_reply p replies.Clock run at_start = None
+break_by_reply p (replies.Started r) run at_start = at_start
+break_by_reply p replies.Waiting run at_start = None
+break_by_reply p replies.Skipped run at_start = break_by_skip p run
+break_by_reply p (replies.Ended b) run at_start = None
+break_by_reply p replies.Went run at_start = None
+break_by_reply p replies.Came run at_start = None
 
 -- none of these is over its declared time before minute d
 abbrev pub IsDeadline : Plan → ℕ → List Going → Type 0

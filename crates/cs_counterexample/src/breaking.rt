@@ -1,11 +1,11 @@
-//! What an event breaks: by the run that it starts, or by one that is skipped. No other event
-//! breaks anything, since fewer runs break no more.
+//! What an event breaks: by the run that it starts, or by one of mode skip that is skipped. No other
+//! event breaks anything, since fewer runs break no more.
 ghost use Rattle.std.specs.Prelude.{◌≡◌, ◌≤◌, ◌<◌};
 ghost use Rattle.cs_decl.specs.Plan.{as_plan};
 ghost use Rattle.cs_counterexample.specs.Break.{weight_of};
-ghost use Rattle.cs_counterexample.specs.Trial.{break_by_reply, break_by_run, clash_before, run_by};
+ghost use Rattle.cs_counterexample.specs.Trial.{break_by_reply, break_by_run, break_by_skip, clash_before, run_by};
 
-use crate::rules::{clash, weight};
+use crate::rules::{clash, is_skip, weight};
 use crate::shown::Shown;
 use cs_decl::Plan;
 use cs_history::{Event, Reply, Run};
@@ -66,20 +66,28 @@ pub(crate) fn break_by_run(plan: &Plan, earlier: &Roster, run: Run) -> Option<Sh
     None
 }
 
+/// What it breaks that the run is skipped, if it is one: nothing, unless it is of mode skip.
+fn break_by_skip(plan: &Plan, run: Option<Run>) -> Option<Shown>
+    ensures { result ≡ break_by_skip (as_plan plan.now) run }
+{
+    match run {
+        Some(run) if is_skip(plan, run.job) => Some(Shown::Skipped(run.job, run.at)),
+        _ => None,
+    }
+}
+
 /// What an event with this reply breaks, if its run would break `at_start`.
 pub(crate) fn break_by_reply(
+    plan: &Plan,
     reply: Reply,
     run: Option<Run>,
     at_start: Option<Shown>,
 ) -> Option<Shown>
-    ensures { result ≡ break_by_reply reply run at_start }
+    ensures { result ≡ break_by_reply (as_plan plan.now) reply run at_start }
 {
     match reply {
         Reply::Started(_) => at_start,
-        Reply::Skipped => match run {
-            Some(run) => Some(Shown::Skipped(run.job, run.at)),
-            None => None,
-        },
+        Reply::Skipped => break_by_skip(plan, run),
         Reply::Clock => None,
         Reply::Waiting => None,
         Reply::Ended(_) => None,

@@ -1,7 +1,7 @@
 //! The plan's rules for jobs by number; past the last job, those of a history.
 ghost use Rattle.std.specs.Prelude.{◌≡◌};
 ghost use Rattle.cs_decl.specs.Plan.{as_plan};
-ghost use Rattle.cs_history.specs.Plan.{same_group};
+ghost use Rattle.cs_history.specs.Plan.{is_skip, same_group};
 ghost use Rattle.cs_counterexample.specs.Break.{clash};
 
 use cs_decl::Plan;
@@ -16,6 +16,13 @@ pub(crate) fn weight(plan: &Plan, job: u16) -> u8
     ensures { result ≡ (as_plan plan.now).weight job }
 {
     plan.job_at(job).weight()
+}
+
+/// Whether a run of the job breaks the plan by being skipped.
+pub(crate) fn is_skip(plan: &Plan, job: u16) -> bool
+    ensures { result ≡ is_skip ((as_plan plan.now).mode job) }
+{
+    plan.job_at(job).mode().is_skip()
 }
 
 /// The job's declared time, in minutes.

@@ -99,7 +99,8 @@ impl Trial {
             Err(refusal) => Err(fault_of(number, refusal)),
             Ok(reply) => {
                 self.deadline = deadline_of(self.core.plan(), self.deadline, reply, now);
-                self.shown = self.shown.or(break_by_reply(reply, run, at_start));
+                let broken = break_by_reply(self.core.plan(), reply, run, at_start);
+                self.shown = self.shown.or(broken);
                 Ok(())
             }
         }

@@ -8,3 +8,4 @@ pub mod Entries
 pub mod Failures
 pub mod Tables
 pub mod Pieces
+pub mod Without

@@ -1,5 +1,6 @@
 -- The content of a crontab.
-use Rattle.std.specs.Prelude.{ℕ, List, [], ◌∷◌, ◌++◌, length, AllPairs, ◌<◌, ◌≤◌}
+use Rattle.std.specs.Prelude.{ℕ, List, [], ◌∷◌, ◌++◌, length, AllPairs, ◌<◌, ◌≤◌, ◌==◌, not}
+use Rattle.std.specs.List.{filter, list_any}
 use Rattle.cs_table.specs.Setting.{SettingLine}
 use Rattle.cs_crontab.specs.declared.table.When.{When}
 use Rattle.cs_crontab.specs.declared.limits.TheConstants.{MAX_COMMANDS}
@@ -40,3 +41,10 @@ pub record IsOrdered (table : Table) : Type 0 where
   pub few : length table.lines ≤ MAX_COMMANDS
   pub rising : AllPairs (λ x y. x.number < y.number) table.lines
   pub settings_rising : AllPairs (λ x y. x.number < y.number) table.settings
+
+-- the table without the commands on the lines of these numbers
+abbrev pub without : List ℕ → Table → Table
+without numbers table = record {
+  settings = table.settings;
+  lines = filter (λ line. not (list_any (λ n. n == line.number) numbers)) table.lines;
+}

@@ -1,4 +1,5 @@
-ghost use Rattle.std.specs.Prelude.{◌≡◌, ◌<◌, ◌≤◌, length, map, All, AllPairs, IfOk};
+ghost use Rattle.std.specs.Prelude.{◌≡◌, ◌<◌, ◌≤◌, ◌==◌, not, length, map, All, AllPairs, IfOk};
+ghost use Rattle.std.specs.List.{filter, list_any};
 ghost use Rattle.cs_table.specs.Environment.{above, names_of, first_places, IsLast};
 ghost use Rattle.cs_crontab.specs.declared.limits.TheConstants.{MAX_COMMANDS};
 
@@ -97,6 +98,25 @@ fn copy_lines(alloc: Global, lines: &[Line]) -> Result<Sequence<Line>, AllocErro
     Ok(copies)
 }
 
+fn is_among(numbers: &[u32], line: &Line) -> bool
+    ensures { result ≡ list_any (λ n. n == line.now.number) numbers.now }
+{
+    numbers.iter().any(|number| *number == line.number())
+}
+
+fn keep_others(lines: Vec<Line>, numbers: &[u32]) -> Vec<Line>
+    ensures { result.items
+        ≡ filter (λ line. not (list_any (λ n. n == line.number) numbers.now)) lines.items }
+{
+    let mut kept = lines;
+    kept.retain(
+        |line: &Line| -> bool
+            ensures { result ≡ not (list_any (λ n. n == line.now.number) numbers.entry.now) }
+        { !is_among(numbers, line) },
+    );
+    kept
+}
+
 /// A crontab: its settings, and at most [`MAX_COMMANDS`](crate::MAX_COMMANDS) commands, by line.
 #[derive(Debug, Drop)]
 pub struct Crontab {
@@ -115,7 +135,7 @@ impl Model for Crontab {
 }
 
 impl Crontab {
-    ghost use Rattle.cs_crontab.specs.Crontab.{IsOrdered};
+    ghost use Rattle.cs_crontab.specs.Crontab.{IsOrdered, without};
 
     pub(crate) fn new(settings: Sequence<Setting>, lines: Sequence<Line>) -> Crontab
         requires { IsOrdered (record { settings = settings; lines = lines }) }
@@ -135,6 +155,20 @@ impl Crontab {
             variables: copy_settings(alloc, self.variables.as_slice())?,
             commands: copy_lines(alloc, self.commands.as_slice())?,
         })
+    }
+
+    /// Takes out the commands on the lines of these numbers, without allocating. Settings stay.
+    pub fn without(self, numbers: &[u32]) -> Crontab
+        ensures { result ≡ without numbers.now self }
+    {
+        let Crontab {
+            variables,
+            commands,
+        } = self;
+        Crontab {
+            variables,
+            commands: Sequence::from_vec(keep_others(commands.into_vec(), numbers)),
+        }
     }
 
     /// Returns the settings, in order of line.

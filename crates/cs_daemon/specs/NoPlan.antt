@@ -14,4 +14,6 @@ no_plan = record {
   hours = record { from = 0; to = 1 };
   pass = None;
   offset = pos 0;
+  left_out = [];
+  defaulted = 0;
 }

@@ -3,14 +3,13 @@ use Rattle.std.proofs.Common.{◌≡◌, ◌⊎◌, inl, inr, List, [], ◌∷�
 use Rattle.std.proofs.lemmas.Bool.Decides.{eqb_tells}
 use Rattle.std.proofs.lemmas.Bool.{and_parts, eqb-true}
 use Rattle.std.specs.Prelude.{position}
-use Rattle.std.specs.Ordering.{int_eq}
 use Rattle.std.specs.List.{list_any}
 use Rattle.cs_decl.specs.declared.limits.TheConstants.{MAX_CAPACITY, MAX_GROUPS}
 use Rattle.cs_decl.specs.declared.fault.DeclFault.{DeclFault}
 use Rattle.cs_decl.specs.declared.fault.DeclFault.TheVariants as faults
 use Rattle.cs_decl.specs.declared.fault.Place.TheVariants.{Group, Cron, Anacron}
 use Rattle.cs_decl.specs.declared.entries.Entries.{Entries}
-use Rattle.cs_decl.specs.Faults.{Fault, is_within, first_again, is_bad_offset, is_bad_max, is_bad_weight, needs_group, is_unlisted, are_bad_hours, is_bad_pass, where_true, twice_declared, bad_numbers, bad_groups, bad_times, faults_of, first_fault}
+use Rattle.cs_decl.specs.Faults.{Fault, is_within, same_number, first_again, is_bad_offset, is_bad_max, is_bad_weight, is_bad_default, needs_group, is_unlisted, are_bad_hours, is_bad_pass, where_true, twice_declared, bad_numbers, bad_groups, bad_times, faults_of, first_fault}
 use Rattle.cs_decl.specs.Law.{passes_at, comes_again, row, index, stands_at, stands, IsNoLater, IsFirst}
 use Rattle.cs_decl.proofs.Positions.{first_at, position_is}
 
@@ -120,11 +119,11 @@ best_step d k (Some f) r here later =
 other_row : (k n : ℕ) → n < k → eqb k n ≡ false
 other_row k n h = ⊎_elim (λ t. let e = t.1 in absurd (omega arith)) (λ t. t.0) (eqb_tells k n)
 
-nothing_past : (d : Entries) (k : ℕ) → 16 ≤ k → (i : ℕ) → stands_at d k i ≡ false
+nothing_past : (d : Entries) (k : ℕ) → 18 ≤ k → (i : ℕ) → stands_at d k i ≡ false
 nothing_past d k past i =
-    rw (other_row k 0 (omega arith), other_row k 1 (omega arith), other_row k 2 (omega arith), other_row k 3 (omega arith), other_row k 4 (omega arith), other_row k 5 (omega arith), other_row k 6 (omega arith), other_row k 7 (omega arith), other_row k 8 (omega arith), other_row k 9 (omega arith), other_row k 10 (omega arith), other_row k 11 (omega arith), other_row k 12 (omega arith), other_row k 13 (omega arith), other_row k 14 (omega arith), other_row k 15 (omega arith)) refl
+    rw (other_row k 0 (omega arith), other_row k 1 (omega arith), other_row k 2 (omega arith), other_row k 3 (omega arith), other_row k 4 (omega arith), other_row k 5 (omega arith), other_row k 6 (omega arith), other_row k 7 (omega arith), other_row k 8 (omega arith), other_row k 9 (omega arith), other_row k 10 (omega arith), other_row k 11 (omega arith), other_row k 12 (omega arith), other_row k 13 (omega arith), other_row k 14 (omega arith), other_row k 15 (omega arith), other_row k 16 (omega arith), other_row k 17 (omega arith)) refl
 
-best_end : (d : Entries) → IsBest d 16 None
+best_end : (d : Entries) → IsBest d 18 None
 best_end d = record { some = λ f h. cc; none = λ h g s above. let f = nothing_past d (row g) above (index g) in cc }
 
 or_else-first : (o : Option Fault) (os : List (Option Fault)) → first_fault (o ∷ os) ≡ or_else o (first_fault os)
@@ -137,20 +136,22 @@ best d =
     simp or_else-first
     (best_step d 0 _ _ (flag_row d 0 (is_bad_offset d.offset) faults.BadShape refl (λ j. refl))
     (best_step d 1 _ _ (place_row d 1 (λ i. (faults.TwiceDeclared, Some (Group i))) _ (λ i. refl) (λ i. refl) (least_twice bytes_eq (map (λ g. g.name) d.groups)))
-    (best_step d 2 _ _ (place_row d 2 (λ i. (faults.TwiceDeclared, Some (Cron i))) _ (λ i. refl) (λ i. refl) (least_twice int_eq (map (λ e. e.line) d.cron)))
+    (best_step d 2 _ _ (place_row d 2 (λ i. (faults.TwiceDeclared, Some (Cron i))) _ (λ i. refl) (λ i. refl) (least_twice same_number (map (λ e. e.name.number) d.cron)))
     (best_step d 3 _ _ (place_row d 3 (λ i. (faults.TwiceDeclared, Some (Anacron i))) _ (λ i. refl) (λ i. refl) (least_twice bytes_eq (map (λ e. e.identifier) d.anacron)))
     (best_step d 4 _ _ (place_row d 4 (λ i. (faults.BadMax, Some (Cron i))) _ (λ i. refl) (λ i. refl) (least_position (λ e. is_bad_max e.max) d.cron))
     (best_step d 5 _ _ (place_row d 5 (λ i. (faults.BadMax, Some (Anacron i))) _ (λ i. refl) (λ i. refl) (least_position (λ e. is_bad_max e.max) d.anacron))
-    (best_step d 6 _ _ (place_row d 6 (λ i. (faults.BadWeight, Some (Cron i))) _ (λ i. refl) (λ i. refl) (least_position (λ e. is_bad_weight e.weight) d.cron))
-    (best_step d 7 _ _ (place_row d 7 (λ i. (faults.BadWeight, Some (Anacron i))) _ (λ i. refl) (λ i. refl) (least_position (λ e. is_bad_weight e.weight) d.anacron))
-    (best_step d 8 _ _ (flag_row d 8 (not (is_within 1 MAX_CAPACITY d.capacity)) faults.BadCapacity refl (λ j. refl))
-    (best_step d 9 _ _ (place_row d 9 (λ i. (faults.ModeNeedsGroup, Some (Cron i))) _ (λ i. refl) (λ i. refl) (least_position needs_group d.cron))
-    (best_step d 10 _ _ (place_row d 10 (λ i. (faults.UnknownGroup, Some (Cron i))) _ (λ i. refl) (λ i. refl) (least_position (λ e. is_unlisted d.groups e.group) d.cron))
-    (best_step d 11 _ _ (place_row d 11 (λ i. (faults.UnknownGroup, Some (Anacron i))) _ (λ i. refl) (λ i. refl) (least_position (λ e. is_unlisted d.groups e.group) d.anacron))
-    (best_step d 12 _ _ (place_row d 12 (λ i. (faults.TooManyGroups, Some (Group i))) _ (λ i. refl) (λ i. refl) (least_many (nat_lt MAX_GROUPS (length d.groups))))
-    (best_step d 13 _ _ (flag_row d 13 (are_bad_hours d.hours) faults.BadHours refl (λ j. refl))
-    (best_step d 14 _ _ (place_row d 14 (λ i. (faults.ModeOnAnacron, Some (Anacron i))) _ (λ i. refl) (λ i. refl) (least_position (λ e. e.has_mode) d.anacron))
-    (best_step d 15 _ _ (flag_row d 15 (is_bad_pass d.pass) faults.BadPassMinute refl (λ j. refl)) (best_end d)))))))))))))))))
+    (best_step d 6 _ _ (flag_row d 6 (is_bad_default (λ e. is_bad_max e.max) d.default) faults.BadMax refl (λ j. refl))
+    (best_step d 7 _ _ (place_row d 7 (λ i. (faults.BadWeight, Some (Cron i))) _ (λ i. refl) (λ i. refl) (least_position (λ e. is_bad_weight e.weight) d.cron))
+    (best_step d 8 _ _ (place_row d 8 (λ i. (faults.BadWeight, Some (Anacron i))) _ (λ i. refl) (λ i. refl) (least_position (λ e. is_bad_weight e.weight) d.anacron))
+    (best_step d 9 _ _ (flag_row d 9 (is_bad_default (λ e. is_bad_weight e.weight) d.default) faults.BadWeight refl (λ j. refl))
+    (best_step d 10 _ _ (flag_row d 10 (not (is_within 1 MAX_CAPACITY d.capacity)) faults.BadCapacity refl (λ j. refl))
+    (best_step d 11 _ _ (place_row d 11 (λ i. (faults.ModeNeedsGroup, Some (Cron i))) _ (λ i. refl) (λ i. refl) (least_position needs_group d.cron))
+    (best_step d 12 _ _ (place_row d 12 (λ i. (faults.UnknownGroup, Some (Cron i))) _ (λ i. refl) (λ i. refl) (least_position (λ e. is_unlisted d.groups e.group) d.cron))
+    (best_step d 13 _ _ (place_row d 13 (λ i. (faults.UnknownGroup, Some (Anacron i))) _ (λ i. refl) (λ i. refl) (least_position (λ e. is_unlisted d.groups e.group) d.anacron))
+    (best_step d 14 _ _ (place_row d 14 (λ i. (faults.TooManyGroups, Some (Group i))) _ (λ i. refl) (λ i. refl) (least_many (nat_lt MAX_GROUPS (length d.groups))))
+    (best_step d 15 _ _ (flag_row d 15 (are_bad_hours d.hours) faults.BadHours refl (λ j. refl))
+    (best_step d 16 _ _ (place_row d 16 (λ i. (faults.ModeOnAnacron, Some (Anacron i))) _ (λ i. refl) (λ i. refl) (least_position (λ e. e.has_mode) d.anacron))
+    (best_step d 17 _ _ (flag_row d 17 (is_bad_pass d.pass) faults.BadPassMinute refl (λ j. refl)) (best_end d)))))))))))))))))))
 
 pub first_is : (d : Entries) (f : Fault) → first_fault (faults_of d) ≡ Some f → IsFirst d f
 first_is d f h = (((best d).some f h).0, λ g s. ((best d).some f h).1 g s (omega arith))

@@ -1,9 +1,15 @@
 pub mod Plans
 pub mod Misreadings
 pub mod Texts
+pub mod Numbers
 pub mod Order
 pub mod Validity
 pub mod Positions
+pub mod Once
+pub mod Rests
+pub mod Joins
 pub mod Wholes
 pub mod Commands
+pub mod Parted
+pub mod JobTerms
 pub mod Firsts

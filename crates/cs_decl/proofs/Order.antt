@@ -3,12 +3,12 @@ use Rattle.std.proofs.Common.{◌≡◌, List, [], ◌∷◌, ◌++◌, false, O
 use Rattle.cs_decl.specs.declared.entries.Entries.{Entries}
 use Rattle.cs_decl.specs.Faults.{Fault, is_bad_offset, twice_declared, bad_numbers, bad_groups, bad_times, faults_of, first_fault}
 
-in_front : (a b : List (Option Fault)) (f : Fault) → first_fault a ≡ Some f → first_fault (a ++ b) ≡ Some f
+pub in_front : (a b : List (Option Fault)) (f : Fault) → first_fault a ≡ Some f → first_fault (a ++ b) ≡ Some f
 in_front [] b f e = absurd cc
 in_front (Some g ∷ a) b f e = e
 in_front (None ∷ a) b f e = in_front a b f e
 
-behind : (a b : List (Option Fault)) → first_fault a ≡ None → first_fault (a ++ b) ≡ first_fault b
+pub behind : (a b : List (Option Fault)) → first_fault a ≡ None → first_fault (a ++ b) ≡ first_fault b
 behind [] b e = refl
 behind (Some g ∷ a) b e = absurd cc
 behind (None ∷ a) b e = behind a b e

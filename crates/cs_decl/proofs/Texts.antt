@@ -17,11 +17,11 @@ now_push : (seen : List (Bor (List ℕ))) (r : Bor (List ℕ)) → map (λ k. k.
 now_push [] r = refl
 now_push (k ∷ seen) r = ap (λ xs. k.now ∷ xs) (now_push seen r)
 
-if_true : {A : Type 0} (b : Bool) (x y : A) → b ≡ true → cond b x y ≡ x
+pub if_true : {A : Type 0} (b : Bool) (x y : A) → b ≡ true → cond b x y ≡ x
 if_true true x y e = refl
 if_true false x y e = cc
 
-if_false : {A : Type 0} (b : Bool) (x y : A) → b ≡ false → cond b x y ≡ y
+pub if_false : {A : Type 0} (b : Bool) (x y : A) → b ≡ false → cond b x y ≡ y
 if_false true x y e = cc
 if_false false x y e = refl
 
@@ -49,7 +49,7 @@ not_false a false e t = cc
 
 -- ---- a set of names
 
-any_push : {X : Type 0} (p : X → Bool) (xs : List X) (y : X) → list_any p (xs ++ y ∷ []) ≡ (list_any p xs || p y)
+pub any_push : {X : Type 0} (p : X → Bool) (xs : List X) (y : X) → list_any p (xs ++ y ∷ []) ≡ (list_any p xs || p y)
 any_push p [] y = or_false (p y)
   where
     or_false : (b : Bool) → (b || false) ≡ b

@@ -10,12 +10,13 @@ use Rattle.cs_decl.specs.declared.fault.DeclFault.TheVariants as faults
 use Rattle.cs_decl.specs.declared.entries.GroupEntry.{GroupEntry}
 use Rattle.cs_decl.specs.declared.entries.CronEntry.{CronEntry}
 use Rattle.cs_decl.specs.declared.entries.AnacronEntry.{AnacronEntry}
+use Rattle.cs_decl.specs.declared.entries.DefaultEntry.{DefaultEntry}
 use Rattle.cs_decl.specs.declared.entries.Entries.{Entries}
-use Rattle.cs_decl.specs.Faults.{Fault, is_within, is_bad_offset, first_twice, is_bad_max, is_bad_weight, needs_group, is_unlisted, are_bad_hours, is_bad_pass, one_too_many, at_anacron, where_true, twice_declared, bad_numbers, bad_groups, bad_times, first_fault}
+use Rattle.cs_decl.specs.Faults.{Fault, is_within, is_bad_offset, first_twice, is_bad_max, is_bad_weight, is_bad_default, needs_group, is_unlisted, are_bad_hours, is_bad_pass, one_too_many, at_anacron, where_true, twice_declared, bad_numbers, bad_groups, bad_times, first_fault}
 use Rattle.cs_decl.specs.Meaning.{IsValid}
 use Rattle.cs_decl.specs.Job.{IsPossible}
 use Rattle.cs_decl.specs.Plan.{IsListed}
-use Rattle.cs_decl.specs.Join.{group_place, cron_terms, anacron_terms}
+use Rattle.cs_decl.specs.Join.{group_place, default_terms, cron_terms, anacron_terms}
 use Rattle.cs_decl.proofs.Positions.{position_none, position_below, any_position, found}
 
 -- ---- no row has a fault
@@ -24,7 +25,7 @@ pub no_row : (o : Option Fault) (os : List (Option Fault)) → first_fault (o �
 no_row None os e = (refl, e)
 no_row (Some f) os e = absurd cc
 
-no_part : (a b : List (Option Fault)) → first_fault (a ++ b) ≡ None → (first_fault a ≡ None) × (first_fault b ≡ None)
+pub no_part : (a b : List (Option Fault)) → first_fault (a ++ b) ≡ None → (first_fault a ≡ None) × (first_fault b ≡ None)
 no_part [] b e = (refl, e)
 no_part (None ∷ a) b e = no_part a b e
 no_part (Some f ∷ a) b e = absurd cc
@@ -42,8 +43,10 @@ pub record Facts (d : Entries) : Type 0 where
   pub distinct : first_twice bytes_eq (map (λ g. g.name) d.groups) ≡ None
   pub cron_max : All (λ e. is_bad_max e.max ≡ false) d.cron
   pub anacron_max : All (λ e. is_bad_max e.max ≡ false) d.anacron
+  pub default_max : is_bad_default (λ e. is_bad_max e.max) d.default ≡ false
   pub cron_weight : All (λ e. is_bad_weight e.weight ≡ false) d.cron
   pub anacron_weight : All (λ e. is_bad_weight e.weight ≡ false) d.anacron
+  pub default_weight : is_bad_default (λ e. is_bad_weight e.weight) d.default ≡ false
   pub capacity : not (is_within 1 MAX_CAPACITY d.capacity) ≡ false
   pub locks : All (λ e. needs_group e ≡ false) d.cron
   pub cron_listed : All (λ e. is_unlisted d.groups e.group ≡ false) d.cron
@@ -65,6 +68,8 @@ facts d v =
     let n2 = no_row _ _ n1.1 in
     let n3 = no_row _ _ n2.1 in
     let n4 = no_row _ _ n3.1 in
+    let n5 = no_row _ _ n4.1 in
+    let n6 = no_row _ _ n5.1 in
     let g0 = no_row _ _ e.0 in
     let g1 = no_row _ _ g0.1 in
     let g2 = no_row _ _ g1.1 in
@@ -77,9 +82,11 @@ facts d v =
       distinct = mapped_none _ _ t0.0;
       cron_max = position_none _ _ (mapped_none _ _ n0.0);
       anacron_max = position_none _ _ (mapped_none _ _ n1.0);
-      cron_weight = position_none _ _ (mapped_none _ _ n2.0);
-      anacron_weight = position_none _ _ (mapped_none _ _ n3.0);
-      capacity = unset _ _ n4.0;
+      default_max = unset _ _ n2.0;
+      cron_weight = position_none _ _ (mapped_none _ _ n3.0);
+      anacron_weight = position_none _ _ (mapped_none _ _ n4.0);
+      default_weight = unset _ _ n5.0;
+      capacity = unset _ _ n6.0;
       locks = position_none _ _ (mapped_none _ _ g0.0);
       cron_listed = position_none _ _ (mapped_none _ _ g1.0);
       anacron_listed = position_none _ _ (mapped_none _ _ g2.0);
@@ -114,8 +121,15 @@ pub locked : (a b : Bool) → (a && b) ≡ false → a ≡ true → b ≡ false
 locked true b e t = e
 locked false b e t = absurd cc
 
-pub cron_possible : (d : Entries) → IsValid d → (place : ℕ) (test : CronEntry → Bool) (o : Option CronEntry) → find test d.cron ≡ o → IsPossible (cron_terms d.groups place o)
-cron_possible d v place test None is = record { max = (omega arith, omega arith); weight = (omega arith, omega arith); lock = λ t. absurd cc }
+pub default_possible : (d : Entries) → IsValid d → (place : ℕ) → IsPossible (default_terms place d.default)
+default_possible d v place = by_default d.default (facts d v).default_max (facts d v).default_weight
+  where
+    by_default : (o : Option DefaultEntry) → is_bad_default (λ e. is_bad_max e.max) o ≡ false → is_bad_default (λ e. is_bad_weight e.weight) o ≡ false → IsPossible (default_terms place o)
+    by_default None max weight = record { max = (omega arith, omega arith); weight = (omega arith, omega arith); lock = λ t. absurd cc }
+    by_default (Some e) max weight = record { max = within_abs 1 MAX_MINUTES e.max (yes _ max); weight = within_abs 1 MAX_WEIGHT e.weight (yes _ weight); lock = λ t. absurd cc }
+
+pub cron_possible : (d : Entries) → IsValid d → (place : ℕ) (test : CronEntry → Bool) (o : Option CronEntry) → find test d.cron ≡ o → IsPossible (cron_terms d place o)
+cron_possible d v place test None is = default_possible d v place
 cron_possible d v place test (Some e) is =
     let f = facts d v in
     let max = within_abs 1 MAX_MINUTES e.max (yes _ (found (λ x. is_bad_max x.max ≡ false) test d.cron e is f.cron_max)) in
@@ -124,8 +138,8 @@ cron_possible d v place test (Some e) is =
     let listed = found (λ x. is_unlisted d.groups x.group ≡ false) test d.cron e is f.cron_listed in
     record { max = max; weight = weight; lock = λ t. placed d.groups e.group (locked _ _ lock t) listed }
 
-pub anacron_possible : (d : Entries) → IsValid d → (place : ℕ) (test : AnacronEntry → Bool) (o : Option AnacronEntry) → find test d.anacron ≡ o → IsPossible (anacron_terms d.groups place o)
-anacron_possible d v place test None is = record { max = (omega arith, omega arith); weight = (omega arith, omega arith); lock = λ t. absurd cc }
+pub anacron_possible : (d : Entries) → IsValid d → (place : ℕ) (test : AnacronEntry → Bool) (o : Option AnacronEntry) → find test d.anacron ≡ o → IsPossible (anacron_terms d place o)
+anacron_possible d v place test None is = default_possible d v place
 anacron_possible d v place test (Some e) is =
     let f = facts d v in
     let max = within_abs 1 MAX_MINUTES e.max (yes _ (found (λ x. is_bad_max x.max ≡ false) test d.anacron e is f.anacron_max)) in
@@ -136,13 +150,17 @@ listed_at : (groups : List GroupEntry) (name : Option (List ℕ)) → IfSome (gr
 listed_at groups None = tt
 listed_at groups (Some n) = position_below (λ g. bytes_eq n g.name) groups
 
-pub cron_listed : (groups : List GroupEntry) (place : ℕ) (o : Option CronEntry) → IsListed (length groups) (cron_terms groups place o)
-cron_listed groups place None = tt
-cron_listed groups place (Some e) = listed_at groups e.group
+default_listed : (groups : List GroupEntry) (place : ℕ) (o : Option DefaultEntry) → IsListed (length groups) (default_terms place o)
+default_listed groups place None = tt
+default_listed groups place (Some e) = tt
 
-pub anacron_listed : (groups : List GroupEntry) (place : ℕ) (o : Option AnacronEntry) → IsListed (length groups) (anacron_terms groups place o)
-anacron_listed groups place None = tt
-anacron_listed groups place (Some e) = listed_at groups e.group
+pub cron_listed : (d : Entries) (place : ℕ) (o : Option CronEntry) → IsListed (length d.groups) (cron_terms d place o)
+cron_listed d place None = default_listed d.groups place d.default
+cron_listed d place (Some e) = listed_at d.groups e.group
+
+pub anacron_listed : (d : Entries) (place : ℕ) (o : Option AnacronEntry) → IsListed (length d.groups) (anacron_terms d place o)
+anacron_listed d place None = default_listed d.groups place d.default
+anacron_listed d place (Some e) = listed_at d.groups e.group
 
 pub capacity_possible : (d : Entries) → IsValid d → (1 ≤ unsigned_abs d.capacity) × (unsigned_abs d.capacity ≤ MAX_CAPACITY)
 capacity_possible d v = within_abs 1 MAX_CAPACITY d.capacity (yes _ (facts d v).capacity)

@@ -17,18 +17,18 @@ use Rattle.cs_history.specs.declared.mode.Mode.TheVariants.{Plain}
 use Rattle.cs_decl.specs.declared.entries.GroupEntry.{GroupEntry}
 use Rattle.cs_decl.specs.declared.entries.CronEntry.{CronEntry}
 use Rattle.cs_decl.specs.declared.entries.AnacronEntry.{AnacronEntry}
+use Rattle.cs_decl.specs.declared.entries.DefaultEntry.{DefaultEntry}
 use Rattle.cs_decl.specs.declared.entries.Entries.{Entries}
 use Rattle.cs_decl.specs.Job.{DeclaredJob, IsPossible}
 use Rattle.cs_decl.specs.Plan.{DeclaredGroup, IsWhole, IsTimed, IsListed, places_of}
-use Rattle.cs_decl.specs.Faults.{first_again, first_twice, first_fault, at_cron, at_anacron}
+use Rattle.cs_decl.specs.Faults.{first_again, first_twice}
 use Rattle.cs_decl.specs.Meaning.{IsValid}
-use Rattle.cs_decl.specs.Join.{is_reboot, is_of_line, is_of_job, cron_terms, anacron_terms, cron_job, anacron_job, jobs_from, declared_group, plan_of, join_faults, at_line, at_job, has_no_line, has_no_job, has_other_command, is_undeclared, is_undeclared_job, reboot_fault}
-use Rattle.cs_decl.specs.declared.fault.DeclFault.TheVariants as faults
-use Rattle.cs_decl.specs.declared.fault.Place.TheVariants.{Cron, Line}
+use Rattle.cs_decl.specs.Join.{is_named, is_reboot, is_of_job, default_terms, cron_terms, anacron_terms, cron_job, anacron_job, jobs_from, declared_group, plan_of}
 use Rattle.cs_decl.specs.declared.limits.TheConstants.{MAX_MINUTES}
 use Rattle.cs_decl.specs.Plain.{plain_job, plain_plan}
 use Rattle.cs_decl.proofs.Positions.{find_none}
-use Rattle.cs_decl.proofs.Validity.{facts, no_row, mapped_none, few_groups, cron_possible, anacron_possible, cron_listed, anacron_listed, capacity_possible, offset_possible, hours_possible, pass_possible}
+use Rattle.cs_decl.proofs.Once.{or_none}
+use Rattle.cs_decl.proofs.Validity.{facts, few_groups, cron_possible, anacron_possible, cron_listed, anacron_listed, capacity_possible, offset_possible, hours_possible, pass_possible}
 
 -- ---- jobs of lines
 
@@ -58,33 +58,10 @@ timed_line Reboot e = absurd cc
 pub timed : (lines : List CommandLine) → find (λ line. is_reboot line.when) lines ≡ None → All IsTimed lines
 timed lines e = All-weaker (λ line. is_reboot line.when ≡ false) IsTimed (λ line h. timed_line line.when h) lines (find_none (λ line. is_reboot line.when) lines e)
 
--- where no fault stands, no entry has another command than its line, and no line is an `@reboot`
-pub no_fault_stands : (c : Crontab) (a : Anacrontab) (d : Entries) → first_fault (join_faults c a d) ≡ None → (position (has_other_command c.lines) d.cron ≡ None) × (find (λ line. is_reboot line.when) c.lines ≡ None)
-unfolding join_faults
-no_fault_stands c a d e =
-    let e4 = reboot_fault c.lines ∷ [] in
-    let e3 = at_job faults.Undeclared (find (is_undeclared_job d.anacron) a.lines) ∷ e4 in
-    let e2 = at_line faults.Undeclared (find (is_undeclared d.cron) c.lines) ∷ e3 in
-    let other = at_cron faults.OtherCommand (position (has_other_command c.lines) d.cron) in
-    let e1 = at_anacron faults.NoSuchLine (position (has_no_job a.lines) d.anacron) ∷ (other ∷ e2) in
-    let r0 = no_row (at_cron faults.NoSuchLine (position (has_no_line c.lines) d.cron)) e1 e in
-    let r1 = no_row (at_anacron faults.NoSuchLine (position (has_no_job a.lines) d.anacron)) (other ∷ e2) r0.1 in
-    let same = no_row other e2 r1.1 in
-    let r2 = no_row (at_line faults.Undeclared (find (is_undeclared d.cron) c.lines)) e3 same.1 in
-    let r3 = no_row (at_job faults.Undeclared (find (is_undeclared_job d.anacron) a.lines)) e4 r2.1 in
-    let r4 = no_row (reboot_fault c.lines) [] r3.1 in (
-      mapped_none (λ k. (faults.OtherCommand, Some (Cron k))) (position (has_other_command c.lines) d.cron) same.0,
-      mapped_none (λ (l : CommandLine). (faults.RebootLine, Some (Line l.number))) (find (λ line. is_reboot line.when) c.lines) r4.0,
-    )
-
 -- ---- names that differ
 
 other : (a b : List ℕ) → bytes_eq a b ≡ false → b ≢ a
 other a b e = λ same. let t = (bytes_eq-Decides a b).1 (sym same) in absurd cc
-
-pub or_none : (a b : Bool) → (a || b) ≡ false → (a ≡ false) × (b ≡ false)
-or_none false b e = (refl, e)
-or_none true b e = absurd cc
 
 any_push : (x : List ℕ) (before : List (List ℕ)) (y : List ℕ) → list_any (bytes_eq x) (before ++ y ∷ []) ≡ false → (list_any (bytes_eq x) before ≡ false) × (bytes_eq x y ≡ false)
 any_push x [] y e = (refl, (or_none (bytes_eq x y) false e).0)
@@ -120,26 +97,65 @@ distinct_names groups e = λ i j d low high same.
     (none_again [] 0 (map (λ g. g.name) groups) e).1 i j d.name low (subst (λ n. j < n) (length-map groups declared_group ∙ sym (length-map groups (λ g. g.name))) high)
     (sym (names_at groups i d) ∙ same ∙ names_at groups j d)
 
+-- ---- jobs of tables
+
+default_place : (k : ℕ) (o : Option DefaultEntry) → (default_terms k o).place ≡ k
+default_place k None = refl
+default_place k (Some e) = refl
+
+default_plain : (k : ℕ) (o : Option DefaultEntry) → (default_terms k o).mode ≡ Plain
+default_plain k None = refl
+default_plain k (Some e) = refl
+
+module _ (d : Entries) where
+  cron_place : (k : ℕ) (l : CommandLine) → (cron_job d k l).place ≡ k
+  cron_place k l = placed_cron (find (λ e. is_named e.name l) d.cron)
+    where
+      placed_cron : (o : Option CronEntry) → (cron_terms d k o).place ≡ k
+      placed_cron None = default_place k d.default
+      placed_cron (Some e) = refl
+
+  anacron_place : (k : ℕ) (l : JobLine) → (anacron_job d k l).place ≡ k
+  anacron_place k l = placed_anacron (find (is_of_job l.identifier) d.anacron)
+    where
+      placed_anacron : (o : Option AnacronEntry) → (anacron_terms d k o).place ≡ k
+      placed_anacron None = default_place k d.default
+      placed_anacron (Some e) = refl
+
+  anacron_plain : (k : ℕ) (l : JobLine) → (anacron_job d k l).mode ≡ Plain
+  anacron_plain k l = plain_anacron (find (is_of_job l.identifier) d.anacron)
+    where
+      plain_anacron : (o : Option AnacronEntry) → (anacron_terms d k o).mode ≡ Plain
+      plain_anacron None = default_plain k d.default
+      plain_anacron (Some e) = refl
+
+-- each line has its job
+pub plan_places : (c : Crontab) (left_out : List ℕ) (a : Anacrontab) (d : Entries) → map (λ j. j.place) (plan_of c left_out a d).jobs ≡ places_of c.lines ++ places_of a.lines
+unfolding plan_of
+plan_places c left_out a d =
+    map_append (λ j. j.place) (jobs_from (cron_job d) 0 c.lines) (jobs_from (anacron_job d) 0 a.lines)
+    ∙ rw (places_from (cron_job d) (cron_place d) 0 c.lines, places_from (anacron_job d) (anacron_place d) 0 a.lines) refl
+
 -- ---- the whole plan
 
-pub whole : (c : Crontab) (a : Anacrontab) (d : Entries) → IsValid d → length c.lines ≤ MAX_COMMANDS → length a.lines ≤ MAX_JOBS → All IsPossibleLine a.lines → find (λ line. is_reboot line.when) c.lines ≡ None → IsWhole (plan_of c a d)
+pub whole : (c : Crontab) (left_out : List ℕ) (a : Anacrontab) (d : Entries) → IsValid d → length c.lines ≤ MAX_COMMANDS → length a.lines ≤ MAX_JOBS → All IsPossibleLine a.lines → find (λ line. is_reboot line.when) c.lines ≡ None → IsWhole (plan_of c left_out a d)
 unfolding plan_of
-whole c a d v few_commands few_lines lines no_reboot = record {
+whole c left_out a d v few_commands few_lines lines no_reboot = record {
   few_commands = few_commands;
   few_lines = few_lines;
   timed = timed c.lines no_reboot;
   lines = lines;
-  places = map_append (λ j. j.place) (jobs_from (cron_job d) 0 c.lines) (jobs_from (anacron_job d) 0 a.lines) ∙ rw (places_from (cron_job d) cron_place 0 c.lines, places_from (anacron_job d) anacron_place 0 a.lines) refl;
+  places = plan_places c left_out a d;
   possible =
       All-append IsPossible (jobs_from (cron_job d) 0 c.lines) (jobs_from (anacron_job d) 0 a.lines)
       (all_from (cron_job d) IsPossible (λ k l. cron_possible d v k _ _ refl) 0 c.lines)
       (all_from (anacron_job d) IsPossible (λ k l. anacron_possible d v k _ _ refl) 0 a.lines);
-  plain = rw (drop_at (jobs_from (cron_job d) 0 c.lines) (jobs_from (anacron_job d) 0 a.lines) (length c.lines) (length_from (cron_job d) 0 c.lines)) (all_from (anacron_job d) (λ job. job.mode ≡ Plain) anacron_plain 0 a.lines);
+  plain = rw (drop_at (jobs_from (cron_job d) 0 c.lines) (jobs_from (anacron_job d) 0 a.lines) (length c.lines) (length_from (cron_job d) 0 c.lines)) (all_from (anacron_job d) (λ job. job.mode ≡ Plain) (anacron_plain d) 0 a.lines);
   listed =
       rw (length-map d.groups declared_group)
       (All-append (IsListed (length d.groups)) (jobs_from (cron_job d) 0 c.lines) (jobs_from (anacron_job d) 0 a.lines)
-      (all_from (cron_job d) (IsListed (length d.groups)) (λ k l. cron_listed d.groups k _) 0 c.lines)
-      (all_from (anacron_job d) (IsListed (length d.groups)) (λ k l. anacron_listed d.groups k _) 0 a.lines));
+      (all_from (cron_job d) (IsListed (length d.groups)) (λ k l. cron_listed d k _) 0 c.lines)
+      (all_from (anacron_job d) (IsListed (length d.groups)) (λ k l. anacron_listed d k _) 0 a.lines));
   few_groups = rw (length-map d.groups declared_group) (few_groups d v);
   names = distinct_names d.groups (facts d v).distinct;
   capacity = capacity_possible d v;
@@ -147,27 +163,6 @@ whole c a d v few_commands few_lines lines no_reboot = record {
   pass = pass_possible d v;
   offset = offset_possible d v;
 }
-  where
-    cron_place : (k : ℕ) (l : CommandLine) → (cron_job d k l).place ≡ k
-    cron_place k l = placed_cron (find (is_of_line l.number) d.cron)
-      where
-        placed_cron : (o : Option CronEntry) → (cron_terms d.groups k o).place ≡ k
-        placed_cron None = refl
-        placed_cron (Some e) = refl
-
-    anacron_place : (k : ℕ) (l : JobLine) → (anacron_job d k l).place ≡ k
-    anacron_place k l = placed_anacron (find (is_of_job l.identifier) d.anacron)
-      where
-        placed_anacron : (o : Option AnacronEntry) → (anacron_terms d.groups k o).place ≡ k
-        placed_anacron None = refl
-        placed_anacron (Some e) = refl
-
-    anacron_plain : (k : ℕ) (l : JobLine) → (anacron_job d k l).mode ≡ Plain
-    anacron_plain k l = plain_anacron (find (is_of_job l.identifier) d.anacron)
-      where
-        plain_anacron : (o : Option AnacronEntry) → (anacron_terms d.groups k o).mode ≡ Plain
-        plain_anacron None = refl
-        plain_anacron (Some e) = refl
 
 -- ---- the plain plan
 

@@ -8,9 +8,10 @@ use Rattle.cs_decl.specs.declared.limits.TheConstants.{MAX_MINUTES, MAX_WEIGHT, 
 use Rattle.cs_decl.specs.declared.fault.DeclFault.{DeclFault}
 use Rattle.cs_decl.specs.declared.fault.DeclFault.TheVariants as faults
 use Rattle.cs_decl.specs.declared.fault.Place.{Place}
-use Rattle.cs_decl.specs.declared.fault.Place.TheVariants.{Group, Cron, Anacron}
+use Rattle.cs_decl.specs.declared.fault.Place.TheVariants.{Group, Cron, Anacron, LeftOut}
 use Rattle.cs_decl.specs.declared.entries.GroupEntry.{GroupEntry}
 use Rattle.cs_decl.specs.declared.entries.CronEntry.{CronEntry}
+use Rattle.cs_decl.specs.declared.entries.DefaultEntry.{DefaultEntry}
 use Rattle.cs_decl.specs.declared.entries.Entries.{Entries}
 
 -- a fault, and its place if it has one
@@ -33,6 +34,12 @@ first_again same before i (x ∷ xs) =
 abbrev pub first_twice : {A : Type 0} → (A → A → Bool) → List A → Option ℕ
 first_twice same xs = first_again same [] 0 xs
 
+-- the same number, and no two that are absent
+abbrev pub same_number : Option ℤ → Option ℤ → Bool
+same_number (Some a) (Some b) = int_eq a b
+same_number (Some a) None = false
+same_number None b = false
+
 -- an offset of a day or more, to either side
 abbrev pub is_bad_offset : ℤ → Bool
 is_bad_offset offset = nat_lt MAX_OFFSET (unsigned_abs offset)
@@ -42,6 +49,11 @@ is_bad_max max = not (is_within 1 MAX_MINUTES max)
 
 abbrev pub is_bad_weight : ℤ → Bool
 is_bad_weight weight = not (is_within 1 MAX_WEIGHT weight)
+
+-- of a default, where there is one
+abbrev pub is_bad_default : (DefaultEntry → Bool) → Option DefaultEntry → Bool
+is_bad_default bad None = false
+is_bad_default bad (Some e) = bad e
 
 -- a job that takes a lock, and has no group
 abbrev pub needs_group : CronEntry → Bool
@@ -76,6 +88,9 @@ at_cron fault i = option_map (λ k. (fault, Some (Cron k))) i
 abbrev pub at_anacron : DeclFault → Option ℕ → Option Fault
 at_anacron fault i = option_map (λ k. (fault, Some (Anacron k))) i
 
+abbrev pub at_left_out : DeclFault → Option ℕ → Option Fault
+at_left_out fault i = option_map (λ k. (fault, Some (LeftOut k))) i
+
 -- a fault that has no place
 abbrev pub where_true : DeclFault → Bool → Option Fault
 where_true fault b = if b then Some (fault, None) else None
@@ -84,7 +99,7 @@ where_true fault b = if b then Some (fault, None) else None
 unfoldable pub twice_declared : Entries → List (Option Fault)
 twice_declared d =
     at_group faults.TwiceDeclared (first_twice bytes_eq (map (λ g. g.name) d.groups))
-    ∷ at_cron faults.TwiceDeclared (first_twice int_eq (map (λ e. e.line) d.cron))
+    ∷ at_cron faults.TwiceDeclared (first_twice same_number (map (λ e. e.name.number) d.cron))
     ∷ at_anacron faults.TwiceDeclared (first_twice bytes_eq (map (λ e. e.identifier) d.anacron))
     ∷ []
 
@@ -93,8 +108,10 @@ unfoldable pub bad_numbers : Entries → List (Option Fault)
 bad_numbers d =
     at_cron faults.BadMax (position (λ e. is_bad_max e.max) d.cron)
     ∷ at_anacron faults.BadMax (position (λ e. is_bad_max e.max) d.anacron)
+    ∷ where_true faults.BadMax (is_bad_default (λ e. is_bad_max e.max) d.default)
     ∷ at_cron faults.BadWeight (position (λ e. is_bad_weight e.weight) d.cron)
     ∷ at_anacron faults.BadWeight (position (λ e. is_bad_weight e.weight) d.anacron)
+    ∷ where_true faults.BadWeight (is_bad_default (λ e. is_bad_weight e.weight) d.default)
     ∷ where_true faults.BadCapacity (not (is_within 1 MAX_CAPACITY d.capacity))
     ∷ []
 
@@ -115,7 +132,7 @@ bad_times d =
     ∷ where_true faults.BadPassMinute (is_bad_pass d.pass)
     ∷ []
 
--- all of them: by number, and of one number in the order groups, cron, anacron
+-- all of them: by number, and of one number in the order groups, cron, anacron, default
 abbrev pub faults_of : Entries → List (Option Fault)
 faults_of d = where_true faults.BadShape (is_bad_offset d.offset)
     ∷ (twice_declared d ++ (bad_numbers d ++ (bad_groups d ++ bad_times d)))

@@ -1,7 +1,7 @@
 -- From two tables and declarations to a plan.
-use Rattle.std.specs.Prelude.{◌≡◌, ℕ, ℤ, ◌+◌, pos, unsigned_abs, List, [], ◌∷◌, ◌++◌, map, Option, None, Some, option_map, option_and_then, Bool, true, false, not, ◌&&◌, bytes_eq, Result, position, IfSome}
+use Rattle.std.specs.Prelude.{◌≡◌, ℕ, ℤ, ◌+◌, pos, unsigned_abs, List, [], ◌∷◌, ◌++◌, map, Option, None, Some, option_map, option_and_then, is_none, Bool, true, false, not, ◌&&◌, nat_lt, bytes_eq, Result, position, IfSome}
 use Rattle.std.specs.Ordering.{int_eq}
-use Rattle.std.specs.List.{list_any, find}
+use Rattle.std.specs.List.{list_any, find, filter, count_by}
 use Rattle.cs_crontab.specs.Crontab.{Table as Crontab, CommandLine}
 use Rattle.cs_crontab.specs.declared.table.When.{When}
 use Rattle.cs_crontab.specs.declared.table.When.TheVariants.{At, Reboot}
@@ -10,57 +10,98 @@ use Rattle.cs_history.specs.declared.mode.Mode.TheVariants.{Plain}
 use Rattle.cs_decl.specs.declared.fault.DeclFault.{DeclFault}
 use Rattle.cs_decl.specs.declared.fault.DeclFault.TheVariants as faults
 use Rattle.cs_decl.specs.declared.fault.Place.TheVariants.{Line, Job}
+use Rattle.cs_decl.specs.declared.entries.LineName.{LineName}
 use Rattle.cs_decl.specs.declared.entries.GroupEntry.{GroupEntry}
 use Rattle.cs_decl.specs.declared.entries.CronEntry.{CronEntry}
 use Rattle.cs_decl.specs.declared.entries.AnacronEntry.{AnacronEntry}
+use Rattle.cs_decl.specs.declared.entries.DefaultEntry.{DefaultEntry}
 use Rattle.cs_decl.specs.declared.entries.Entries.{Entries}
 use Rattle.cs_decl.specs.Job.{DeclaredJob}
 use Rattle.cs_decl.specs.Plan.{Declared, DeclaredGroup}
 use Rattle.cs_civil.specs.Hours.{CatchUpHours}
-use Rattle.cs_decl.specs.Faults.{Fault, at_cron, at_anacron, first_fault}
+use Rattle.cs_decl.specs.Faults.{Fault, same_number, first_again, first_twice, at_cron, at_anacron, at_left_out, first_fault}
 use Rattle.cs_decl.specs.Meaning.{unless}
 
--- ---- entries and lines
+-- ---- names and lines
 
--- the entry declares the command on the line of that number, and the job of that identifier
-abbrev pub is_of_line : ℕ → CronEntry → Bool
-is_of_line number e = int_eq e.line (pos number)
+-- a number names the line that has it, and a command alone each line that has that command
+abbrev pub names_line : Option ℤ → Option (List ℕ) → CommandLine → Bool
+names_line (Some number) told line = int_eq number (pos line.number)
+names_line None (Some told) line = bytes_eq told line.command
+names_line None None line = false
 
-abbrev pub is_of_job : List ℕ → AnacronEntry → Bool
-is_of_job identifier e = bytes_eq e.identifier identifier
+abbrev pub is_named : LineName → CommandLine → Bool
+is_named name line = names_line name.number name.command line
 
--- the entry's line has no command, and the entry's identifier no job
-abbrev pub has_no_line : List CommandLine → CronEntry → Bool
-has_no_line lines e = not (list_any (λ line. is_of_line line.number e) lines)
-
-abbrev pub has_no_job : List JobLine → AnacronEntry → Bool
-has_no_job lines e = not (list_any (λ line. is_of_job line.identifier e) lines)
+-- it names no line
+abbrev pub has_no_line : List CommandLine → LineName → Bool
+has_no_line lines name = not (list_any (is_named name) lines)
 
 -- a command is told, and it isn't these bytes
 abbrev pub is_unlike : List ℕ → Option (List ℕ) → Bool
 is_unlike command None = false
 is_unlike command (Some told) = not (bytes_eq told command)
 
--- the entry's line has another command than the entry tells
-abbrev pub has_other_command : List CommandLine → CronEntry → Bool
-has_other_command lines e =
-    list_any (λ line. is_of_line line.number e && is_unlike line.command e.command) lines
+-- its line has another command than it tells
+abbrev pub has_other_command : List CommandLine → LineName → Bool
+has_other_command lines name =
+    list_any (λ line. is_named name line && is_unlike line.command name.command) lines
+
+-- it names several lines
+unfoldable pub is_ambiguous : List CommandLine → LineName → Bool
+is_ambiguous lines name = nat_lt 1 (count_by (is_named name) lines)
+
+-- the number of the line that it names
+abbrev pub number_of : List CommandLine → LineName → Option ℤ
+number_of lines name = option_map (λ line. pos line.number) (find (is_named name) lines)
+
+-- the numbers of the lines that entries of `cron` name, and those of `left_out`, by entry
+abbrev pub cron_numbers : List CommandLine → Entries → List (Option ℤ)
+cron_numbers lines d = map (λ e. number_of lines e.name) d.cron
+
+abbrev pub left_out_numbers : List CommandLine → Entries → List (Option ℤ)
+left_out_numbers lines d = map (number_of lines) d.left_out
+
+-- ---- lines that a plan leaves out, and jobs without an entry
+
+abbrev pub is_left_out : Entries → CommandLine → Bool
+is_left_out d line = list_any (λ name. is_named name line) d.left_out
+
+abbrev pub has_entry : Entries → CommandLine → Bool
+has_entry d line = list_any (λ e. is_named e.name line) d.cron
+
+-- the entry declares the job of that identifier
+abbrev pub is_of_job : List ℕ → AnacronEntry → Bool
+is_of_job identifier e = bytes_eq e.identifier identifier
+
+abbrev pub has_job_entry : Entries → JobLine → Bool
+has_job_entry d line = list_any (is_of_job line.identifier) d.anacron
+
+-- the entry's identifier has no job
+abbrev pub has_no_job : List JobLine → AnacronEntry → Bool
+has_no_job lines e = not (list_any (λ line. is_of_job line.identifier e) lines)
+
+-- the table without the lines that are left out
+abbrev pub rest : Entries → Crontab → Crontab
+rest d table = record {
+  settings = table.settings;
+  lines = filter (λ line. not (is_left_out d line)) table.lines;
+}
+
+-- the numbers of the lines that are left out, in order of line
+abbrev pub lines_left_out : Entries → Crontab → List ℕ
+lines_left_out d table = map (λ line. line.number) (filter (is_left_out d) table.lines)
 
 abbrev pub is_reboot : When → Bool
 is_reboot (At schedule) = false
 is_reboot Reboot = true
 
--- the command is no `@reboot`, and has no entry
-abbrev pub is_undeclared : List CronEntry → CommandLine → Bool
-is_undeclared entries line =
-    not (is_reboot line.when) && not (list_any (is_of_line line.number) entries)
+-- the command is no `@reboot`, has no entry, and there is no default
+abbrev pub is_undeclared : Entries → CommandLine → Bool
+is_undeclared d line = is_none d.default && (not (is_reboot line.when) && not (has_entry d line))
 
-abbrev pub is_undeclared_job : List AnacronEntry → JobLine → Bool
-is_undeclared_job entries line = not (list_any (is_of_job line.identifier) entries)
-
--- an entry of that line tells no command, or the line's own
-abbrev pub TellsOf : CronEntry → CommandLine → Type 0
-TellsOf e line = e.line ≡ pos line.number → IfSome e.command (λ told. told ≡ line.command)
+abbrev pub is_undeclared_job : Entries → JobLine → Bool
+is_undeclared_job d line = is_none d.default && not (has_job_entry d line)
 
 -- ---- the table of faults
 
@@ -74,17 +115,55 @@ at_job fault line = option_map (λ l. (fault, Some (Job l.identifier))) line
 abbrev pub reboot_fault : List CommandLine → Option Fault
 reboot_fault lines = at_line faults.RebootLine (find (λ line. is_reboot line.when) lines)
 
--- entries without a line, entries with another command than their line, lines without an entry,
--- and `@reboot` lines; of one kind by entry, and by job
-unfoldable pub join_faults : Crontab → Anacrontab → Entries → List (Option Fault)
-join_faults crontab anacrontab d =
-    at_cron faults.NoSuchLine (position (has_no_line crontab.lines) d.cron)
-    ∷ at_anacron faults.NoSuchLine (position (has_no_job anacrontab.lines) d.anacron)
-    ∷ at_cron faults.OtherCommand (position (has_other_command crontab.lines) d.cron)
-    ∷ at_line faults.Undeclared (find (is_undeclared d.cron) crontab.lines)
-    ∷ at_job faults.Undeclared (find (is_undeclared_job d.anacron) anacrontab.lines)
-    ∷ reboot_fault crontab.lines
+-- entries that name no line and no job
+unfoldable pub lineless : List CommandLine → List JobLine → Entries → List (Option Fault)
+lineless lines jobs d =
+    at_cron faults.NoSuchLine (position (λ e. has_no_line lines e.name) d.cron)
+    ∷ at_anacron faults.NoSuchLine (position (has_no_job jobs) d.anacron)
+    ∷ at_left_out faults.NoSuchLine (position (has_no_line lines) d.left_out)
     ∷ []
+
+-- entries with another command than their line
+unfoldable pub misquoted : List CommandLine → Entries → List (Option Fault)
+misquoted lines d =
+    at_cron faults.OtherCommand (position (λ e. has_other_command lines e.name) d.cron)
+    ∷ at_left_out faults.OtherCommand (position (has_other_command lines) d.left_out)
+    ∷ []
+
+-- entries that name several lines
+unfoldable pub ambiguous : List CommandLine → Entries → List (Option Fault)
+ambiguous lines d =
+    at_cron faults.AmbiguousCommand (position (λ e. is_ambiguous lines e.name) d.cron)
+    ∷ at_left_out faults.AmbiguousCommand (position (is_ambiguous lines) d.left_out)
+    ∷ []
+
+-- entries of `cron` whose line an earlier one has, and of `left_out` whose line has an entry of
+-- `cron` or an earlier one of its own
+unfoldable pub named_twice : List CommandLine → Entries → List (Option Fault)
+named_twice lines d =
+    at_cron faults.TwiceDeclared (first_twice same_number (cron_numbers lines d))
+    ∷ at_left_out faults.TwiceDeclared
+    (first_again same_number (cron_numbers lines d) 0 (left_out_numbers lines d))
+    ∷ []
+
+-- jobs without an entry and without a default, and `@reboot` lines
+unfoldable pub undeclared : List CommandLine → List JobLine → Entries → List (Option Fault)
+undeclared lines jobs d =
+    at_line faults.Undeclared (find (is_undeclared d) lines)
+    ∷ at_job faults.Undeclared (find (is_undeclared_job d) jobs)
+    ∷ reboot_fault lines
+    ∷ []
+
+-- what is wrong with what entries name
+abbrev pub naming_faults : List CommandLine → List JobLine → Entries → List (Option Fault)
+naming_faults lines jobs d =
+    lineless lines jobs d ++ (misquoted lines d ++ (ambiguous lines d ++ named_twice lines d))
+
+-- all of them: entries name lines of the whole table, and jobs are those of the rest
+abbrev pub join_faults : Crontab → Anacrontab → Entries → List (Option Fault)
+join_faults crontab anacrontab d =
+    naming_faults crontab.lines anacrontab.lines d
+    ++ undeclared (rest d crontab).lines anacrontab.lines d
 
 -- ---- the plan
 
@@ -92,35 +171,45 @@ join_faults crontab anacrontab d =
 abbrev pub group_place : List GroupEntry → Option (List ℕ) → Option ℕ
 group_place groups name = option_and_then (λ n. position (λ g. bytes_eq n g.name) groups) name
 
--- what is declared of the job at a place; one without an entry there is in no plan
-abbrev pub cron_terms : List GroupEntry → ℕ → Option CronEntry → DeclaredJob
-cron_terms groups place None =
+-- what is declared of a job without an entry: the default; without one it is in no plan
+abbrev pub default_terms : ℕ → Option DefaultEntry → DeclaredJob
+default_terms place None =
     record { place = place; max = 1; weight = 1; group = None; mode = Plain }
-cron_terms groups place (Some e) = record {
+default_terms place (Some e) = record {
   place = place;
   max = unsigned_abs e.max;
   weight = unsigned_abs e.weight;
-  group = group_place groups e.group;
-  mode = e.mode;
-}
-
-abbrev pub anacron_terms : List GroupEntry → ℕ → Option AnacronEntry → DeclaredJob
-anacron_terms groups place None =
-    record { place = place; max = 1; weight = 1; group = None; mode = Plain }
-anacron_terms groups place (Some e) = record {
-  place = place;
-  max = unsigned_abs e.max;
-  weight = unsigned_abs e.weight;
-  group = group_place groups e.group;
+  group = None;
   mode = Plain;
 }
 
--- the job of a line is what its entry declares
+-- what is declared of the job at a place, with its entry if it has one
+abbrev pub cron_terms : Entries → ℕ → Option CronEntry → DeclaredJob
+cron_terms d place None = default_terms place d.default
+cron_terms d place (Some e) = record {
+  place = place;
+  max = unsigned_abs e.max;
+  weight = unsigned_abs e.weight;
+  group = group_place d.groups e.group;
+  mode = e.mode;
+}
+
+abbrev pub anacron_terms : Entries → ℕ → Option AnacronEntry → DeclaredJob
+anacron_terms d place None = default_terms place d.default
+anacron_terms d place (Some e) = record {
+  place = place;
+  max = unsigned_abs e.max;
+  weight = unsigned_abs e.weight;
+  group = group_place d.groups e.group;
+  mode = Plain;
+}
+
+-- the job of a line is what the first entry that names it declares
 abbrev pub cron_job : Entries → ℕ → CommandLine → DeclaredJob
-cron_job d place line = cron_terms d.groups place (find (is_of_line line.number) d.cron)
+cron_job d place line = cron_terms d place (find (λ e. is_named e.name line) d.cron)
 
 abbrev pub anacron_job : Entries → ℕ → JobLine → DeclaredJob
-anacron_job d place line = anacron_terms d.groups place (find (is_of_job line.identifier) d.anacron)
+anacron_job d place line = anacron_terms d place (find (is_of_job line.identifier) d.anacron)
 
 -- the jobs of lines, of which the first has this place
 abbrev pub jobs_from : {L : Type 0} → (ℕ → L → DeclaredJob) → ℕ → List L → List DeclaredJob
@@ -133,8 +222,15 @@ declared_group g = record { name = g.name; exclusive = g.exclusive }
 abbrev pub declared_hours : ℤ × ℤ → CatchUpHours
 declared_hours h = record { from = unsigned_abs h.0; to = unsigned_abs h.1 }
 
-unfoldable pub plan_of : Crontab → Anacrontab → Entries → Declared
-plan_of crontab anacrontab d = record {
+-- how many of the jobs have no entry
+abbrev pub defaulted : Entries → List CommandLine → List JobLine → ℕ
+defaulted d lines jobs =
+    count_by (λ line. not (has_entry d line)) lines
+    + count_by (λ line. not (has_job_entry d line)) jobs
+
+-- the plan of the rest of a crontab, and the numbers of the lines that are left out of it
+unfoldable pub plan_of : Crontab → List ℕ → Anacrontab → Entries → Declared
+plan_of crontab left_out anacrontab d = record {
   crontab = crontab;
   anacrontab = anacrontab;
   jobs = jobs_from (cron_job d) 0 crontab.lines ++ jobs_from (anacron_job d) 0 anacrontab.lines;
@@ -143,9 +239,12 @@ plan_of crontab anacrontab d = record {
   hours = declared_hours d.hours;
   pass = option_map unsigned_abs d.pass;
   offset = d.offset;
+  left_out = left_out;
+  defaulted = defaulted d crontab.lines anacrontab.lines;
 }
 
 -- the plan of the tables and the declarations, or their first fault
 unfoldable pub joined : Crontab → Anacrontab → Entries → Result Declared Fault
 joined crontab anacrontab d =
-    unless (plan_of crontab anacrontab d) (first_fault (join_faults crontab anacrontab d))
+    unless (plan_of (rest d crontab) (lines_left_out d crontab) anacrontab d)
+    (first_fault (join_faults crontab anacrontab d))

@@ -8,4 +8,5 @@ pub mod NameSet
 pub mod Meaning
 pub mod Join
 pub mod Plain
+pub mod Lines
 pub mod Law

@@ -28,6 +28,8 @@ plain_plan crontab anacrontab max = record {
   hours = record { from = 0; to = MINUTES_OF_DAY };
   pass = None;
   offset = pos 0;
+  left_out = [];
+  defaulted = 0;
 }
 
 abbrev pub is_possible_max : ℕ → Bool

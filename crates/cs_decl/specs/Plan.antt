@@ -24,7 +24,8 @@ pub record DeclaredGroup : Type 0 where
   pub exclusive : Bool
 
 -- The jobs are those of the crontab and then those of the anacrontab, each in order of line. The
--- pass minute is one of the day, the offset counts minutes to the east of UTC.
+-- pass minute is one of the day, the offset counts minutes to the east of UTC. The crontab is
+-- without the lines of the numbers that are left out, and so many jobs have the default.
 pub record Declared : Type 0 where
   pub crontab : Crontab
   pub anacrontab : Anacrontab
@@ -34,6 +35,8 @@ pub record Declared : Type 0 where
   pub hours : CatchUpHours
   pub pass : Option ℕ
   pub offset : ℤ
+  pub left_out : List ℕ
+  pub defaulted : ℕ
 
 -- how many of the jobs are cron jobs
 abbrev pub crons : Declared → ℕ

@@ -3,7 +3,7 @@ use Rattle.std.specs.Prelude.{ℕ, ◌+◌, List, [], ◌++◌, Option, Some, No
 use Rattle.cs_decl.specs.declared.fault.DeclFault.{DeclFault}
 use Rattle.cs_decl.specs.declared.fault.DeclFault.TheVariants as faults
 use Rattle.cs_decl.specs.declared.fault.Place.{Place}
-use Rattle.cs_decl.specs.declared.fault.Place.TheVariants.{Group, Cron, Anacron, Line, Job}
+use Rattle.cs_decl.specs.declared.fault.Place.TheVariants.{Group, Cron, Anacron, LeftOut, Line, Job}
 use Rattle.cs_decl.specs.declared.fault.DeclError.{DeclError}
 use Rattle.cs_decl.specs.declared.fault.DeclError.TheVariants.{At, OutOfMemory}
 
@@ -25,12 +25,14 @@ fault_text faults.ModeOnAnacron = codes "13 ModeOnAnacron"
 fault_text faults.RebootLine = codes "14 RebootLine"
 fault_text faults.BadPassMinute = codes "15 BadPassMinute"
 fault_text faults.OtherCommand = codes "16 OtherCommand"
+fault_text faults.AmbiguousCommand = codes "17 AmbiguousCommand"
 
 -- an entry is counted from 1, a line is named by its number, and a job by its identifier
 abbrev pub place_text : Place → List ℕ
 place_text (Group i) = codes " at group " ++ decimal (i + 1)
 place_text (Cron i) = codes " at cron " ++ decimal (i + 1)
 place_text (Anacron i) = codes " at anacron " ++ decimal (i + 1)
+place_text (LeftOut i) = codes " at left_out " ++ decimal (i + 1)
 place_text (Line number) = codes " at line " ++ decimal number
 place_text (Job identifier) = codes " at job " ++ identifier
 

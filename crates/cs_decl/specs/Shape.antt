@@ -1,22 +1,26 @@
 -- The shape of declarations, member by member: what a JSON value declares, or BadShape.
-use Rattle.std.specs.Prelude.{List, [], ◌∷◌, ℕ, pos, Option, None, Some, option_and_then, is_some, if◌then◌else◌, Bool, bytes_eq, codes, Result, Ok, ⊤}
+use Rattle.std.specs.Prelude.{List, [], ◌∷◌, ℕ, pos, Option, None, Some, option_and_then, is_some, if◌then◌else◌, Bool, ◌||◌, bytes_eq, codes, Result, Ok, ⊤}
 use Rattle.serde_json.specs.Data.{Data}
 use Rattle.serde_json.specs.Find.{as_str, get}
 use Rattle.cs_json.specs.Gives.{◌>>=◌}
 use Rattle.cs_json.specs.Shape.{or_bad_shape, check, whole_number, text, flag, list_as, pair_as, member_as, member_or_default, member_or_none, object_with, is_among}
 use Rattle.cs_json.specs.declared.fault.JsonFault.{JsonFault}
 use Rattle.cs_history.specs.declared.mode.Mode.{Mode}
-use Rattle.cs_history.specs.declared.mode.Mode.TheVariants.{Plain, Skip, Wait, Shared}
+use Rattle.cs_history.specs.declared.mode.Mode.TheVariants.{Plain, Skip, Try, Wait, Shared}
+use Rattle.cs_decl.specs.declared.entries.LineName.{LineName}
 use Rattle.cs_decl.specs.declared.entries.GroupEntry.{GroupEntry}
 use Rattle.cs_decl.specs.declared.entries.CronEntry.{CronEntry}
 use Rattle.cs_decl.specs.declared.entries.AnacronEntry.{AnacronEntry}
+use Rattle.cs_decl.specs.declared.entries.DefaultEntry.{DefaultEntry}
 use Rattle.cs_decl.specs.declared.entries.Entries.{Entries}
+use Rattle.cs_decl.specs.declared.reading.Terms.{Terms}
 
 -- how a mode is written
 abbrev pub mode_named : List ℕ → Option Mode
 mode_named s =
     if bytes_eq s (codes "none") then Some Plain
     else if bytes_eq s (codes "skip") then Some Skip
+    else if bytes_eq s (codes "try") then Some Try
     else if bytes_eq s (codes "wait") then Some Wait
     else if bytes_eq s (codes "shared") then Some Shared
     else None
@@ -39,15 +43,31 @@ unfoldable pub is_anacron_member : List ℕ → Bool
 is_anacron_member = is_among
     (codes "group" ∷ codes "id" ∷ codes "max" ∷ codes "mode" ∷ codes "note" ∷ codes "weight" ∷ [])
 
+-- the members of `default`
+unfoldable pub is_default_member : List ℕ → Bool
+is_default_member = is_among (codes "max" ∷ codes "note" ∷ codes "weight" ∷ [])
+
+-- the members of an entry of `left_out`
+unfoldable pub is_left_out_member : List ℕ → Bool
+is_left_out_member = is_among (codes "command" ∷ codes "line" ∷ codes "note" ∷ [])
+
 -- the members of declarations
 unfoldable pub is_member : List ℕ → Bool
 is_member = is_among
-    (codes "anacron" ∷ codes "capacity" ∷ codes "cron" ∷ codes "groups" ∷ codes "hours"
-    ∷ codes "note" ∷ codes "offset" ∷ codes "pass" ∷ [])
+    (codes "anacron" ∷ codes "capacity" ∷ codes "cron" ∷ codes "default" ∷ codes "groups"
+    ∷ codes "hours" ∷ codes "left_out" ∷ codes "note" ∷ codes "offset" ∷ codes "pass" ∷ [])
 
 -- a note, where there is one, is a text; nothing is read off it
 abbrev pub note_of : Data → Result ⊤ JsonFault
 note_of d = member_or_default (λ note. check (is_some (as_str note))) tt (codes "note") d
+
+-- a line's number, its command or both; the command is the bytes of its text
+unfoldable pub line_name_of : Data → Result LineName JsonFault
+line_name_of d = do
+  number ← member_or_none whole_number (codes "line") d
+  command ← member_or_none text (codes "command") d
+  one ← check (is_some number || is_some command)
+  Ok (record { number = number; command = command })
 
 -- an entry of `groups`: name and `exclusive` have to be there
 unfoldable pub group_of : Data → Result GroupEntry JsonFault
@@ -58,26 +78,17 @@ group_of d = do
   exclusive ← member_as flag (codes "exclusive") d
   Ok (record { name = name; exclusive = exclusive })
 
--- an entry of `cron`: the weight is 1 and the mode `none` where they are absent; the command is
--- the bytes of its text
+-- an entry of `cron`: the weight is 1 and the mode `none` where they are absent
 unfoldable pub cron_of : Data → Result CronEntry JsonFault
 cron_of d = do
   o ← object_with is_cron_member d
   note ← note_of d
-  line ← member_as whole_number (codes "line") d
-  command ← member_or_none text (codes "command") d
+  name ← line_name_of d
   max ← member_as whole_number (codes "max") d
   weight ← member_or_default whole_number (pos 1) (codes "weight") d
   group ← member_or_none text (codes "group") d
   mode ← member_or_default mode_of Plain (codes "mode") d
-  Ok (record {
-    line = line;
-    command = command;
-    max = max;
-    weight = weight;
-    group = group;
-    mode = mode;
-  })
+  Ok (record { name = name; max = max; weight = weight; group = group; mode = mode })
 
 -- an entry of `anacron`: of a mode it is known alone whether it is there
 unfoldable pub anacron_of : Data → Result AnacronEntry JsonFault
@@ -96,24 +107,56 @@ anacron_of d = do
     has_mode = is_some (get (codes "mode") d);
   })
 
--- all members: only the capacity has to be there
-unfoldable pub entries_of : Data → Result Entries JsonFault
-entries_of d = do
-  o ← object_with is_member d
+-- `default`: the weight is 1 where it is absent
+unfoldable pub default_of : Data → Result DefaultEntry JsonFault
+default_of d = do
+  o ← object_with is_default_member d
   note ← note_of d
+  max ← member_as whole_number (codes "max") d
+  weight ← member_or_default whole_number (pos 1) (codes "weight") d
+  Ok (record { max = max; weight = weight })
+
+-- an entry of `left_out`
+unfoldable pub left_out_of : Data → Result LineName JsonFault
+left_out_of d = do
+  o ← object_with is_left_out_member d
+  note ← note_of d
+  line_name_of d
+
+-- what is declared of all jobs together: only the capacity has to be there
+unfoldable pub terms_of : Data → Result Terms JsonFault
+terms_of d = do
   capacity ← member_as whole_number (codes "capacity") d
   offset ← member_or_default whole_number (pos 0) (codes "offset") d
   hours ← member_or_default (pair_as whole_number whole_number) (pos 0, pos 1440) (codes "hours") d
   pass ← member_or_none whole_number (codes "pass") d
-  groups ← member_or_default (list_as group_of) [] (codes "groups") d
-  cron ← member_or_default (list_as cron_of) [] (codes "cron") d
-  anacron ← member_or_default (list_as anacron_of) [] (codes "anacron") d
+  default ← member_or_none default_of (codes "default") d
   Ok (record {
     capacity = capacity;
     offset = offset;
     hours = hours;
     pass = pass;
+    default = default;
+  })
+
+-- all members
+unfoldable pub entries_of : Data → Result Entries JsonFault
+entries_of d = do
+  o ← object_with is_member d
+  note ← note_of d
+  terms ← terms_of d
+  groups ← member_or_default (list_as group_of) [] (codes "groups") d
+  cron ← member_or_default (list_as cron_of) [] (codes "cron") d
+  anacron ← member_or_default (list_as anacron_of) [] (codes "anacron") d
+  left_out ← member_or_default (list_as left_out_of) [] (codes "left_out") d
+  Ok (record {
+    capacity = terms.capacity;
+    offset = terms.offset;
+    hours = terms.hours;
+    pass = terms.pass;
+    default = terms.default;
     groups = groups;
     cron = cron;
     anacron = anacron;
+    left_out = left_out;
   })

@@ -14,8 +14,9 @@ use serde_json::Value;
 use std::alloc::{AllocError, Global};
 use std::marker::Model;
 
-/// What an operator declares: for each job its longest time, weight, group and mode; the groups,
-/// the capacity, the catch-up hours, the pass minute and the offset.
+/// What an operator declares: for each job its longest time, weight, group and mode, and those of
+/// jobs without an entry; the lines that are left out; the groups, the capacity, the catch-up hours,
+/// the pass minute and the offset.
 #[derive(Debug, Drop)]
 pub struct Declarations {
     entries: Entries,
@@ -34,7 +35,8 @@ impl Model for Declarations {
 }
 
 impl Declarations {
-    pub(crate) fn entries(&self) -> &Entries
+    /// Returns the entries as they were read, each number in its range.
+    pub fn entries(&self) -> &Entries
         ensures value { result.now ≡ self.now }
         ensures valid { IsValid self.now }
     {
@@ -79,7 +81,8 @@ fn entries_in(alloc: Global, value: &Value) -> Result<Entries, DeclError>
 }
 
 /// Reads declarations, or returns their fault with the smallest number: among several with that
-/// number the first of the groups, then of the cron entries, then of the anacron entries.
+/// number the first of the groups, then of the cron entries, then of the anacron entries, then that
+/// of the default.
 ///
 /// [`join`](crate::join) checks that the lines and identifiers exist. Memory may run out.
 #[tactic(auto, unfolding(crate::specs::Meaning::declared_by))]

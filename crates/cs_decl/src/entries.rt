@@ -1,42 +1,82 @@
 use cs_civil::{Bytes, Sequence};
 use cs_history::Mode;
 
+/// How an entry names a line of the crontab: by its number, by its command, or by both.
+#[derive(Debug, Drop)]
+pub struct LineName {
+    /// The number of the line, counted from 1 over all lines of the table.
+    pub number: Option<i128>,
+    /// The command, as the line has it.
+    pub command: Option<Bytes>,
+}
+
 /// An entry of `groups`.
 #[derive(Debug, Drop)]
 pub struct GroupEntry {
-    pub(crate) name: Bytes,
-    pub(crate) exclusive: bool,
+    /// The name of the group.
+    pub name: Bytes,
+    /// Whether no two runs of its jobs may overlap, unless both share its lock.
+    pub exclusive: bool,
 }
 
 /// An entry of `cron`.
 #[derive(Debug, Drop)]
 pub struct CronEntry {
-    pub(crate) line: i128,
-    pub(crate) command: Option<Bytes>,
-    pub(crate) max: i128,
-    pub(crate) weight: i128,
-    pub(crate) group: Option<Bytes>,
-    pub(crate) mode: Mode,
+    /// The line whose job it declares.
+    pub name: LineName,
+    /// The longest time of a run in minutes.
+    pub max: i128,
+    /// The weight of a run.
+    pub weight: i128,
+    /// The name of its group, if it has one.
+    pub group: Option<Bytes>,
+    /// How it treats the lock of its group.
+    pub mode: Mode,
 }
 
 /// An entry of `anacron`.
 #[derive(Debug, Drop)]
 pub struct AnacronEntry {
-    pub(crate) identifier: Bytes,
-    pub(crate) max: i128,
-    pub(crate) weight: i128,
-    pub(crate) group: Option<Bytes>,
-    pub(crate) has_mode: bool,
+    /// The identifier of the job that it declares.
+    pub identifier: Bytes,
+    /// The longest time of a run in minutes.
+    pub max: i128,
+    /// The weight of a run.
+    pub weight: i128,
+    /// The name of its group, if it has one.
+    pub group: Option<Bytes>,
+    /// Whether it has a mode, which no anacron job may have.
+    pub has_mode: bool,
+}
+
+/// What is declared of each job without an entry.
+#[derive(Debug, Drop)]
+pub struct DefaultEntry {
+    /// The longest time of a run in minutes.
+    pub max: i128,
+    /// The weight of a run.
+    pub weight: i128,
 }
 
 /// Declarations by their shape alone: whole numbers of any size.
 #[derive(Debug, Drop)]
 pub struct Entries {
-    pub(crate) capacity: i128,
-    pub(crate) offset: i128,
-    pub(crate) hours: (i128, i128),
-    pub(crate) pass: Option<i128>,
-    pub(crate) groups: Sequence<GroupEntry>,
-    pub(crate) cron: Sequence<CronEntry>,
-    pub(crate) anacron: Sequence<AnacronEntry>,
+    /// The most that running jobs may weigh together.
+    pub capacity: i128,
+    /// The minutes by which the operator's clock is ahead of UTC.
+    pub offset: i128,
+    /// The first minute of the catch-up hours, and the first after them.
+    pub hours: (i128, i128),
+    /// The minute of each day at which a catch-up pass begins, if declared.
+    pub pass: Option<i128>,
+    /// The groups.
+    pub groups: Sequence<GroupEntry>,
+    /// The entries of cron jobs.
+    pub cron: Sequence<CronEntry>,
+    /// The entries of anacron jobs.
+    pub anacron: Sequence<AnacronEntry>,
+    /// What is declared of jobs without an entry, if anything.
+    pub default: Option<DefaultEntry>,
+    /// The lines of the crontab that the plan leaves out.
+    pub left_out: Sequence<LineName>,
 }

@@ -14,11 +14,11 @@ pub enum DeclFault {
     NotJson,
     /// A member is absent, unknown or of another type, a number not whole, or the offset too great.
     BadShape,
-    /// The line has no command, or no job has the identifier.
+    /// No command has the number or the text of an entry, or no job its identifier.
     NoSuchLine,
-    /// A job has no entry.
+    /// A job has no entry, and there is no default.
     Undeclared,
-    /// A group, a line or an identifier is declared again.
+    /// A group, a line or an identifier is declared again, or a declared line is left out.
     TwiceDeclared,
     /// The longest time is not from 1 to [`MAX_MINUTES`](crate::MAX_MINUTES) minutes.
     BadMax,
@@ -36,12 +36,14 @@ pub enum DeclFault {
     BadHours,
     /// An anacron job has a mode.
     ModeOnAnacron,
-    /// The crontab has an `@reboot` line.
+    /// The crontab has an `@reboot` line that is not left out.
     RebootLine,
     /// The pass minute is not from 0 to 1,439.
     BadPassMinute,
     /// The line of an entry has another command than the entry tells.
     OtherCommand,
+    /// Several lines have the command of an entry without a number.
+    AmbiguousCommand,
 }
 
 impl DeclFault {
@@ -66,6 +68,7 @@ impl DeclFault {
             DeclFault::RebootLine => "14 RebootLine",
             DeclFault::BadPassMinute => "15 BadPassMinute",
             DeclFault::OtherCommand => "16 OtherCommand",
+            DeclFault::AmbiguousCommand => "17 AmbiguousCommand",
         }
     }
 }
@@ -79,6 +82,8 @@ pub enum Place {
     Cron(usize),
     /// An entry of `anacron`.
     Anacron(usize),
+    /// An entry of `left_out`.
+    LeftOut(usize),
     /// A command of the crontab, by its line number.
     Line(u32),
     /// A job of the anacrontab, by its identifier.
@@ -95,6 +100,7 @@ impl Place {
             Place::Group(i) => format!(in alloc; " at group {}", *i as u128 + 1)?,
             Place::Cron(i) => format!(in alloc; " at cron {}", *i as u128 + 1)?,
             Place::Anacron(i) => format!(in alloc; " at anacron {}", *i as u128 + 1)?,
+            Place::LeftOut(i) => format!(in alloc; " at left_out {}", *i as u128 + 1)?,
             Place::Line(number) => format!(in alloc; " at line {number}")?,
             Place::Job(identifier) => {
                 let mut text = Vec::from_slice(alloc, b" at job ".as_slice())?;

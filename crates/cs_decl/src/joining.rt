@@ -1,80 +1,20 @@
 ghost use Rattle.std.specs.Prelude.{◌≡◌, ◌≤◌, ◌++◌, All, length, option_map, None, IfOk, unsigned_abs};
 ghost use Rattle.std.specs.List.{find};
 ghost use Rattle.cs_decl.specs.Faults.{Fault, first_fault};
-ghost use Rattle.cs_decl.specs.Meaning.{Answers, IsValid};
-ghost use Rattle.cs_decl.specs.Join.{at_line, at_job, is_reboot, join_faults, declared_hours, plan_of, joined};
+ghost use Rattle.cs_decl.specs.Meaning.{Answers, IsValid, unless};
+ghost use Rattle.cs_decl.specs.Join.{is_reboot, undeclared, rest, lines_left_out, declared_hours, plan_of, joined};
 
 use crate::declarations::Declarations;
 use crate::entries::Entries;
-use crate::fault::{DeclError, DeclFault, Place};
-use crate::lookups::{
-    first_other, first_reboot, first_undeclared, first_undeclared_job, jobless, lineless,
-};
+use crate::fault::{DeclError, DeclFault};
+use crate::join_rows::{naming_fault, undeclared_fault};
+use crate::lookups::{defaulted, lines_left_out};
 use crate::plan::Plan;
-use crate::rows::Found;
 use crate::terms::{groups_of, jobs_of, small, smaller};
-use cs_anacrontab::{Anacrontab, Job as JobLine};
-use cs_civil::{Bytes, Hours};
-use cs_crontab::{Crontab, Line};
+use cs_anacrontab::Anacrontab;
+use cs_civil::{Hours, Sequence};
+use cs_crontab::Crontab;
 use std::alloc::{AllocError, Global};
-
-/// The fault at a line, if there is one.
-pub(crate) fn at_line(fault: DeclFault, line: Option<&Line>) -> Option<Found>
-    ensures { result ≡ at_line fault (option_map (λ l. l.now) line.entry) }
-{
-    match line {
-        Some(line) => Some((fault, Some(Place::Line(line.number())))),
-        None => None,
-    }
-}
-
-/// The fault at a job, if there is one.
-fn at_job(
-    alloc: Global,
-    fault: DeclFault,
-    line: Option<&JobLine>,
-) -> Result<Option<Found>, AllocError>
-    ensures { IfOk result (λ f. f ≡ at_job fault (option_map (λ l. l.now) line.entry)) }
-{
-    match line {
-        Some(line) => {
-            let identifier = Bytes::from_slice(alloc, line.identifier())?;
-            Ok(Some((fault, Some(Place::Job(identifier)))))
-        }
-        None => Ok(None),
-    }
-}
-
-/// The first fault of entries without a line or with another command than their line, lines without
-/// an entry, and `@reboot` lines.
-#[tactic(auto, unfolding(crate::specs::Join::join_faults))]
-fn join_fault(
-    alloc: Global,
-    crontab: &Crontab,
-    anacrontab: &Anacrontab,
-    entries: &Entries,
-) -> Result<Option<Found>, AllocError>
-    ensures { IfOk result
-        (λ f. f ≡ first_fault (join_faults crontab.now anacrontab.now entries.now)) }
-{
-    let (cron, anacron) = (entries.cron.as_slice(), entries.anacron.as_slice());
-    if let Some(i) = lineless(cron, crontab.lines()) {
-        return Ok(Some((DeclFault::NoSuchLine, Some(Place::Cron(i)))));
-    }
-    if let Some(i) = jobless(anacron, anacrontab.lines()) {
-        return Ok(Some((DeclFault::NoSuchLine, Some(Place::Anacron(i)))));
-    }
-    if let Some(i) = first_other(cron, crontab.lines()) {
-        return Ok(Some((DeclFault::OtherCommand, Some(Place::Cron(i)))));
-    }
-    if let Some(line) = first_undeclared(cron, crontab.lines()) {
-        return Ok(at_line(DeclFault::Undeclared, Some(line)));
-    }
-    if let Some(line) = first_undeclared_job(anacron, anacrontab.lines()) {
-        return at_job(alloc, DeclFault::Undeclared, Some(line));
-    }
-    Ok(at_line(DeclFault::RebootLine, first_reboot(crontab.lines())))
-}
 
 #[tactic(auto, using(crate::proofs::Validity::hours_possible))]
 fn hours_of(entries: &Entries) -> Hours
@@ -117,15 +57,17 @@ fn offset_of(entries: &Entries) -> i16
 fn plan_of(
     alloc: Global,
     crontab: Crontab,
+    left_out: Sequence<u32>,
     anacrontab: Anacrontab,
     entries: &Entries,
 ) -> Result<Plan, AllocError>
     requires valid { IsValid entries.now }
     requires timed { find (λ line. is_reboot line.when) crontab.lines ≡ None }
-    ensures { IfOk result (λ plan. plan ≡ plan_of crontab anacrontab entries.now) }
+    ensures { IfOk result (λ plan. plan ≡ plan_of crontab left_out anacrontab entries.now) }
 {
     let jobs = jobs_of(alloc, crontab.lines(), anacrontab.lines(), entries)?;
     let groups = groups_of(alloc, entries.groups.as_slice())?;
+    let defaulted = defaulted(entries, crontab.lines(), anacrontab.lines());
     Ok(Plan::new(
         crontab,
         anacrontab,
@@ -135,16 +77,55 @@ fn plan_of(
         hours_of(entries),
         pass_of(entries),
         offset_of(entries),
+        left_out,
+        defaulted,
     ))
+}
+
+/// The crontab without the lines that are left out, and their numbers.
+#[tactic(auto, using(crate::proofs::Rests::rest_is))]
+fn rest_of(
+    alloc: Global,
+    crontab: Crontab,
+    entries: &Entries,
+) -> Result<(Crontab, Sequence<u32>), AllocError>
+    ensures rest { IfOk result (λ parts. parts.0 ≡ rest entries.now crontab) }
+    ensures left_out { IfOk result (λ parts. parts.1 ≡ lines_left_out entries.now crontab) }
+{
+    let left_out = lines_left_out(alloc, entries, crontab.lines())?;
+    Ok((crontab.without(left_out.as_slice()), left_out))
+}
+
+/// The plan of the rest of the crontab, unless a job of it has neither an entry nor the default.
+fn joined_rest(
+    alloc: Global,
+    crontab: Crontab,
+    anacrontab: Anacrontab,
+    entries: &Entries,
+) -> Result<Plan, DeclError>
+    requires { IsValid entries.now }
+    ensures { Answers (λ plan. plan)
+        (unless (plan_of (rest entries.now crontab) (lines_left_out entries.now crontab) anacrontab
+        entries.now) (first_fault (undeclared (rest entries.now crontab).lines anacrontab.lines
+        entries.now))) result }
+{
+    let (rest, left_out) = rest_of(alloc, crontab, entries)?;
+    match undeclared_fault(alloc, rest.lines(), anacrontab.lines(), entries)? {
+        None => Ok(plan_of(alloc, rest, left_out, anacrontab, entries)?),
+        Some((fault, place)) => Err(DeclError::At { fault, place }),
+    }
 }
 
 /// Joins tables and declarations to a plan, or returns their first fault.
 ///
-/// [`NoSuchLine`](DeclFault::NoSuchLine) if an entry has no command or job, cron entries first,
-/// each in order; [`OtherCommand`](DeclFault::OtherCommand) if an entry tells another command than
-/// its line has, in the order of entries; [`Undeclared`](DeclFault::Undeclared) if a job has no
-/// entry, in the order of jobs; [`RebootLine`](DeclFault::RebootLine) if the crontab has an
-/// `@reboot`, declared or not, in order of line. Memory may run out.
+/// First come faults of what entries name, in the whole table, each kind at cron entries, then at
+/// anacron entries, then at those of `left_out`, in order: [`NoSuchLine`](DeclFault::NoSuchLine) if
+/// an entry has no command or job; [`OtherCommand`](DeclFault::OtherCommand) if it tells another
+/// command than its line has; [`AmbiguousCommand`](DeclFault::AmbiguousCommand) if it names several
+/// lines; [`TwiceDeclared`](DeclFault::TwiceDeclared) if its line has an entry already. Then come
+/// those of the lines that are not left out: [`Undeclared`](DeclFault::Undeclared) if a job has no
+/// entry and there is no default, in the order of jobs; [`RebootLine`](DeclFault::RebootLine) if one
+/// is an `@reboot`, declared or not, in order of line. Memory may run out.
 #[tactic(auto, unfolding(crate::specs::Join::joined))]
 pub fn join(
     alloc: Global,
@@ -155,8 +136,8 @@ pub fn join(
     ensures { Answers (λ plan. plan) (joined crontab anacrontab declarations) result }
 {
     let entries = declarations.entries();
-    match join_fault(alloc, &crontab, &anacrontab, entries)? {
-        None => Ok(plan_of(alloc, crontab, anacrontab, entries)?),
+    match naming_fault(alloc, crontab.lines(), anacrontab.lines(), entries)? {
+        None => joined_rest(alloc, crontab, anacrontab, entries),
         Some((fault, place)) => Err(DeclError::At { fault, place }),
     }
 }

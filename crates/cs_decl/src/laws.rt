@@ -1,12 +1,14 @@
 //! Which fault of declarations is returned, and what there is where none is.
-ghost use Rattle.std.specs.Prelude.{◌≡◌, Some, None, Ok, All, true};
+ghost use Rattle.std.specs.Prelude.{◌≡◌, ◌++◌, ℕ, ◌<◌, map, Some, None, Ok, All, true};
+ghost use Rattle.std.specs.List.{count_by};
 ghost use Rattle.cs_crontab.specs.Crontab.{Table};
 ghost use Rattle.cs_anacrontab.specs.Anacrontab.{Table as JobTable};
 ghost use Rattle.cs_decl.specs.declared.entries.Entries.{Entries};
 ghost use Rattle.cs_decl.specs.Faults.{Fault, faults_of, first_fault};
-ghost use Rattle.cs_decl.specs.Join.{TellsOf, joined};
+ghost use Rattle.cs_decl.specs.Join.{is_named, joined};
 ghost use Rattle.cs_decl.specs.Law.{IsFirst, stands};
-ghost use Rattle.cs_decl.specs.Plan.{Declared};
+ghost use Rattle.cs_decl.specs.Lines.{TellsOf, IsLeftOut, HasNoEntry, AreParted, IsDeclared, names_of};
+ghost use Rattle.cs_decl.specs.Plan.{Declared, places_of, command_of, job_at, crons};
 
 /// Lemma. The fault that is returned has the smallest number of those there are, and the first
 /// place of that number; if none is returned there is none.
@@ -17,8 +19,43 @@ pub fn first_of_faults()
 {}
 
 /// Lemma. Where tables and declarations make a plan, each entry that tells a command tells that of
-/// its line.
+/// its line, one that is left out or not.
 pub fn commands_are_those_of_lines()
     ensures { (table : Table) (jobs : JobTable) (d : Entries) (plan : Declared)
-        → joined table jobs d ≡ Ok plan → All (λ e. All (TellsOf e) table.lines) d.cron }
+        → joined table jobs d ≡ Ok plan → All (λ name. All (TellsOf name) table.lines) (names_of d) }
+{}
+
+/// Lemma. Where tables and declarations make a plan, each entry names exactly one line, left out or
+/// not.
+pub fn each_entry_names_one_line()
+    ensures { (table : Table) (jobs : JobTable) (d : Entries) (plan : Declared)
+        → joined table jobs d ≡ Ok plan
+        → All (λ name. count_by (is_named name) table.lines ≡ 1) (names_of d) }
+{}
+
+/// Lemma. Where tables and declarations make a plan, no entry of `cron` names a line that one of
+/// `left_out` names.
+pub fn left_out_lines_have_no_entry()
+    ensures { (table : Table) (jobs : JobTable) (d : Entries) (plan : Declared)
+        → joined table jobs d ≡ Ok plan
+        → All (λ line. IsLeftOut d line → HasNoEntry d line) table.lines }
+{}
+
+/// Lemma. Where tables and declarations make a plan, each line of the table is in its crontab, or
+/// an entry of `left_out` names it and the plan tells its number, in order of line; and each line
+/// of the plan has one job, which an entry that names it declares, or else the default. Without a
+/// default no job has it.
+pub fn each_line_has_its_job()
+    ensures lines { (table : Table) (jobs : JobTable) (d : Entries) (plan : Declared)
+        → joined table jobs d ≡ Ok plan
+        → AreParted d table.lines plan.crontab.lines plan.left_out }
+    ensures jobs { (table : Table) (jobs : JobTable) (d : Entries) (plan : Declared)
+        → joined table jobs d ≡ Ok plan
+        → (plan.anacrontab ≡ jobs) × (map (λ job. job.place) plan.jobs
+        ≡ places_of plan.crontab.lines ++ places_of plan.anacrontab.lines) }
+    ensures declared { (table : Table) (jobs : JobTable) (d : Entries) (plan : Declared) (j : ℕ)
+        → joined table jobs d ≡ Ok plan → j < crons plan
+        → IsDeclared d (command_of plan j) (job_at plan j) }
+    ensures defaulted { (table : Table) (jobs : JobTable) (d : Entries) (plan : Declared)
+        → joined table jobs d ≡ Ok plan → d.default ≡ None → plan.defaulted ≡ 0 }
 {}

@@ -7,11 +7,13 @@ mod fault;
 mod group;
 mod job;
 mod job_names;
+mod join_rows;
 mod joining;
 mod laws;
 mod limits;
 mod lookups;
 mod names;
+mod naming;
 mod plain;
 mod plan;
 mod reading;
@@ -20,12 +22,15 @@ mod terms;
 mod twice;
 
 pub use declarations::{Declarations, read_declarations};
-pub use entries::{AnacronEntry, CronEntry, Entries, GroupEntry};
+pub use entries::{AnacronEntry, CronEntry, DefaultEntry, Entries, GroupEntry, LineName};
 pub use fault::{DeclError, DeclFault, Place};
 pub use group::Group;
 pub use job::Job;
 pub use job_names::{identifier_of, push_command_name, push_due_name};
 pub use joining::join;
-pub use laws::{commands_are_those_of_lines, first_of_faults};
+pub use laws::{
+    commands_are_those_of_lines, each_entry_names_one_line, each_line_has_its_job, first_of_faults,
+    left_out_lines_have_no_entry,
+};
 pub use limits::{MAX_CAPACITY, MAX_GROUPS, MAX_MINUTES, MAX_OFFSET, MAX_WEIGHT};
 pub use plan::Plan;

@@ -1,19 +1,45 @@
-//! Lines without an entry, and entries without a line or with another command than their line.
-ghost use Rattle.std.specs.Prelude.{◌≡◌, option_map, position};
-ghost use Rattle.std.specs.List.{find, list_any};
-ghost use Rattle.cs_decl.specs.Join.{is_of_line, is_of_job, has_no_line, has_no_job, is_unlike, has_other_command, is_reboot, is_undeclared, is_undeclared_job};
+//! Lines that are left out, jobs without an entry, and entries without a job.
+ghost use Rattle.std.specs.Prelude.{◌≡◌, ◌≤◌, ◌+◌, not, length, map, option_map, position, IfOk};
+ghost use Rattle.std.specs.List.{find, filter, list_any, count_by};
+ghost use Rattle.cs_crontab.specs.declared.limits.TheConstants.{MAX_COMMANDS};
+ghost use Rattle.cs_anacrontab.specs.declared.limits.TheConstants.{MAX_JOBS};
+ghost use Rattle.cs_decl.specs.Join.{is_of_job, has_no_job, is_reboot, is_left_out, has_entry, has_job_entry, is_undeclared, is_undeclared_job, defaulted};
 
-use crate::entries::{AnacronEntry, CronEntry};
+use crate::entries::{AnacronEntry, Entries};
+use crate::naming::is_named;
 use cs_anacrontab::Job as JobLine;
-use cs_civil::Bytes;
+use cs_civil::Sequence;
 use cs_crontab::{Line, When};
+use std::alloc::{AllocError, Global};
 
-fn has_line(lines: &[Line], entry: &CronEntry) -> bool
-    ensures { result ≡ list_any (λ line. is_of_line line.number entry.now) lines.now }
+fn is_left_out(entries: &Entries, line: &Line) -> bool
+    ensures { result ≡ is_left_out entries.now line.now }
 {
-    lines
+    entries
+        .left_out
+        .as_slice()
         .iter()
-        .any(|line| entry.line == i128::from(line.number()))
+        .any(|name| is_named(name, line))
+}
+
+fn has_entry(entries: &Entries, line: &Line) -> bool
+    ensures { result ≡ has_entry entries.now line.now }
+{
+    entries
+        .cron
+        .as_slice()
+        .iter()
+        .any(|entry| is_named(&entry.name, line))
+}
+
+fn has_job_entry(entries: &Entries, line: &JobLine) -> bool
+    ensures { result ≡ has_job_entry entries.now line.now }
+{
+    entries
+        .anacron
+        .as_slice()
+        .iter()
+        .any(|entry| entry.identifier.as_slice() == line.identifier())
 }
 
 fn has_job(lines: &[JobLine], entry: &AnacronEntry) -> bool
@@ -22,23 +48,6 @@ fn has_job(lines: &[JobLine], entry: &AnacronEntry) -> bool
     lines
         .iter()
         .any(|line| entry.identifier.as_slice() == line.identifier())
-}
-
-fn is_unlike(command: &[u8], told: &Option<Bytes>) -> bool
-    ensures { result ≡ is_unlike command.now told.now }
-{
-    match told {
-        Some(told) => told.as_slice() != command,
-        None => false,
-    }
-}
-
-fn has_other_command(lines: &[Line], entry: &CronEntry) -> bool
-    ensures { result ≡ has_other_command lines.now entry.now }
-{
-    lines.iter().any(|line| {
-        entry.line == i128::from(line.number()) && is_unlike(line.command(), &entry.command)
-    })
 }
 
 fn is_reboot(line: &Line) -> bool
@@ -50,28 +59,16 @@ fn is_reboot(line: &Line) -> bool
     }
 }
 
-fn is_declared(entries: &[CronEntry], line: &Line) -> bool
-    ensures { result ≡ list_any (is_of_line line.now.number) entries.now }
+fn is_undeclared(entries: &Entries, line: &Line) -> bool
+    ensures { result ≡ is_undeclared entries.now line.now }
 {
-    entries
-        .iter()
-        .any(|entry| entry.line == i128::from(line.number()))
+    entries.default.is_none() && !is_reboot(line) && !has_entry(entries, line)
 }
 
-fn is_declared_job(entries: &[AnacronEntry], line: &JobLine) -> bool
-    ensures { result ≡ list_any (is_of_job line.now.identifier) entries.now }
+fn is_undeclared_job(entries: &Entries, line: &JobLine) -> bool
+    ensures { result ≡ is_undeclared_job entries.now line.now }
 {
-    entries
-        .iter()
-        .any(|entry| entry.identifier.as_slice() == line.identifier())
-}
-
-/// The index of the first cron entry without a command. As no two entries have the same line, at
-/// most one entry more than there are commands is looked at.
-pub(crate) fn lineless(entries: &[CronEntry], lines: &[Line]) -> Option<usize>
-    ensures { result ≡ position (has_no_line lines.now) entries.now }
-{
-    entries.iter().position(|entry| !has_line(lines, entry))
+    entries.default.is_none() && !has_job_entry(entries, line)
 }
 
 /// The index of the first anacron entry without a job.
@@ -81,34 +78,70 @@ pub(crate) fn jobless(entries: &[AnacronEntry], lines: &[JobLine]) -> Option<usi
     entries.iter().position(|entry| !has_job(lines, entry))
 }
 
-/// The index of the first cron entry whose line has another command than the entry tells.
-pub(crate) fn first_other(entries: &[CronEntry], lines: &[Line]) -> Option<usize>
-    ensures { result ≡ position (has_other_command lines.now) entries.now }
-{
-    entries
-        .iter()
-        .position(|entry| has_other_command(lines, entry))
-}
-
-pub(crate) fn first_undeclared<'a>(entries: &[CronEntry], lines: &'a [Line]) -> Option<&'a Line>
+pub(crate) fn first_undeclared<'l>(entries: &Entries, lines: &'l [Line]) -> Option<&'l Line>
     ensures { option_map (λ l. l.now) result ≡ find (is_undeclared entries.now) lines.now }
 {
-    lines
-        .iter()
-        .find(|line| !is_reboot(line) && !is_declared(entries, line))
+    lines.iter().find(|line| is_undeclared(entries, line))
 }
 
-pub(crate) fn first_undeclared_job<'a>(
-    entries: &[AnacronEntry],
-    lines: &'a [JobLine],
-) -> Option<&'a JobLine>
+pub(crate) fn first_undeclared_job<'l>(
+    entries: &Entries,
+    lines: &'l [JobLine],
+) -> Option<&'l JobLine>
     ensures { option_map (λ l. l.now) result ≡ find (is_undeclared_job entries.now) lines.now }
 {
-    lines.iter().find(|line| !is_declared_job(entries, line))
+    lines.iter().find(|line| is_undeclared_job(entries, line))
 }
 
 pub(crate) fn first_reboot(lines: &[Line]) -> Option<&Line>
     ensures { option_map (λ l. l.now) result ≡ find (λ line. is_reboot line.when) lines.now }
 {
     lines.iter().find(|line| is_reboot(line))
+}
+
+/// The numbers of the lines that are left out, in order of line.
+pub(crate) fn lines_left_out(
+    alloc: Global,
+    entries: &Entries,
+    lines: &[Line],
+) -> Result<Sequence<u32>, AllocError>
+    ensures { IfOk result
+        (λ numbers. numbers
+        ≡ map (λ line. line.number) (filter (is_left_out entries.now) lines.now)) }
+{
+    let mut numbers = Sequence::new(alloc);
+    for line in lines {
+        if is_left_out(entries, line) {
+            numbers.push(line.number())?;
+        }
+    }
+    Ok(numbers)
+}
+
+fn count_without_entry(entries: &Entries, lines: &[Line]) -> usize
+    ensures { result ≡ count_by (λ line. not (has_entry entries.now line)) lines.now }
+{
+    lines
+        .iter()
+        .filter(|line| !has_entry(entries, line))
+        .count()
+}
+
+fn count_jobs_without_entry(entries: &Entries, lines: &[JobLine]) -> usize
+    ensures { result ≡ count_by (λ line. not (has_job_entry entries.now line)) lines.now }
+{
+    lines
+        .iter()
+        .filter(|line| !has_job_entry(entries, line))
+        .count()
+}
+
+/// The number of the jobs without an entry.
+#[tactic(auto, using(crate::proofs::Rests::count_within))]
+pub(crate) fn defaulted(entries: &Entries, commands: &[Line], lines: &[JobLine]) -> usize
+    requires commands { length commands.now ≤ MAX_COMMANDS }
+    requires lines { length lines.now ≤ MAX_JOBS }
+    ensures { result ≡ defaulted entries.now commands.now lines.now }
+{
+    count_without_entry(entries, commands) + count_jobs_without_entry(entries, lines)
 }

@@ -8,7 +8,7 @@ ghost use Rattle.cs_decl.specs.Plain.{plain_job, plain_plan, plain_of, is_possib
 
 use crate::fault::{DeclError, DeclFault};
 use crate::job::Job;
-use crate::joining::at_line;
+use crate::join_rows::at_line;
 use crate::limits::{MAX_CAPACITY, MAX_MINUTES};
 use crate::lookups::first_reboot;
 use crate::plan::Plan;
@@ -66,6 +66,7 @@ fn plain_plan(
     let jobs = plain_jobs(alloc, crontab.lines().len(), anacrontab.lines().len(), max)?;
     let groups = Sequence::new(alloc);
     let hours = all_day();
+    let left_out = Sequence::new(alloc);
     Ok(Plan::new(
         crontab,
         anacrontab,
@@ -74,6 +75,8 @@ fn plain_plan(
         MAX_CAPACITY,
         hours,
         None,
+        0,
+        left_out,
         0,
     ))
 }

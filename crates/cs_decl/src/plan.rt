@@ -15,7 +15,8 @@ use std::marker::Model;
 /// A crontab and an anacrontab with the declarations of their jobs.
 ///
 /// Jobs are numbered from 0: first the commands of the crontab, then the jobs of the anacrontab,
-/// each in order of line. No command is an `@reboot`.
+/// each in order of line. No command is an `@reboot`. Lines that declarations leave out are not in
+/// the crontab.
 #[derive(Debug, Drop)]
 pub struct Plan {
     crontab: Crontab,
@@ -26,6 +27,8 @@ pub struct Plan {
     hours: Hours,
     pass: Option<u16>,
     offset: i16,
+    left_out: Sequence<u32>,
+    defaulted: usize,
 }
 
 impl Model for Plan {
@@ -42,6 +45,8 @@ impl Model for Plan {
       hours = a.hours;
       pass = a.pass;
       offset = a.offset;
+      left_out = a.left_out;
+      defaulted = a.defaulted;
     } };
 
     ghost invariant = { λ a. IsWhole
@@ -54,6 +59,8 @@ impl Model for Plan {
           hours = a.hours;
           pass = a.pass;
           offset = a.offset;
+          left_out = a.left_out;
+          defaulted = a.defaulted;
         }) };
 }
 
@@ -79,6 +86,8 @@ impl Plan {
         hours: Hours,
         pass: Option<u16>,
         offset: i16,
+        left_out: Sequence<u32>,
+        defaulted: usize,
     ) -> Plan
         requires { IsWhole (record {
           crontab = crontab;
@@ -89,6 +98,8 @@ impl Plan {
           hours = hours;
           pass = pass;
           offset = offset;
+          left_out = left_out;
+          defaulted = defaulted;
         }) }
         ensures { result
             ≡ record {
@@ -100,6 +111,8 @@ impl Plan {
               hours = hours;
               pass = pass;
               offset = offset;
+              left_out = left_out;
+              defaulted = defaulted;
             } }
     {
         Plan {
@@ -111,6 +124,8 @@ impl Plan {
             hours,
             pass,
             offset,
+            left_out,
+            defaulted,
         }
     }
 
@@ -127,6 +142,8 @@ impl Plan {
             hours: self.hours,
             pass: self.pass,
             offset: self.offset,
+            left_out: Sequence::from_slice(alloc, self.left_out.as_slice())?,
+            defaulted: self.defaulted,
         })
     }
 
@@ -231,5 +248,19 @@ impl Plan {
         ensures in_range { unsigned_abs self.now.offset ≤ MAX_OFFSET }
     {
         self.offset
+    }
+
+    /// Returns the numbers of the lines that the crontab is without, in order of line.
+    pub fn left_out(&self) -> &[u32]
+        ensures { result.now ≡ self.now.left_out }
+    {
+        self.left_out.as_slice()
+    }
+
+    /// Returns how many jobs have no entry, and so the default.
+    pub fn defaulted(&self) -> usize
+        ensures { result ≡ self.now.defaulted }
+    {
+        self.defaulted
     }
 }

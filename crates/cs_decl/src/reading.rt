@@ -1,16 +1,18 @@
-ghost use Rattle.std.specs.Prelude.{◌≡◌, List, [], Some, None, Ok, map, option_map, option_and_then, string_bytes, pos, codes, is_some};
+ghost use Rattle.std.specs.Prelude.{◌≡◌, List, [], Some, None, Ok, map, option_map, option_and_then, string_bytes, pos, codes, is_some, ◌||◌};
 ghost use Rattle.serde_json.specs.View.{view};
 ghost use Rattle.serde_json.specs.Find.{get};
 ghost use Rattle.cs_json.specs.Gives.{Gives};
 ghost use Rattle.cs_json.specs.Shape.{check, text, whole_number, list_as, member_as, member_or_default, member_or_none, object_with};
 ghost use Rattle.cs_history.specs.declared.mode.Mode.TheVariants.{Plain};
-ghost use Rattle.cs_decl.specs.Shape.{mode_named, mode_of, note_of, group_of, cron_of, anacron_of, entries_of, is_group_member, is_cron_member, is_anacron_member, is_member};
+ghost use Rattle.cs_decl.specs.Shape.{mode_named, mode_of, note_of, group_of, line_name_of, cron_of, anacron_of, default_of, left_out_of, terms_of, entries_of, is_group_member, is_cron_member, is_anacron_member, is_default_member, is_left_out_member, is_member};
+ghost use Rattle.cs_decl.specs.declared.entries.LineName.{LineName};
 ghost use Rattle.cs_decl.specs.declared.entries.GroupEntry.{GroupEntry};
 ghost use Rattle.cs_decl.specs.declared.entries.CronEntry.{CronEntry};
 ghost use Rattle.cs_decl.specs.declared.entries.AnacronEntry.{AnacronEntry};
+ghost use Rattle.cs_decl.specs.declared.entries.DefaultEntry.{DefaultEntry};
 ghost use Rattle.cs_decl.specs.declared.entries.Entries.{Entries};
 
-use crate::entries::{AnacronEntry, CronEntry, Entries, GroupEntry};
+use crate::entries::{AnacronEntry, CronEntry, DefaultEntry, Entries, GroupEntry, LineName};
 use cs_civil::{Bytes, Sequence};
 use cs_history::Mode;
 use cs_json::{BAD_SHAPE, FromJson, Misread, member, member_if_there, member_or, only_members};
@@ -68,12 +70,26 @@ fn weight_member(alloc: Global, value: &Value) -> Result<i128, Misread>
     member_or(alloc, value, "weight", 1)
 }
 
+/// The number of a line, its command or both. `BadShape` if there is neither.
+#[tactic(auto, unfolding(crate::specs::Shape::line_name_of))]
+fn line_name(alloc: Global, value: &Value) -> Result<LineName, Misread>
+    ensures { Gives (λ n. n) result (line_name_of (view value.now)) }
+{
+    let number: Option<i128> = member_if_there(alloc, value, "line")?;
+    let command = text_if_there(alloc, value, "command")?;
+    if number.is_none() && command.is_none() {
+        return Err(BAD_SHAPE);
+    }
+    Ok(LineName { number, command })
+}
+
 fn named_mode(name: &str) -> Option<Mode>
     ensures { result ≡ mode_named name.now }
 {
     match name {
         "none" => Some(Mode::Plain),
         "skip" => Some(Mode::Skip),
+        "try" => Some(Mode::Try),
         "wait" => Some(Mode::Wait),
         "shared" => Some(Mode::Shared),
         _ => None,
@@ -142,8 +158,7 @@ impl FromJson for CronEntry {
         cron_object(value)?;
         pass_note(value)?;
         Ok(CronEntry {
-            line: member(alloc, value, "line")?,
-            command: text_if_there(alloc, value, "command")?,
+            name: line_name(alloc, value)?,
             max: member(alloc, value, "max")?,
             weight: weight_member(alloc, value)?,
             group: text_if_there(alloc, value, "group")?,
@@ -183,6 +198,56 @@ impl FromJson for AnacronEntry {
     }
 }
 
+// ---- jobs without an entry, and lines that are left out
+
+#[tactic(auto, unfolding(crate::specs::Shape::is_default_member))]
+fn default_object(value: &Value) -> Result<(), Misread>
+    ensures { Gives (λ u. u) result (object_with is_default_member (view value.now)) }
+{
+    only_members(value, ["max", "note", "weight"].as_slice())
+}
+
+#[tactic(auto, unfolding(crate::specs::Shape::default_of))]
+impl FromJson for DefaultEntry {
+    ghost Seen = { DefaultEntry };
+
+    ghost seen = { λ e. e };
+
+    ghost shape = { default_of };
+
+    fn from_json(alloc: Global, value: &Value) -> Result<DefaultEntry, Misread> {
+        default_object(value)?;
+        pass_note(value)?;
+        Ok(DefaultEntry {
+            max: member(alloc, value, "max")?,
+            weight: weight_member(alloc, value)?,
+        })
+    }
+}
+
+#[tactic(auto, unfolding(crate::specs::Shape::is_left_out_member))]
+fn left_out_object(value: &Value) -> Result<(), Misread>
+    ensures { Gives (λ u. u) result (object_with is_left_out_member (view value.now)) }
+{
+    only_members(value, ["command", "line", "note"].as_slice())
+}
+
+/// An entry of `left_out`.
+#[tactic(auto, unfolding(crate::specs::Shape::left_out_of))]
+impl FromJson for LineName {
+    ghost Seen = { LineName };
+
+    ghost seen = { λ n. n };
+
+    ghost shape = { left_out_of };
+
+    fn from_json(alloc: Global, value: &Value) -> Result<LineName, Misread> {
+        left_out_object(value)?;
+        pass_note(value)?;
+        line_name(alloc, value)
+    }
+}
+
 // ---- all members
 
 #[tactic(auto, unfolding(crate::specs::Shape::is_member))]
@@ -192,10 +257,34 @@ fn whole_object(value: &Value) -> Result<(), Misread>
     only_members(
         value,
         [
-            "anacron", "capacity", "cron", "groups", "hours", "note", "offset", "pass",
+            "anacron", "capacity", "cron", "default", "groups", "hours", "left_out", "note",
+            "offset", "pass",
         ]
         .as_slice(),
     )
+}
+
+/// What is declared of all jobs together.
+#[derive(Debug, Drop)]
+struct Terms {
+    capacity: i128,
+    offset: i128,
+    hours: (i128, i128),
+    pass: Option<i128>,
+    default: Option<DefaultEntry>,
+}
+
+#[tactic(auto, unfolding(crate::specs::Shape::terms_of))]
+fn terms_of(alloc: Global, value: &Value) -> Result<Terms, Misread>
+    ensures { Gives (λ t. t) result (terms_of (view value.now)) }
+{
+    Ok(Terms {
+        capacity: member(alloc, value, "capacity")?,
+        offset: member_or(alloc, value, "offset", 0)?,
+        hours: member_or(alloc, value, "hours", (0, 1_440))?,
+        pass: member_if_there(alloc, value, "pass")?,
+        default: member_if_there(alloc, value, "default")?,
+    })
 }
 
 #[tactic(auto, unfolding(crate::specs::Shape::entries_of))]
@@ -209,14 +298,17 @@ impl FromJson for Entries {
     fn from_json(alloc: Global, value: &Value) -> Result<Entries, Misread> {
         whole_object(value)?;
         pass_note(value)?;
+        let terms = terms_of(alloc, value)?;
         Ok(Entries {
-            capacity: member(alloc, value, "capacity")?,
-            offset: member_or(alloc, value, "offset", 0)?,
-            hours: member_or(alloc, value, "hours", (0, 1_440))?,
-            pass: member_if_there(alloc, value, "pass")?,
+            capacity: terms.capacity,
+            offset: terms.offset,
+            hours: terms.hours,
+            pass: terms.pass,
+            default: terms.default,
             groups: list_member(alloc, value, "groups")?,
             cron: list_member(alloc, value, "cron")?,
             anacron: list_member(alloc, value, "anacron")?,
+            left_out: list_member(alloc, value, "left_out")?,
         })
     }
 }

@@ -1,9 +1,9 @@
 //! The table of faults, row after row.
 ghost use Rattle.std.specs.Prelude.{◌≡◌, IfOk, Some, position, map, option_map, bytes_eq};
 ghost use Rattle.std.specs.List.{list_any};
-ghost use Rattle.cs_decl.specs.Faults.{is_within, is_bad_offset, is_bad_max, is_bad_weight, needs_group, is_unlisted, are_bad_hours, is_bad_pass, first_fault, twice_declared, bad_numbers, bad_groups, bad_times, faults_of};
+ghost use Rattle.cs_decl.specs.Faults.{is_within, is_bad_offset, is_bad_max, is_bad_weight, is_bad_default, needs_group, is_unlisted, are_bad_hours, is_bad_pass, first_fault, twice_declared, bad_numbers, bad_groups, bad_times, faults_of};
 
-use crate::entries::{AnacronEntry, CronEntry, Entries};
+use crate::entries::{AnacronEntry, CronEntry, DefaultEntry, Entries};
 use crate::fault::{DeclFault, Place};
 use crate::limits::{MAX_CAPACITY, MAX_GROUPS, MAX_MINUTES, MAX_OFFSET, MAX_WEIGHT};
 use crate::names::{unlisted_anacron, unlisted_cron};
@@ -101,6 +101,24 @@ fn bad_anacron_weight(anacron: &[AnacronEntry]) -> Option<usize>
     anacron.iter().position(|entry| is_bad_weight(entry.weight))
 }
 
+fn has_bad_default_max(default: &Option<DefaultEntry>) -> bool
+    ensures { result ≡ is_bad_default (λ e. is_bad_max e.max) default.now }
+{
+    match default {
+        Some(entry) => is_bad_max(entry.max),
+        None => false,
+    }
+}
+
+fn has_bad_default_weight(default: &Option<DefaultEntry>) -> bool
+    ensures { result ≡ is_bad_default (λ e. is_bad_weight e.weight) default.now }
+{
+    match default {
+        Some(entry) => is_bad_weight(entry.weight),
+        None => false,
+    }
+}
+
 #[tactic(auto, unfolding(crate::specs::Faults::bad_numbers))]
 fn bad_numbers(entries: &Entries) -> Option<Found>
     ensures { result ≡ first_fault (bad_numbers entries.now) }
@@ -111,11 +129,17 @@ fn bad_numbers(entries: &Entries) -> Option<Found>
     if let Some(i) = bad_anacron_max(entries.anacron.as_slice()) {
         return Some((DeclFault::BadMax, Some(Place::Anacron(i))));
     }
+    if has_bad_default_max(&entries.default) {
+        return Some((DeclFault::BadMax, None));
+    }
     if let Some(i) = bad_cron_weight(entries.cron.as_slice()) {
         return Some((DeclFault::BadWeight, Some(Place::Cron(i))));
     }
     if let Some(i) = bad_anacron_weight(entries.anacron.as_slice()) {
         return Some((DeclFault::BadWeight, Some(Place::Anacron(i))));
+    }
+    if has_bad_default_weight(&entries.default) {
+        return Some((DeclFault::BadWeight, None));
     }
     if !is_within(1, u16::from(MAX_CAPACITY), entries.capacity) {
         return Some((DeclFault::BadCapacity, None));

@@ -4,11 +4,12 @@ ghost use Rattle.std.specs.List.{find};
 ghost use Rattle.cs_decl.specs.declared.limits.TheConstants.{MAX_GROUPS, MAX_OFFSET};
 ghost use Rattle.cs_decl.specs.Job.{IsPossible};
 ghost use Rattle.cs_decl.specs.Meaning.{IsValid};
-ghost use Rattle.cs_decl.specs.Join.{is_of_line, is_of_job, group_place, cron_terms, anacron_terms, cron_job, anacron_job, jobs_from, declared_group};
+ghost use Rattle.cs_decl.specs.Join.{is_named, is_of_job, group_place, default_terms, cron_terms, anacron_terms, cron_job, anacron_job, jobs_from, declared_group};
 
-use crate::entries::{AnacronEntry, CronEntry, Entries, GroupEntry};
+use crate::entries::{AnacronEntry, CronEntry, DefaultEntry, Entries, GroupEntry};
 use crate::group::Group;
 use crate::job::Job;
+use crate::naming::is_named;
 use cs_anacrontab::Job as JobLine;
 use cs_civil::{Bytes, Sequence};
 use cs_crontab::Line;
@@ -54,14 +55,15 @@ fn place_of(entries: &Entries, name: &Bytes) -> Option<usize>
         .position(|group| name.as_slice() == group.name.as_slice())
 }
 
-fn cron_entry(entries: &Entries, number: u32) -> Option<&CronEntry>
-    ensures { option_map (λ e. e.now) result ≡ find (is_of_line number) entries.now.cron }
+fn cron_entry<'e>(entries: &'e Entries, line: &Line) -> Option<&'e CronEntry>
+    ensures { option_map (λ e. e.now) result
+        ≡ find (λ e. is_named e.name line.now) entries.now.cron }
 {
     entries
         .cron
         .as_slice()
         .iter()
-        .find(|entry| entry.line == i128::from(number))
+        .find(|entry| is_named(&entry.name, line))
 }
 
 fn anacron_entry<'a>(entries: &'a Entries, identifier: &[u8]) -> Option<&'a AnacronEntry>
@@ -74,10 +76,33 @@ fn anacron_entry<'a>(entries: &'a Entries, identifier: &[u8]) -> Option<&'a Anac
         .find(|entry| entry.identifier.as_slice() == identifier)
 }
 
+fn default_job(place: usize, entry: &DefaultEntry) -> Job
+    requires { IsPossible (default_terms place (Some entry.now)) }
+    ensures { result ≡ default_terms place (Some entry.now) }
+{
+    Job::new(
+        place,
+        small(entry.max),
+        smaller(entry.weight),
+        None,
+        Mode::Plain,
+    )
+}
+
+fn default_terms(place: usize, entries: &Entries) -> Job
+    requires { IsPossible (default_terms place entries.now.default) }
+    ensures { result ≡ default_terms place entries.now.default }
+{
+    match &entries.default {
+        Some(entry) => default_job(place, entry),
+        None => Job::new(place, 1, 1, None, Mode::Plain),
+    }
+}
+
 fn cron_terms(place: usize, entry: &CronEntry, entries: &Entries) -> Job
     requires few { length entries.now.groups ≤ MAX_GROUPS }
-    requires possible { IsPossible (cron_terms entries.now.groups place (Some entry.now)) }
-    ensures { result ≡ cron_terms entries.now.groups place (Some entry.now) }
+    requires possible { IsPossible (cron_terms entries.now place (Some entry.now)) }
+    ensures { result ≡ cron_terms entries.now place (Some entry.now) }
 {
     Job::new(
         place,
@@ -90,8 +115,8 @@ fn cron_terms(place: usize, entry: &CronEntry, entries: &Entries) -> Job
 
 fn anacron_terms(place: usize, entry: &AnacronEntry, entries: &Entries) -> Job
     requires few { length entries.now.groups ≤ MAX_GROUPS }
-    requires possible { IsPossible (anacron_terms entries.now.groups place (Some entry.now)) }
-    ensures { result ≡ anacron_terms entries.now.groups place (Some entry.now) }
+    requires possible { IsPossible (anacron_terms entries.now place (Some entry.now)) }
+    ensures { result ≡ anacron_terms entries.now place (Some entry.now) }
 {
     Job::new(
         place,
@@ -102,25 +127,25 @@ fn anacron_terms(place: usize, entry: &AnacronEntry, entries: &Entries) -> Job
     )
 }
 
-#[tactic(auto, using(crate::proofs::Validity::few_groups))]
+#[tactic(auto, using(crate::proofs::Validity::few_groups, crate::proofs::Validity::default_possible))]
 fn cron_job(place: usize, line: &Line, entries: &Entries) -> Job
     requires { IsValid entries.now }
     ensures { result ≡ cron_job entries.now place line.now }
 {
-    match cron_entry(entries, line.number()) {
+    match cron_entry(entries, line) {
         Some(entry) => cron_terms(place, entry, entries),
-        None => Job::new(place, 1, 1, None, Mode::Plain),
+        None => default_terms(place, entries),
     }
 }
 
-#[tactic(auto, using(crate::proofs::Validity::few_groups))]
+#[tactic(auto, using(crate::proofs::Validity::few_groups, crate::proofs::Validity::default_possible))]
 fn anacron_job(place: usize, line: &JobLine, entries: &Entries) -> Job
     requires { IsValid entries.now }
     ensures { result ≡ anacron_job entries.now place line.now }
 {
     match anacron_entry(entries, line.identifier()) {
         Some(entry) => anacron_terms(place, entry, entries),
-        None => Job::new(place, 1, 1, None, Mode::Plain),
+        None => default_terms(place, entries),
     }
 }
 
@@ -152,7 +177,7 @@ fn push_anacron_jobs(
     Ok(())
 }
 
-/// The jobs of the lines, as their entries declare them.
+/// The jobs of the lines, as their entries or the default declare them.
 pub(crate) fn jobs_of(
     alloc: Global,
     commands: &[Line],

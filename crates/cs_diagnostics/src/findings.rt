@@ -2,9 +2,9 @@ ghost use Rattle.std.specs.Prelude.{◌≡◌, true, OnOk};
 ghost use Rattle.std.specs.List.{list_any};
 ghost use Rattle.cs_diagnostics.specs.Told.{is_told, tells};
 
-use crate::render::newlines;
-use crate::span::Span;
+use cs_outline::Span;
 use std::alloc::{AllocError, Global};
+use std::fmt::Display;
 
 /// How many findings of one file are told.
 pub const MAX_TOLD: usize = 100;
@@ -60,30 +60,41 @@ impl Finding {
 pub struct Findings {
     /// What it takes its memory from.
     pub alloc: Global,
-    /// The line in which places are given.
-    pub line: u64,
-    /// The byte of the file at which that line begins.
-    pub start: usize,
+    /// The bytes of the file at which its lines begin.
+    starts: Vec<usize>,
     pub(crate) first: Vec<Finding>,
     pub(crate) more: u64,
-    has_oddities: bool,
+    /// Whether anything odd was found.
+    pub has_oddities: bool,
 }
 
 impl Findings {
-    /// Nothing yet, which takes no memory; places are counted from the start of the file.
-    pub fn new(alloc: Global) -> Findings {
-        Findings {
+    /// Nothing yet, of a file that holds this.
+    pub fn new(alloc: Global, bytes: &[u8]) -> Result<Findings, AllocError> {
+        let mut starts = Vec::new(alloc);
+        starts.push(0)?;
+        for (i, byte) in bytes.iter().enumerate() {
+            if *byte == b'\n' {
+                starts.push(i.saturating_add(1))?;
+            }
+        }
+        Ok(Findings {
             alloc,
-            line: 1,
-            start: 0,
+            starts,
             first: Vec::new(alloc),
             more: 0,
             has_oddities: false,
-        }
+        })
     }
 
-    fn rank(&self, is_odd: bool, place: Span) -> usize {
-        let from = self.start.saturating_add(place.from);
+    /// The byte at which that line begins, or the last one where there are fewer; line 0 begins
+    /// where the first does.
+    fn line_start(&self, line: u64) -> usize {
+        let start = self.starts.get(line.saturating_sub(1) as usize);
+        start.or(self.starts.last()).copied().unwrap_or(0)
+    }
+
+    fn rank(&self, is_odd: bool, from: usize) -> usize {
         let comes_later = |found: &&Finding| {
             found.is_odd && !is_odd
                 || found.is_odd == is_odd && from < found.start.saturating_add(found.place.from)
@@ -93,103 +104,80 @@ impl Findings {
     }
 
     /// Puts a finding at its rank; where as many are kept as are told, the last goes.
-    fn push(&mut self, is_odd: bool, place: Span, words: String) -> Done
-        ensures { OnOk result ((fault : FirstFault)
-            → tells fault (record { is_odd = is_odd; line = self.old.line; start = self.old.start; place = place; words = words }) ≡ true
+    fn push(&mut self, finding: Finding) -> Done
+        ensures { OnOk result ((fault : FirstFault) → tells fault finding ≡ true
             → is_told fault self.new ≡ true) }
     {
         if self.first.len() >= MAX_TOLD {
             let _last = self.first.pop();
         }
-        let rank = self.rank(is_odd, place).min(self.first.len());
-        let finding = Finding {
-            is_odd,
-            line: self.line,
-            start: self.start,
-            place,
-            words,
-        };
+        let from = finding.start.saturating_add(finding.place.from);
+        let rank = self.rank(finding.is_odd, from).min(self.first.len());
         self.first.insert(rank, finding)?;
         Ok(())
     }
 
-    fn add(&mut self, is_odd: bool, place: Span, words: &str) -> Done {
+    fn add(&mut self, is_odd: bool, place: Span, words: impl Display + Drop) -> Done {
         if self.first.len() >= MAX_TOLD {
-            self.count();
+            self.more = self.more.saturating_add(1);
         }
-        if self.rank(is_odd, place) >= MAX_TOLD {
+        if self.rank(is_odd, place.from) >= MAX_TOLD {
             return Ok(());
         }
-        let words = String::from_str(self.alloc, words)?;
-        self.push(is_odd, place, words)
+        let line = self.starts.partition_point(|start| *start <= place.from) as u64;
+        let start = self.line_start(line);
+        self.push(Finding {
+            is_odd,
+            line,
+            start,
+            place: Span::of(place.from.saturating_sub(start), place.len()),
+            words: format!(in self.alloc; "{words}")?,
+        })
     }
 
     /// Adds something that is wrong.
-    pub fn fault(&mut self, place: Span, words: &str) -> Done {
+    pub fn fault(&mut self, place: Span, words: impl Display + Drop) -> Done {
         self.add(false, place, words)
     }
 
     /// Adds something that is odd.
-    pub fn odd(&mut self, place: Span, words: &str) -> Done {
+    pub fn odd(&mut self, place: Span, words: impl Display + Drop) -> Done {
         self.has_oddities = true;
         self.add(true, place, words)
     }
 
+    /// Whether that fault is told.
+    pub fn tells(&self, fault: &FirstFault<'_>) -> bool
+        ensures { result ≡ is_told fault.now self.now }
+    {
+        self.first.iter().any(|found| found.tells(fault))
+    }
+
     /// Adds a fault at the start of its line, where none was added that tells it.
-    pub fn keep(&mut self, fault: &FirstFault<'_>, start: usize) -> Done
+    pub fn keep(&mut self, fault: &FirstFault<'_>) -> Done
         ensures { OnOk result (is_told fault.now self.new ≡ true) }
     {
-        if self.first.iter().any(|found| found.tells(fault)) {
+        if self.tells(fault) {
             return Ok(());
         }
-        self.line = fault.line.max(1);
-        self.start = start;
         let name = fault.name;
         let words = format!(in self.alloc; "{name}: see 'cronsafe explain'")?;
-        self.push(false, Span::of(fault.from, 1), words)?;
+        self.push(Finding {
+            is_odd: false,
+            line: fault.line.max(1),
+            start: self.line_start(fault.line),
+            place: Span::of(fault.from, 1),
+            words,
+        })?;
         Ok(())
     }
 
-    /// Whether something that is wrong here would be told, by what was added so far.
-    pub fn takes_fault(&self, place: Span) -> bool {
-        self.rank(false, place) < MAX_TOLD
-    }
-
-    /// Counts something that isn't told.
-    pub fn count(&mut self) {
-        self.more = self.more.saturating_add(1);
-    }
-
-    /// Whether anything is wrong.
-    pub fn has_faults(&self) -> bool {
-        self.first.first().is_some_and(|found| !found.is_odd)
-    }
-
-    /// Whether anything is odd.
-    pub fn has_oddities(&self) -> bool {
-        self.has_oddities
-    }
-
-    /// Gives the line of each place that is counted from the start of the file.
-    pub fn find_lines(&mut self, bytes: &[u8]) {
-        let (mut line, mut start, mut seen) = (1u64, 0usize, 0usize);
-        for finding in self.first.iter_mut() {
-            let place = finding.place;
-            let from = place.from.min(bytes.len());
-            if from < seen {
-                line = 1;
-                start = 0;
-                seen = 0;
-            }
-            let passed = Span::between(seen, from).bytes(bytes);
-            line = line.saturating_add(newlines(passed));
-            if let Some(at) = passed.iter().rposition(|byte| *byte == b'\n') {
-                start = seen.saturating_add(at).saturating_add(1);
-            }
-            seen = from;
-            finding.line = line;
-            finding.start = start;
-            finding.place = Span::of(from.saturating_sub(start), place.len());
+    /// Whether something that is wrong here would be told, by what was added so far; else counts it.
+    pub fn takes_fault(&mut self, place: Span) -> bool {
+        let takes = self.rank(false, place.from) < MAX_TOLD;
+        if !takes {
+            self.more = self.more.saturating_add(1);
         }
+        takes
     }
 }

@@ -46,8 +46,7 @@ pub fn nearest<'n>(
     name: &str,
     known: &[&'n str],
 ) -> Result<Option<&'n str>, AllocError> {
-    let mut best = None;
-    let mut least = MAX_EDITS.saturating_add(1);
+    let (mut best, mut least) = (None, MAX_EDITS.saturating_add(1));
     if name.len() > MAX_COMPARED {
         return Ok(best);
     }
@@ -61,28 +60,22 @@ pub fn nearest<'n>(
     Ok(best)
 }
 
-fn listed(alloc: Global, quote: &str, names: &[&str]) -> Words {
-    let mut text = String::new(alloc);
-    let last = names.len().saturating_sub(1);
-    for (i, name) in names.iter().enumerate() {
-        if i > 0 {
-            text.push_str(if i == last { " and " } else { ", " })?;
-        }
-        text.push_str(quote)?;
-        text.push_str(name)?;
-        text.push_str(quote)?;
+/// `did you mean NAME?` where one of the known names may be meant, else the given words and all the
+/// known names, which blanks separate. The only error is want of memory.
+pub fn meant(alloc: Global, name: &str, quote: &str, known: &str, otherwise: &str) -> Words {
+    let known = known.split_whitespace().collect::<Vec<&str>>(alloc)?;
+    if let Some(near) = nearest(alloc, name, known.as_slice())? {
+        return format!(in alloc; "did you mean {quote}{near}{quote}?");
+    }
+    let mut text = String::from_str(alloc, otherwise)?;
+    let last = known.len().saturating_sub(1);
+    for (i, name) in known.iter().enumerate() {
+        let before = match i {
+            0 => " ",
+            _ if i == last => " and ",
+            _ => ", ",
+        };
+        text = format!(in alloc; "{text}{before}{quote}{name}{quote}")?;
     }
     Ok(text)
-}
-
-/// `did you mean NAME?` where one of the known names may be meant, else the given words and all the
-/// known names. The only error is want of memory.
-pub fn meant(alloc: Global, name: &str, quote: &str, known: &[&str], otherwise: &str) -> Words {
-    match nearest(alloc, name, known)? {
-        Some(near) => format!(in alloc; "did you mean {quote}{near}{quote}?"),
-        None => {
-            let names = listed(alloc, quote, known)?;
-            format!(in alloc; "{otherwise} {names}")
-        }
-    }
 }

@@ -6,7 +6,7 @@ ghost use Rattle.cs_diagnostics.specs.declared.findings.FirstFault.{FirstFault};
 
 use crate::findings::{Done, Finding, Findings, Words};
 use crate::names::is_control;
-use crate::span::Span;
+use cs_outline::Span;
 use std::alloc::{AllocError, Global};
 
 /// The bytes of a line that are shown in front of a place at most.
@@ -14,12 +14,6 @@ const IN_FRONT: usize = 100;
 
 /// The bytes of a line that are shown at most.
 const SHOWN: usize = 160;
-
-/// What stands in place of what isn't shown.
-const CUT: &[u8] = b"...";
-
-/// What stands under that.
-const BELOW_CUT: &[u8] = b"   ";
 
 /// A file that is looked at.
 #[derive(Clone, Copy)]
@@ -60,51 +54,33 @@ fn goes_on(byte: u8) -> bool {
     0x80 <= byte && byte < 0xc0
 }
 
-pub(crate) fn newlines(bytes: &[u8]) -> u64 {
-    bytes.iter().filter(|byte| **byte == b'\n').count() as u64
-}
-
-fn add_line(text: &mut Vec<u8>, line: &[u8]) -> Done {
-    for byte in line {
-        text.push(if is_control(*byte) { b'?' } else { *byte })?;
-    }
-    Ok(())
-}
-
 /// Adds what stands under the letters of a text: for each a tab or this byte.
 fn add_below(text: &mut Vec<u8>, letters: &[u8], mark: u8) -> Done {
     for byte in letters.iter().filter(|byte| !goes_on(**byte)) {
-        text.push(if mark == b' ' && *byte == b'\t' {
-            b'\t'
-        } else {
-            mark
-        })?;
+        let is_tab = mark == b' ' && *byte == b'\t';
+        text.push(if is_tab { b'\t' } else { mark })?;
     }
     Ok(())
 }
 
 /// The line of a finding, or a part of it round the place, and a mark under the place.
 fn marked(alloc: Global, bytes: &[u8], finding: &Finding) -> Result<Vec<u8>, AllocError> {
-    let mut text = Vec::new(alloc);
-    let start = finding.start;
-    let place = finding.place.behind(start);
+    let place = finding.place.behind(finding.start);
     let from = place.from.min(bytes.len());
-    let piece = shown(bytes, start, from);
-    let is_cut = start < piece.from;
+    let piece = shown(bytes, finding.start, from);
+    let is_cut = finding.start < piece.from;
     let goes_further = !matches!(bytes.get(piece.to), None | Some(b'\n'));
-    text.extend_from_slice(if is_cut { CUT } else { &[] })?;
-    add_line(&mut text, piece.bytes(bytes))?;
-    text.extend_from_slice(if goes_further { CUT } else { &[] })?;
-    text.push(b'\n')?;
-    text.extend_from_slice(if is_cut { BELOW_CUT } else { &[] })?;
-    let end = piece.to;
-    add_below(
-        &mut text,
-        Span::between(piece.from, from.min(end)).bytes(bytes),
-        b' ',
-    )?;
+    let (cut, below_cut) = if is_cut { ("...", "   ") } else { ("", "") };
+    let front = Span::between(piece.from, from.min(piece.to));
+    let behind = Span::between(from.saturating_add(1), place.to.min(piece.to));
+    let mut text = Vec::from_slice(alloc, cut.as_bytes())?;
+    for byte in piece.bytes(bytes) {
+        text.push(if is_control(*byte) { b'?' } else { *byte })?;
+    }
+    text.extend_from_slice(if goes_further { "...\n" } else { "\n" }.as_bytes())?;
+    text.extend_from_slice(below_cut.as_bytes())?;
+    add_below(&mut text, front.bytes(bytes), b' ')?;
     text.push(b'^')?;
-    let behind = Span::between(from.saturating_add(1), place.to.min(end));
     add_below(&mut text, behind.bytes(bytes), b'~')?;
     text.push(b'\n')?;
     Ok(text)

@@ -1,1 +1,4 @@
+pub mod Apart
+pub mod Counts
 pub mod Joins
+pub mod Loops

@@ -1,25 +1,121 @@
--- What is drawn up: declarations that join with the tables.
-use Rattle.std.specs.Prelude.{◌≡◌, ℕ, List, true, false, Ok}
-use Rattle.cs_crontab.specs.Crontab.{Table as Crontab}
-use Rattle.cs_anacrontab.specs.Anacrontab.{Table as Anacrontab}
+-- What is drawn up: declarations that join with the tables, and that keep what older ones declare.
+use Rattle.std.specs.Prelude.{◌≡◌, ◌≤ℤ◌, ℕ, ℤ, pos, unsigned_abs, List, All, length, take, Bool, true, false, not, ◌==◌, ◌&&◌, bytes_eq, Option, None, Some, IfSome, IsSomeAnd, Ok}
+use Rattle.std.specs.List.{count_by, find, list_any}
+use Rattle.std.specs.Str.{IsUtf8}
+use Rattle.cs_crontab.specs.Crontab.{Table as Crontab, CommandLine}
+use Rattle.cs_crontab.specs.declared.table.When.{When}
+use Rattle.cs_crontab.specs.declared.table.When.TheVariants.{At, Reboot}
+use Rattle.cs_anacrontab.specs.Anacrontab.{Table as Anacrontab, JobLine}
+use Rattle.cs_schedule.specs.Times.{Times}
+use Rattle.cs_gap.specs.Gap.{AreApart}
+use Rattle.cs_decl.specs.declared.entries.LineName.{LineName}
+use Rattle.cs_decl.specs.declared.entries.CronEntry.{CronEntry}
+use Rattle.cs_decl.specs.declared.entries.AnacronEntry.{AnacronEntry}
 use Rattle.cs_decl.specs.declared.entries.Entries.{Entries}
 use Rattle.cs_decl.specs.Faults.{first_fault}
 use Rattle.cs_decl.specs.Meaning.{declared_by}
-use Rattle.cs_decl.specs.Join.{join_faults, reboot_fault}
-use Rattle.cs_decl.specs.Plain.{is_possible_max}
-use Rattle.cs_draft.specs.declared.draft.Drawing.{Drawing}
-use Rattle.cs_draft.specs.declared.draft.Drawing.TheVariants.{BadMax, NotConfirmed, Drawn}
+use Rattle.cs_decl.specs.Join.{is_left_out, is_named, is_of_job, is_reboot, join_faults}
+use Rattle.cs_decl.specs.Lines.{names_of}
 
--- The bytes declare something, and all that keeps it from a plan of the tables is the first
--- `@reboot`.
-pub record IsDraft (crontab : Crontab) (anacrontab : Anacrontab) (bytes : List ℕ) : Type 0 where
+-- ---- entries and lines
+
+-- the name tells the command of each line that it names
+abbrev pub TellsCommand : LineName → CommandLine → Type 0
+TellsCommand name line = is_named name line ≡ true → name.command ≡ Some line.command
+
+-- all entries that name the line tell its command, where declarations can
+abbrev pub IsBound : Entries → CommandLine → Type 0
+IsBound d line = IsUtf8 line.command → All (λ name. TellsCommand name line) (names_of d)
+
+-- The bytes declare something with which no fault of the tables is left, and its entries are bound to
+-- the commands of their lines.
+pub record IsSound (crontab : Crontab) (anacrontab : Anacrontab) (bytes : List ℕ) (d : Entries)
+    : Type 0 where
+  pub declared : declared_by bytes ≡ Ok d
+  pub fits : first_fault (join_faults crontab anacrontab d) ≡ None
+  pub bound : All (IsBound d) crontab.lines
+
+-- ---- drafts
+
+-- the longest time is at most the asked one, and at most the time from a due minute to the next one
+abbrev pub IsBrief : ℕ → Times → CronEntry → Type 0
+IsBrief max schedule e = (e.max ≤ℤ pos max) × AreApart schedule (unsigned_abs e.max)
+
+-- a command that is started at startup is left out, and each other one has an entry that is brief
+abbrev pub IsDraftedAs : ℕ → Option CronEntry → Bool → When → Type 0
+IsDraftedAs max entry is_out (At schedule) =
+    (is_out ≡ false) × IsSomeAnd entry (IsBrief max schedule)
+IsDraftedAs max entry is_out Reboot = is_out ≡ true
+
+abbrev pub IsDrafted : ℕ → Entries → CommandLine → Type 0
+IsDrafted max d line =
+    IsDraftedAs max (find (λ e. is_named e.name line) d.cron) (is_left_out d line) line.when
+
+-- Each job has an entry of its own, `@reboot` lines alone are left out, and the offset is so many
+-- minutes east.
+pub record IsDraft (crontab : Crontab) (anacrontab : Anacrontab) (max : ℕ) (east : ℤ)
+    (bytes : List ℕ) : Type 0 where
   pub entries : Entries
-  pub declared : declared_by bytes ≡ Ok entries
-  pub fits : first_fault (join_faults crontab anacrontab entries) ≡ reboot_fault crontab.lines
+  pub sound : IsSound crontab anacrontab bytes entries
+  pub no_default : entries.default ≡ None
+  pub offset : entries.offset ≡ east
+  pub lines : All (IsDrafted max entries) crontab.lines
 
--- A draft where the longest time may be declared, and none where it may not.
-abbrev pub IsDrawing : Crontab → Anacrontab → ℕ → Drawing → Type 0
-IsDrawing crontab anacrontab max BadMax = is_possible_max max ≡ false
-IsDrawing crontab anacrontab max NotConfirmed = is_possible_max max ≡ true
-IsDrawing crontab anacrontab max (Drawn draft) =
-    (is_possible_max max ≡ true) × IsDraft crontab anacrontab draft.text
+-- ---- updates
+
+-- the text is this one
+abbrev pub is_text : List ℕ → Option (List ℕ) → Bool
+is_text text None = false
+is_text text (Some told) = bytes_eq told text
+
+-- the name tells this command
+abbrev pub tells : List ℕ → LineName → Bool
+tells command name = is_text command name.command
+
+-- one line alone has the line's command, it isn't an `@reboot`, and one entry alone tells its command
+abbrev pub is_lone : List CommandLine → Entries → CommandLine → Bool
+is_lone lines old line = not (is_reboot line.when)
+    && (count_by (λ l. bytes_eq l.command line.command) lines == 1
+    && count_by (tells line.command) (names_of old) == 1)
+
+-- the same is declared by two entries
+abbrev pub AreAlike : CronEntry → CronEntry → Type 0
+AreAlike o n = (n.max ≡ o.max) × (n.weight ≡ o.weight) × (n.group ≡ o.group) × (n.mode ≡ o.mode)
+
+abbrev pub AreAlikeJobs : AnacronEntry → AnacronEntry → Type 0
+AreAlikeJobs o n = (n.max ≡ o.max) × (n.weight ≡ o.weight) × (n.group ≡ o.group)
+
+-- where there is an old entry, there is a new one that is alike
+abbrev pub IsKept : {E : Type 0} → (E → E → Type 0) → Option E → Option E → Type 0
+IsKept Alike old new = IfSome old (λ o. IsSomeAnd new (Alike o))
+
+-- the line's entry is like the old one that tells its command, and it is left out if that was
+pub record IsKeptLine (old new : Entries) (line : CommandLine) : Type 0 where
+  pub entry : IsKept AreAlike (find (λ e. tells line.command e.name) old.cron)
+      (find (λ e. is_named e.name line) new.cron)
+  pub left_out : list_any (tells line.command) old.left_out ≡ true → is_left_out new line ≡ true
+
+abbrev pub IsKeptJob : Entries → Entries → JobLine → Type 0
+IsKeptJob old new line =
+    IsKept AreAlikeJobs (find (is_of_job line.identifier) old.anacron)
+    (find (is_of_job line.identifier) new.anacron)
+
+-- Capacity, offset, hours, pass minute and default are the old ones, and the groups begin with them.
+pub record AreTerms (old new : Entries) : Type 0 where
+  pub capacity : new.capacity ≡ old.capacity
+  pub offset : new.offset ≡ old.offset
+  pub hours : new.hours ≡ old.hours
+  pub pass : new.pass ≡ old.pass
+  pub default : new.default ≡ old.default
+  pub groups : take (length old.groups) new.groups ≡ old.groups
+
+-- What is declared of a command that one line has and one old entry tells is declared of that line,
+-- and what is declared of an anacron job is.
+pub record IsUpdate (crontab : Crontab) (anacrontab : Anacrontab) (old : Entries) (bytes : List ℕ)
+    : Type 0 where
+  pub entries : Entries
+  pub sound : IsSound crontab anacrontab bytes entries
+  pub lines : All (λ line. is_lone crontab.lines old line ≡ true → IsKeptLine old entries line)
+      crontab.lines
+  pub jobs : All (IsKeptJob old entries) anacrontab.lines
+  pub terms : AreTerms old entries

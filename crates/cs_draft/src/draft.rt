@@ -1,11 +1,15 @@
-ghost use Rattle.std.specs.Prelude.{◌≡◌, IfOk, IsTrue};
-ghost use Rattle.cs_draft.specs.Draft.{IsDraft, IsDrawing};
+ghost use Rattle.std.specs.Prelude.{◌≡◌, IfOk};
+ghost use Rattle.cs_decl.specs.Plain.{is_possible_max};
+ghost use Rattle.cs_draft.specs.Drawing.{IsDrawing, IsUpdating};
 
-use crate::sheet::Sheet;
+use crate::confirm::{is_draft, is_update};
+use crate::fresh::fresh_texts;
+use crate::updated::updated_texts;
 use cs_anacrontab::Anacrontab;
 use cs_civil::Bytes;
 use cs_crontab::Crontab;
-use cs_decl::{DeclError, DeclFault, MAX_MINUTES, join, read_declarations};
+use cs_decl::{Declarations, MAX_MINUTES};
+use cs_json::{Misread, parse};
 use std::alloc::{AllocError, Global};
 use std::marker::Model;
 
@@ -32,8 +36,9 @@ impl Draft {
         self.text.as_slice()
     }
 
-    /// A line for each command that is left out, and for each that is declared without the lock
-    /// that it takes, in order of line. Each begins with `warning: ` and ends with a newline.
+    /// What an operator has to know, a line each: what is left out, which commands are declared
+    /// without the lock that they take, and of an update what is new or gone. Each line begins with
+    /// `warning: ` or `note: `, and ends with a newline.
     pub fn warnings(&self) -> &[u8]
         ensures { result.now ≡ self.now.warnings }
     {
@@ -53,80 +58,90 @@ impl Draft {
 pub enum Drawing {
     /// The longest time isn't from 1 to [`MAX_MINUTES`](cs_decl::MAX_MINUTES) minutes.
     BadMax,
-    /// The text that was drawn up doesn't declare the tables' jobs. It isn't meant to come for
-    /// tables that were read.
+    /// The text that was drawn up isn't one that declares the tables' jobs, and keeps what is
+    /// declared of them already. It isn't meant to come for tables and declarations that were read.
     NotConfirmed,
-    /// The draft, which declares them.
+    /// The draft, which does.
     Drawn(Draft),
 }
 
-/// Whether the text declares each job of the tables, but for `@reboot` lines, and nothing else. The
-/// only error is want of memory.
-#[tactic(auto, using(crate::proofs::Joins::of_plan, crate::proofs::Joins::of_reboot))]
-fn is_draft(
-    alloc: Global,
-    table: &Crontab,
-    jobs: &Anacrontab,
-    text: &[u8],
-) -> Result<bool, AllocError>
-    ensures { IfOk result (λ b. IsTrue b → IsDraft table.now jobs.now text.now) }
+fn is_possible_max(max: u64) -> bool
+    ensures { result ≡ is_possible_max max }
 {
-    let declarations = match read_declarations(alloc, text) {
-        Ok(declarations) => declarations,
-        Err(DeclError::OutOfMemory) => return Err(AllocError),
-        Err(DeclError::At { .. }) => return Ok(false),
-    };
-    match join(alloc, table.copy(alloc)?, jobs.copy(alloc)?, declarations) {
-        Ok(_) => Ok(true),
-        Err(DeclError::OutOfMemory) => Err(AllocError),
-        Err(
-            DeclError::At {
-                fault: DeclFault::RebootLine,
-                ..
-            },
-        ) => Ok(true),
-        Err(DeclError::At { .. }) => Ok(false),
-    }
+    max >= 1 && max <= u64::from(MAX_MINUTES)
 }
 
-/// The texts of declarations and warnings, for a longest time in minutes.
-fn texts(
-    alloc: Global,
-    table: &Crontab,
-    jobs: &Anacrontab,
-    max: u64,
-) -> Result<(Vec<u8>, Vec<u8>), AllocError> {
-    let mut sheet = Sheet::new(alloc, max);
-    for line in table.lines() {
-        sheet.add_line(alloc, line)?;
-    }
-    for job in jobs.lines() {
-        sheet.add_job(alloc, job)?;
-    }
-    sheet.into_texts(alloc)
-}
-
-/// Declarations for the jobs of both tables, where every run takes at most `max` minutes.
+/// Declarations for the jobs of both tables, where every run takes at most `max` minutes and clocks
+/// are ahead of UTC by `offset` minutes.
 ///
-/// Each job has that longest time, and the capacity is the greatest. A command that is run under
-/// flock(1) has the group of the lock file, which is exclusive and has the file's name, and the
-/// mode that the options ask for: `skip` for `-n`, `shared` for `-s`, else `wait`. Where no mode or
-/// no group is like it, it has no lock, and a warning tells why. `@reboot` lines are left out, each
-/// with a warning, as no plan has one. What is drawn up was read back and joined with the tables.
-/// The only error is want of memory.
+/// Each job has that longest time, or a command the time to its own next due minute if that is
+/// shorter, and the capacity is the greatest. A command that is run under flock(1) has the group of
+/// the lock file, which is exclusive and has the file's name, and the mode that the options ask for:
+/// `try` for `-n`, `shared` for `-s`, else `wait`. Where no mode or no group is like it, it has no
+/// lock, and a warning tells why. `@reboot` lines are left out, each with a warning. What is drawn up
+/// was read back and joined with the tables. The only error is want of memory.
 pub fn draw_up(
     alloc: Global,
     table: &Crontab,
     jobs: &Anacrontab,
     max: u64,
+    offset: i16,
 ) -> Result<Drawing, AllocError>
-    ensures { IfOk result (IsDrawing table.now jobs.now max) }
+    ensures { IfOk result (IsDrawing table.now jobs.now max offset) }
 {
-    if max < 1 || max > u64::from(MAX_MINUTES) {
+    if !is_possible_max(max) {
         return Ok(Drawing::BadMax);
     }
-    let (text, warnings) = texts(alloc, table, jobs, max)?;
-    if !is_draft(alloc, table, jobs, text.as_slice())? {
+    let (text, warnings) = fresh_texts(alloc, table, jobs, max, offset)?;
+    if !is_draft(alloc, table, jobs, max, offset, text.as_slice())? {
+        return Ok(Drawing::NotConfirmed);
+    }
+    Ok(Drawing::Drawn(Draft {
+        text: Bytes::from_vec(text),
+        warnings: Bytes::from_vec(warnings),
+    }))
+}
+
+/// The texts of an update of the declarations in the bytes, or none where they aren't JSON.
+fn texts_of(
+    alloc: Global,
+    table: &Crontab,
+    jobs: &Anacrontab,
+    bytes: &[u8],
+    max: u64,
+) -> Result<Option<(Vec<u8>, Vec<u8>)>, AllocError> {
+    match parse(alloc, bytes) {
+        Ok(value) => Ok(Some(updated_texts(alloc, table, jobs, &value, max)?)),
+        Err(Misread::Memory) => Err(AllocError),
+        Err(Misread::Fault(_)) => Ok(None),
+    }
+}
+
+/// The old declarations, which were read from the bytes, for the jobs of both tables.
+///
+/// A command that an old entry tells keeps what that declares, wherever its line is now: of several
+/// entries and lines of one command, if there are as many of both, the first is that of the first,
+/// and so on. An anacron job keeps what is declared of its identifier, and all else is as before.
+/// Where there is no default, what is new is declared as by [`draw_up`]. What is new or gone is told.
+/// What is drawn up was read back, compared with the old declarations and joined with the tables. The
+/// only error is want of memory.
+pub fn update(
+    alloc: Global,
+    table: &Crontab,
+    jobs: &Anacrontab,
+    old: &Declarations,
+    bytes: &[u8],
+    max: u64,
+) -> Result<Drawing, AllocError>
+    ensures { IfOk result (IsUpdating table.now jobs.now old.now max) }
+{
+    if !is_possible_max(max) {
+        return Ok(Drawing::BadMax);
+    }
+    let Some((text, warnings)) = texts_of(alloc, table, jobs, bytes, max)? else {
+        return Ok(Drawing::NotConfirmed);
+    };
+    if !is_update(alloc, table, jobs, old.entries(), text.as_slice())? {
         return Ok(Drawing::NotConfirmed);
     }
     Ok(Drawing::Drawn(Draft {

@@ -90,7 +90,7 @@ impl Asked {
     fn mode(self) -> Result<Mode, Unlocked> {
         match (self.is_shared, self.is_at_once) {
             (false, false) => Ok(Mode::Wait),
-            (false, true) => Ok(Mode::Skip),
+            (false, true) => Ok(Mode::Try),
             (true, false) => Ok(Mode::Shared),
             (true, true) => Err(Unlocked::SharedAtOnce),
         }

@@ -1,12 +1,21 @@
-//! The declarations that an operator begins from: every job with one longest time, and a group for
-//! each file that a command locks by flock(1).
+//! The declarations that an operator begins from, with a group for each file that a command locks by
+//! flock(1), and their update for tables that have changed.
 #![tactic(auto)]
 
+mod bound;
+mod brief;
+mod confirm;
 mod draft;
 mod flock;
+mod fresh;
+mod kept;
 mod layout;
 mod lock;
+mod names;
+mod old;
 mod sheet;
+mod told;
 mod unlocked;
+mod updated;
 
-pub use draft::{Draft, Drawing, draw_up};
+pub use draft::{Draft, Drawing, draw_up, update};

@@ -1,23 +1,28 @@
 //! Declarations as they are drawn up, job by job.
 
-use crate::layout::{Listing, quoted};
+use crate::brief::brief_max;
+use crate::layout::{Front, Listing, Object};
 use crate::lock::{Lock, lock_of};
+use crate::told::Told;
 use crate::unlocked::Unlocked;
-use cs_anacrontab::Job;
-use cs_crontab::{Line, When};
-use cs_decl::{MAX_CAPACITY, MAX_GROUPS};
+use cs_crontab::Line;
+use cs_decl::MAX_GROUPS;
 use cs_history::Mode;
+use cs_schedule::Schedule;
 use indexmap::IndexSet;
+use serde_json::Value;
 use std::alloc::{AllocError, Global};
 
-/// The entries so far, the lock files that they name, in order of first use, and the warnings.
+/// The entries so far, the names of the groups, in order of first use, and what is told.
 #[derive(Drop)]
 pub(crate) struct Sheet<'a> {
     max: u64,
-    files: IndexSet<&'a str>,
+    names: IndexSet<&'a str>,
+    groups: Listing,
     cron: Listing,
     anacron: Listing,
-    warnings: Vec<u8>,
+    left_out: Listing,
+    pub(crate) told: Told,
 }
 
 /// How declarations write a mode.
@@ -25,157 +30,179 @@ fn mode_text(mode: Mode) -> &'static str {
     match mode {
         Mode::Plain => "none",
         Mode::Skip => "skip",
+        Mode::Try => "try",
         Mode::Wait => "wait",
         Mode::Shared => "shared",
     }
 }
 
-/// The member that binds an entry to its command; nothing where the command isn't UTF-8, as no text
-/// of JSON is like it then. The only error is want of memory.
-fn command_member(alloc: Global, command: &[u8]) -> Result<String, AllocError> {
-    match str::from_utf8(command) {
-        Ok(text) => {
-            let text = quoted(alloc, text)?;
-            format!(in alloc; ", \"command\": {text}")
-        }
-        Err(_) => Ok(String::new(alloc)),
+/// Adds the member that binds an entry to its command; nothing where the command isn't UTF-8, as no
+/// text of JSON is like it then. The only error is want of memory.
+fn add_command(alloc: Global, entry: &mut Object, line: &Line) -> Result<(), AllocError> {
+    match str::from_utf8(line.command()) {
+        Ok(command) => entry.add_text(alloc, "command", command),
+        Err(_) => Ok(()),
     }
 }
 
+/// The mode that flock(1) of a command has, as a member of its entry, and the group.
+fn add_lock(alloc: Global, entry: &mut Object, file: &str, mode: Mode) -> Result<(), AllocError> {
+    entry.add_text(alloc, "group", file)?;
+    entry.add_text(alloc, "mode", mode_text(mode))
+}
+
 impl<'a> Sheet<'a> {
-    /// No entries, for a longest time in minutes.
+    /// No entries, for a longest time of new jobs in minutes.
     pub(crate) fn new(alloc: Global, max: u64) -> Sheet<'a> {
         Sheet {
             max,
-            files: IndexSet::new(alloc),
+            names: IndexSet::new(alloc),
+            groups: Listing::new(alloc),
             cron: Listing::new(alloc),
             anacron: Listing::new(alloc),
-            warnings: Vec::new(alloc),
+            left_out: Listing::new(alloc),
+            told: Told::new(alloc),
         }
+    }
+
+    /// Adds a group as it was declared. The only error is want of memory.
+    pub(crate) fn add_group(
+        &mut self,
+        alloc: Global,
+        name: &'a str,
+        group: &Value,
+    ) -> Result<(), AllocError> {
+        let mut entry = Object::new(alloc);
+        entry.add_members(alloc, group, ["name", "exclusive", "note"].as_slice())?;
+        self.groups.add(alloc, &entry)?;
+        self.names.insert(name)?;
+        Ok(())
     }
 
     /// Whether the file has a group now. The only error is want of memory.
-    fn takes(&mut self, file: &'a str) -> Result<bool, AllocError> {
-        if self.files.len() >= MAX_GROUPS && !self.files.contains(file) {
+    fn takes(&mut self, alloc: Global, file: &'a str) -> Result<bool, AllocError> {
+        if self.names.contains(file) {
+            return Ok(true);
+        }
+        if self.names.len() >= MAX_GROUPS {
             return Ok(false);
         }
-        self.files.insert(file)?;
+        let mut entry = Object::new(alloc);
+        entry.add_text(alloc, "name", file)?;
+        entry.add("exclusive", "true")?;
+        self.groups.add(alloc, &entry)?;
+        self.names.insert(file)?;
         Ok(true)
     }
 
-    /// Adds a warning of a line.
-    fn warn(
+    /// Adds the members of the lock that a command takes, or tells why there are none. The only
+    /// error is want of memory.
+    fn add_lock_of(
         &mut self,
         alloc: Global,
-        what: &str,
-        number: u32,
-        told: &str,
-        advice: &str,
+        entry: &mut Object,
+        line: &'a Line,
     ) -> Result<(), AllocError> {
-        let warning = format!(in alloc;
-            "warning: {what} on line {number} of the crontab is {told}: {advice}\n"
-        )?;
-        self.warnings.extend_from_slice(warning.as_bytes())
-    }
-
-    /// Adds an entry with the longest time, the members of a lock, and the command.
-    fn add_entry(&mut self, alloc: Global, line: &Line, lock: &str) -> Result<(), AllocError> {
-        let (number, max) = (line.number(), self.max);
-        let command = command_member(alloc, line.command())?;
-        let entry = format!(in alloc; "{{\"line\": {number}, \"max\": {max}{lock}{command}}}")?;
-        self.cron.add(entry.as_str())
-    }
-
-    /// Adds an entry without a lock, and why it has none.
-    fn add_unlocked(
-        &mut self,
-        alloc: Global,
-        line: &Line,
-        reason: Unlocked,
-    ) -> Result<(), AllocError> {
-        self.warn(
-            alloc,
-            "the command",
-            line.number(),
-            "declared without a lock",
-            reason.text(),
-        )?;
-        self.add_entry(alloc, line, "")
-    }
-
-    /// Adds an entry that takes the lock of the file, unless there are too many files.
-    fn add_locked(
-        &mut self,
-        alloc: Global,
-        line: &Line,
-        file: &'a str,
-        mode: Mode,
-    ) -> Result<(), AllocError> {
-        if !self.takes(file)? {
-            return self.add_unlocked(alloc, line, Unlocked::TooManyGroups);
-        }
-        let group = quoted(alloc, file)?;
-        let mode = mode_text(mode);
-        let lock = format!(in alloc; ", \"group\": {group}, \"mode\": \"{mode}\"")?;
-        self.add_entry(alloc, line, lock.as_str())
-    }
-
-    /// Adds a warning of a command that is started at startup.
-    fn warn_of_reboot(&mut self, alloc: Global, number: u32) -> Result<(), AllocError> {
-        self.warn(
-            alloc,
-            "@reboot",
-            number,
-            "left out",
-            "comment it out, since 'cronsafe judge' refuses it",
-        )
-    }
-
-    /// Adds the entry of a command, or a warning where it is started at startup. The only error is
-    /// want of memory.
-    pub(crate) fn add_line(&mut self, alloc: Global, line: &'a Line) -> Result<(), AllocError> {
-        match line.when() {
-            When::Reboot => return self.warn_of_reboot(alloc, line.number()),
-            When::At(_) => {}
-        }
-        match lock_of(alloc, line.command())? {
-            Lock::Absent => self.add_entry(alloc, line, ""),
-            Lock::Of(file, mode) => self.add_locked(alloc, line, file, mode),
-            Lock::Unlike(reason) => self.add_unlocked(alloc, line, reason),
-        }
-    }
-
-    /// Adds the entry of an anacron job, or nothing where its identifier isn't UTF-8, as none is in
-    /// a table that was read. The only error is want of memory.
-    pub(crate) fn add_job(&mut self, alloc: Global, job: &Job) -> Result<(), AllocError> {
-        let Ok(identifier) = str::from_utf8(job.identifier()) else {
-            return Ok(());
+        let reason = match lock_of(alloc, line.command())? {
+            Lock::Absent => return Ok(()),
+            Lock::Of(file, mode) => {
+                if self.takes(alloc, file)? {
+                    return add_lock(alloc, entry, file, mode);
+                }
+                Unlocked::TooManyGroups
+            }
+            Lock::Unlike(reason) => reason,
         };
-        let max = self.max;
-        let id = quoted(alloc, identifier)?;
-        let entry = format!(in alloc; "{{\"id\": {id}, \"max\": {max}}}")?;
-        self.anacron.add(entry.as_str())
+        self.told.unlocked(alloc, line.number(), reason)
     }
 
-    /// The groups: one for each lock file. The only error is want of memory.
-    fn groups(&self, alloc: Global) -> Result<Listing, AllocError> {
-        let mut groups = Listing::new(alloc);
-        for file in self.files.iter() {
-            let name = quoted(alloc, *file)?;
-            let entry = format!(in alloc; "{{\"name\": {name}, \"exclusive\": true}}")?;
-            groups.add(entry.as_str())?;
+    /// Adds the entry of a new command. The only error is want of memory.
+    pub(crate) fn add_new(
+        &mut self,
+        alloc: Global,
+        line: &'a Line,
+        schedule: &Schedule,
+    ) -> Result<(), AllocError> {
+        let mut entry = Object::new(alloc);
+        entry.add_number(alloc, "line", u64::from(line.number()))?;
+        entry.add_number(alloc, "max", brief_max(schedule, self.max))?;
+        self.add_lock_of(alloc, &mut entry, line)?;
+        add_command(alloc, &mut entry, line)?;
+        self.cron.add(alloc, &entry)
+    }
+
+    /// Adds the entry of a command as it was declared, with the number of its line if it is to be
+    /// told. The only error is want of memory.
+    pub(crate) fn add_kept(
+        &mut self,
+        alloc: Global,
+        line: &Line,
+        old: &Value,
+        is_numbered: bool,
+    ) -> Result<(), AllocError> {
+        let mut entry = Object::new(alloc);
+        if is_numbered {
+            entry.add_number(alloc, "line", u64::from(line.number()))?;
         }
-        Ok(groups)
+        let names = ["max", "weight", "group", "mode", "note"];
+        entry.add_members(alloc, old, names.as_slice())?;
+        add_command(alloc, &mut entry, line)?;
+        self.cron.add(alloc, &entry)
     }
 
-    /// The text of the declarations, and the warnings. The only error is want of memory.
-    pub(crate) fn into_texts(self, alloc: Global) -> Result<(Vec<u8>, Vec<u8>), AllocError> {
-        let capacity = format!(in alloc; "{{\n  \"capacity\": {MAX_CAPACITY}")?;
-        let mut text = Vec::from_slice(alloc, capacity.as_bytes())?;
-        self.groups(alloc)?.push_to(&mut text, "groups")?;
+    /// Leaves a line out, with the note of an old entry. The only error is want of memory.
+    pub(crate) fn leave_out(
+        &mut self,
+        alloc: Global,
+        line: &Line,
+        old: Option<&Value>,
+        is_numbered: bool,
+    ) -> Result<(), AllocError> {
+        let mut entry = Object::new(alloc);
+        if is_numbered {
+            entry.add_number(alloc, "line", u64::from(line.number()))?;
+        }
+        if let Some(old) = old {
+            entry.add_members(alloc, old, ["note"].as_slice())?;
+        }
+        add_command(alloc, &mut entry, line)?;
+        self.left_out.add(alloc, &entry)
+    }
+
+    /// Adds the entry of an anacron job: as it was declared, or that of a new one. The only error is
+    /// want of memory.
+    pub(crate) fn add_job(
+        &mut self,
+        alloc: Global,
+        identifier: &str,
+        old: Option<&Value>,
+    ) -> Result<(), AllocError> {
+        let mut entry = Object::new(alloc);
+        entry.add_text(alloc, "id", identifier)?;
+        match old {
+            Some(old) => {
+                let names = ["max", "weight", "group", "note"];
+                entry.add_members(alloc, old, names.as_slice())?;
+            }
+            None => entry.add_number(alloc, "max", self.max)?,
+        }
+        self.anacron.add(alloc, &entry)
+    }
+
+    /// The text of the declarations behind a front, and what is told. The only error is want of
+    /// memory.
+    pub(crate) fn into_texts(
+        self,
+        alloc: Global,
+        front: &Front,
+    ) -> Result<(Vec<u8>, Vec<u8>), AllocError> {
+        let mut text = Vec::from_slice(alloc, b"{".as_slice())?;
+        text.extend_from_slice(front.as_bytes())?;
+        self.groups.push_to(&mut text, "groups")?;
         self.cron.push_to(&mut text, "cron")?;
         self.anacron.push_to(&mut text, "anacron")?;
+        self.left_out.push_to(&mut text, "left_out")?;
         text.extend_from_slice(b"\n}\n")?;
-        Ok((text, self.warnings))
+        Ok((text, self.told.into_text()))
     }
 }

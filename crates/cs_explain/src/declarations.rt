@@ -2,7 +2,7 @@
 use crate::meaning::Meaning;
 
 /// In the order of their numbers.
-pub(crate) static MEANINGS: [Meaning; 16] = [
+pub(crate) static MEANINGS: [Meaning; 17] = [
     Meaning {
         name: "NotJson",
         short: "the bytes aren't JSON",
@@ -18,10 +18,11 @@ right:
     Meaning {
         name: "BadShape",
         short: "a member is unknown or absent, or has no value of its kind",
-        text: r#"The members are capacity, offset, hours, pass, groups, cron and anacron; those
-of a cron entry are line, command, max, weight, group and mode. Each object may
-have a note, a text. Numbers are whole and have no quotes; offset is -1439 to
-1439.
+        text: r#"The members are capacity, offset, hours, pass, groups, default, cron, anacron
+and left_out. Those of a cron entry are line, command, max, weight, group and
+mode; of left_out line and command, of which one is enough; of default max and
+weight. Each object may have a note, a text. Numbers are whole and have no
+quotes; offset is -1439 to 1439.
 crontab:
   30 23 * * * /usr/bin/backup
 wrong:
@@ -31,8 +32,9 @@ right:
     },
     Meaning {
         name: "NoSuchLine",
-        short: "no command on that line, or no such identifier",
-        text: r#"Lines are counted from 1, including comments, settings and empty lines.
+        short: "no command on that line, no such command, or no such identifier",
+        text: r#"Lines are counted from 1, including comments, settings and empty lines. A
+command is compared byte for byte.
 crontab:
   MAILTO=root
   30 23 * * * /usr/bin/backup
@@ -43,21 +45,23 @@ right:
     },
     Meaning {
         name: "Undeclared",
-        short: "a job that isn't @reboot has no entry",
+        short: "a job that isn't @reboot has no entry, and there is no default",
         text: r#"Each command line needs an entry in cron, and each job of the anacrontab one in
-anacron.
+anacron, unless default says what jobs without an entry have. A line in left_out
+is no job of the plan, and needs none.
 crontab:
   30 23 * * * /usr/bin/backup
   0 1 * * * /usr/bin/report
 wrong:
   {"capacity": 1, "cron": [{"line": 1, "max": 30}]}
 right:
-  {"capacity": 1, "cron": [{"line": 1, "max": 30}, {"line": 2, "max": 10}]}"#,
+  {"capacity": 1, "cron": [{"line": 1, "max": 30}], "default": {"max": 10}}"#,
     },
     Meaning {
         name: "TwiceDeclared",
         short: "a group, line or identifier comes a second time",
-        text: r#"Merge the two entries, or correct the number of one.
+        text: r#"Merge the two entries, or correct the line of one. A line in left_out has no
+entry in cron.
 crontab:
   30 23 * * * /usr/bin/backup
   0 1 * * * /usr/bin/report
@@ -101,7 +105,7 @@ right:
     },
     Meaning {
         name: "ModeNeedsGroup",
-        short: "mode skip, wait or shared without a group",
+        short: "mode skip, try, wait or shared without a group",
         text: r#"The mode says what a job does with its group's lock. Name the group, or leave
 out the mode.
 crontab:
@@ -155,16 +159,18 @@ right:
     },
     Meaning {
         name: "RebootLine",
-        short: "an @reboot line, which outages would start without bound",
-        text: r#"Any number of its runs could overlap. Start such a command as a service, and
-remove its line, or put # before it to keep the numbers of the other lines.
-declarations:
-  {"capacity": 1, "cron": [{"line": 1, "max": 30}]}
-wrong crontab:
+        short: "an @reboot line that isn't left out",
+        text: r#"Outages would start it without bound, so that any number of its runs could
+overlap. Put its line into left_out: the plan is then the rest of the table, and
+'run' never starts it. Have it started as a service.
+crontab:
   30 23 * * * /usr/bin/backup
   @reboot /usr/bin/warm-up
-right crontab:
-  30 23 * * * /usr/bin/backup"#,
+wrong:
+  {"capacity": 1, "cron": [{"line": 1, "max": 30}]}
+right:
+  {"capacity": 1, "cron": [{"line": 1, "max": 30}],
+   "left_out": [{"line": 2, "command": "/usr/bin/warm-up"}]}"#,
     },
     Meaning {
         name: "BadPassMinute",
@@ -183,7 +189,8 @@ right:
         short: "the command on that line is another than the entry's",
         text: r#"An edit has moved the command to another line, or changed it. Correct the line's
 number, or the command once you have seen that the entry's time and group still
-fit it. A command is compared byte for byte, up to the end of its line.
+fit it, or that its line is still to be left out. 'cronsafe lint' says if lines
+have moved. A command is compared byte for byte, up to the end of its line.
 crontab:
   0 1 * * * /usr/bin/report
   30 23 * * * /usr/bin/backup
@@ -193,5 +200,19 @@ wrong:
 right:
   {"capacity": 1, "cron": [{"line": 2, "max": 30, "command": "/usr/bin/backup"},
                            {"line": 1, "max": 10}]}"#,
+    },
+    Meaning {
+        name: "AmbiguousCommand",
+        short: "several lines have the command of an entry without a number",
+        text: r#"An entry of cron or left_out that tells its command alone is of the one line
+that has it. Where several have it, add the line's number.
+crontab:
+  0 1 * * * /usr/bin/poll
+  0 13 * * * /usr/bin/poll
+wrong:
+  {"capacity": 1, "cron": [{"command": "/usr/bin/poll", "max": 10}]}
+right:
+  {"capacity": 1, "cron": [{"line": 1, "command": "/usr/bin/poll", "max": 10},
+                           {"line": 2, "command": "/usr/bin/poll", "max": 20}]}"#,
     },
 ];

@@ -127,8 +127,9 @@ right declarations:
     Meaning {
         name: "SkipBlocked",
         short: "a skip job may find its lock held when it is due",
-        text: r#"It would be skipped then. Move it or the other job, shorten the other one's
-longest time, or let it wait.
+        text: r#"It would be skipped then, and mode skip promises that no run is. Move it or the
+other job, shorten the other one's longest time, or let it wait. Mode try takes
+the lock as 'flock -n' does, without that promise.
 crontab:
   0 1 * * * /usr/bin/backup
   30 1 * * * /usr/bin/index

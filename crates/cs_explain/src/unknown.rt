@@ -7,7 +7,7 @@ pub(crate) static MEANINGS: [Meaning; 7] = [
         name: "NoReach",
         short: "a job waits for a lock that may never become free for long",
         text: r#"The runs of its group take nearly all the time there is. Shorten longest times,
-take jobs out of the group, or use mode skip.
+take jobs out of the group, or use mode try.
 crontab:
   0 * * * * /usr/bin/poll
 wrong:

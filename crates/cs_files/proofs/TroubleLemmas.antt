@@ -126,9 +126,9 @@ moved P w v f g same kept h = subst (λ (b : Failed). P v b) kept (subst (λ (o 
 -- ---- behind what is to be warned of
 
 pub answered : (tables : Failed → Failed → Result (Table × JobTable) Trouble → Type 0) (next : Table × JobTable → Failed → Failed → Result Ending Trouble → Type 0) (before after : Failed) (both : Table × JobTable) (w : List ℕ) (answer ending : Ending)
-    → tables before before (Ok both) → w ≡ warnings_text both.0 both.1 → next both before after (Ok answer) → ending ≡ record answer { err = w } → Answered tables next before after ending
+    → tables before before (Ok both) → w ≡ warnings_text both.0 both.1 → next both before after (Ok answer) → ending ≡ record answer { err = w ++ answer.err } → Answered tables next before after ending
 answered tables next before after both w answer ending one warned other is =
-    inr (both, one, (Ok answer, other, is ∙ ap (λ v. record answer { err = v }) warned))
+    inr (both, one, (Ok answer, other, is ∙ ap (λ v. record answer { err = v ++ answer.err }) warned))
 
 pub answered_fault : (tables : Failed → Failed → Result (Table × JobTable) Trouble → Type 0) (next : Table × JobTable → Failed → Failed → Result Ending Trouble → Type 0) (before after : Failed) (both : Table × JobTable) (w : List ℕ) (fault : Fault) (ending : Ending)
     → tables before before (Ok both) → w ≡ warnings_text both.0 both.1 → IfSome (trouble fault) (λ t. next both before after (Err t)) → option_map (ends w) (trouble fault) ≡ Some ending → Answered tables next before after ending

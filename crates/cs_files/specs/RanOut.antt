@@ -10,14 +10,20 @@ use Rattle.cs_args.specs.CommandLine.{Lint, Make, Replay, Run}
 use Rattle.cs_files.specs.Reads.{ReadsTables}
 use Rattle.cs_files.specs.Turn.{lint_paths, table_paths}
 
--- nothing, as long as nothing but the tables was read; else the warnings of both tables
+-- these are the warnings of the tables that the files denote
+abbrev pub AreWarnings : (List ℕ → Option (List ℕ)) → Text → Option Text → Failed → List ℕ → Type 0
+AreWarnings files table anacrontab before warnings =
+    (both : Table × JobTable) × ReadsTables files table anacrontab before before (Ok both)
+    × (warnings ≡ warnings_text both.0 both.1)
+
+-- nothing, as long as nothing but the tables was read; else the warnings of both tables. The notes
+-- on a plan are lost.
 abbrev pub IsWarned : (List ℕ → Option (List ℕ)) → Text → Option Text → Failed → Reads → Reads
     → Option (List ℕ) → Type 0
 IsWarned files table anacrontab before old new None =
     AreReadInTurn (table_paths table anacrontab) old new
 IsWarned files table anacrontab before old new (Some warnings) =
-    (both : Table × JobTable) × ReadsTables files table anacrontab before before (Ok both)
-    × (warnings ≡ warnings_text both.0 both.1)
+    AreWarnings files table anacrontab before warnings
 
 -- nothing, and these files alone were read
 abbrev pub IsUnwarned : List Text → Reads → Reads → Option (List ℕ) → Type 0

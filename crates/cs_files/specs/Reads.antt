@@ -1,5 +1,5 @@
 -- What is read file after file, until a fault ends the call.
-use Rattle.std.specs.Prelude.{◌≡◌, ◌⊎◌, ℕ, true, List, [], Option, Some, None, IfSome, Result}
+use Rattle.std.specs.Prelude.{◌≡◌, ◌⊎◌, ℕ, true, List, [], ◌++◌, Option, Some, None, IfSome, Result}
 use Rattle.std.specs.Prelude.{Ok, Err}
 use Rattle.std.specs.Result.{result_map_both}
 use Rattle.clap.specs.Words.{Text}
@@ -84,9 +84,10 @@ abbrev pub ended : Result Ending Trouble → Ending
 ended (Ok answer) = answer
 ended (Err t) = ends [] t
 
--- an answer behind what is to be warned of, or what is answered of a fault
+-- an answer, of which what goes to standard error stands behind what is to be warned of; or what is
+-- answered of a fault
 abbrev pub behind : List ℕ → Result Ending Trouble → Ending
-behind warnings (Ok answer) = record answer { err = warnings }
+behind warnings (Ok answer) = record answer { err = warnings ++ answer.err }
 behind warnings (Err t) = ends warnings t
 
 -- both tables are read, and then what follows comes behind what is to be warned of them

@@ -4,7 +4,8 @@ use Rattle.clap.specs.Words.{Text}
 use Rattle.cs_io.specs.Files.{AreReadInTurn, Reads}
 use Rattle.cs_args.specs.CommandLine.{Asking, Asks, Chart, Check, Day, Draft, Explain, Help, Judge}
 use Rattle.cs_args.specs.CommandLine.{Lint, Make, Replay, Run}
-use Rattle.cs_args.specs.CommandLine.{AskedChart, AskedCheck, AskedJudge, AskedLint, AskedReplay}
+use Rattle.cs_args.specs.CommandLine.{AskedChart, AskedCheck, AskedDraft, AskedJudge, AskedLint}
+use Rattle.cs_args.specs.CommandLine.{AskedReplay}
 
 -- the path of a file that may be left out
 abbrev pub some_path : Option Text → List Text
@@ -25,6 +26,9 @@ check_paths a = table_paths a.table a.anacrontab ++ (a.declarations ∷ a.certif
 abbrev pub judge_paths : AskedJudge → List Text
 judge_paths a = table_paths a.table a.anacrontab ++ (a.declarations ∷ [])
 
+abbrev pub draft_paths : AskedDraft → List Text
+draft_paths a = table_paths a.table a.anacrontab ++ some_path a.update
+
 abbrev pub lint_paths : AskedLint → List Text
 lint_paths a = table_paths a.table a.anacrontab ++ some_path a.declarations
 
@@ -38,7 +42,7 @@ paths_asked (Check a) = check_paths a
 paths_asked (Run a) = check_paths a.check
 paths_asked (Judge a) = judge_paths a
 paths_asked (Make a) = judge_paths a.judge
-paths_asked (Draft a) = table_paths a.table a.anacrontab
+paths_asked (Draft a) = draft_paths a
 paths_asked (Lint a) = lint_paths a
 paths_asked (Chart a) = chart_paths a
 paths_asked (Explain name) = []

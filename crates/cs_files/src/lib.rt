@@ -7,6 +7,6 @@ mod reads;
 mod response;
 
 pub use fault::Fault;
-pub use ran_out::RanOut;
+pub use ran_out::{RanOut, text_behind};
 pub use reads::{all_bytes_at, bytes_at, declared_plan_from, read_tables};
 pub use response::{Response, Status};

@@ -1,7 +1,8 @@
 //! What a call of the program writes, and the status that it ends with.
-ghost use Rattle.std.specs.Prelude.{◌≡◌, ◌++◌, [], IfOk, if◌then◌else◌};
+ghost use Rattle.std.specs.Prelude.{◌≡◌, ◌++◌, [], IfErr, IfOk, Some, if◌then◌else◌};
 ghost use Rattle.cs_files.specs.Response.{complaint, done, status_of};
 
+use crate::ran_out::{RanOut, text_behind};
 use cs_civil::Bytes;
 use std::alloc::{AllocError, Global};
 use std::marker::Model;
@@ -119,36 +120,40 @@ impl Response {
         }
     }
 
-    /// A certificate was refused: why, and what is to be warned of.
-    pub fn refused(text: Vec<u8>, warnings: Bytes) -> Response
-        ensures { result ≡ record { status = 1; out = text.items; err = warnings } }
+    /// A certificate was refused: why, and the notes on the plan.
+    pub fn refused(text: Vec<u8>, notes: Bytes) -> Response
+        ensures { result ≡ record { status = 1; out = text.items; err = notes } }
     {
         Response {
             ends: Status::Refused,
             shown: Bytes::from_vec(text),
-            told: warnings,
+            told: notes,
         }
     }
 
-    /// A plan was judged: the status, what is told of it, and what is to be warned of.
-    pub fn told(status: Status, text: Vec<u8>, warnings: Bytes) -> Response
-        ensures { result ≡ record { status = status_of status; out = text.items; err = warnings } }
+    /// A plan was judged: the status, what is told of it, and the notes on it.
+    pub fn told(status: Status, text: Vec<u8>, notes: Bytes) -> Response
+        ensures { result ≡ record { status = status_of status; out = text.items; err = notes } }
     {
         Response {
             ends: status,
             shown: Bytes::from_vec(text),
-            told: warnings,
+            told: notes,
         }
     }
 
-    /// The same, behind what is to be warned of.
-    pub fn behind(self, warnings: Bytes) -> Response
-        ensures { result ≡ record self { err = warnings } }
+    /// The same, behind what is to be warned of. If memory runs out, the warnings are kept.
+    pub fn behind(self, warnings: Bytes) -> Result<Response, RanOut>
+        ensures told { IfOk result (λ r. r ≡ record self { err = warnings ++ self.err }) }
+        ensures warned { IfErr result (λ e. e.warnings ≡ Some warnings) }
     {
-        Response {
-            ends: self.ends,
-            shown: self.shown,
-            told: warnings,
+        match text_behind(warnings, self.told.as_slice()) {
+            Ok(told) => Ok(Response {
+                ends: self.ends,
+                shown: self.shown,
+                told,
+            }),
+            Err(ran_out) => Err(ran_out),
         }
     }
 

@@ -1,5 +1,5 @@
 -- Small histories on both sides of where a definition ends.
-use Rattle.std.specs.Prelude.{◌≡◌, ℕ, ◌+◌, ◌<◌, List, [], ◌∷◌, true}
+use Rattle.std.specs.Prelude.{◌≡◌, ℕ, ◌+◌, ◌<◌, [], ◌∷◌, true}
 use Rattle.cs_history.specs.Plan.{Plan, rivals}
 use Rattle.cs_history.specs.History.{History, IsInTime, history, run_of, running}
 use Rattle.cs_history.specs.Examples.{at, at_of, hourly, plan_of}

@@ -181,7 +181,11 @@ abbrev pub all_begin : History
 all_begin = history (record { now = at 59; up = true; stamps = [] })
     (Minute (at 60) ∷ Begin 0 ∷ Begin 1 ∷ Begin 2 ∷ [])
 
--- a skip job finds the lock held by one that waits
+-- two jobs of an exclusive group, both at 01:00: the one of this mode, the other waits
+abbrev pub at_one : Mode → Plan
+at_one m = plan_of 2 (m ∷ Wait ∷ []) (at_of (60 ∷ 60 ∷ [])) 3 true (λ _. 20) 1
+
+-- the first finds the lock held by the other
 abbrev pub held_lock : History
 held_lock = history (record { now = at 59; up = true; stamps = [] })
     (Minute (at 60) ∷ Begin 1 ∷ Begin 0 ∷ [])

@@ -8,7 +8,7 @@ use Rattle.cs_history.specs.declared.run.Going.{Going}
 use Rattle.cs_history.specs.declared.event.Event.{Event}
 use Rattle.cs_history.specs.declared.event.Event.TheVariants.{Minute, Begin, Got, Catch, End, Down, Up}
 use Rattle.cs_history.specs.declared.mode.Mode.{Mode}
-use Rattle.cs_history.specs.declared.mode.Mode.TheVariants.{Plain, Skip, Wait, Shared}
+use Rattle.cs_history.specs.declared.mode.Mode.TheVariants.{Plain, Skip, Try, Wait, Shared}
 
 -- the minute at which a history starts, up or down, and the anacron stamps; nothing runs
 pub record Start : Type 0 where
@@ -63,6 +63,7 @@ pub data Answer : Type 0 where
 abbrev pub when_held : Mode → Answer
 when_held Plain = Starts
 when_held Skip = Skips
+when_held Try = Skips
 when_held Wait = Waits
 when_held Shared = Waits
 
@@ -225,9 +226,9 @@ pub record IsSafeNow (p : Plan) (h : History) : Type 0 where
       (running p h)
   pub load : total (λ r. p.weight r.run.job) (running p h) ≤ p.capacity
 
--- the event is no Begin that is skipped
+-- the event is no Begin of mode skip that is skipped; one of mode try may be
 abbrev pub IsNoSkip : Plan → History → Event → Type 0
-IsNoSkip p h (Begin j) = answer p (running p h) j ≢ Skips
+IsNoSkip p h (Begin j) = p.mode j ≡ Skip → answer p (running p h) j ≢ Skips
 IsNoSkip p h e = ⊤
 
 -- from the start on, after each event

@@ -3,7 +3,7 @@ use Rattle.std.specs.Prelude.{◌≡◌, ℕ, ◌%◌, ◌<◌, ◌≤◌, Bool,
 use Rattle.cs_civil.specs.Calendar.{first_minute, last_minute}
 use Rattle.cs_history.specs.Lists.{below, placed}
 use Rattle.cs_history.specs.declared.mode.Mode.{Mode}
-use Rattle.cs_history.specs.declared.mode.Mode.TheVariants.{Plain, Skip, Wait, Shared}
+use Rattle.cs_history.specs.declared.mode.Mode.TheVariants.{Plain, Skip, Try, Wait, Shared}
 
 pub record Plan : Type 0 where
   -- the cron jobs are the numbers below `crons`, the anacron jobs those from there on below `jobs`
@@ -33,25 +33,29 @@ pub record Plan : Type 0 where
 abbrev pub takes : Mode → Bool
 takes Plain = false
 takes Skip = true
+takes Try = true
 takes Wait = true
 takes Shared = true
 
 abbrev pub waits_in : Mode → Bool
 waits_in Plain = false
 waits_in Skip = false
+waits_in Try = false
 waits_in Wait = true
 waits_in Shared = true
 
 abbrev pub shares_in : Mode → Bool
 shares_in Plain = false
 shares_in Skip = false
+shares_in Try = false
 shares_in Wait = false
 shares_in Shared = true
 
--- whether a run is skipped where the lock is held (flock(1) -n)
+-- whether a run that finds the lock held (flock(1) -n) breaks the plan by being skipped
 abbrev pub is_skip : Mode → Bool
 is_skip Plain = false
 is_skip Skip = true
+is_skip Try = false
 is_skip Wait = false
 is_skip Shared = false
 

@@ -1,14 +1,14 @@
 //! Laws that fix where the definitions begin and end, from both sides.
-ghost use Rattle.std.specs.Prelude.{◌≡◌, ◌≢◌, ◌+◌, ◌-◌, ◌≤◌, ℕ, Bool, [], ◌∷◌};
+ghost use Rattle.std.specs.Prelude.{◌≡◌, ◌≢◌, ◌+◌, ◌-◌, ◌≤◌, ℕ, Bool, [], ◌∷◌, false};
 ghost use Rattle.cs_history.specs.Boundaries.{RunTogether, RunsAlone, at_one_lock, both_unlocked};
 ghost use Rattle.cs_history.specs.Boundaries.{in_a_queue, last_first, newcomer, over_at, unlocked};
 ghost use Rattle.cs_history.specs.Calm.{IsCalm};
 ghost use Rattle.cs_history.specs.Examples.{at, start};
 ghost use Rattle.cs_history.specs.History.{History, IsInTime, IsLegal, IsSafe, IsSafeNow};
-ghost use Rattle.cs_history.specs.History.{going, run_of, running, waiting, ◌▸◌};
+ghost use Rattle.cs_history.specs.History.{going, is_free, run_of, running, waiting, ◌▸◌};
 ghost use Rattle.cs_history.specs.Plan.{IsPlan, Plan};
-ghost use Rattle.cs_history.specs.declared.event.Event.TheVariants.{Minute, Up};
-ghost use Rattle.cs_history.specs.declared.mode.Mode.TheVariants.{Shared};
+ghost use Rattle.cs_history.specs.declared.event.Event.TheVariants.{Begin, Minute, Up};
+ghost use Rattle.cs_history.specs.declared.mode.Mode.TheVariants.{Shared, Skip, Try};
 ghost use Rattle.cs_history.specs.declared.run.Going.{Going};
 
 /// Lemma. A history may start at each minute from 1970-01-04 00:00 to 9999-12-31 23:59, up or down,
@@ -43,6 +43,15 @@ pub fn sharers_beside_others()
     ensures both { (p : Plan) (h : History) (r q : Going) → RunTogether p h r q
         → p.mode r.run.job ≡ Shared → p.mode q.run.job ≡ Shared
         → p.weight r.run.job + p.weight q.run.job ≤ p.capacity → IsSafeNow p h }
+{}
+
+/// Lemma. Of the runs that find their lock held and are skipped, one of mode skip makes a history
+/// unsafe, and one of mode try doesn't.
+pub fn only_skip_promises()
+    ensures skip { (p : Plan) (h : History) (j : ℕ) → p.mode j ≡ Skip
+        → is_free p (running p h) j ≡ false → IsSafe p (h ▸ Begin j) → ⊥ }
+    ensures tried { (p : Plan) (h : History) (j : ℕ) → p.mode j ≡ Try
+        → is_free p (running p h) j ≡ false → IsSafe p h → IsSafe p (h ▸ Begin j) }
 {}
 
 /// Lemma. A plan that isn't calm can have a history that is legal and in time, and not safe.

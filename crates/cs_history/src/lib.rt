@@ -13,8 +13,8 @@ mod start;
 mod stories;
 
 pub use boundaries::{
-    first_and_last_start, last_minute_of_a_run, sharers_beside_others, unsafe_history,
-    waiters_may_be_passed,
+    first_and_last_start, last_minute_of_a_run, only_skip_promises, sharers_beside_others,
+    unsafe_history, waiters_may_be_passed,
 };
 pub use event::Event;
 pub use laws::{journals_grow, names_differ, states_follow_histories};
@@ -25,5 +25,6 @@ pub use run::{Going, Run};
 pub use script::Script;
 pub use start::{MAX_STAMPS, Start, copy_stamps};
 pub use stories::{
-    clock_and_outages, locks_and_waiting, passes_and_stamps, safe_and_unsafe, windows_and_calm,
+    clock_and_outages, locks_and_waiting, passes_and_stamps, safe_and_unsafe,
+    skipped_in_both_modes, windows_and_calm,
 };

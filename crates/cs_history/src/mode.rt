@@ -6,8 +6,10 @@ ghost use Rattle.cs_history.specs.Plan.{is_skip, shares_in, takes, waits_in};
 pub enum Mode {
     /// The job takes no lock.
     Plain,
-    /// `flock -n`: the run is skipped if the lock is held.
+    /// `flock -n`: the run is skipped if the lock is held, which breaks the plan.
     Skip,
+    /// `flock -n`: the run is skipped if the lock is held, which breaks nothing.
+    Try,
     /// `flock`: the run waits until nobody holds the lock.
     Wait,
     /// `flock -s`: the run waits until all that hold the lock share it.
@@ -21,7 +23,7 @@ impl Mode {
     {
         match self {
             Mode::Plain => false,
-            Mode::Skip | Mode::Wait | Mode::Shared => true,
+            Mode::Skip | Mode::Try | Mode::Wait | Mode::Shared => true,
         }
     }
 
@@ -30,7 +32,7 @@ impl Mode {
         ensures { result ≡ waits_in self }
     {
         match self {
-            Mode::Plain | Mode::Skip => false,
+            Mode::Plain | Mode::Skip | Mode::Try => false,
             Mode::Wait | Mode::Shared => true,
         }
     }
@@ -40,18 +42,18 @@ impl Mode {
         ensures { result ≡ shares_in self }
     {
         match self {
-            Mode::Plain | Mode::Skip | Mode::Wait => false,
+            Mode::Plain | Mode::Skip | Mode::Try | Mode::Wait => false,
             Mode::Shared => true,
         }
     }
 
-    /// Checks whether a run is skipped if the lock is held.
-    pub fn skips(self) -> bool
+    /// Checks whether a run that finds the lock held breaks the plan by being skipped.
+    pub fn is_skip(self) -> bool
         ensures { result ≡ is_skip self }
     {
         match self {
             Mode::Skip => true,
-            Mode::Plain | Mode::Wait | Mode::Shared => false,
+            Mode::Plain | Mode::Try | Mode::Wait | Mode::Shared => false,
         }
     }
 }

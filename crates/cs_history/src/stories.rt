@@ -1,10 +1,10 @@
 ghost use Rattle.std.specs.Prelude.{◌≡◌, ℕ, ◌+◌, [], ◌∷◌, true, false, None, Some};
 ghost use Rattle.cs_history.specs.Calm.{Holds, IsCalm, load};
-ghost use Rattle.cs_history.specs.Examples.{Refused, Said, all_begin, answers, at, at_of, beside_catch_up, both_at_midnight, catching, fives, heavy, held_lock, hourly, midnights, nights, over_outage, plan_of, sharing, skipping, spring, start, story, sundays};
-ghost use Rattle.cs_history.specs.History.{IsInTime, IsSafe, going, run_of};
+ghost use Rattle.cs_history.specs.Examples.{Refused, Said, all_begin, answers, at, at_of, at_one, beside_catch_up, both_at_midnight, catching, fives, heavy, held_lock, hourly, midnights, nights, over_outage, plan_of, sharing, skipping, spring, start, story, sundays};
+ghost use Rattle.cs_history.specs.History.{IsInTime, IsLegal, IsSafe, going, run_of, ◌▸◌};
 ghost use Rattle.cs_history.specs.Step.{state_of};
 ghost use Rattle.cs_history.specs.declared.event.Event.TheVariants.{Begin, Catch, Down, End, Got, Minute, Up};
-ghost use Rattle.cs_history.specs.declared.mode.Mode.TheVariants.{Plain, Shared, Skip, Wait};
+ghost use Rattle.cs_history.specs.declared.mode.Mode.TheVariants.{Plain, Shared, Skip, Try, Wait};
 ghost use Rattle.cs_history.specs.declared.refusal.Refusal.TheVariants.{AlreadyUp, LockHeld, NotCatchable, NotDue, NotRunning, NotSettled, NotUp, NotWaiting, OutOfRange, WrongMinute};
 ghost use Rattle.cs_history.specs.declared.reply.Reply.TheVariants.{Came, Clock, Ended, Skipped, Started, Waiting, Went};
 
@@ -271,9 +271,33 @@ pub fn safe_and_unsafe()
         both_at_midnight → ⊥ }
 
     // a skip job finds the lock held
-    ensures skipped { IsSafe
-        (plan_of 2 (Skip ∷ Wait ∷ []) (at_of (60 ∷ 60 ∷ [])) 3 true (λ _. 20) 1) held_lock → ⊥ }
+    ensures skipped { IsSafe (at_one Skip) held_lock → ⊥ }
 
     // two of an exclusive group that share its lock
     ensures shared { IsSafe sharing all_begin }
+{}
+
+/// Lemma. Worked examples: a job finds its lock held and is skipped, which is safe in mode try, and
+/// isn't in mode skip.
+pub fn skipped_in_both_modes()
+
+    // both are told the same, and the clock goes on
+    ensures tried { answers (at_one Try) (start (at 59) true [])
+        (Minute (at 60) ∷ Begin 1 ∷ Begin 0 ∷ Got 0 (at 60) ∷ Minute (at 61) ∷ [])
+        ≡ Said Clock ∷ Said (Started (run_of 1 (at 60))) ∷ Said Skipped ∷ Refused NotWaiting
+        ∷ Said Clock ∷ [] }
+    ensures skipped { answers (at_one Skip) (start (at 59) true [])
+        (Minute (at 60) ∷ Begin 1 ∷ Begin 0 ∷ Got 0 (at 60) ∷ Minute (at 61) ∷ [])
+        ≡ Said Clock ∷ Said (Started (run_of 1 (at 60))) ∷ Said Skipped ∷ Refused NotWaiting
+        ∷ Said Clock ∷ [] }
+
+    // both histories may come, and each run of them is in time
+    ensures legal { (IsLegal (at_one Try) (held_lock ▸ Minute (at 61)))
+        × IsLegal (at_one Skip) (held_lock ▸ Minute (at 61)) }
+    ensures in_time { (IsInTime (at_one Try) (held_lock ▸ Minute (at 61)))
+        × IsInTime (at_one Skip) (held_lock ▸ Minute (at 61)) }
+
+    // only the one of mode try is safe
+    ensures safe { IsSafe (at_one Try) (held_lock ▸ Minute (at 61)) }
+    ensures broken { IsSafe (at_one Skip) (held_lock ▸ Minute (at 61)) → ⊥ }
 {}

@@ -1,5 +1,5 @@
 -- Which files their readers refuse, and which fault is told.
-use Rattle.std.specs.Prelude.{◌≡◌, ◌≢◌, ◌≤◌, ◌-◌, ◌⊎◌, ℕ, List, Option, Some, None, IsSome, Result, Ok, Err}
+use Rattle.std.specs.Prelude.{◌≡◌, ◌≢◌, ◌≤◌, ◌-◌, ◌⊎◌, ℕ, List, Option, Some, None, Result, Ok, Err}
 use Rattle.cs_table.specs.Table.{Found}
 use Rattle.cs_crontab.specs.Crontab.{Table}
 use Rattle.cs_crontab.specs.Faults.{Means}
@@ -12,7 +12,7 @@ use Rattle.cs_anacrontab.specs.Printed as jobs
 use Rattle.cs_anacrontab.specs.declared.fault.JobFault.{JobFault}
 use Rattle.cs_anacrontab.specs.declared.fault.JobFault.TheVariants as job_faults
 use Rattle.cs_decl.specs.Faults.{Fault}
-use Rattle.cs_decl.specs.declared.fault.DeclFault.{DeclFault}
+use Rattle.cs_decl.specs.Printed.{fault_text}
 use Rattle.cs_decl.specs.Join.{joined}
 use Rattle.cs_decl.specs.Meaning.{declared_by}
 use Rattle.cs_decl.specs.Plan.{Declared}
@@ -20,7 +20,7 @@ use Rattle.cs_decl.specs.declared.entries.Entries.{Entries}
 use Rattle.cs_diagnostics.specs.Told.{IsToldIn}
 use Rattle.cs_diagnostics.specs.declared.findings.FirstFault.{FirstFault}
 use Rattle.cs_lint.specs.declared.refusal.Refusal.{Refusal}
-use Rattle.cs_lint.specs.declared.refusal.Refusal.TheVariants.{Table as OfTable, Jobs as OfJobs, Declared as OfPlan}
+use Rattle.cs_lint.specs.declared.refusal.Refusal.TheVariants.{Table as OfTable, Jobs as OfJobs, Plan as OfPlan}
 use Rattle.cs_lint.specs.declared.report.Verdict.{Verdict}
 use Rattle.cs_lint.specs.declared.report.Verdict.TheVariants.{Clean, Odd, Faulty}
 
@@ -29,13 +29,16 @@ abbrev pub MeansSome : Option (List ℕ) → Result JobTable (Found JobFault) �
 MeansSome None read = read ≡ Ok no_jobs
 MeansSome (Some text) read = MeansJobs text read
 
+-- the first fault of declarations, by themselves or beside the tables
+abbrev pub IsPlanFault : Table → JobTable → Option (List ℕ) → Fault → Type 0
+IsPlanFault table jobs None fault = ⊥
+IsPlanFault table jobs (Some text) fault =
+    (declared_by text ≡ Err fault)
+    ⊎ ((d : Entries) × (declared_by text ≡ Ok d) × (joined table jobs d ≡ Err fault))
+
 -- the declarations have a fault, or have one beside the tables
 abbrev pub HasNoPlan : Table → JobTable → Option (List ℕ) → Type 0
-HasNoPlan table jobs None = ⊥
-HasNoPlan table jobs (Some text) =
-    ((fault : Fault) × (declared_by text ≡ Err fault))
-    ⊎ ((d : Entries) × (fault : Fault) × (declared_by text ≡ Ok d)
-    × (joined table jobs d ≡ Err fault))
+HasNoPlan table jobs text = (fault : Fault) × IsPlanFault table jobs text fault
 
 -- the declarations, if there are any, make a plan of the tables
 abbrev pub HasPlan : Table → JobTable → Option (List ℕ) → Type 0
@@ -80,14 +83,21 @@ abbrev pub IsFirstOfJobs : Option (List ℕ) → FirstFault → Type 0
 IsFirstOfJobs text first = (found : Found JobFault) × MeansSome text (Err found)
     × IsFirst jobs.fault_text job_faults.BadSetting found first
 
--- Both tables are fine, or the text tells the first fault of the crontab, or where that is fine
--- the first of the anacrontab.
-abbrev pub TellsFirst : List ℕ → List ℕ → Option (List ℕ) → Type 0
-TellsFirst text table jobs =
-    ((t : Table) × (j : JobTable) × Means table (Ok t) × MeansSome jobs (Ok j))
+-- of declarations: its name
+abbrev pub IsFirstOfPlan : Table → JobTable → Option (List ℕ) → FirstFault → Type 0
+IsFirstOfPlan table jobs text first = (fault : Fault) × IsPlanFault table jobs text fault
+    × (first.line ≡ 0) × (first.name.now ≡ fault_text fault.0)
+
+-- The files are fine, or the text tells the first fault of the crontab, or where that is fine the
+-- first of the anacrontab, or where both are fine the name of the first of the declarations.
+abbrev pub TellsFirst : List ℕ → List ℕ → Option (List ℕ) → Option (List ℕ) → Type 0
+TellsFirst text table jobs declarations =
+    AreTaken table jobs declarations
     ⊎ (((first : FirstFault) × IsFirstOfTable table first × IsToldIn text first)
-    ⊎ ((t : Table) × (first : FirstFault) × Means table (Ok t) × IsFirstOfJobs jobs first
-    × IsToldIn text first))
+    ⊎ (((t : Table) × (first : FirstFault) × Means table (Ok t) × IsFirstOfJobs jobs first
+    × IsToldIn text first)
+    ⊎ ((t : Table) × (j : JobTable) × (first : FirstFault) × Means table (Ok t)
+    × MeansSome jobs (Ok j) × IsFirstOfPlan t j declarations first × IsToldIn text first)))
 
 -- ---- the same of a refusal that was looked for
 
@@ -96,14 +106,14 @@ Finds None table jobs declarations = AreTaken table jobs declarations
 Finds (Some (OfTable first)) table jobs declarations = IsFirstOfTable table first
 Finds (Some (OfJobs first)) table jobs declarations =
     (t : Table) × Means table (Ok t) × IsFirstOfJobs jobs first
-Finds (Some (OfPlan fault)) table jobs declarations =
+Finds (Some (OfPlan first)) table jobs declarations =
     (t : Table) × (j : JobTable) × Means table (Ok t) × MeansSome jobs (Ok j)
-    × HasNoPlan t j declarations
+    × IsFirstOfPlan t j declarations first
 
 -- of declarations beside tables that are fine
-abbrev pub FindsInPlan : Option DeclFault → Table → JobTable → Option (List ℕ) → Type 0
+abbrev pub FindsInPlan : Option FirstFault → Table → JobTable → Option (List ℕ) → Type 0
 FindsInPlan None table jobs declarations = HasPlan table jobs declarations
-FindsInPlan (Some fault) table jobs declarations = HasNoPlan table jobs declarations
+FindsInPlan (Some first) table jobs declarations = IsFirstOfPlan table jobs declarations first
 
 -- of an anacrontab: its jobs, or its first fault
 abbrev pub FindsJobs : Result JobTable FirstFault → Option (List ℕ) → Type 0
@@ -114,10 +124,3 @@ FindsJobs (Err first) text = IsFirstOfJobs text first
 abbrev pub FindsTable : Result Table FirstFault → List ℕ → Type 0
 FindsTable (Ok table) text = Means text (Ok table)
 FindsTable (Err first) text = IsFirstOfTable text first
-
--- A text tells the first fault of a table that was found.
-abbrev pub TellsRefusal : {File : Type 0} → Option Refusal → Option File → List ℕ → Type 0
-TellsRefusal None jobs text = Unit {0}
-TellsRefusal (Some (OfTable first)) jobs text = IsToldIn text first
-TellsRefusal (Some (OfJobs first)) jobs text = IsSome jobs → IsToldIn text first
-TellsRefusal (Some (OfPlan fault)) jobs text = Unit {0}

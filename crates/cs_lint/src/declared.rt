@@ -1,92 +1,76 @@
 //! Declarations: what is wrong with their entries by themselves, beside each other and beside the
 //! tables.
-use crate::gap::shortest_gap;
-use crate::json::find_no_json;
-use crate::object::{Kind, Object};
-use crate::other::find_other;
-use crate::outline::{parts, trimmed};
-use crate::shape::{find_in_object, names_of};
-use crate::table::{Begun, TableLook};
-use cs_civil::Bytes;
-use cs_decl::{DeclError, DeclFault, MAX_GROUPS, MAX_MINUTES, Place};
-use cs_diagnostics::{Done, Findings, Span, Words, nearest, quoted, shown};
+use crate::lines::{Name, Shift};
+use crate::object::{Kind, Tell};
+use crate::shape::{find_in_object, has_meant};
+use crate::table::Table;
+use cs_decl::{DeclFault, MAX_GROUPS};
+use cs_diagnostics::{Done, Findings, Words, nearest, quoted, shown};
+use cs_outline::{Object, Span, no_json, parts, trimmed};
 use indexmap::IndexSet;
 use serde_json::{Error, Value};
 use std::alloc::{AllocError, Global};
 
-/// How many members are compared with the name of a list that is lacking.
-const MAX_LOOKED_AT: usize = 100;
-
-const NO_JOB: &str = "no such job: correct \"id\", or remove the entry";
-
-const NO_ANACRONTAB: &str = "no anacrontab is given: use --anacrontab FILE";
-
-/// The text of a fault and of its place, as `check` tells it, and words behind it. The only error
-/// is want of memory.
-pub(crate) fn plan_words(alloc: Global, fault: DeclFault, at: Option<Place>, why: &str) -> Words {
-    let text: Bytes = DeclError::At { fault, place: at }.text(alloc)?;
-    let text = String::from_utf8_lossy(alloc, text.as_slice())?;
-    format!(in alloc; "{text}: {why}")
-}
-
-/// The JSON value of a text, or why it's none. The only error is want of memory.
-pub(crate) fn parsed(alloc: Global, bytes: &[u8]) -> Result<Result<Value, Error>, AllocError> {
-    match Value::from_slice(alloc, bytes) {
-        Ok(value) => Ok(Ok(value)),
-        Err(error) if error.is_memory() => Err(AllocError),
-        Err(error) => Ok(Err(error)),
-    }
-}
-
-/// The crontab and the anacrontab that declarations are held against, and whether there is an
-/// anacrontab.
-pub(crate) type Tables<'t, 'b> = (&'t TableLook<'b>, &'t TableLook<'b>, bool);
-
-/// The text of declarations, and the JSON value that it is or why it's none.
-type Json<'b> = (&'b [u8], Result<Value, Error>);
-
 /// Declarations that are looked at.
 #[derive(Drop)]
-pub(crate) struct Declared<'b, 'v> {
-    /// What was found so far.
-    pub(crate) findings: Findings,
-    bytes: &'b [u8],
-    pub(crate) is_given: bool,
+pub(crate) struct Declared<'v> {
+    pub(crate) tell: Tell,
+    bytes: &'v [u8],
     groups: IndexSet<&'v str>,
-    lines: IndexSet<i128>,
     identifiers: IndexSet<&'v str>,
-    /// Whether it's known that there are no other groups, lines and identifiers.
+    pub(crate) names: Vec<Name<'v>>,
+    pub(crate) shift: Option<Shift>,
+    /// The lines that entries name, and those of them that are left out.
+    pub(crate) lines: IndexSet<i128>,
+    pub(crate) left_out: IndexSet<i128>,
+    /// Whether it's known that there are no others, and no entry by default.
     has_all_groups: bool,
-    has_all_lines: bool,
     has_all_identifiers: bool,
+    pub(crate) has_all_lines: bool,
+    has_all_left_out: bool,
 }
 
-impl<'b, 'v> Declared<'b, 'v> {
-    /// What is found in declarations beside tables.
+impl<'v> Declared<'v> {
+    /// What is found in declarations, which are that JSON value, beside tables. There may be no
+    /// anacrontab.
     pub(crate) fn at(
         alloc: Global,
-        json: &'v Option<Json<'b>>,
-        tables: Tables<'_, '_>,
-    ) -> Result<Declared<'b, 'v>, AllocError> {
+        bytes: &'v [u8],
+        json: &'v Result<Value, Error>,
+        table: &Table<'_>,
+        jobs: Option<&Table<'_>>,
+    ) -> Result<Declared<'v>, AllocError> {
         let mut declared = Declared {
-            findings: Findings::new(alloc),
-            bytes: &[],
-            is_given: json.is_some(),
+            tell: Tell {
+                findings: Findings::new(alloc, bytes)?,
+                kind: Kind::Whole,
+                index: 0,
+            },
+            bytes,
             groups: IndexSet::new(alloc),
-            lines: IndexSet::new(alloc),
             identifiers: IndexSet::new(alloc),
+            names: Vec::new(alloc),
+            shift: None,
+            lines: IndexSet::new(alloc),
+            left_out: IndexSet::new(alloc),
             has_all_groups: false,
-            has_all_lines: false,
             has_all_identifiers: false,
+            has_all_lines: false,
+            has_all_left_out: false,
         };
-        if let Some((bytes, parsed)) = json {
-            declared.bytes = bytes;
-            match parsed {
-                Ok(value) => declared.look_at_whole(value, tables)?,
-                Err(error) => find_no_json(&mut declared.findings, bytes, error)?,
+        let span = trimmed(bytes, Span::of(0, bytes.len()));
+        match json {
+            Ok(value) if value.is_object() => declared.look_at_whole((value, span), jobs)?,
+            Ok(_) => {
+                let why = "declarations are one object: write {..}";
+                declared.tell.fault(span, DeclFault::BadShape, why)?;
             }
-            declared.findings.find_lines(bytes);
+            Err(error) => {
+                let (place, why) = no_json(bytes, error);
+                declared.tell.fault(place, DeclFault::NotJson, why)?;
+            }
         }
+        declared.look_at_names(table)?;
         Ok(declared)
     }
 
@@ -95,223 +79,149 @@ impl<'b, 'v> Declared<'b, 'v> {
         self.has_all_lines && !self.lines.contains(&i128::from(number))
     }
 
-    /// Whether it's known that a job has no entry.
-    pub(crate) fn lacks_job(&self, identifier: &[u8]) -> bool {
-        match str::from_utf8(identifier) {
-            Ok(name) => self.has_all_identifiers && !self.identifiers.contains(name),
-            Err(_) => false,
-        }
+    /// Whether it's known that a line isn't left out.
+    pub(crate) fn keeps_line(&self, number: u32) -> bool {
+        self.has_all_left_out && !self.left_out.contains(&i128::from(number))
     }
 
-    fn look_at_whole(&mut self, value: &'v Value, tables: Tables<'_, '_>) -> Done {
-        let span = trimmed(self.bytes, Span::of(0, self.bytes.len()));
-        if !value.is_object() {
-            let why = "declarations are one object: write {..}";
-            let words = plan_words(self.findings.alloc, DeclFault::BadShape, None, why)?;
-            return self.findings.fault(span, words.as_str());
-        }
-        let whole = Object::at(self.findings.alloc, self.bytes, Kind::Whole, 0, span, value)?;
-        find_in_object(&mut self.findings, &whole)?;
-        self.has_all_groups = self.look_at_list(&whole, "groups", Kind::Group, tables)?;
-        self.has_all_lines = self.look_at_list(&whole, "cron", Kind::Cron, tables)?;
-        self.has_all_identifiers = self.look_at_list(&whole, "anacron", Kind::Anacron, tables)?;
+    /// Whether it's known that a job has no entry.
+    pub(crate) fn lacks_job(&self, identifier: &[u8]) -> bool {
+        let name = str::from_utf8(identifier);
+        self.has_all_identifiers && name.is_ok_and(|name| !self.identifiers.contains(name))
+    }
+
+    fn look_at_whole(&mut self, part: (&'v Value, Span), jobs: Option<&Table<'_>>) -> Done {
+        let alloc = self.tell.findings.alloc;
+        let whole = Object::new(alloc, self.bytes, part)?;
+        find_in_object(&mut self.tell, &whole)?;
+        self.look_at_default(&whole)?;
+        let has_default = has_meant(alloc, &whole, "default")?;
+        self.has_all_groups = self.look_at_list(&whole, Kind::Group, jobs)?;
+        let has_all_cron = self.look_at_list(&whole, Kind::Cron, jobs)?;
+        let has_all_jobs = self.look_at_list(&whole, Kind::Anacron, jobs)?;
+        self.has_all_left_out = self.look_at_list(&whole, Kind::LeftOut, jobs)?;
+        self.has_all_lines = has_all_cron && self.has_all_left_out && !has_default;
+        self.has_all_identifiers = has_all_jobs && !has_default;
         Ok(())
     }
 
-    /// Looks at the entries of the list of that name, and tells whether it's known that there are
-    /// no others.
+    fn look_at_default(&mut self, whole: &Object<'v>) -> Done {
+        match whole.member("default") {
+            Some(part) if part.0.is_object() => {
+                self.tell.look_at(Kind::Default, 0);
+                let default = Object::new(self.tell.findings.alloc, self.bytes, part)?;
+                find_in_object(&mut self.tell, &default)
+            }
+            _ => Ok(()),
+        }
+    }
+
+    /// Looks at the entries of a list, and tells whether it's known that there are no others.
     fn look_at_list(
         &mut self,
         whole: &Object<'v>,
-        name: &str,
         kind: Kind,
-        tables: Tables<'_, '_>,
+        jobs: Option<&Table<'_>>,
     ) -> Result<bool, AllocError> {
-        let alloc = self.findings.alloc;
-        let (Some(list), Some(value)) = (whole.member(name), whole.value.get(name)) else {
+        let (alloc, (name, _, called)) = (self.tell.findings.alloc, kind.names());
+        let Some((value, span)) = whole.member(name) else {
             return Ok(!has_meant(alloc, whole, name)?);
         };
         let Some(items) = value.as_array() else {
             return Ok(false);
         };
-        let places = parts(alloc, self.bytes, list.part.value)?;
-        for (i, (part, value)) in places.iter().zip(items.iter()).enumerate() {
+        let places = parts(alloc, self.bytes, span)?;
+        for (index, (part, value)) in places.iter().zip(items.iter()).enumerate() {
+            self.tell.look_at(kind, index);
             if value.is_object() {
-                let entry = Object::at(alloc, self.bytes, kind, i, part.value, value)?;
-                self.look_at_entry(&entry, tables)?;
+                let entry = Object::new(alloc, self.bytes, (value, part.value))?;
+                self.look_at_entry(&entry, jobs)?;
             } else {
-                let name = kind.name();
-                let why = format!(in alloc; "{name} is an object: write {{..}}")?;
-                let words = plan_words(alloc, DeclFault::BadShape, None, why.as_str())?;
-                self.findings.fault(part.value, words.as_str())?;
+                let why = format_args!("{called} is an object: write {{..}}");
+                self.tell.fault(part.value, DeclFault::BadShape, why)?;
             }
         }
         Ok(true)
     }
 
-    fn look_at_entry(&mut self, entry: &Object<'v>, tables: Tables<'_, '_>) -> Done {
-        find_in_object(&mut self.findings, entry)?;
-        match entry.kind {
+    fn look_at_entry(&mut self, entry: &Object<'v>, jobs: Option<&Table<'_>>) -> Done {
+        find_in_object(&mut self.tell, entry)?;
+        match self.tell.kind {
+            Kind::Whole | Kind::Default => Ok(()),
             Kind::Group => self.look_at_group(entry),
-            Kind::Cron => self.look_at_cron(entry, tables),
-            Kind::Anacron => self.look_at_anacron(entry, tables),
-            Kind::Whole => Ok(()),
+            Kind::Cron | Kind::LeftOut => {
+                self.find_group(entry)?;
+                self.names.push(Name::of(entry, &self.tell))?;
+                Ok(())
+            }
+            Kind::Anacron => {
+                self.find_group(entry)?;
+                self.look_at_identifier(entry, jobs)
+            }
         }
-    }
-
-    fn fault(&mut self, entry: &Object<'v>, span: Span, fault: DeclFault, why: &str) -> Done {
-        entry.fault(&mut self.findings, span, fault, why)
-    }
-
-    fn add_twice(&mut self, entry: &Object<'v>, span: Span, what: &str) -> Done {
-        let text = shown(self.findings.alloc, span.bytes(self.bytes))?;
-        let why = format!(in self.findings.alloc;
-            "{what} {text} has an entry already: remove one of the two"
-        )?;
-        self.fault(entry, span, DeclFault::TwiceDeclared, why.as_str())
     }
 
     fn look_at_group(&mut self, entry: &Object<'v>) -> Done {
-        if entry.index == MAX_GROUPS {
+        if self.tell.index == MAX_GROUPS {
             let why = "this is group 65 of at most 64: remove groups without jobs";
-            self.fault(entry, entry.bracket, DeclFault::TooManyGroups, why)?;
+            self.tell
+                .fault(entry.bracket, DeclFault::TooManyGroups, why)?;
         }
         match entry.text("name") {
             Some((name, span)) if !self.groups.insert(name)? => {
-                self.add_twice(entry, span, "the group")
+                let text = shown(self.tell.findings.alloc, span.bytes(self.bytes))?;
+                self.tell.twice(span, format_args!("the group {text}"))
             }
             _ => Ok(()),
         }
     }
 
+    /// Adds that an entry has a group that isn't listed, or a mode without a group.
     fn find_group(&mut self, entry: &Object<'v>) -> Done {
-        let Some((name, span)) = entry.text("group") else {
-            return Ok(());
-        };
-        if !self.has_all_groups || self.groups.contains(name) {
-            return Ok(());
-        }
-        let why = no_group_words(self.findings.alloc, &self.groups, name)?;
-        self.fault(entry, span, DeclFault::UnknownGroup, why.as_str())
-    }
-
-    fn find_lockless(&mut self, entry: &Object<'v>) -> Done {
-        match entry.text("mode") {
-            Some(("skip" | "wait" | "shared", span)) if entry.member("group").is_none() => {
+        let kind = self.tell.kind;
+        match (entry.text("group"), entry.text("mode")) {
+            _ if kind == Kind::LeftOut => Ok(()),
+            (Some((name, span)), _) if self.has_all_groups && !self.groups.contains(name) => {
+                let why = no_group_words(self.tell.findings.alloc, &self.groups, name)?;
+                self.tell.fault(span, DeclFault::UnknownGroup, why.as_str())
+            }
+            (_, Some(("skip" | "try" | "wait" | "shared", span)))
+                if kind == Kind::Cron && !entry.has("group") => {
                 let why = "add the \"group\" whose lock it takes, or remove \"mode\"";
-                self.fault(entry, span, DeclFault::ModeNeedsGroup, why)
+                self.tell.fault(span, DeclFault::ModeNeedsGroup, why)
             }
             _ => Ok(()),
         }
     }
 
-    fn look_at_cron(&mut self, entry: &Object<'v>, tables: Tables<'_, '_>) -> Done {
-        self.find_group(entry)?;
-        self.find_lockless(entry)?;
-        let Some((line, span)) = entry.whole("line") else {
+    fn look_at_identifier(&mut self, entry: &Object<'v>, jobs: Option<&Table<'_>>) -> Done {
+        let Some((name, span)) = entry.text("id") else {
             return Ok(());
         };
-        if !self.lines.insert(line)? {
-            return self.add_twice(entry, span, "line");
+        if jobs.is_none_or(|jobs| jobs.is_whole && jobs.lines_of(name).is_none()) {
+            let why = match jobs {
+                Some(_) => "no such job: correct \"id\", or remove the entry",
+                None => "no anacrontab is given: use --anacrontab FILE",
+            };
+            self.tell.fault(span, DeclFault::NoSuchLine, why)?;
         }
-        let Some(begun) = tables.0.commands() else {
-            return Ok(())
-        };
-        let place = begun.partition_point(|command| i128::from(command.number) < line);
-        match begun.get(place) {
-            Some(command) if i128::from(command.number) == line => {
-                let text = tables.0.line_of(command);
-                find_other(&mut self.findings, entry, command.number, text)?;
-                self.find_overlap(entry, command)
-            }
-            _ => {
-                let why = lineless_words(self.findings.alloc, begun, place, line)?;
-                self.fault(entry, span, DeclFault::NoSuchLine, why.as_str())
-            }
+        if self.identifiers.insert(name)? {
+            return Ok(());
         }
+        let text = shown(self.tell.findings.alloc, span.bytes(self.bytes))?;
+        self.tell.twice(span, format_args!("the identifier {text}"))
     }
-
-    fn find_overlap(&mut self, entry: &Object<'v>, command: &Begun) -> Done {
-        let takes_lock = match entry.text("mode") {
-            Some((mode, _)) => mode != "none",
-            None => entry.member("mode").is_some(),
-        };
-        let (Some((max, span)), Some(schedule)) = (entry.whole("max"), command.schedule()) else {
-            return Ok(());
-        };
-        if takes_lock || max > i128::from(MAX_MINUTES) {
-            return Ok(());
-        }
-        match shortest_gap(schedule) {
-            Some(gap) if max > i128::from(gap) => {
-                let line = command.number;
-                let words = format!(in self.findings.alloc;
-                    "line {line} may overlap itself, due again after {gap} minutes: lower \"max\", or set \"mode\""
-                )?;
-                self.findings.odd(span, words.as_str())
-            }
-            _ => Ok(()),
-        }
-    }
-
-    fn look_at_anacron(&mut self, entry: &Object<'v>, tables: Tables<'_, '_>) -> Done {
-        self.find_group(entry)?;
-        if let Some(mode) = entry.member("mode") {
-            let why = "remove \"mode\": anacron jobs take no lock";
-            self.fault(entry, mode.part.name, DeclFault::ModeOnAnacron, why)?;
-        }
-        let Some((identifier, span)) = entry.text("id") else {
-            return Ok(());
-        };
-        let (_, anacrontab, is_given) = tables;
-        if anacrontab.lacks(identifier) {
-            let why = if is_given { NO_JOB } else { NO_ANACRONTAB };
-            self.fault(entry, span, DeclFault::NoSuchLine, why)?;
-        }
-        if self.identifiers.insert(identifier)? {
-            return Ok(());
-        }
-        self.add_twice(entry, span, "the identifier")
-    }
-}
-
-fn has_meant(alloc: Global, whole: &Object<'_>, name: &str) -> Result<bool, AllocError> {
-    let known = names_of(alloc, Kind::Whole)?;
-    for member in whole.members.iter().take(MAX_LOOKED_AT) {
-        let near = nearest(alloc, member.name.as_str(), known.as_slice())?;
-        if near == Some(name) {
-            return Ok(true);
-        }
-    }
-    Ok(false)
 }
 
 fn no_group_words(alloc: Global, groups: &IndexSet<&str>, name: &str) -> Words {
-    if groups.is_empty() {
-        return String::from_str(alloc, "\"groups\" is empty: add this group to it");
-    }
-    let mut known = Vec::new(alloc);
-    for group in groups.iter().take(MAX_GROUPS) {
-        known.push(*group)?;
-    }
+    let known = groups.iter().take(MAX_GROUPS).copied();
+    let known = known.collect::<Vec<&str>>(alloc)?;
     let text = quoted(alloc, name)?;
     match nearest(alloc, name, known.as_slice())? {
         Some(near) => format!(in alloc; "no group is named {text}: did you mean \"{near}\"?"),
-        None => format!(in alloc; "no group is named {text}: add it to \"groups\""),
-    }
-}
-
-fn lineless_words(alloc: Global, begun: &[Begun], before: usize, line: i128) -> Words {
-    let near = match (begun.get(before.saturating_sub(1)), begun.get(before)) {
-        (Some(low), Some(high)) => {
-            let behind = i128::from(high.number).saturating_sub(line);
-            let is_low = line.saturating_sub(i128::from(low.number)) <= behind;
-            Some(if is_low { low.number } else { high.number })
+        None if groups.is_empty() => {
+            format!(in alloc; "\"groups\" is empty: add this group to it")
         }
-        (low, high) => low.or(high).map(|command| command.number),
-    };
-    match near {
-        Some(near) => format!(in alloc; "line {line} has no command: did you mean line {near}?"),
-        None => format!(in alloc; "the crontab has no commands: remove this entry"),
+        None => format!(in alloc; "no group is named {text}: add it to \"groups\""),
     }
 }

@@ -1,29 +1,19 @@
 //! What is found in the files of a call.
-ghost use Rattle.std.specs.Prelude.{◌≡◌, true, IfOk, IsSome, OnOk};
+ghost use Rattle.std.specs.Prelude.{◌≡◌, ℕ, List, Option, true, IfOk, OnOk};
 ghost use Rattle.std.specs.Option.{option_map};
-ghost use Rattle.cs_diagnostics.specs.Told.{IsPart, IsToldIn, is_told};
+ghost use Rattle.cs_diagnostics.specs.Told.{IsToldIn};
 ghost use Rattle.cs_diagnostics.specs.declared.findings.FirstFault.{FirstFault};
-ghost use Rattle.cs_lint.specs.Kept.{Keeps};
-ghost use Rattle.cs_lint.specs.Refused.{Judges, TellsFirst, TellsRefusal};
+ghost use Rattle.cs_lint.specs.Kept.{Keeps, KeepsSome, is_found};
+ghost use Rattle.cs_lint.specs.Refused.{Finds, Judges, TellsFirst};
 
-use crate::declared::{Declared, parsed};
+use crate::declared::Declared;
 use crate::refusal::{Refusal, first_refusal};
 use crate::report::{Report, Verdict};
-use crate::table::{Kind, TableLook};
+use crate::table::{Kind, Table};
 use cs_civil::Bytes;
-use cs_decl::DeclFault;
-use cs_diagnostics::{Done, File, Findings, Span};
+use cs_diagnostics::{Done, File, Findings};
+use cs_outline::parsed;
 use std::alloc::{AllocError, Global};
-
-/// The place at which a line begins, or the end where there are fewer lines; line 0 begins where
-/// the first does.
-pub(crate) fn line_start(bytes: &[u8], line: usize) -> usize {
-    let before = line.saturating_sub(1);
-    let lines = bytes.split(|byte| *byte == b'\n').take(before);
-    lines.fold(0usize, |start, text| {
-        start.saturating_add(text.len()).saturating_add(1)
-    })
-}
 
 fn bytes_of<'a>(file: Option<&File<'a>>) -> Option<&'a [u8]>
     ensures { option_map (λ text. text.now) result
@@ -43,49 +33,69 @@ struct Found {
     declared: Findings,
 }
 
+/// What is found in declarations, and beside them in both tables.
+fn look_at_declarations(
+    alloc: Global,
+    bytes: &[u8],
+    table: &mut Table<'_>,
+    jobs: &mut Table<'_>,
+    has_jobs: bool,
+) -> Result<Findings, AllocError> {
+    let json = parsed(alloc, bytes)?;
+    let given: Option<&Table<'_>> = if has_jobs { Some(&*jobs) } else { None };
+    let found = Declared::at(alloc, bytes, &json, table, given)?;
+    table.find_beside(&found)?;
+    jobs.find_beside(&found)?;
+    Ok(found.tell.findings)
+}
+
 impl Found {
-    fn at<'f>(
+    fn at(
         alloc: Global,
-        table: &'f [u8],
-        jobs: Option<&'f [u8]>,
-        declarations: Option<&'f [u8]>,
+        table: &[u8],
+        jobs: Option<&[u8]>,
+        declarations: Option<&[u8]>,
     ) -> Result<Found, AllocError> {
-        let json = match declarations {
-            Some(bytes) => Some((bytes, parsed(alloc, bytes)?)),
-            None => None,
+        let mut table = Table::at(alloc, table, Kind::Crontab)?;
+        let mut look = Table::at(alloc, jobs.unwrap_or(&[]), Kind::Anacrontab)?;
+        let declared = match declarations {
+            Some(bytes) => {
+                look_at_declarations(alloc, bytes, &mut table, &mut look, jobs.is_some())?
+            }
+            None => Findings::new(alloc, &[])?,
         };
-        let mut look = TableLook::at(alloc, table, Kind::Crontab)?;
-        let mut jobs_look = TableLook::at(alloc, jobs.unwrap_or(&[]), Kind::Anacrontab)?;
-        let declared = Declared::at(alloc, &json, (&look, &jobs_look, jobs.is_some()))?;
-        look.find_beside(&declared)?;
-        jobs_look.find_beside(&declared)?;
         Ok(Found {
-            table: look.findings,
-            jobs: jobs_look.findings,
-            declared: declared.findings,
+            table: table.findings,
+            jobs: look.findings,
+            declared,
         })
     }
 
+    /// The same with why the files are refused, if they are.
+    fn with(self, refusal: &Option<Refusal<'_>>) -> Result<Found, AllocError>
+        ensures { IfOk result (KeepsSome refusal.now) }
+    {
+        let mut found = self;
+        if let Some(refusal) = refusal {
+            found.keep(refusal)?;
+        }
+        Ok(found)
+    }
+
     /// Adds why the files are refused, where nothing tells it yet.
-    fn keep(&mut self, refusal: &Refusal<'_>, table: &[u8], jobs: &[u8]) -> Done
+    fn keep(&mut self, refusal: &Refusal<'_>) -> Done
         ensures { OnOk result (Keeps refusal.now self.new) }
     {
         match refusal {
-            Refusal::Table(first) => self
-                .table
-                .keep(first, line_start(table, first.line as usize)),
-            Refusal::Jobs(first) => self.jobs.keep(first, line_start(jobs, first.line as usize)),
-            Refusal::Declared(fault) => self.keep_declared(*fault),
+            Refusal::Table(first) => self.table.keep(first),
+            Refusal::Jobs(first) => self.jobs.keep(first),
+            Refusal::Plan(first) if self.table.tells(first) || self.jobs.tells(first) => Ok(()),
+            Refusal::Plan(first) => self.declared.keep(first),
         }
     }
 
-    fn keep_declared(&mut self, fault: DeclFault) -> Done {
-        if self.table.has_faults() || self.jobs.has_faults() || self.declared.has_faults() {
-            return Ok(());
-        }
-        let name = fault.text();
-        let words = format!(in self.declared.alloc; "{name}: see 'cronsafe explain'")?;
-        self.declared.fault(Span::of(0, 1), words.as_str())
+    fn is_odd(&self) -> bool {
+        self.table.has_oddities || self.jobs.has_oddities || self.declared.has_oddities
     }
 
     /// What is told of it.
@@ -93,54 +103,41 @@ impl Found {
         &self,
         alloc: Global,
         table: &File<'_>,
-        jobs: Option<&File<'_>>,
-        declarations: Option<&File<'_>>,
-    ) -> Result<Vec<u8>, AllocError>
-        ensures table { IfOk result (λ text. (first : FirstFault)
-            → is_told first self.now.table ≡ true → IsToldIn text.items first) }
-        ensures jobs { IfOk result (λ text. (first : FirstFault)
-            → is_told first self.now.jobs ≡ true → IsSome jobs.entry → IsToldIn text.items first) }
+        jobs: &File<'_>,
+        declarations: &File<'_>,
+    ) -> Result<Bytes, AllocError>
+        ensures { IfOk result (λ text. (first : FirstFault)
+            → is_found first self.now ≡ true → IsToldIn text first) }
     {
         let mut text = Vec::new(alloc);
         self.table.tell(table, &mut text)?;
-        tell_of(&self.jobs, jobs, &mut text)?;
-        tell_of(&self.declared, declarations, &mut text)?;
-        Ok(text)
-    }
-
-    fn has_oddities(&self) -> bool {
-        self.table.has_oddities() || self.jobs.has_oddities() || self.declared.has_oddities()
+        self.jobs.tell(jobs, &mut text)?;
+        self.declared.tell(declarations, &mut text)?;
+        Ok(Bytes::from_vec(text))
     }
 }
 
-/// Adds what is told of the findings of a file, if there is one.
-fn tell_of(findings: &Findings, file: Option<&File<'_>>, text: &mut Vec<u8>) -> Done
-    ensures told { OnOk result ((first : FirstFault) → is_told first findings.now ≡ true
-        → IsSome file.entry → IsToldIn text.new.items first) }
-    ensures kept { OnOk result (IsPart text.old.items text.new.items) }
+/// The verdict of files: whether they are refused, and if not, whether anything in them is odd.
+fn verdict_of(refusal: &Option<Refusal<'_>>, is_odd: bool) -> Verdict
+    ensures { (table : List ℕ) (jobs declarations : Option (List ℕ))
+        → Finds refusal.now table jobs declarations → Judges result table jobs declarations }
 {
+    match refusal {
+        Some(_) => Verdict::Faulty,
+        None if is_odd => Verdict::Odd,
+        None => Verdict::Clean,
+    }
+}
+
+/// A file, or one that holds nothing.
+fn some_file<'a>(file: Option<&File<'a>>) -> File<'a> {
     match file {
-        Some(file) => findings.tell(file, text),
-        None => Ok(()),
+        Some(file) => *file,
+        None => File {
+            path: "",
+            bytes: &[],
+        },
     }
-}
-
-fn told(
-    alloc: Global,
-    table: &File<'_>,
-    jobs: Option<&File<'_>>,
-    declarations: Option<&File<'_>>,
-    refusal: &Option<Refusal<'_>>,
-) -> Result<(Bytes, bool), AllocError>
-    ensures { IfOk result (λ told. TellsRefusal refusal.now jobs.entry told.0) }
-{
-    let job_bytes = bytes_of(jobs);
-    let mut found = Found::at(alloc, table.bytes, job_bytes, bytes_of(declarations))?;
-    if let Some(refusal) = refusal {
-        found.keep(refusal, table.bytes, job_bytes.unwrap_or(&[]))?;
-    }
-    let text = found.text(alloc, table, jobs, declarations)?;
-    Ok((Bytes::from_vec(text), found.has_oddities()))
 }
 
 /// Everything that is wrong or odd in a crontab, an anacrontab and declarations, as far as there
@@ -162,16 +159,16 @@ pub fn lint(
     ensures verdict { IfOk result (λ report. Judges report.verdict table.now.bytes.now
         (option_map (λ file. file.now.bytes.now) jobs.entry)
         (option_map (λ file. file.now.bytes.now) declarations.entry)) }
-    // The first fault of the tables is told at its line and column.
+    // The first fault is told: one of the tables at its line and column.
     ensures told { IfOk result (λ report. TellsFirst report.text table.now.bytes.now
-        (option_map (λ file. file.now.bytes.now) jobs.entry)) }
+        (option_map (λ file. file.now.bytes.now) jobs.entry)
+        (option_map (λ file. file.now.bytes.now) declarations.entry)) }
 {
-    let refusal = first_refusal(alloc, table.bytes, bytes_of(jobs), bytes_of(declarations))?;
-    let (text, is_odd) = told(alloc, table, jobs, declarations, &refusal)?;
-    let verdict = match refusal {
-        Some(_) => Verdict::Faulty,
-        None if is_odd => Verdict::Odd,
-        None => Verdict::Clean,
-    };
+    let (job_bytes, terms) = (bytes_of(jobs), bytes_of(declarations));
+    let refusal = first_refusal(alloc, table.bytes, job_bytes, terms)?;
+    let found = Found::at(alloc, table.bytes, job_bytes, terms)?.with(&refusal)?;
+    let (jobs, declarations) = (some_file(jobs), some_file(declarations));
+    let text = found.text(alloc, table, &jobs, &declarations)?;
+    let verdict = verdict_of(&refusal, found.is_odd());
     Ok(Report { text, verdict })
 }

@@ -1,16 +1,12 @@
-//! All that is wrong or odd in a crontab, an anacrontab and declarations at once, each with its
-//! place.
+//! All that is wrong or odd in a crontab, an anacrontab and declarations, each with its place.
 #![tactic(auto)]
 
 mod declared;
 mod files;
 mod front;
-mod gap;
-mod json;
 mod line;
+mod lines;
 mod object;
-mod other;
-mod outline;
 mod refusal;
 mod report;
 mod shape;

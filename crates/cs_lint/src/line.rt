@@ -1,5 +1,5 @@
 //! The words of a line of a table, which has no newline.
-use cs_diagnostics::Span;
+use cs_outline::Span;
 use cs_table::text::{skip_blanks, word};
 
 /// The next word from one of its bytes on; nothing at its end where there is none.
@@ -18,49 +18,44 @@ pub(crate) fn word_behind(line: &[u8], others: usize) -> Span {
     found
 }
 
-/// What is at fault in a setting that can't be read, and why.
-pub(crate) fn bad_setting(line: &[u8]) -> (Span, &'static str) {
-    let start = word_from(line, 0).from;
-    let inside = start.saturating_add(1);
-    let name_end = match line.get(start) {
-        Some(quote @ (b'"' | b'\'')) => match first_from(line, inside, &[*quote]) {
-            None => {
-                let why = "no quote closes this name: add one at its end";
-                return (Span::of(start, 1), why);
-            }
-            Some(end) if end == inside => {
-                let why = "the name is empty: write one between the quotes";
-                return (Span::of(start, 2), why);
-            }
-            Some(end) => end.saturating_add(1),
-        },
-        _ => first_from(line, start, b" \t=").unwrap_or(line.len()),
-    };
-    let next = word_from(line, name_end);
-    if line.get(next.from) == Some(&b'=') {
-        return bad_value(line, next.from.saturating_add(1));
-    }
-    let why = "add `=`: a line that begins like this is a setting, NAME=VALUE";
-    (next, why)
-}
-
-fn bad_value(line: &[u8], from: usize) -> (Span, &'static str) {
-    let start = word_from(line, from).from;
-    let quote = line.get(start).copied().unwrap_or(b'"');
-    match first_from(line, start.saturating_add(1), &[quote]) {
-        Some(end) => (
-            word_from(line, end.saturating_add(1)),
-            "only blanks may follow the closing quote: remove this",
-        ),
-        None => (
-            Span::of(start, 1),
-            "no quote closes this value: add one at its end",
-        ),
-    }
-}
-
-fn first_from(line: &[u8], from: usize, bytes: &[u8]) -> Option<usize> {
+/// The byte behind the next of these, from one byte on.
+fn behind(line: &[u8], from: usize, bytes: &[u8]) -> Option<usize> {
     let rest = &line[from.min(line.len())..];
     let at = rest.iter().position(|byte| bytes.contains(byte))?;
-    Some(from.saturating_add(at))
+    Some(from.saturating_add(at).saturating_add(1))
+}
+
+/// The byte behind the quote that closes the one there.
+fn behind_quotes(line: &[u8], from: usize) -> Option<usize> {
+    let quote = line.get(from).copied().unwrap_or(b'"');
+    behind(line, from.saturating_add(1), &[quote])
+}
+
+/// What is at fault in a setting that can't be read, and why.
+pub(crate) fn bad_setting(line: &[u8]) -> (Span, &'static str) {
+    let name = word_from(line, 0).from;
+    let mut end = behind(line, name, b" \t=").map_or(line.len(), |end| end.saturating_sub(1));
+    if matches!(line.get(name), Some(b'"' | b'\'')) {
+        let Some(closed) = behind_quotes(line, name) else {
+            let why = "no quote closes this name: add one at its end";
+            return (Span::of(name, 1), why);
+        };
+        end = closed;
+        if end == name.saturating_add(2) {
+            let why = "the name is empty: write one between the quotes";
+            return (Span::of(name, 2), why);
+        }
+    }
+    let equals = word_from(line, end);
+    if line.get(equals.from) != Some(&b'=') {
+        let why = "add `=`: a line that begins like this is a setting, NAME=VALUE";
+        return (equals, why);
+    }
+    let value = word_from(line, equals.from.saturating_add(1)).from;
+    let Some(end) = behind_quotes(line, value) else {
+        let why = "no quote closes this value: add one at its end";
+        return (Span::of(value, 1), why);
+    };
+    let why = "only blanks may follow the closing quote: remove this";
+    (word_from(line, end), why)
 }

@@ -1,114 +1,63 @@
-//! The objects of declarations, with the places of their members.
-use crate::declared::plan_words;
-use crate::outline::{Part, parts, text_in};
-use crate::shape::whole;
-use cs_decl::{DeclFault, Place};
-use cs_diagnostics::{Done, Findings, Span};
-use serde_json::Value;
-use std::alloc::{AllocError, Global};
+//! The kinds of objects of declarations, and what is told of one.
+use cs_decl::DeclFault;
+use cs_diagnostics::{Done, Findings};
+use cs_outline::Span;
+use std::fmt::Display;
 
-/// Which object of declarations: the whole of them, or an entry of a list.
-#[derive(Clone, Copy, Debug, PartialEq, Eq)]
+/// A kind of object of declarations: the whole of them, or what stands in a member of it.
+#[derive(Clone, Copy, PartialEq, Eq)]
 pub(crate) enum Kind {
     Whole,
     Group,
     Cron,
     Anacron,
+    LeftOut,
+    Default,
 }
 
 impl Kind {
-    /// What such an object is called.
-    pub(crate) fn name(self) -> &'static str {
+    /// The member of the whole in which it stands, what its place is called, and what it is called.
+    pub(crate) fn names(self) -> (&'static str, &'static str, &'static str) {
         match self {
-            Kind::Whole => "the declarations",
-            Kind::Group => "this entry of \"groups\"",
-            Kind::Cron => "this entry of \"cron\"",
-            Kind::Anacron => "this entry of \"anacron\"",
+            Kind::Whole => ("", "", "the declarations"),
+            Kind::Group => ("groups", "group", "this entry of \"groups\""),
+            Kind::Cron => ("cron", "cron", "this entry of \"cron\""),
+            Kind::Anacron => ("anacron", "anacron", "this entry of \"anacron\""),
+            Kind::LeftOut => ("left_out", "left_out", "this entry of \"left_out\""),
+            Kind::Default => ("default", "", "\"default\""),
         }
     }
 }
 
-/// A member of an object.
+/// What is found in declarations, and the object that is looked at.
 #[derive(Drop)]
-pub(crate) struct Member {
-    pub(crate) name: String,
-    /// Where it stands.
-    pub(crate) part: Part,
-}
-
-/// An object of declarations.
-#[derive(Drop)]
-pub(crate) struct Object<'v> {
+pub(crate) struct Tell {
+    pub(crate) findings: Findings,
     pub(crate) kind: Kind,
     /// Its place in its list, counted from 0.
     pub(crate) index: usize,
-    /// Its first byte, which is its bracket.
-    pub(crate) bracket: Span,
-    /// What it is.
-    pub(crate) value: &'v Value,
-    /// Its members, in their order.
-    pub(crate) members: Vec<Member>,
 }
 
-impl<'v> Object<'v> {
-    /// The object at a span, which is that value.
-    pub(crate) fn at(
-        alloc: Global,
-        bytes: &[u8],
-        kind: Kind,
-        index: usize,
-        span: Span,
-        value: &'v Value,
-    ) -> Result<Object<'v>, AllocError> {
-        let mut members = Vec::new(alloc);
-        for part in parts(alloc, bytes, span)? {
-            if let Some(name) = text_in(alloc, part.name.bytes(bytes))? {
-                members.push(Member { name, part })?;
-            }
+impl Tell {
+    pub(crate) fn look_at(&mut self, kind: Kind, index: usize) {
+        self.kind = kind;
+        self.index = index;
+    }
+
+    /// Adds a fault of the object, with its place as the readers of declarations tell it.
+    pub(crate) fn fault(&mut self, span: Span, fault: DeclFault, why: impl Display + Drop) -> Done {
+        let (_, list, _) = self.kind.names();
+        if list.is_empty() || fault == DeclFault::BadShape {
+            return self.findings.fault(span, format_args!("{fault}: {why}"));
         }
-        Ok(Object {
-            kind,
-            index,
-            bracket: Span::of(span.from, 1),
-            value,
-            members,
-        })
+        let number = self.index.saturating_add(1);
+        let words = format_args!("{fault} at {list} {number}: {why}");
+        self.findings.fault(span, words)
     }
 
-    /// Adds a fault of it, with its place as the readers of declarations tell it.
-    pub(crate) fn fault(
-        &self,
-        findings: &mut Findings,
-        span: Span,
-        fault: DeclFault,
-        why: &str,
-    ) -> Done {
-        let place = match self.kind {
-            _ if fault == DeclFault::BadShape => None,
-            Kind::Whole => None,
-            Kind::Group => Some(Place::Group(self.index)),
-            Kind::Cron => Some(Place::Cron(self.index)),
-            Kind::Anacron => Some(Place::Anacron(self.index)),
-        };
-        let words = plan_words(findings.alloc, fault, place, why)?;
-        findings.fault(span, words.as_str())
-    }
-
-    /// The last member of that name, which is the one that counts.
-    pub(crate) fn member(&self, name: &str) -> Option<&Member> {
-        let mut last_first = self.members.iter().rev();
-        last_first.find(|member| member.name.as_str() == name)
-    }
-
-    /// The text that a member is, if it's there and is one, and where it stands.
-    pub(crate) fn text(&self, name: &str) -> Option<(&'v str, Span)> {
-        let text = self.value.get(name)?.as_str()?;
-        Some((text, self.member(name)?.part.value))
-    }
-
-    /// The whole number that a member is, if it's there and is one, and where it stands.
-    pub(crate) fn whole(&self, name: &str) -> Option<(i128, Span)> {
-        let number = whole(self.value.get(name)?)?;
-        Some((number, self.member(name)?.part.value))
+    /// Adds that something of the object has an entry before it.
+    pub(crate) fn twice(&mut self, span: Span, what: impl Display + Drop) -> Done {
+        let why = format_args!("{what} has an entry already: remove one of the two");
+        self.fault(span, DeclFault::TwiceDeclared, why)
     }
 }

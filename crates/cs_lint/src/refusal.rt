@@ -1,6 +1,7 @@
 //! What the readers of the files refuse.
 ghost use Rattle.std.specs.Prelude.{◌≡◌, ◌-◌, ◌≤◌, false, IfOk, Some};
 ghost use Rattle.std.specs.Option.{option_map};
+ghost use Rattle.cs_decl.specs.Printed.{fault_text};
 ghost use Rattle.cs_lint.specs.Refused.{Finds, FindsInPlan, FindsJobs, FindsTable};
 
 use cs_anacrontab::{AnacronFault, Anacrontab, JobFault, read_anacrontab};
@@ -17,7 +18,7 @@ pub(crate) enum Refusal<'a> {
     /// Of the anacrontab.
     Jobs(FirstFault<'a>),
     /// Of the declarations, by themselves or beside the tables.
-    Declared(DeclFault),
+    Plan(FirstFault<'a>),
 }
 
 /// The fault of a table: one of a setting may be told at what is wrong in it, others at their
@@ -85,23 +86,29 @@ fn jobs_or_refusal(
     }
 }
 
-/// Why declarations are refused, by themselves or beside the tables.
+fn named(fault: DeclFault) -> FirstFault<'static>
+    ensures { (result.line ≡ 0) × (result.name.now ≡ fault_text fault) }
+{
+    first(0, 0, 0, false, fault.text())
+}
+
+/// Why declarations are refused, by themselves or beside the tables: the name of the fault alone.
 fn plan_refusal(
     alloc: Global,
     table: Crontab,
     jobs: Anacrontab,
     text: &[u8],
-) -> Result<Option<DeclFault>, AllocError>
+) -> Result<Option<FirstFault<'static>>, AllocError>
     ensures { IfOk result (λ found. FindsInPlan found table jobs (Some text.now)) }
 {
     let declarations = match read_declarations(alloc, text) {
         Ok(declarations) => declarations,
-        Err(DeclError::At { fault, place: _ }) => return Ok(Some(fault)),
+        Err(DeclError::At { fault, place: _ }) => return Ok(Some(named(fault))),
         Err(DeclError::OutOfMemory) => return Err(AllocError),
     };
     match join(alloc, table, jobs, declarations) {
         Ok(_) => Ok(None),
-        Err(DeclError::At { fault, place: _ }) => Ok(Some(fault)),
+        Err(DeclError::At { fault, place: _ }) => Ok(Some(named(fault))),
         Err(DeclError::OutOfMemory) => Err(AllocError),
     }
 }
@@ -129,7 +136,7 @@ pub(crate) fn first_refusal(
         return Ok(None);
     };
     match plan_refusal(alloc, table, jobs, text)? {
-        Some(fault) => Ok(Some(Refusal::Declared(fault))),
+        Some(first) => Ok(Some(Refusal::Plan(first))),
         None => Ok(None),
     }
 }

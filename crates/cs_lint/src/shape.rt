@@ -1,165 +1,44 @@
 //! What each object of declarations holds: its members, their values and the ranges of their
 //! numbers.
-use crate::object::{Kind, Member, Object};
+use crate::object::{Kind, Tell};
 use cs_civil::MINUTES_OF_DAY;
-use cs_decl::{DeclFault, MAX_CAPACITY, MAX_MINUTES, MAX_OFFSET, MAX_WEIGHT};
-use cs_diagnostics::{Done, Findings, meant, quoted};
+use cs_decl::{DeclFault, MAX_CAPACITY, MAX_MINUTES, MAX_WEIGHT};
+use cs_diagnostics::{Done, meant, nearest, quoted};
+use cs_outline::{Object, Span};
 use indexmap::IndexSet;
 use serde_json::Value;
 use std::alloc::{AllocError, Global};
 
-/// The names of the modes.
-const MODES: [&str; 4] = ["none", "skip", "wait", "shared"];
-
-/// What may stand in a member.
-#[derive(Clone, Copy)]
-enum Shape {
-    Whole,
-    /// A whole number from one to another, else this fault, and what these numbers count.
-    Within(i32, i32, DeclFault, &'static str),
-    Text,
-    Flag,
-    List,
-    /// Two minutes of a day.
-    Hours,
-    /// The name of a mode.
-    Mode,
-    Any,
-}
-
-/// The members of each object in alphabetical order: whether one has to be there, and what may
-/// stand in it.
-const MEMBERS: [(Kind, &str, bool, Shape); 24] = [
-    (Kind::Whole, "anacron", false, Shape::List),
-    (Kind::Whole, "capacity", true, CAPACITY),
-    (Kind::Whole, "cron", false, Shape::List),
-    (Kind::Whole, "groups", false, Shape::List),
-    (Kind::Whole, "hours", false, Shape::Hours),
-    (Kind::Whole, "note", false, Shape::Text),
-    (Kind::Whole, "offset", false, OFFSET),
-    (Kind::Whole, "pass", false, PASS),
-    (Kind::Group, "exclusive", true, Shape::Flag),
-    (Kind::Group, "name", true, Shape::Text),
-    (Kind::Group, "note", false, Shape::Text),
-    (Kind::Cron, "command", false, Shape::Text),
-    (Kind::Cron, "group", false, Shape::Text),
-    (Kind::Cron, "line", true, Shape::Whole),
-    (Kind::Cron, "max", true, MAX),
-    (Kind::Cron, "mode", false, Shape::Mode),
-    (Kind::Cron, "note", false, Shape::Text),
-    (Kind::Cron, "weight", false, WEIGHT),
-    (Kind::Anacron, "group", false, Shape::Text),
-    (Kind::Anacron, "id", true, Shape::Text),
-    (Kind::Anacron, "max", true, MAX),
-    (Kind::Anacron, "mode", false, Shape::Any),
-    (Kind::Anacron, "note", false, Shape::Text),
-    (Kind::Anacron, "weight", false, WEIGHT),
-];
-
-const CAPACITY: Shape = Shape::Within(1, MAX_CAPACITY as i32, DeclFault::BadCapacity, "");
-
-const OFFSET: Shape = Shape::Within(
-    -(MAX_OFFSET as i32),
-    MAX_OFFSET as i32,
-    DeclFault::BadShape,
-    ", in minutes east of UTC",
-);
-
-const PASS: Shape = Shape::Within(
-    0,
-    MINUTES_OF_DAY as i32 - 1,
-    DeclFault::BadPassMinute,
-    ", a minute of the day",
-);
-
-const MAX: Shape = Shape::Within(1, MAX_MINUTES as i32, DeclFault::BadMax, ", in minutes");
-
-const WEIGHT: Shape = Shape::Within(1, MAX_WEIGHT as i32, DeclFault::BadWeight, "");
+/// How many members are compared with the name of one that is lacking.
+const MAX_LOOKED_AT: usize = 100;
 
 /// The names of the members that an object of that kind may have.
-pub(crate) fn names_of(alloc: Global, kind: Kind) -> Result<Vec<&'static str>, AllocError> {
-    let mut names = Vec::new(alloc);
-    for (of, name, _, shape) in MEMBERS.iter() {
-        if *of == kind && !matches!(shape, Shape::Any) {
-            names.push(*name)?;
-        }
+fn names_of(kind: Kind) -> &'static str {
+    match kind {
+        Kind::Whole => "anacron capacity cron default groups hours left_out note offset pass",
+        Kind::Group => "exclusive name note",
+        Kind::Cron => "command group line max mode note weight",
+        Kind::Anacron => "group id max note weight",
+        Kind::LeftOut => "command line note",
+        Kind::Default => "max note weight",
     }
-    Ok(names)
 }
 
-fn shape_of(kind: Kind, name: &str) -> Option<Shape> {
-    let (_, _, _, shape) = MEMBERS.iter().find(|row| row.0 == kind && row.1 == name)?;
-    Some(*shape)
-}
-
-/// A fault and why it is one, if there is one.
-type Wrong = Option<(DeclFault, String)>;
-
-impl Shape {
-    fn name(self) -> &'static str {
-        match self {
-            Shape::Whole | Shape::Within(_, _, _, _) => {
-                "a whole number: no quotes, point or exponent"
-            }
-            Shape::Text => "text, in double quotes",
-            Shape::Flag => "true or false",
-            Shape::List => "a list, [..]",
-            Shape::Hours => "two minutes of the day, [FROM, TO]",
-            Shape::Mode => "one of \"none\", \"skip\", \"wait\" and \"shared\"",
-            Shape::Any => "",
+/// Whether the whole has a member of that name, or one that may be meant to be it.
+pub(crate) fn has_meant(alloc: Global, whole: &Object<'_>, name: &str) -> Result<bool, AllocError> {
+    let known = names_of(Kind::Whole).split_whitespace();
+    let known = known.collect::<Vec<&str>>(alloc)?;
+    for (member, _) in whole.members.iter().take(MAX_LOOKED_AT) {
+        if nearest(alloc, member.as_str(), known.as_slice())? == Some(name) {
+            return Ok(true);
         }
     }
-
-    fn is_of(self, value: &Value) -> bool {
-        match self {
-            Shape::Whole | Shape::Within(_, _, _, _) => whole(value).is_some(),
-            Shape::Text | Shape::Mode => value.is_string(),
-            Shape::Flag => value.is_boolean(),
-            Shape::List => value.is_array(),
-            Shape::Hours => are_hours(value).is_some(),
-            Shape::Any => true,
-        }
-    }
-
-    fn fault(self, alloc: Global, name: &str, value: &Value) -> Result<Wrong, AllocError> {
-        if !self.is_of(value) {
-            let wanted = self.name();
-            let why = format!(in alloc; "\"{name}\" is {wanted}")?;
-            return Ok(Some((DeclFault::BadShape, why)));
-        }
-        match self {
-            Shape::Within(low, high, fault, unit) if !is_within(value, low, high) => {
-                let why = format!(in alloc; "\"{name}\" is from {low} to {high}{unit}")?;
-                Ok(Some((fault, why)))
-            }
-            Shape::Hours if are_hours(value) == Some(false) => {
-                let why = "\"hours\" is [FROM, TO], from 0 to 1440, FROM before TO";
-                Ok(Some((DeclFault::BadHours, String::from_str(alloc, why)?)))
-            }
-            Shape::Mode => {
-                let mode = value.as_str().unwrap_or("");
-                if MODES.iter().any(|known| *known == mode) {
-                    return Ok(None);
-                }
-                let hint = meant(alloc, mode, "\"", MODES.as_slice(), "the modes are")?;
-                let text = quoted(alloc, mode)?;
-                Ok(Some((
-                    DeclFault::BadShape,
-                    format!(in alloc; "{text} is no mode: {hint}")?,
-                )))
-            }
-            _ => Ok(None),
-        }
-    }
+    Ok(false)
 }
 
 /// A whole number, as declarations take one.
 pub(crate) fn whole(value: &Value) -> Option<i128> {
     value.as_number()?.as_i128()
-}
-
-fn is_within(value: &Value, low: i32, high: i32) -> bool {
-    whole(value).is_some_and(|number| i128::from(low) <= number && number <= i128::from(high))
 }
 
 /// Whether these are two minutes of a day, the first before the last; none where they aren't two
@@ -172,62 +51,111 @@ fn are_hours(value: &Value) -> Option<bool> {
     Some(0 <= from && from < to && to <= i128::from(MINUTES_OF_DAY))
 }
 
-fn find_unknown(findings: &mut Findings, object: &Object<'_>, member: &Member) -> Done {
-    if !findings.takes_fault(member.part.name) {
-        findings.count();
-        return Ok(());
+/// Adds what is wrong with the value of a member of that name.
+fn find_in_value(tell: &mut Tell, name: &str, value: &Value, span: Span) -> Done {
+    let (is_so, wanted) = match name {
+        "anacron" | "cron" | "groups" | "left_out" => (value.is_array(), "a list, [..]"),
+        "default" => (value.is_object(), "an object, {..}"),
+        "exclusive" => (value.is_boolean(), "true or false"),
+        "hours" => (are_hours(value).is_some(), HOURS),
+        "mode" => (value.is_string(), MODE),
+        "command" | "group" | "id" | "name" | "note" => (value.is_string(), TEXT),
+        _ => (whole(value).is_some(), WHOLE),
+    };
+    if !is_so {
+        let why = format_args!("\"{name}\" is {wanted}");
+        return tell.fault(span, DeclFault::BadShape, why);
     }
-    let (alloc, name) = (findings.alloc, member.name.as_str());
-    let known = names_of(alloc, object.kind)?;
-    let hint = meant(alloc, name, "\"", known.as_slice(), "known are")?;
-    let text = quoted(alloc, name)?;
-    let why = format!(in alloc; "{text} is unknown: {hint}")?;
-    object.fault(
-        findings,
-        member.part.name,
-        DeclFault::BadShape,
-        why.as_str(),
-    )
+    match (name, value.as_str()) {
+        ("hours", _) if are_hours(value) == Some(false) => {
+            let why = "\"hours\" is [FROM, TO], from 0 to 1440, FROM before TO";
+            tell.fault(span, DeclFault::BadHours, why)
+        }
+        ("mode", Some(mode)) if !is_among(MODES, mode) => {
+            find_none(tell, span, mode, ("no mode", MODES, "the modes are"))
+        }
+        _ => find_in_range(tell, name, value, span),
+    }
 }
 
-fn find_lacking(findings: &mut Findings, object: &Object<'_>) -> Done {
-    let kind = object.kind.name();
-    for (of, name, is_needed, _) in MEMBERS.iter() {
-        if *is_needed && *of == object.kind && object.member(name).is_none() {
-            let why = format!(in findings.alloc; "\"{name}\" is required: add it to {kind}")?;
-            object.fault(findings, object.bracket, DeclFault::BadShape, why.as_str())?;
+const WHOLE: &str = "a whole number: no quotes, point or exponent";
+
+const TEXT: &str = "text, in double quotes";
+
+const HOURS: &str = "two minutes of the day, [FROM, TO]";
+
+const MODE: &str = "one of \"none\", \"skip\", \"try\", \"wait\" and \"shared\"";
+
+const MODES: &str = "none skip try wait shared";
+
+fn is_among(names: &str, name: &str) -> bool {
+    names.split_whitespace().any(|known| known == name)
+}
+
+/// Adds that a name is what is said of it, for none of those that are known.
+fn find_none(tell: &mut Tell, span: Span, name: &str, says: (&str, &str, &str)) -> Done {
+    if !tell.findings.takes_fault(span) {
+        return Ok(());
+    }
+    let (alloc, (is, known, otherwise)) = (tell.findings.alloc, says);
+    let hint = meant(alloc, name, "\"", known, otherwise)?;
+    let text = quoted(alloc, name)?;
+    let why = format_args!("{text} is {is}: {hint}");
+    tell.fault(span, DeclFault::BadShape, why)
+}
+
+fn find_in_range(tell: &mut Tell, name: &str, value: &Value, span: Span) -> Done {
+    let (low, high, fault, unit) = match name {
+        "capacity" => (1, i64::from(MAX_CAPACITY), DeclFault::BadCapacity, ""),
+        "max" => (1, i64::from(MAX_MINUTES), DeclFault::BadMax, ", in minutes"),
+        "offset" => (-1439, 1439, DeclFault::BadShape, ", in minutes east of UTC"),
+        "pass" => (0, 1439, DeclFault::BadPassMinute, ", a minute of the day"),
+        "weight" => (1, i64::from(MAX_WEIGHT), DeclFault::BadWeight, ""),
+        _ => return Ok(()),
+    };
+    match whole(value) {
+        Some(number) if number < i128::from(low) || i128::from(high) < number => {
+            let why = format_args!("\"{name}\" is from {low} to {high}{unit}");
+            tell.fault(span, fault, why)
         }
+        _ => Ok(()),
+    }
+}
+
+fn find_lacking(tell: &mut Tell, object: &Object<'_>) -> Done {
+    let ((_, _, called), fault) = (tell.kind.names(), DeclFault::BadShape);
+    for name in names_of(tell.kind).split_whitespace() {
+        let is_needed = matches!(name, "capacity" | "exclusive" | "id" | "max" | "name");
+        if is_needed && !object.has(name) {
+            let why = format_args!("\"{name}\" is required: add it to {called}");
+            tell.fault(object.bracket, fault, why)?;
+        }
+    }
+    let has_none = !object.has("line") && !object.has("command");
+    if has_none && matches!(tell.kind, Kind::Cron | Kind::LeftOut) {
+        let why = format_args!("\"line\" or \"command\" is required: add one to {called}");
+        tell.fault(object.bracket, fault, why)?;
     }
     Ok(())
 }
 
-fn find_in_member(findings: &mut Findings, object: &Object<'_>, member: &Member) -> Done {
-    let name = member.name.as_str();
-    let Some(shape) = shape_of(object.kind, name) else {
-        return find_unknown(findings, object, member);
-    };
-    let Some(value) = object.value.get(name) else {
-        return Ok(());
-    };
-    match shape.fault(findings.alloc, name, value)? {
-        Some((fault, why)) => object.fault(findings, member.part.value, fault, why.as_str()),
-        None => Ok(()),
-    }
-}
-
 /// Adds what is wrong with the members of an object, each by itself.
-pub(crate) fn find_in_object(findings: &mut Findings, object: &Object<'_>) -> Done {
-    let mut counted = IndexSet::new(findings.alloc);
-    for member in object.members.iter().rev() {
-        if counted.insert(member.name.as_str())? {
-            find_in_member(findings, object, member)?;
-        } else {
-            let text = quoted(findings.alloc, member.name.as_str())?;
-            let words = format!(in findings.alloc;
-                "{text} is given again later, and only the last one counts: remove one"
-            )?;
-            findings.odd(member.part.name, words.as_str())?;
+pub(crate) fn find_in_object(tell: &mut Tell, object: &Object<'_>) -> Done {
+    let (known, mut counted) = (names_of(tell.kind), IndexSet::new(tell.findings.alloc));
+    for (name, part) in object.members.iter().rev() {
+        let (name, span) = (name.as_str(), part.name);
+        if !counted.insert(name)? {
+            let text = quoted(tell.findings.alloc, name)?;
+            let why = "is given again later, and only the last one counts: remove one";
+            tell.findings.odd(span, format_args!("{text} {why}"))?;
+        } else if tell.kind == Kind::Anacron && name == "mode" {
+            let why = "remove \"mode\": anacron jobs take no lock";
+            tell.fault(span, DeclFault::ModeOnAnacron, why)?;
+        } else if !is_among(known, name) {
+            find_none(tell, span, name, ("unknown", known, "known are"))?;
+        } else if let Some((value, place)) = object.member(name) {
+            find_in_value(tell, name, value, place)?;
         }
     }
-    find_lacking(findings, object)
+    find_lacking(tell, object)
 }

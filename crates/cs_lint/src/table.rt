@@ -1,27 +1,19 @@
 //! A crontab or an anacrontab that is looked at line by line.
-use crate::declared::{Declared, plan_words};
+use crate::declared::Declared;
 use crate::front::Front;
-use crate::gap::{days_named, is_ever_due};
 use crate::line::{bad_setting, word_behind, word_from};
 use cs_anacrontab::{Entry as JobEntry, JobFault, MAX_JOBS, read_line as read_job_line};
+use cs_civil::all_kinds;
 use cs_crontab::{Entry, LineFault, MAX_COMMANDS, Schedule, When, read_line};
-use cs_decl::{DeclFault, Place};
-use cs_diagnostics::{Done, Findings, Span, shown};
+use cs_decl::DeclFault;
+use cs_diagnostics::{Done, Findings, shown};
+use cs_outline::Span;
 use cs_schedule::Part;
+use cs_table::text::has_nul;
 use cs_table::{MAX_LINE, MAX_TABLE};
 use indexmap::IndexMap;
 use std::alloc::{AllocError, Global};
-
-const FIELDS: [Front; 5] = [
-    Front::Field(Part::Minute),
-    Front::Field(Part::Hour),
-    Front::Field(Part::Dom),
-    Front::Field(Part::Month),
-    Front::Field(Part::Dow),
-];
-
-/// What is called the command of a line.
-const COMMAND: &str = "command";
+use std::fmt::Display;
 
 /// Which table it is.
 #[derive(Clone, Copy, PartialEq, Eq)]
@@ -30,202 +22,207 @@ pub(crate) enum Kind {
     Anacrontab,
 }
 
-/// What begins on a line.
-#[derive(Drop)]
-enum Content {
-    /// A command or a job that can't be read.
-    Unread,
-    /// A command, and when it's due.
-    Command(When),
-    /// A job, by the place of its identifier in the line.
-    Job(Span),
-}
-
 /// A line that begins as a command or a job does.
 #[derive(Drop)]
-pub(crate) struct Begun {
+pub(crate) struct Begun<'a> {
     pub(crate) number: u32,
-    /// The place of the line in the table.
-    start: usize,
-    /// How many began before it.
-    index: usize,
-    /// The place of its first word in the line.
+    /// The place of its first word, or of the identifier of a job.
     place: Span,
-    content: Content,
+    /// When its command is due: nothing for a job, and where it can't be read.
+    pub(crate) when: Option<When>,
+    /// Its command or identifier, if it can be read.
+    pub(crate) name: Option<&'a [u8]>,
 }
 
-impl Begun {
-    /// When its command is due, if it can be read, isn't one too many and is no `@reboot`.
-    pub(crate) fn schedule(&self) -> Option<&Schedule> {
-        match &self.content {
-            Content::Command(When::At(schedule)) if self.index < MAX_COMMANDS => Some(schedule),
-            _ => None,
-        }
+impl<'a> Begun<'a> {
+    pub(crate) fn is(&self, command: &str) -> bool {
+        self.name == Some(command.as_bytes())
     }
 
-    fn find_misfit(
-        &self,
-        findings: &mut Findings,
-        bytes: &[u8],
-        declared: &Declared<'_, '_>,
-    ) -> Done {
-        let place = Some(Place::Line(self.number));
-        let why = match &self.content {
-            Content::Command(When::Reboot) => {
-                let why = "comment it out: outages would start it without bound";
-                plan_words(findings.alloc, DeclFault::RebootLine, place, why)?
+    /// Whether its command is that one, or can't be read.
+    pub(crate) fn may_be(&self, command: &str) -> bool {
+        self.name.is_none() || self.is(command)
+    }
+
+    fn find_misfit(&self, findings: &mut Findings, declared: &Declared<'_>) -> Done {
+        let (number, place) = (self.number, self.place);
+        match (&self.when, self.name) {
+            (Some(When::Reboot), _) if declared.keeps_line(number) => {
+                let why = "put it into \"left_out\": outages would start it without bound";
+                let fault = format_args!("{} at line {number}", DeclFault::RebootLine);
+                findings.fault(place, format_args!("{fault}: {why}"))
             }
-            Content::Command(When::At(_)) if declared.lacks_line(self.number) => {
+            (Some(When::At(_)), _) if declared.lacks_line(number) => {
+                let fault = DeclFault::Undeclared;
                 let why = "\"cron\" has no entry for this line: add one";
-                plan_words(findings.alloc, DeclFault::Undeclared, place, why)?
+                findings.fault(place, format_args!("{fault} at line {number}: {why}"))
             }
-            Content::Job(place) if declared.lacks_job(place.behind(self.start).bytes(bytes)) => {
-                let name = shown(findings.alloc, place.behind(self.start).bytes(bytes))?;
-                let words = format!(in findings.alloc;
-                    "4 Undeclared at job {name}: \"anacron\" has no entry for this job: add one"
-                )?;
-                return findings.fault(*place, words.as_str());
+            (None, Some(name)) if declared.lacks_job(name) => {
+                let (fault, name) = (DeclFault::Undeclared, shown(findings.alloc, name)?);
+                let why = "\"anacron\" has no entry for this job: add one";
+                findings.fault(place, format_args!("{fault} at job {name}: {why}"))
             }
-            Content::Unread | Content::Command(When::At(_)) | Content::Job(_) => return Ok(()),
-        };
-        findings.fault(self.place, why.as_str())
+            _ => Ok(()),
+        }
     }
 }
 
 /// A table that is looked at.
 #[derive(Drop)]
-pub(crate) struct TableLook<'a> {
+pub(crate) struct Table<'a> {
     /// What was found so far.
     pub(crate) findings: Findings,
     kind: Kind,
-    bytes: &'a [u8],
-    /// The line that is looked at.
+    /// The line that is looked at, its number, and the byte of the table at which it begins.
     line: &'a [u8],
-    begun: Vec<Begun>,
-    /// The identifiers of jobs, with the lines on which they stood first.
-    names: IndexMap<&'a [u8], u64>,
+    number: u32,
+    start: usize,
+    /// The lines that begin as a command or a job does, in their order.
+    pub(crate) begun: Vec<Begun<'a>>,
+    /// The commands or identifiers, each with the first and the last line on which it stands.
+    names: IndexMap<&'a [u8], (u32, u32)>,
     has_user: bool,
-    /// Whether all of it was looked at.
-    is_whole: bool,
+    /// Whether it isn't too long, and has no more commands or jobs than it may have.
+    pub(crate) is_whole: bool,
+    /// Whether each of its lines can be read.
+    pub(crate) is_read: bool,
 }
 
-impl<'a> TableLook<'a> {
+impl<'a> Table<'a> {
     /// What is found in a table by itself.
     pub(crate) fn at(alloc: Global, bytes: &'a [u8], kind: Kind) -> Result<Self, AllocError> {
-        let mut look = TableLook {
-            findings: Findings::new(alloc),
+        let mut table = Table {
+            findings: Findings::new(alloc, bytes)?,
             kind,
-            bytes,
             line: bytes,
+            number: 0,
+            start: 0,
             begun: Vec::new(alloc),
             names: IndexMap::new(alloc),
             has_user: false,
             is_whole: bytes.len() <= MAX_TABLE,
+            is_read: true,
         };
-        if look.is_whole {
-            look.look_at_lines()?;
-        } else {
+        if !table.is_whole {
             let why = "a table has at most 1,048,576 bytes: remove what begins here";
-            look.fault(Span::of(MAX_TABLE, 1), LineFault::TooLong.text(), why)?;
-            look.findings.find_lines(bytes);
+            table.fault(Span::of(MAX_TABLE, 1), LineFault::TooLong.text(), why)?;
+            return Ok(table);
         }
-        Ok(look)
-    }
-
-    fn look_at_lines(&mut self) -> Done {
-        for text in self.bytes.split(|byte| *byte == b'\n') {
-            self.line = text;
-            match self.kind {
-                Kind::Crontab => self.look_at_line()?,
-                Kind::Anacrontab => self.look_at_job_line()?,
+        for line in bytes.split(|byte| *byte == b'\n') {
+            table.line = line;
+            table.number = table.number.saturating_add(1);
+            match kind {
+                Kind::Crontab => table.look_at_line()?,
+                Kind::Anacrontab => table.look_at_job_line()?,
             }
-            self.findings.line = self.findings.line.saturating_add(1);
-            self.findings.start = self
-                .findings
-                .start
-                .saturating_add(text.len())
-                .saturating_add(1);
+            table.find_too_many()?;
+            table.start = table.start.saturating_add(line.len()).saturating_add(1);
         }
-        Ok(())
+        Ok(table)
     }
 
-    /// The lines that begin as a command does, in their order, if all lines were looked at.
-    pub(crate) fn commands(&self) -> Option<&[Begun]> {
-        self.is_whole.then_some(self.begun.as_slice())
+    /// The line of that number, if a command begins on it.
+    pub(crate) fn begun_on(&self, number: i128) -> Option<&Begun<'a>> {
+        let before = |begun: &Begun<'_>| i128::from(begun.number) < number;
+        let begun = self.begun.get(self.begun.partition_point(before))?;
+        (i128::from(begun.number) == number).then_some(begun)
     }
 
-    /// The line of what begins there, from its first word on.
-    pub(crate) fn line_of(&self, begun: &Begun) -> &'a [u8] {
-        let from = begun.place.behind(begun.start).from;
-        let rest = &self.bytes[from.min(self.bytes.len())..];
-        rest.split(|byte| *byte == b'\n').next().unwrap_or(rest)
+    /// The first and the last line that have that command or identifier, if any has.
+    pub(crate) fn lines_of(&self, name: &str) -> Option<(u32, u32)> {
+        self.names.get(name.as_bytes()).copied()
     }
 
-    /// Whether it's known that no job has that identifier.
-    pub(crate) fn lacks(&self, identifier: &str) -> bool {
-        self.is_whole && !self.names.contains_key(identifier.as_bytes())
+    fn fault(&mut self, span: Span, fault: &str, why: impl Display + Drop) -> Done {
+        let words = format_args!("{fault}: {why}");
+        self.findings.fault(span.behind(self.start), words)
     }
 
-    fn fault(&mut self, span: Span, fault: &str, why: &str) -> Done {
-        let words = format!(in self.findings.alloc; "{fault}: {why}")?;
-        self.findings.fault(span, words.as_str())
+    fn odd(&mut self, span: Span, words: impl Display + Drop) -> Done {
+        self.findings.odd(span.behind(self.start), words)
     }
 
-    fn begin(&mut self, content: Content) -> Done {
+    fn begin(&mut self, word: Span, when: Option<When>, name: Option<&'a [u8]>) -> Done {
         self.begun.push(Begun {
-            number: u32::try_from(self.findings.line).unwrap_or(u32::MAX),
-            start: self.findings.start,
-            index: self.begun.len(),
-            place: word_from(self.line, 0),
-            content,
+            number: self.number,
+            place: word.behind(self.start),
+            when,
+            name,
         })?;
         Ok(())
     }
 
-    fn look_at_bad(&mut self, fault: LineFault) -> Done {
-        if fault == LineFault::BadSetting {
+    fn find_too_many(&mut self) -> Done {
+        let (most, fault, what) = match self.kind {
+            Kind::Crontab => (MAX_COMMANDS, LineFault::TooManyJobs.text(), COMMAND),
+            Kind::Anacrontab => (MAX_JOBS, JobFault::TooManyJobs.text(), "job"),
+        };
+        let number = self.begun.len();
+        if number <= most || !self.is_whole {
+            return Ok(());
+        }
+        self.is_whole = false;
+        let why = format_args!(
+            "this is {what} {number} of at most {most}: join some in one script"
+        );
+        self.fault(word_from(self.line, 0), fault, why)
+    }
+
+    /// Adds what is wrong with a line that can't be read, by the name of its first fault and the
+    /// bytes that are left from there on.
+    fn look_at_bad(&mut self, fault: &str, left: usize) -> Done {
+        let len = self.line.len();
+        let place = Span::of(len.saturating_sub(left), 1);
+        if fault == LineFault::BadSetting.text() {
             let (span, why) = bad_setting(self.line);
-            return self.fault(span, fault.text(), why);
+            return self.fault(span, fault, why);
         }
-        self.begin(Content::Unread)?;
-        match fault {
-            LineFault::TooLong => {
-                let len = self.line.len();
-                let why = format!(in self.findings.alloc;
-                    "a line has at most 4,096 bytes, not {len}: shorten it"
-                )?;
-                self.fault(Span::of(MAX_LINE, 1), fault.text(), why.as_str())
-            }
-            LineFault::NulByte => {
-                let at = self.line.iter().position(|byte| *byte == 0);
-                let why = "this byte is zero: delete it, or save the file as UTF-8";
-                self.fault(Span::of(at.unwrap_or(0), 1), fault.text(), why)
-            }
-            _ => self.find_in_parts(),
+        self.is_read = false;
+        self.begin(word_from(self.line, 0), None, None)?;
+        if len > MAX_LINE {
+            let why = format_args!("a line has at most 4,096 bytes, not {len}: shorten it");
+            return self.fault(place, fault, why);
         }
+        if has_nul(self.line) {
+            let why = "this byte is zero: delete it, or save the file as UTF-8";
+            return self.fault(place, fault, why);
+        }
+        self.find_in_parts()
+    }
+
+    fn find_in_parts(&mut self) -> Done {
+        let mut word = word_from(self.line, 0);
+        let is_at = word.bytes(self.line).starts_with(b"@");
+        for front in Front::all(self.kind, is_at) {
+            if word.is_empty() {
+                return self.find_missing(front.name());
+            }
+            self.find_in(*front, word)?;
+            word = word_from(self.line, word.to);
+        }
+        if word.is_empty() {
+            return self.find_missing(COMMAND);
+        }
+        Ok(())
     }
 
     fn find_missing(&mut self, name: &str) -> Done {
+        let end = Span::of(self.line.len(), 0);
         let form = match self.kind {
             Kind::Crontab if name == COMMAND => {
                 let why = "the command is missing: add it here";
-                return self.fault(
-                    Span::of(self.line.len(), 0),
-                    LineFault::NoCommand.text(),
-                    why,
-                );
+                return self.fault(end, LineFault::NoCommand.text(), why);
             }
             Kind::Crontab => "five fields and a command",
             Kind::Anacrontab => "PERIOD DELAY IDENTIFIER COMMAND",
         };
-        let why = format!(in self.findings.alloc; "the {name} is missing: write {form}")?;
-        let fault = LineFault::MissingField.text();
-        self.fault(Span::of(self.line.len(), 0), fault, why.as_str())
+        let why = format_args!("the {name} is missing: write {form}");
+        self.fault(end, LineFault::MissingField.text(), why)
     }
 
     fn find_in(&mut self, front: Front, word: Span) -> Done {
         let mut from = word.from;
-        let has_items = front.has_items();
+        let has_items = matches!(front, Front::Field(_));
         let text = word.bytes(self.line);
         for item in text.split(|byte| has_items && *byte == b',') {
             if let Some((fault, why)) = front.wrong(self.findings.alloc, item)? {
@@ -236,58 +233,40 @@ impl<'a> TableLook<'a> {
         Ok(())
     }
 
-    fn fronts(&self) -> &'static [Front] {
-        let word = word_from(self.line, 0).bytes(self.line);
-        match self.kind {
-            Kind::Crontab if word.starts_with(b"@") => &[Front::Word],
-            Kind::Crontab => &FIELDS,
-            Kind::Anacrontab => &[Front::Period, Front::Delay, Front::Identifier],
-        }
-    }
-
-    fn find_in_parts(&mut self) -> Done {
-        let mut word = Span::of(0, 0);
-        for front in self.fronts() {
-            word = word_from(self.line, word.to);
-            if word.is_empty() {
-                return self.find_missing(front.name());
-            }
-            self.find_in(*front, word)?;
-        }
-        if word_from(self.line, word.to).is_empty() {
-            return self.find_missing(COMMAND);
-        }
-        Ok(())
-    }
-
     fn look_at_line(&mut self) -> Done {
         match read_line(self.line) {
             Ok(Entry::Nothing) => Ok(()),
             Ok(Entry::Setting(name, _)) => self.find_unheeded(name),
             Ok(Entry::Command(when, command)) => self.look_at_command(when, command),
-            Err(wrong) => self.look_at_bad(wrong.fault),
+            Err(wrong) => self.look_at_bad(wrong.fault.text(), wrong.left),
         }
     }
 
-    fn look_at_command(&mut self, when: When, command: &[u8]) -> Done {
+    fn look_at_command(&mut self, when: When, command: &'a [u8]) -> Done {
         self.find_user(command)?;
         if let When::At(schedule) = &when {
             self.find_never_due(schedule)?;
         }
-        self.begin(Content::Command(when))
+        let number = self.number;
+        let first = self.names.get(&command).map_or(number, |(first, _)| *first);
+        self.names.insert(command, (first, number))?;
+        self.begin(word_from(self.line, 0), Some(when), Some(command))
     }
 
     fn find_never_due(&mut self, schedule: &Schedule) -> Done {
-        if self.begun.len() >= MAX_COMMANDS || is_ever_due(schedule) {
+        if !self.is_whole || all_kinds().any(|kind| schedule.is_day_due(kind)) {
             return Ok(());
         }
-        let (longest, first) = days_named(schedule);
-        let words = format!(in self.findings.alloc;
-            "never due: its first day is {first}, but its longest month has {longest} days: change either"
-        )?;
-        let (dom, month) = (word_behind(self.line, 2), word_behind(self.line, 3));
-        self.findings
-            .odd(Span::between(dom.from, month.to), words.as_str())
+        let months = all_kinds().filter(|kind| schedule.field(Part::Month).has(kind.month()));
+        let longest = months.map(|kind| kind.dom()).max().unwrap_or(0);
+        let first = (1..32).find(|dom| schedule.field(Part::Dom).has(*dom));
+        let (first, place) = (first.unwrap_or(0), word_behind(self.line, 2));
+        let place = Span::between(place.from, word_behind(self.line, 3).to);
+        let longest = format_args!("its longest month has {longest} days: change either");
+        self.odd(
+            place,
+            format_args!("never due: its first day is {first}, but {longest}"),
+        )
     }
 
     fn find_user(&mut self, command: &[u8]) -> Done {
@@ -298,7 +277,7 @@ impl<'a> TableLook<'a> {
         }
         self.has_user = true;
         let why = "here `root` is the command: this table has no user column, so remove it";
-        self.findings.odd(user, why)
+        self.odd(user, why)
     }
 
     /// Adds that a setting of that name has no effect, if it's one that other daemons heed
@@ -311,81 +290,48 @@ impl<'a> TableLook<'a> {
             _ => return Ok(()),
         };
         let name = shown(self.findings.alloc, name)?;
-        let words = format!(in self.findings.alloc; "{name} has no effect: {why}")?;
         let place = Span::between(word_from(self.line, 0).from, self.line.len());
-        self.findings.odd(place, words.as_str())
+        self.odd(place, format_args!("{name} has no effect: {why}"))
     }
 
     fn look_at_job_line(&mut self) -> Done {
+        if let Err(wrong) = read_job_line(self.line) {
+            if wrong.fault == JobFault::Continued {
+                let last = Span::of(self.line.len().saturating_sub(wrong.left), 1);
+                let why = "continued lines aren't read: write it all on one line";
+                self.fault(last, wrong.fault.text(), why)?;
+                let kept = self.line.iter().rposition(|byte| *byte != b'\\');
+                let front = Span::of(0, kept.map_or(0, |at| at.saturating_add(1)));
+                self.line = front.bytes(self.line);
+            }
+        }
         match read_job_line(self.line) {
             Ok(JobEntry::Nothing) => Ok(()),
             Ok(JobEntry::Setting(name, _)) => self.find_unheeded(name),
-            Ok(JobEntry::Job(_, _, _, _)) => self.look_at_job(),
-            Err(wrong) if wrong.fault == JobFault::Continued => self.look_at_continued(),
-            Err(wrong) => self.look_at_bad(as_in_crontab(wrong.fault)),
+            Ok(JobEntry::Job(_, _, name, _)) => self.look_at_identifier(name),
+            Err(wrong) => self.look_at_bad(wrong.fault.text(), wrong.left),
         }
     }
 
-    fn look_at_continued(&mut self) -> Done {
-        let last = Span::of(self.line.len().saturating_sub(1), 1);
-        let why = "continued lines aren't read: write it all on one line";
-        self.fault(last, JobFault::Continued.text(), why)?;
-        let kept = self.line.iter().rposition(|byte| *byte != b'\\');
-        let front = Span::of(0, kept.map_or(0, |at| at.saturating_add(1)));
-        self.line = front.bytes(self.line);
-        match read_job_line(self.line) {
-            Err(wrong) => self.look_at_bad(as_in_crontab(wrong.fault)),
-            Ok(_) => Ok(()),
-        }
-    }
-
-    fn look_at_job(&mut self) -> Done {
-        let span = word_behind(self.line, 2);
-        let (name, line) = (span.bytes(self.line), self.findings.line);
-        if let Some(first) = self.names.get(&name).copied() {
-            let why = format!(in self.findings.alloc;
-                "line {first} has this identifier: choose another one"
-            )?;
-            self.fault(span, JobFault::TwiceNamed.text(), why.as_str())?;
+    fn look_at_identifier(&mut self, name: &'a [u8]) -> Done {
+        let (span, number) = (word_behind(self.line, 2), self.number);
+        if let Some((first, _)) = self.names.get(&name).copied() {
+            let why = format_args!("line {first} has this identifier: choose another one");
+            self.fault(span, JobFault::TwiceNamed.text(), why)?;
         } else {
-            self.names.insert(name, line)?;
+            self.names.insert(name, (number, number))?;
         }
-        self.begin(Content::Job(span))
+        self.begin(span, None, Some(name))
     }
 
-    /// Adds what doesn't fit the declarations, if there are any, and the first line that is one too
-    /// many.
-    pub(crate) fn find_beside(&mut self, declared: &Declared<'_, '_>) -> Done {
-        let (most, words) = match self.kind {
-            Kind::Crontab => (MAX_COMMANDS, TOO_MANY_COMMANDS),
-            Kind::Anacrontab => (MAX_JOBS, TOO_MANY_JOBS),
-        };
+    /// Adds what doesn't fit the declarations.
+    pub(crate) fn find_beside(&mut self, declared: &Declared<'_>) -> Done {
         for begun in self.begun.iter() {
-            self.findings.line = u64::from(begun.number);
-            self.findings.start = begun.start;
-            if declared.is_given {
-                begun.find_misfit(&mut self.findings, self.bytes, declared)?;
-            }
-            if begun.index == most {
-                self.findings.fault(begun.place, words)?;
-            }
+            begun.find_misfit(&mut self.findings, declared)?;
         }
         Ok(())
     }
 }
 
-/// The fault of a crontab that is a fault of an anacrontab too; any other stands for those of the
-/// parts of its lines.
-fn as_in_crontab(fault: JobFault) -> LineFault {
-    match fault {
-        JobFault::TooLong => LineFault::TooLong,
-        JobFault::NulByte => LineFault::NulByte,
-        JobFault::BadSetting => LineFault::BadSetting,
-        _ => LineFault::MissingField,
-    }
-}
-
-const TOO_MANY_COMMANDS: &str =
-    "12 TooManyJobs: this is command 257 of at most 256: join some in one script";
-
-const TOO_MANY_JOBS: &str = "11 TooManyJobs: this is job 65 of at most 64: join some in one script";
+/// What is called the command of a line.
+const COMMAND: &str = "command";

@@ -3,7 +3,7 @@ use Rattle.std.proofs.Common.{ℕ, ◌+◌, ◌<◌, ◌≤◌, ◌≡◌, max, 
 use Rattle.std.specs.List.{AllByRecursion}
 use Rattle.std.proofs.lemmas.Bool.{and_parts, both_ways, false_from_ne_true, eq-eqb, eqb-true}
 use Rattle.cs_history.specs.declared.mode.Mode.{Mode}
-use Rattle.cs_history.specs.declared.mode.Mode.TheVariants.{Plain, Skip, Wait, Shared}
+use Rattle.cs_history.specs.declared.mode.Mode.TheVariants.{Plain, Skip, Try, Wait, Shared}
 use Rattle.cs_history.specs.Lists.{total, greatest, EachPair}
 use Rattle.cs_history.specs.Plan.{takes, shares_in, is_group, is_skip}
 use Rattle.cs_history.proofs.Lists.{all_map, all_any, all-filter}
@@ -139,6 +139,7 @@ module _ (roles : List Role) where
   skip_takes : (mode : Mode) → is_skip mode ≡ true → takes mode ≡ true
   skip_takes Plain e = cc
   skip_takes Skip e = refl
+  skip_takes Try e = refl
   skip_takes Wait e = refl
   skip_takes Shared e = refl
 

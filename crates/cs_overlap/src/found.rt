@@ -162,7 +162,7 @@ fn blocks(roles: &[Role], minute: u16, skip: &Window, other: &Window) -> bool
     let is_same = skip.job == other.job
         && skip.day_back == other.day_back
         && skip.from == other.from;
-    (role.mode.skips() && skip.day_back == 0 && skip.from == minute)
+    (role.mode.is_skip() && skip.day_back == 0 && skip.from == minute)
         && (!is_same && holder.mode.takes_lock() && share_group(role, holder))
 }
 

@@ -62,7 +62,7 @@ fn bars(roles: &[Role], window: &Window, other: &Window) -> bool
 {
     let skip = role_of(roles, window);
     let holder = role_of(roles, other);
-    (skip.mode.skips() && is_open_at(window, other))
+    (skip.mode.is_skip() && is_open_at(window, other))
         && (holder.mode.takes_lock() && share_group(skip, holder))
 }
 

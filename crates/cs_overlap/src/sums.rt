@@ -100,7 +100,7 @@ fn is_lone(roles: &[Role], takers: &[u16], window: &Window) -> bool
     requires { IsDay takers.now }
     ensures { IsTrue result → IsLone roles.now takers.now window.now }
 {
-    if !role_of(roles, window).mode.skips() || window.day_back > 0 {
+    if !role_of(roles, window).mode.is_skip() || window.day_back > 0 {
         return true;
     }
     match takers.get(usize::from(window.from)) {
@@ -126,7 +126,7 @@ fn any_skips(roles: &[Role], windows: &[Window]) -> bool
         → AllByRecursion (λ w. is_skip (role_at roles.now w.job).mode ≡ false) windows.now }
 {
     for window in windows {
-        if role_of(roles, window).mode.skips() {
+        if role_of(roles, window).mode.is_skip() {
             return true;
         }
     }

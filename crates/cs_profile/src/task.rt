@@ -23,6 +23,13 @@ pub struct Task {
     pub minutes: Vec<u16>,
 }
 
+impl Task {
+    /// Whether it is of mode try: a run that finds its lock held just doesn't start.
+    pub fn is_try(&self) -> bool {
+        self.mode == Mode::Try
+    }
+}
+
 /// The schedule of the job with this number, where it is of the crontab.
 pub(crate) fn schedule_of(plan: &Plan, number: usize) -> Option<&Schedule> {
     match plan.crontab().lines().get(number)?.when() {

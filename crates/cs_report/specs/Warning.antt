@@ -1,10 +1,12 @@
--- The warnings that come with two tables.
-use Rattle.std.specs.Prelude.{ℕ, Bool, ◌||◌, List, [], ◌++◌, Option, Some, None, codes}
+-- The warnings that come with two tables, and the notes that come with a plan.
+use Rattle.std.specs.Prelude.{ℕ, ◌==◌, Bool, ◌||◌, List, [], ◌∷◌, ◌++◌, Option, Some, None, codes}
+use Rattle.std.specs.Prelude.{if◌then◌else◌, length}
 use Rattle.std.specs.Fmt.{decimal}
 use Rattle.std.specs.List.{filter, find, flat_map}
 use Rattle.std.specs.Str.{bytes_eq}
 use Rattle.cs_anacrontab.specs.Anacrontab.{Table as JobTable}
 use Rattle.cs_crontab.specs.Crontab.{CommandLine, Table}
+use Rattle.cs_decl.specs.Plan.{Declared}
 use Rattle.cs_table.specs.Setting.{SettingLine}
 use Rattle.cs_table.specs.Text.{front, is_solid}
 
@@ -48,3 +50,28 @@ abbrev pub warnings : Table → JobTable → List ℕ
 warnings crontab anacrontab = warnings_of (codes "crontab") crontab.settings
     ++ (user_warning_of (find is_as_root crontab.lines)
     ++ warnings_of (codes "anacrontab") anacrontab.settings)
+
+-- `note: line N is left out of the plan` and a newline
+unfoldable pub left_out_note : ℕ → List ℕ
+left_out_note number =
+    codes "note: line " ++ (decimal number ++ codes " is left out of the plan\n")
+
+-- `note: the plan has no job` and a newline, where lines are left out and no job is left
+abbrev pub no_job_note : List ℕ → ℕ → List ℕ
+no_job_note [] jobs = []
+no_job_note (number ∷ left_out) jobs =
+    if jobs == 0 then codes "note: the plan has no job\n" else []
+
+-- `note: N jobs without an entry have the default` and a newline, of one `.. 1 job .. has ..`, and
+-- nothing where there is none
+abbrev pub default_note : ℕ → List ℕ
+default_note jobs =
+    if jobs == 0 then [] else (
+    if jobs == 1 then codes "note: 1 job without an entry has the default\n"
+    else codes "note: " ++ (decimal jobs ++ codes " jobs without an entry have the default\n"))
+
+-- those of the lines that a plan leaves out, in their order, that it has no job, and how many of its
+-- jobs have the default
+abbrev pub plan_notes : Declared → List ℕ
+plan_notes d = flat_map left_out_note d.left_out
+    ++ (no_job_note d.left_out (length d.jobs) ++ default_note d.defaulted)

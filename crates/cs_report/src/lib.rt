@@ -1,5 +1,5 @@
-//! What is read and printed in words: why a certificate is refused, scripts of events, replies, and
-//! the warnings of two tables.
+//! What is read and printed in words: why a certificate is refused, scripts of events, replies, the
+//! warnings of two tables, and the notes on a plan.
 #![tactic(auto)]
 
 mod check_fault;
@@ -23,5 +23,5 @@ pub use refusal::fault_text;
 pub use reply::{push_reply, reply_text};
 pub use script::{MAX_SCRIPT, NumberedScript, read_numbered_script, read_script};
 pub use script_fault::{ScriptError, ScriptFault};
-pub use warning::warnings;
+pub use warning::{plan_notes, warnings};
 pub use writing::script_text;

@@ -1,13 +1,15 @@
 ghost use Rattle.std.specs.Prelude.{◌≡◌, ◌++◌, IfOk, OnOk};
 ghost use Rattle.std.specs.Fmt.{decimal};
-ghost use Rattle.std.specs.List.{find};
+ghost use Rattle.std.specs.List.{find, flat_map};
 ghost use Rattle.std.specs.Option.{option_map};
-ghost use Rattle.cs_report.specs.Warning.{is_as_root, is_unheeded, user_warning, user_warning_of};
+ghost use Rattle.cs_report.specs.Warning.{default_note, is_as_root, is_unheeded, left_out_note};
+ghost use Rattle.cs_report.specs.Warning.{no_job_note, plan_notes, user_warning, user_warning_of};
 ghost use Rattle.cs_report.specs.Warning.{warning, warnings, warnings_of};
 
 use cs_anacrontab::Anacrontab;
 use cs_civil::{Bytes, push_number};
 use cs_crontab::{Crontab, Line};
+use cs_decl::Plan;
 use cs_table::Setting;
 use cs_table::text::word;
 use std::alloc::{AllocError, Global};
@@ -77,14 +79,14 @@ fn push_numbered(
     alloc: Global,
     text: &mut Vec<u8>,
     front: &[u8],
-    number: u32,
+    number: u128,
     end: &[u8],
 ) -> Result<(), AllocError>
     ensures { OnOk result (text.new.items
         ≡ text.old.items ++ (front.now ++ (decimal number ++ end.now))) }
 {
     text.extend_from_slice(front)?;
-    push_number(alloc, text, u128::from(number))?;
+    push_number(alloc, text, number)?;
     text.extend_from_slice(end)
 }
 
@@ -96,7 +98,7 @@ fn push_user_warning(alloc: Global, text: &mut Vec<u8>, line: &Line) -> Result<(
         alloc,
         text,
         b"warning: the command on line ",
-        line.number(),
+        u128::from(line.number()),
         b" of the crontab begins with root, as in a table with a user column\n",
     )
 }
@@ -136,5 +138,72 @@ pub fn warnings(
     push_warnings(alloc, &mut text, b"crontab", crontab.settings())?;
     push_first_user_warning(alloc, &mut text, crontab.lines())?;
     push_warnings(alloc, &mut text, b"anacrontab", anacrontab.settings())?;
+    Ok(Bytes::from_vec(text))
+}
+
+/// Writes the note of a line that is left out behind the text.
+#[tactic(auto, unfolding(crate::specs::Warning::left_out_note))]
+fn push_left_out(alloc: Global, text: &mut Vec<u8>, number: u32) -> Result<(), AllocError>
+    ensures { OnOk result (text.new.items ≡ text.old.items ++ left_out_note number) }
+{
+    push_numbered(
+        alloc,
+        text,
+        b"note: line ",
+        u128::from(number),
+        b" is left out of the plan\n",
+    )
+}
+
+/// Writes the note of each line that is left out behind the text.
+fn push_all_left_out(alloc: Global, text: &mut Vec<u8>, numbers: &[u32]) -> Result<(), AllocError>
+    ensures { OnOk result (text.new.items
+        ≡ text.old.items ++ flat_map left_out_note numbers.now) }
+{
+    for number in numbers {
+        push_left_out(alloc, text, *number)?;
+    }
+    Ok(())
+}
+
+/// Writes behind the text that there is no job, where lines are left out.
+fn push_no_job(text: &mut Vec<u8>, left_out: &[u32], jobs: usize) -> Result<(), AllocError>
+    ensures { OnOk result (text.new.items ≡ text.old.items ++ no_job_note left_out.now jobs) }
+{
+    if left_out.is_empty() || jobs > 0 {
+        return Ok(());
+    }
+    text.extend_from_slice(b"note: the plan has no job\n")
+}
+
+/// Writes behind the text how many jobs have the default.
+fn push_default(alloc: Global, text: &mut Vec<u8>, jobs: usize) -> Result<(), AllocError>
+    ensures { OnOk result (text.new.items ≡ text.old.items ++ default_note jobs) }
+{
+    match jobs {
+        0 => Ok(()),
+        1 => text.extend_from_slice(b"note: 1 job without an entry has the default\n"),
+        _ => push_numbered(
+            alloc,
+            text,
+            b"note: ",
+            jobs as u128,
+            b" jobs without an entry have the default\n",
+        ),
+    }
+}
+
+/// A line for each line of the crontab that the plan leaves out, in order of their numbers:
+/// `note: line 4 is left out of the plan`. Then, if lines are left out and no job is left in either
+/// table, `note: the plan has no job`. Then, if jobs have the default,
+/// `note: 12 jobs without an entry have the default` or `note: 1 job without an entry has the default`.
+/// Each line has a newline. The only error is want of memory.
+pub fn plan_notes(alloc: Global, plan: &Plan) -> Result<Bytes, AllocError>
+    ensures { IfOk result (λ text. text ≡ plan_notes plan.now) }
+{
+    let mut text = Vec::new(alloc);
+    push_all_left_out(alloc, &mut text, plan.left_out())?;
+    push_no_job(&mut text, plan.left_out(), plan.jobs().len())?;
+    push_default(alloc, &mut text, plan.defaulted())?;
     Ok(Bytes::from_vec(text))
 }

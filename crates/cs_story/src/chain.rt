@@ -16,6 +16,21 @@ pub(crate) struct Chain {
     pub to: u64,
 }
 
+/// A run of mode try of a chain. Those that hold the lock before it end in the minute in which it is due, so that it gets it.
+#[derive(Clone, Copy)]
+pub(crate) struct Tried {
+    pub group: u8,
+    pub job: u16,
+    pub due: u64,
+}
+
+/// Chains of several groups, and their runs of mode try.
+#[derive(Drop)]
+pub(crate) struct Chains {
+    pub list: Vec<Chain>,
+    pub tried: Vec<Tried>,
+}
+
 /// What is wanted of a chain: that the lock is held when the first wanted run is due, and until the last of them is to start.
 #[derive(Clone, Copy)]
 struct Hold {
@@ -79,12 +94,22 @@ struct Link {
     alone: u64,
     // The longest of those that share the lock.
     shared: u64,
+    // The longest of mode try, which comes before them or not at all, and its job.
+    tried: u64,
+    job: u16,
 }
 
 impl Link {
-    /// With the run of a job of this longest time, in minutes.
-    fn add(&mut self, part: Part, max: u16) {
-        let minutes = u64::from(max.saturating_sub(1));
+    /// With the run of mode try of this job.
+    fn add_tried(&mut self, job: u16, minutes: u64) {
+        if minutes > self.tried {
+            self.tried = minutes;
+            self.job = job;
+        }
+    }
+
+    /// With the run of another job.
+    fn add(&mut self, part: Part, minutes: u64) {
         match part {
             Part::Holder => self.alone = self.alone.saturating_add(minutes),
             Part::Sharer => self.shared = self.shared.max(minutes),
@@ -121,10 +146,15 @@ fn add_job(links: &mut Vec<Link>, facts: &Facts, runs: &[Wanted], job: u16, midn
     let Some(part) = part_of(facts, run) else {
         return;
     };
+    let minutes = u64::from(own.max.saturating_sub(1));
     for minute in own.minutes.as_slice() {
         if !is_wanted(runs, job, midnight.saturating_add(u64::from(*minute))) {
             if let Some(link) = links.get_mut(usize::from(*minute)) {
-                link.add(part, own.max);
+                if own.is_try() {
+                    link.add_tried(job, minutes);
+                } else {
+                    link.add(part, minutes);
+                }
             }
         }
     }
@@ -142,6 +172,8 @@ fn links_on(
     let none = Link {
         alone: 0,
         shared: 0,
+        tried: 0,
+        job: 0,
     };
     let mut links: Vec<Link> = Vec::from_elem(alloc, none, MINUTES_OF_DAY as usize)?;
     for job in due {
@@ -165,13 +197,28 @@ struct Back {
 }
 
 impl Back {
+    /// Whether a run of mode try that is due at a minute before, and may hold the lock for so long, has to hold it.
+    fn wants_tried(self, hold: Hold, minute: u64, link: Link) -> bool {
+        let until = self.until.saturating_sub(link.minutes(hold.is_shared));
+        self.begins.is_none()
+            && minute < hold.start
+            && minute < until
+            && until <= minute.saturating_add(link.tried)
+    }
+
     /// Over a minute before, whose runs hold the lock for so long if it is held until then, or free. A chain begins where they
     /// need no others.
-    fn over(self, hold: Hold, minute: u64, minutes: u64) -> Back {
-        if self.begins.is_some() || minute >= hold.start || minutes == 0 {
+    fn over(self, hold: Hold, minute: u64, link: Link) -> Back {
+        let minutes = link.minutes(hold.is_shared);
+        let is_tried = self.wants_tried(hold, minute, link);
+        if self.begins.is_some() || minute >= hold.start || (minutes == 0 && !is_tried) {
             return self;
         }
-        let until = self.until.saturating_sub(minutes);
+        let until = if is_tried {
+            minute
+        } else {
+            self.until.saturating_sub(minutes)
+        };
         if minute <= hold.due && until <= minute {
             return Back {
                 until,
@@ -185,13 +232,26 @@ impl Back {
     }
 
     /// Over a day.
-    fn over_day(self, hold: Hold, midnight: u64, links: &[Link]) -> Back {
+    fn over_day(
+        self,
+        hold: Hold,
+        midnight: u64,
+        links: &[Link],
+        tried: &mut Vec<Tried>,
+    ) -> Result<Back, AllocError> {
         let mut back = self;
         for (minute, link) in links.iter().enumerate().rev() {
-            let at = midnight.saturating_add(minute as u64);
-            back = back.over(hold, at, link.minutes(hold.is_shared));
+            let due = midnight.saturating_add(minute as u64);
+            if back.wants_tried(hold, due, *link) {
+                tried.push(Tried {
+                    group: hold.group,
+                    job: link.job,
+                    due,
+                })?;
+            }
+            back = back.over(hold, due, *link);
         }
-        back
+        Ok(back)
     }
 }
 
@@ -204,13 +264,14 @@ fn due_on<'a>(facts: &'a Facts, calendar: &Calendar, day: u64) -> Option<&'a [u1
     }
 }
 
-/// The chain that begins last.
+/// The chain that begins last, the runs of mode try of which are added to these.
 fn chain_for(
     alloc: Global,
     facts: &Facts,
     calendar: &Calendar,
     runs: &[Wanted],
     hold: Hold,
+    tried: &mut Vec<Tried>,
 ) -> Result<Option<Chain>, AllocError> {
     let mut back = Back {
         until: hold.start,
@@ -222,7 +283,7 @@ fn chain_for(
         let midnight = day.saturating_mul(MINUTES_OF_DAY);
         if let (None, Some(due)) = (back.begins, due_on(facts, calendar, day)) {
             let links = links_on(alloc, facts, runs, due, hold.group, midnight)?;
-            back = back.over_day(hold, midnight, links.as_slice());
+            back = back.over_day(hold, midnight, links.as_slice(), tried)?;
         }
     }
     Ok(match back.begins {
@@ -242,13 +303,14 @@ pub(crate) fn chains_for(
     facts: &Facts,
     calendar: &Calendar,
     runs: &[Wanted],
-) -> Result<Option<Vec<Chain>>, AllocError> {
-    let mut chains: Vec<Chain> = Vec::new(alloc);
+) -> Result<Option<Chains>, AllocError> {
+    let mut list: Vec<Chain> = Vec::new(alloc);
+    let mut tried: Vec<Tried> = Vec::new(alloc);
     for hold in holds_for(alloc, facts, runs)?.as_slice() {
-        match chain_for(alloc, facts, calendar, runs, *hold)? {
-            Some(chain) => chains.push(chain)?,
+        match chain_for(alloc, facts, calendar, runs, *hold, &mut tried)? {
+            Some(chain) => list.push(chain)?,
             None => return Ok(None),
         }
     }
-    Ok(Some(chains))
+    Ok(Some(Chains { list, tried }))
 }

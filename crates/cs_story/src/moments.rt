@@ -1,5 +1,5 @@
 //! What happens within a minute of a story.
-use crate::chain::Chain;
+use crate::chain::{Chain, Tried};
 use crate::play::{Ending, Play};
 use crate::plot::Plot;
 use crate::wanted::task_of;
@@ -64,6 +64,38 @@ fn end_links(play: &mut Play, plot: &Plot<'_>, chain: Chain) -> Result<(), Endin
     for _ in 0..play.core().running().len() {
         if let Some(run) = held_out(play, plot, chain) {
             play.take(Event::End(run))?;
+        }
+    }
+    Ok(())
+}
+
+/// A run of a chain of this group that holds its lock.
+fn holder(play: &Play, plot: &Plot<'_>, group: u8) -> Option<Run> {
+    for going in play.core().running().iter() {
+        let run = going.run;
+        if plot.takes_lock_of(run.job, group) && !plot.wants(run.job, run.at) {
+            return Some(run);
+        }
+    }
+    None
+}
+
+/// Begins a run of mode try, after those have ended that hold its lock.
+fn begin_tried(play: &mut Play, plot: &Plot<'_>, tried: Tried) -> Result<(), Ending> {
+    for _ in 0..play.core().running().len() {
+        if let Some(run) = holder(play, plot, tried.group) {
+            play.take(Event::End(run))?;
+        }
+    }
+    play.take(Event::Begin(tried.job))
+}
+
+/// Begins the runs of mode try of chains that are due.
+fn begin_all_tried(play: &mut Play, plot: &Plot<'_>) -> Result<(), Ending> {
+    let now = play.now();
+    for tried in plot.tried.as_slice() {
+        if tried.due == now {
+            begin_tried(play, plot, *tried)?;
         }
     }
     Ok(())
@@ -172,6 +204,7 @@ fn settle(play: &mut Play, plot: &Plot<'_>) -> Result<(), Ending> {
 /// What happens in the present minute, after which the daemon goes down or the clock goes on.
 pub(crate) fn live(play: &mut Play, plot: &Plot<'_>, goes_on: bool) -> Result<(), Ending> {
     if goes_on {
+        begin_all_tried(play, plot)?;
         begin_unwanted(play, plot)?;
     }
     follow_chains(play, plot)?;

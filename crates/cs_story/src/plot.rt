@@ -1,5 +1,5 @@
 use crate::aim::Aim;
-use crate::chain::{Chain, chains_for};
+use crate::chain::{Chain, Chains, Tried, chains_for};
 use crate::part::is_of;
 use crate::stay::{Stay, stays_for};
 use crate::wanted::{Wanted, task_of};
@@ -14,6 +14,8 @@ pub(crate) struct Plot<'a> {
     pub runs: Vec<Wanted>,
     /// By which of them start late.
     pub chains: Vec<Chain>,
+    /// Their runs of mode try.
+    pub tried: Vec<Tried>,
     /// When the daemon is up.
     pub stays: Vec<Stay>,
 }
@@ -47,9 +49,13 @@ impl<'a> Plot<'a> {
         aim: &Aim,
     ) -> Result<Option<Plot<'a>>, AllocError> {
         let aimed = aim.runs.as_slice();
-        let Some(chains) = chains_for(alloc, facts, calendar, aimed)? else {
+        let Some(found) = chains_for(alloc, facts, calendar, aimed)? else {
             return Ok(None);
         };
+        let Chains {
+            list: chains,
+            tried,
+        } = found;
         let mut runs: Vec<Wanted> = Vec::new(alloc);
         for run in aimed {
             runs.push(put_off(facts, chains.as_slice(), *run))?;
@@ -59,6 +65,7 @@ impl<'a> Plot<'a> {
             facts,
             runs,
             chains,
+            tried,
             stays,
         }))
     }

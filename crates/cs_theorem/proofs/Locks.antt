@@ -3,7 +3,7 @@ use Rattle.std.proofs.Common.{ℕ, ◌≡◌, Bool, true, false, not, ◌&&◌, 
 use Rattle.std.proofs.lemmas.Bool.{and_parts, eqb-true, eq-eqb, and_from}
 use Rattle.cs_history.specs.Plan.{Plan, takes, waits_in, takes_lock, shares, is_group, belongs, locks, in_group_of, same_group, both_share, in_the_way}
 use Rattle.cs_history.specs.declared.mode.Mode.{Mode}
-use Rattle.cs_history.specs.declared.mode.Mode.TheVariants.{Plain, Skip, Wait, Shared}
+use Rattle.cs_history.specs.declared.mode.Mode.TheVariants.{Plain, Skip, Try, Wait, Shared}
 
 the_group : (g : ℕ) (o : Option ℕ) → is_group g o ≡ true → o ≡ Some g
 the_group g None e = absurd (cc)
@@ -18,6 +18,7 @@ locks_takes p g j e = (and_parts (takes_lock p j) (belongs p g j) e).0
 pub waits_takes : (m : Mode) → waits_in m ≡ true → takes m ≡ true
 waits_takes Plain e = e
 waits_takes Skip e = refl
+waits_takes Try e = refl
 waits_takes Wait e = refl
 waits_takes Shared e = refl
 

@@ -4,7 +4,7 @@ use Rattle.std.specs.List.{AllByRecursion, list_any}
 use Rattle.std.proofs.lemmas.Bool.{and_parts, eq-eqb, cases_lt, not-false, both_ways}
 use Rattle.cs_history.specs.Plan.{Plan, takes, waits_in, is_cron, takes_lock, waits, locks, in_the_way, IsPlan, IsReached}
 use Rattle.cs_history.specs.declared.mode.Mode.{Mode}
-use Rattle.cs_history.specs.declared.mode.Mode.TheVariants.{Plain, Skip, Wait, Shared}
+use Rattle.cs_history.specs.declared.mode.Mode.TheVariants.{Plain, Skip, Try, Wait, Shared}
 use Rattle.cs_history.specs.History.{going, History, From, ◌▸◌, same_run, now, is_free, running, Starts, when_held, with_started, with_waiting, run_of, pending, waiting, IsLegal, IsInTime, IsWithin}
 use Rattle.cs_history.specs.declared.run.Run.{Run}
 use Rattle.cs_history.specs.declared.run.Going.{Going}
@@ -27,6 +27,7 @@ begin_step : (p : Plan) (b : ℕ → ℕ → ℕ) (t : ℕ) (js : List ℕ) (ws 
 begin_step p b t js ws rs j plan e k true m free is = kept_begin p b t js ws rs j plan e free k
 begin_step p b t js ws rs j plan e k false Plain free is = absurd (both_ways (takes_lock p j) (ap takes is) (takes_where_held p rs j free))
 begin_step p b t js ws rs j plan e k false Skip free is = kept_skip p b t js ws rs (λ i. not (j == i)) k
+begin_step p b t js ws rs j plan e k false Try free is = kept_skip p b t js ws rs (λ i. not (j == i)) k
 begin_step p b t js ws rs j plan e k false Wait free is = kept_wait p b t js ws rs j e (ap waits_in is) k
 begin_step p b t js ws rs j plan e k false Shared free is = kept_wait p b t js ws rs j e (ap waits_in is) k
 

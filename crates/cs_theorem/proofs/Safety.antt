@@ -4,8 +4,7 @@ use Rattle.std.specs.List.{AllByRecursion, list_any}
 use Rattle.std.proofs.lemmas.Bool.{and_parts, and_from, eqb-true, false_from_ne_true, both_ways}
 use Rattle.cs_history.specs.Lists.{total, EachPair, below}
 use Rattle.cs_history.specs.Plan.{Plan, is_cron, takes_lock, shares, locks, same_group, both_share, in_the_way, rivals, exclusive_group, IsPlan, IsReached}
-use Rattle.cs_history.specs.declared.mode.Mode.{Mode}
-use Rattle.cs_history.specs.declared.mode.Mode.TheVariants.{Plain, Skip, Wait, Shared}
+use Rattle.cs_history.specs.declared.mode.Mode.TheVariants.{Skip}
 use Rattle.cs_history.specs.History.{run_of, going, History, From, ◌▸◌, same_run, now, is_free, running, Starts, Skips, when_held, pending, waiting, IsLegal, IsInTime, IsSafeNow, IsNoSkip, IsSafe}
 use Rattle.cs_history.specs.declared.run.Run.{Run}
 use Rattle.cs_history.specs.declared.run.Going.{Going}
@@ -175,16 +174,13 @@ module _ (p : Plan) (c : ℕ → ℕ) (b : ℕ → ℕ → ℕ) (plan : IsPlan p
       let found = any_at (λ i. j == i) (λ i. AllByRecursion (λ r. same_run (run_of i (now h)) r.run ≡ false) (running p h)) (pending p h) due n.fresh in
       subst (λ i. AllByRecursion (λ r. same_run (run_of i (now h)) r.run ≡ false) (running p h)) (sym (eqb-true j found.0 found.1)) found.2
 
-  no_skip_step : (h : History) → Kept p b (now h) (pending p h) (waiting p h) (running p h) → AreApart p (state_of p h) → IsCalm p c (now h) → (j : ℕ) → list_any (λ i. j == i) (pending p h) ≡ true → (f : Bool) (m : Mode) → is_free p (running p h) j ≡ f → p.mode j ≡ m → (if f then Starts else when_held m) ≡ Skips → ⊥
-  no_skip_step h k n calm j due true m e is s = cc
-  no_skip_step h k n calm j due false Plain e is s = cc
-  no_skip_step h k n calm j due false Skip e is s = both_ways (is_free p (running p h) j) e (free_then (now h) (pending p h) (waiting p h) (running p h) k j (fresh_name h n j due) calm due is)
-  no_skip_step h k n calm j due false Wait e is s = cc
-  no_skip_step h k n calm j due false Shared e is s = cc
+  no_skip_step : (h : History) → Kept p b (now h) (pending p h) (waiting p h) (running p h) → AreApart p (state_of p h) → IsCalm p c (now h) → (j : ℕ) → list_any (λ i. j == i) (pending p h) ≡ true → p.mode j ≡ Skip → (f : Bool) → is_free p (running p h) j ≡ f → (if f then Starts else when_held (p.mode j)) ≡ Skips → ⊥
+  no_skip_step h k n calm j due is true e s = cc
+  no_skip_step h k n calm j due is false e s = both_ways (is_free p (running p h) j) e (free_then (now h) (pending p h) (waiting p h) (running p h) k j (fresh_name h n j due) calm due is)
 
   no_skip : (h : History) (e : Event) → Kept p b (now h) (pending p h) (waiting p h) (running p h) → AreApart p (state_of p h) → IsCalm p c (now h) → IsLegal p (h ▸ e) → IsNoSkip p h e
   no_skip h (Minute t) k n calm legal = tt
-  no_skip h (Begin j) k n calm legal = no_skip_step h k n calm j legal.1.is_pending (is_free p (running p h) j) (p.mode j) refl refl
+  no_skip h (Begin j) k n calm legal = λ is. no_skip_step h k n calm j legal.1.is_pending is (is_free p (running p h) j) refl
   no_skip h (Got j d) k n calm legal = tt
   no_skip h (Catch j) k n calm legal = tt
   no_skip h (End r) k n calm legal = tt

@@ -1,28 +1,44 @@
 -- What is answered to `draft`.
-use Rattle.std.proofs.Common.{◌≡◌, ℕ, true, List, [], Option, Some, None, IfSome, Ok, Err, inl, inr, option_map, refl, subst, sym}
+use Rattle.std.proofs.Common.{◌≡◌, ◌⊎◌, ◌≤◌, ℕ, ℤ, true, List, Option, Some, None, IfSome, Ok, Err, inl, inr, length, refl, subst}
+use Rattle.clap.specs.Words.{Text}
 use Rattle.cs_crontab.specs.Crontab.{Table}
 use Rattle.cs_anacrontab.specs.Anacrontab.{Table as JobTable}
-use Rattle.cs_decl.specs.Plain.{is_possible_max}
-use Rattle.cs_args.specs.CommandLine.{AskedDraft}
-use Rattle.cs_io.specs.Files.{Failed}
-use Rattle.cs_files.specs.Reads.{ReadsTables}
+use Rattle.cs_decl.specs.Meaning.{declared_by}
+use Rattle.cs_decl.specs.declared.entries.Entries.{Entries}
+use Rattle.cs_draft.specs.Draft.{IsUpdate}
+use Rattle.cs_io.specs.Files.{Failed, IsFresh, IsReadOut, IsTooLong, Reads}
+use Rattle.cs_io.specs.declared.inputs.TheConstants.{MOST_READS}
+use Rattle.cs_files.specs.Reads.{IsUnreadWhole}
 use Rattle.cs_files.specs.Response.{Ending}
-use Rattle.cs_files.specs.Trouble.{Trouble, ends, trouble}
+use Rattle.cs_files.specs.Trouble.{TellsPath, Trouble, trouble}
 use Rattle.cs_files.specs.declared.fault.Fault.{Fault}
-use Rattle.cs_files.proofs.TroubleLemmas.{some_is}
-use Rattle.cs_views.specs.DraftAnswer.{AnswersDraft, IsDrafted}
+use Rattle.cs_views.specs.DraftAnswer.{Drafts, IsPrinted}
 
--- a table has a fault
-pub table_fault : (a : AskedDraft) (files : List ℕ → Option (List ℕ)) (before after : Failed) (e : Fault) (r : Ending)
-    → is_possible_max a.max ≡ true → IfSome (trouble e) (λ t. ReadsTables files a.table a.anacrontab before after (Err t)) → option_map (ends []) (trouble e) ≡ Some r → AnswersDraft a files before after r
-table_fault a files before after e r possible tables is = by_trouble (trouble e) tables is
+-- what was read of declarations is what the file declares
+declared : (d : Entries) (bytes : List ℕ) (whole left : Option (List ℕ)) → IfSome whole (λ text. left ≡ Some text) → IfSome left (λ text. bytes ≡ text) → declared_by bytes ≡ Ok d → IfSome whole (λ text. declared_by text ≡ Ok d)
+declared d bytes None left fresh read is = fresh
+declared d bytes (Some text) left fresh read is =
+    let e : bytes ≡ text = subst (λ o. IfSome o (λ t. bytes ≡ t)) fresh read in
+    subst (λ b. declared_by b ≡ Ok d) e is
+
+-- an update of declarations that were read
+pub updated : (files left : List ℕ → Option (List ℕ)) (path : Text) (bytes : List ℕ) (max : ℕ) (offset : ℤ) (tables : Table × JobTable) (old : Entries) (r : Ending) (before after : Failed)
+    → after ≡ before → IsFresh files left → IfSome (left path) (λ text. bytes ≡ text) → declared_by bytes ≡ Ok old → IsPrinted (IsUpdate tables.0 tables.1 old) r
+    → Drafts files max offset (Some path) tables before after (Ok r)
+updated files left path bytes max offset tables old r before after works fresh read is printed =
+    inr (old, inl (refl, declared old bytes (files path) (left path) (fresh path) read is), (works, (r, printed, refl)))
+
+-- old declarations that could not be read, or not to their end
+pub unread : (files left : List ℕ → Option (List ℕ)) (path : Text) (max : ℕ) (offset : ℤ) (tables : Table × JobTable) (before after : Failed) (old new : Reads) (e : Fault)
+    → IsFresh files left → IsUnreadWhole path left before after old new e → IfSome (trouble e) (λ t. Drafts files max offset (Some path) tables before after (Err t))
+unread files left path max offset tables before after old new e fresh = by_trouble (trouble e)
   where
-    by_trouble : (o : Option Trouble) → IfSome o (λ t. ReadsTables files a.table a.anacrontab before after (Err t)) → option_map (ends []) o ≡ Some r → AnswersDraft a files before after r
-    by_trouble None h same = absurd (cc)
-    by_trouble (Some t) h same = inr (possible, (Err t, inl (t, h, refl), sym (some_is (ends [] t) r same)))
+    too_long : (whole rest : Option (List ℕ)) → IfSome whole (λ text. rest ≡ Some text) → IfSome rest (λ text. MOST_READS ≤ length text) → IfSome whole (λ text. MOST_READS ≤ length text)
+    too_long None rest same long = same
+    too_long (Some text) rest same long = subst (λ o. IfSome o (λ t. MOST_READS ≤ length t)) same long
 
--- both tables are drafted
-pub tables_drafted : (a : AskedDraft) (files : List ℕ → Option (List ℕ)) (before after : Failed) (both : Table × JobTable) (r : Ending)
-    → is_possible_max a.max ≡ true → ReadsTables files a.table a.anacrontab before after (Ok both) → after ≡ before → IsDrafted both r → AnswersDraft a files before after r
-tables_drafted a files before after both r possible tables same is =
-    inr (possible, (Ok r, inr (both, subst (λ (f : Failed). ReadsTables files a.table a.anacrontab before f (Ok both)) same tables, (same, (r, is, refl))), refl))
+    by_trouble : (o : Option Trouble) → IfSome o (λ t. TellsPath path t × ((after path ≡ true) ⊎ ((after ≡ before) × IsReadOut path old new × IsTooLong path left)))
+        → IfSome o (λ t. Drafts files max offset (Some path) tables before after (Err t))
+    by_trouble None h = h
+    by_trouble (Some t) (is, inl failed) = inl (t, inl (inl (failed, is)), refl)
+    by_trouble (Some t) (is, inr (same, out, long)) = inl (t, inr (same, too_long (files path) (left path) (fresh path) long, (t, is, refl)), refl)

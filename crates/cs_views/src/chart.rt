@@ -113,7 +113,7 @@ fn chart_tables<I: Inputs>(
     };
     let warnings = warnings(alloc, &table, &jobs)?;
     match drawn(alloc, inputs, request, question, table, jobs) {
-        Ok(answer) => Ok(answer.behind(warnings)),
+        Ok(answer) => answer.behind(warnings),
         Err(fault) => fault.response_behind(alloc, warnings),
     }
 }

@@ -1,20 +1,20 @@
 //! The subcommand `draft`.
-ghost use Rattle.std.specs.Prelude.{◌≡◌, IfErr, IfOk, true};
+ghost use Rattle.std.specs.Prelude.{◌≡◌, ◌≢◌, ◌++◌, [], IfErr, IfOk, true};
 ghost use Rattle.cs_args.specs.Asked.{asked_draft};
 ghost use Rattle.cs_decl.specs.Plain.{is_possible_max};
+ghost use Rattle.cs_draft.specs.Draft.{IsDraft, IsUpdate};
 ghost use Rattle.cs_io.specs.Files.{AreReadInTurn, IsFresh};
 ghost use Rattle.cs_files.specs.RanOut.{IsWarned};
-ghost use Rattle.cs_files.specs.Trouble.{IsHonest};
-ghost use Rattle.cs_files.specs.Turn.{table_paths};
-ghost use Rattle.cs_views.specs.DraftAnswer.{AnswersDraft, IsDrafted};
+ghost use Rattle.cs_files.specs.Trouble.{CameTo, IsHonest, IsHonestOf};
+ghost use Rattle.cs_files.specs.Turn.{draft_paths, some_path};
+ghost use Rattle.cs_views.specs.DraftAnswer.{AnswersDraft, Drafts, DraftsTables, IsPrinted};
 
 use cs_anacrontab::Anacrontab;
 use cs_args::{DraftWords, WordFault};
-use cs_civil::Bytes;
 use cs_crontab::Crontab;
-use cs_decl::MAX_MINUTES;
-use cs_draft::{Drawing, draw_up};
-use cs_files::{Fault, RanOut, Response, Status, read_tables};
+use cs_decl::{Declarations, MAX_MINUTES, read_declarations};
+use cs_draft::{Draft, Drawing, draw_up, update};
+use cs_files::{Fault, RanOut, Response, Status, all_bytes_at, read_tables};
 use cs_io::Inputs;
 use cs_report::warnings;
 use std::alloc::{AllocError, Global};
@@ -26,51 +26,138 @@ fn is_possible_max(max: u64) -> bool
     max >= 1 && max <= u64::from(MAX_MINUTES)
 }
 
-/// What is answered of both tables, where a job may declare this longest time.
-fn show(alloc: Global, table: &Crontab, jobs: &Anacrontab, max: u64) -> Result<Response, AllocError>
-    ensures { IfOk result
-        (λ r. is_possible_max max ≡ true → IsDrafted (table.now, jobs.now) r) }
+/// What is answered where no text passes.
+fn nothing_drawn(alloc: Global) -> Result<Response, AllocError>
+    ensures { IfOk result (λ r. (r.status ≡ 2) × (r.out ≡ [])) }
 {
-    let mut warned = warnings(alloc, table, jobs)?.into_vec();
-    match draw_up(alloc, table, jobs, max)? {
-        Drawing::BadMax => Fault::Words(WordFault::BadMax).response(alloc, b"".as_slice()),
-        Drawing::NotConfirmed => Response::fault(
-            alloc,
-            Status::Unknown,
-            warned.as_slice(),
-            b"no draft could be made".as_slice(),
-        ),
-        Drawing::Drawn(draft) => {
-            let (text, warnings) = draft.into_parts();
-            warned.extend_from_slice(warnings.as_slice())?;
-            Ok(Response::done(text.into_vec(), Bytes::from_vec(warned)))
-        }
+    let fault = b"no draft could be made".as_slice();
+    Response::fault(alloc, Status::Unknown, b"".as_slice(), fault)
+}
+
+/// What is answered of what was drawn up.
+fn printed(draft: Draft) -> Response
+    ensures { (result.status ≡ 0) × (result.out ≡ draft.text) }
+{
+    let (text, warnings) = draft.into_parts();
+    Response::done(text.into_vec(), warnings)
+}
+
+/// What is answered of both tables, where a job may declare this longest time.
+fn show_draft(
+    alloc: Global,
+    table: &Crontab,
+    jobs: &Anacrontab,
+    max: u64,
+    offset: i16,
+) -> Result<Response, AllocError>
+    requires { is_possible_max max ≡ true }
+    ensures { IfOk result (IsPrinted (IsDraft table.now jobs.now max offset)) }
+{
+    match draw_up(alloc, table, jobs, max, offset)? {
+        Drawing::Drawn(draft) => Ok(printed(draft)),
+        _ => nothing_drawn(alloc),
     }
 }
 
-/// The answer to `draft TABLE [--anacrontab FILE] [--max N]`.
-pub fn answer_draft<I: Inputs>(
+/// What is answered of both tables and the old declarations in the bytes.
+fn show_update(
+    alloc: Global,
+    table: &Crontab,
+    jobs: &Anacrontab,
+    old: &Declarations,
+    bytes: &[u8],
+    max: u64,
+) -> Result<Response, AllocError>
+    requires { is_possible_max max ≡ true }
+    ensures { IfOk result (IsPrinted (IsUpdate table.now jobs.now old.now)) }
+{
+    match update(alloc, table, jobs, old, bytes, max)? {
+        Drawing::Drawn(draft) => Ok(printed(draft)),
+        _ => nothing_drawn(alloc),
+    }
+}
+
+/// What is answered once both tables were read.
+fn drawn<'a, I: Inputs>(
+    alloc: Global,
+    inputs: &mut I,
+    request: &DraftWords<'a>,
+    offset: i16,
+    table: &Crontab,
+    jobs: &Anacrontab,
+) -> Result<Response, Fault<'a>>
+    requires { is_possible_max request.now.max ≡ true }
+    ensures step { IsFresh (I.whole inputs.old) (I.left inputs.old)
+        → CameTo (Drafts (I.whole inputs.old) (asked_draft request.now).max offset
+        (asked_draft request.now).update (table.now, jobs.now)
+        (I.failed inputs.old) (I.failed inputs.new)) result }
+    ensures status { IfErr result (IsHonestOf (I.failed inputs.new) (I.reads inputs.new)) }
+    ensures turn { AreReadInTurn (some_path (asked_draft request.now).update)
+        (I.reads inputs.old) (I.reads inputs.new) }
+    ensures done { IfOk result (λ r. r.status ≢ 6) }
+{
+    match request.update {
+        Some(path) => {
+            let bytes = all_bytes_at(alloc, inputs, path)?;
+            let old = read_declarations(alloc, bytes.as_slice())?;
+            let bytes = bytes.as_slice();
+            Ok(show_update(alloc, table, jobs, &old, bytes, request.max)?)
+        }
+        None => Ok(show_draft(alloc, table, jobs, request.max, offset)?),
+    }
+}
+
+/// What is answered where a job may declare this longest time.
+fn draft_tables<I: Inputs>(
     alloc: Global,
     request: &DraftWords<'_>,
+    offset: i16,
     inputs: &mut I,
 ) -> Result<Response, RanOut>
+    requires { is_possible_max request.now.max ≡ true }
     ensures value { IsFresh (I.whole inputs.old) (I.left inputs.old)
-        → IfOk result (AnswersDraft (asked_draft request.now) (I.whole inputs.old)
+        → IfOk result (DraftsTables (asked_draft request.now) offset (I.whole inputs.old)
         (I.failed inputs.old) (I.failed inputs.new)) }
     ensures status { IfOk result (IsHonest (I.failed inputs.new) (I.reads inputs.new)) }
-    ensures warned { IfErr result (λ e. IsWarned (I.whole inputs.old)
-        (asked_draft request.now).table (asked_draft request.now).anacrontab
-        (I.failed inputs.old) (I.reads inputs.old) (I.reads inputs.new) e.warnings) }
-    ensures turn { AreReadInTurn
-        (table_paths (asked_draft request.now).table (asked_draft request.now).anacrontab)
+    ensures warned { IsFresh (I.whole inputs.old) (I.left inputs.old)
+        → IfErr result (λ e. IsWarned (I.whole inputs.old) (asked_draft request.now).table
+        (asked_draft request.now).anacrontab (I.failed inputs.old)
+        (I.reads inputs.old) (I.reads inputs.new) e.warnings) }
+    ensures turn { AreReadInTurn (draft_paths (asked_draft request.now))
         (I.reads inputs.old) (I.reads inputs.new) }
 {
-    if !is_possible_max(request.max) {
-        return Ok(Fault::Words(WordFault::BadMax).response(alloc, b"".as_slice())?);
-    }
     let (table, jobs) = match read_tables(alloc, inputs, request.table, request.anacrontab) {
         Ok(tables) => tables,
         Err(fault) => return Ok(fault.response(alloc, b"".as_slice())?),
     };
-    Ok(show(alloc, &table, &jobs, request.max)?)
+    let warnings = warnings(alloc, &table, &jobs)?;
+    match drawn(alloc, inputs, request, offset, &table, &jobs) {
+        Ok(answer) => answer.behind(warnings),
+        Err(fault) => fault.response_behind(alloc, warnings),
+    }
+}
+
+/// The answer to `draft TABLE [--anacrontab FILE] [--max N] [--update OLD]`, where clocks are ahead of
+/// UTC by `offset` minutes.
+pub fn answer_draft<I: Inputs>(
+    alloc: Global,
+    request: &DraftWords<'_>,
+    offset: i16,
+    inputs: &mut I,
+) -> Result<Response, RanOut>
+    ensures value { IsFresh (I.whole inputs.old) (I.left inputs.old)
+        → IfOk result (AnswersDraft (asked_draft request.now) offset (I.whole inputs.old)
+        (I.failed inputs.old) (I.failed inputs.new)) }
+    ensures status { IfOk result (IsHonest (I.failed inputs.new) (I.reads inputs.new)) }
+    ensures warned { IsFresh (I.whole inputs.old) (I.left inputs.old)
+        → IfErr result (λ e. IsWarned (I.whole inputs.old) (asked_draft request.now).table
+        (asked_draft request.now).anacrontab (I.failed inputs.old)
+        (I.reads inputs.old) (I.reads inputs.new) e.warnings) }
+    ensures turn { AreReadInTurn (draft_paths (asked_draft request.now))
+        (I.reads inputs.old) (I.reads inputs.new) }
+{
+    if is_possible_max(request.max) {
+        return draft_tables(alloc, request, offset, inputs);
+    }
+    Ok(Fault::Words(WordFault::BadMax).response(alloc, b"".as_slice())?)
 }

@@ -128,7 +128,7 @@ pub fn answer_replay<I: Inputs>(
     };
     let warnings = warnings(alloc, &table, &jobs)?;
     match tried(alloc, inputs, request, table, jobs) {
-        Ok(answer) => Ok(answer.behind(warnings)),
+        Ok(answer) => answer.behind(warnings),
         Err(fault) => fault.response_behind(alloc, warnings),
     }
 }

@@ -4,6 +4,7 @@
   worked        inputs of the worked cases, such as end early, and such with one byte changed
   tables        tables, scripts and words of calls at their limits
   declarations  any value anywhere, deep ones, doubled members, limits
+  names         lines named by number and command, left out, or with the default
   histories     scripts of random events
 
 Certificates:

@@ -1,13 +1,12 @@
 """A call over files, what the second reading answers to it, and whether a program does so too."""
-import json
 import os
 import resource
 from collections import namedtuple
 
 from harness import Fault, called, folder_with
-from model import faults
 from model.call import Answer, agrees, answer_of
-from model.declarations import plan_of
+from model.declarations import GREATEST_MAX
+from model.draft import is_draft, is_update
 
 START = b"start 2024-01-01 00:00 up\n"
 JOB = b"0 1 * * * a\n"
@@ -16,8 +15,6 @@ SECONDS = 10
 MEMORY = 1 << 30
 # What begins the verdict that a window isn't listed.
 MISSED = b"refused 5 WindowMissing: "
-GREATEST_CAPACITY = 64
-MAX = 4_320
 # Of the drafts of so many calls one is made.
 DRAFTS_OF_ONE = 3
 
@@ -44,16 +41,17 @@ def call_of(what, kind, text, beside):
 
 
 def lints_and_drafts(calls):
-    """Yields lint of the files of each call, and of tables some drafts; each such call once."""
+    """Yields lint of the files of each call, and some drafts or updates; each such call once."""
     seen = set()
     for at, it in enumerate(calls):
         files = {name: text for name, text in it.files.items() if name != b"script"}
         more = [b"--anacrontab", b"anacrontab"] if b"anacrontab" in files else []
         declared = [b"declarations"] if b"declarations" in files else []
         made = [Call(f"lint, {it.what}", [b"lint", b"crontab", *declared, *more], files)]
-        if not declared and at % DRAFTS_OF_ONE == 0:
-            words = [b"draft", b"crontab", b"--max", b"%d" % MAX, *more]
-            made.append(Call(f"draft, {it.what}", words, files))
+        if at % DRAFTS_OF_ONE == 0:
+            words = [b"draft", b"crontab", b"--max", b"%d" % GREATEST_MAX, *more]
+            update = [b"--update", b"declarations"] if declared else []
+            made.append(Call(f"draft, {it.what}", words + update, files))
         for call in made:
             key = tuple(call.words), tuple(sorted(files.items()))
             if key not in seen:
@@ -84,17 +82,11 @@ def is_met(wanted, got):
     return agrees(wanted, got)
 
 
-def is_draft(call, text):
-    """Returns whether a text declares the jobs of a call's tables, but for an `@reboot`."""
-    try:
-        plan_of({**call.files, b"declarations": text})
-    except faults.Fault as fault:
-        if fault.name != "RebootLine":
-            return False
-    declared = json.loads(text)
-    entries = declared.get("cron", []) + declared.get("anacron", [])
-    has_max = all(it["max"] == MAX for it in entries)
-    return declared["capacity"] == GREATEST_CAPACITY and has_max
+def is_drawn_up(call, text):
+    """Returns whether a text is the draft, or the update, that a call asks for."""
+    if b"--update" in call.words:
+        return is_update(text, call.files, call.files[b"declarations"])
+    return is_draft(text, call.files, GREATEST_MAX)
 
 
 def looked_at(program, call):
@@ -105,8 +97,8 @@ def looked_at(program, call):
         wrong.append("it is answered otherwise")
     if call.is_missed not in (None, is_missed):
         wrong.append(f"a window has to be missing: {call.is_missed}")
-    if call.words[0] == b"draft" and got.status == 0 and not is_draft(call, got.out):
-        wrong.append("this draft doesn't join with its tables")
+    if call.words[0] == b"draft" and got.status == 0 and not is_drawn_up(call, got.out):
+        wrong.append("this is no draft of its tables, or no update of its declarations")
     if not wrong:
         return ""
     files = [f"{it.decode()} {text[:300]!r}" for it, text in call.files.items()]

@@ -4,8 +4,11 @@ from hostile_calls.calls import JOB, call_of
 WHOLE = (
     b'{"capacity":1,"offset":0,"hours":[0,1440],"pass":0,"groups":[{"name":"g","exclusive":true}],'
     b'"cron":[{"line":1,"max":1,"weight":1,"group":"g","mode":"wait"}],'
-    b'"anacron":[{"id":"b","max":1,"weight":1,"group":"g"}]}'
+    b'"anacron":[{"id":"b","max":1,"weight":1,"group":"g"}],'
+    b'"left_out":[{"command":"b"}],"default":{"weight":1,"max":1}}'
 )
+# The tables of these: one of two jobs, of which one is left out, and one of one job.
+TABLES_OF_WHOLE = {b"crontab": JOB + b"0 2 * * * b\n", b"anacrontab": b"1 0 b c\n"}
 VALUES = (
     b"0 1 64 65 1439 1440 4320 4321 -1 -1439 -1440 -0 00 01 +1 1.0 1e0 1e3 1E+2 1e-1 1. .5 0.5"
     b" 0e400 1e400 -1e400 1e-400 1e 1e+ 0x1 1_0 257 65537 4294967297"
@@ -18,7 +21,7 @@ VALUES = (
 TEXTS = (
     rb'"" "g" "\u0067" "\u006" "\u00G7" "\u+067" "\u0000" "\ud834\udd1e" "\uD834\uDD1E"'
     rb' "\ud834" "\udd1e" "\ud834x" "\ud834\n" "\ud834\ud834" "\x41" "\a" "\/" "\"" "\\" "\"'
-    rb' "g g "none" "None" "wait" "a" "\u0061" "\u0061\u0000" "a\u0020"'
+    rb' "g g "none" "None" "wait" "try" "a" "\u0061" "\u0061\u0000" "a\u0020"'
 ).split(b" ")
 RAW = (
     *(b'"%s"' % it for it in b"\0 \x1f \x7f \t \n \xff \xc3 \xc0\xaf \xed\xa0\x80".split(b" ")),
@@ -51,6 +54,19 @@ IN_AN_OBJECT = (
     b'"groups":[{"name":"g","exclusive":true,"note":%s}]',
     b'"cron":[{"line":1,"max":1,"note":%s}]',
     b'"anacron":[{"id":"g","max":1,"note":%s}]',
+    b'"cron":[{"command":%s,"max":1}]',
+    b'"cron":[],"default":%s',
+    b'"cron":[],"default":{"max":%s}',
+    b'"cron":[],"default":{"max":1,"weight":%s}',
+    b'"cron":[],"default":{"max":1,"note":%s}',
+    b'"cron":[],"default":{"max":1,"group":%s}',
+    b'"cron":[],"left_out":%s',
+    b'"cron":[],"left_out":[%s]',
+    b'"cron":[],"left_out":[{"line":%s}]',
+    b'"cron":[],"left_out":[{"command":%s}]',
+    b'"cron":[],"left_out":[{"line":1,"command":%s}]',
+    b'"cron":[],"left_out":[{"line":1,"note":%s}]',
+    b'"cron":[],"left_out":[{"line":1,"max":%s}]',
 )
 PLACES = (
     b"%s",
@@ -88,10 +104,10 @@ def values():
 
 def doubled_members():
     """Yields declarations in which a member comes twice, in the object or in one inside it."""
-    tables = {b"crontab": JOB, b"anacrontab": b"1 0 b c\n"}
-    others = (b"0", b"null", b"[]", b'"x"', b"true", b"2", b"[5,5]", b"{}")
+    tables = TABLES_OF_WHOLE
+    others = (b"0", b"null", b"[]", b'"x"', b"true", b"2", b"[5,5]", b"{}", b'{"max":2}')
     yield call_of("no member twice", b"declarations", WHOLE, tables)
-    for name in b"capacity offset hours pass groups cron anacron note".split():
+    for name in b"capacity offset hours pass groups cron anacron left_out default note".split():
         for other in others:
             member = b'"' + name + b'":' + other
             texts = WHOLE[:-1] + b"," + member + b"}", b"{" + member + b"," + WHOLE[1:]
@@ -100,7 +116,7 @@ def doubled_members():
     for name in b"name exclusive line command max weight group mode id note".split():
         for other in (*others, b'"a"', b'"g"', b'"b"', b"1"):
             member = b'"' + name + b'":' + other
-            for opened in (b'{"name"', b'{"line"', b'{"id"'):
+            for opened in (b'{"name"', b'{"line"', b'{"id"', b'{"command"', b'{"weight"'):
                 text = WHOLE.replace(opened, b"{" + member + b"," + opened[1:])
                 yield call_of(f"{member!r} before {opened!r}", b"declarations", text, tables)
                 at = WHOLE.index(b"}", WHOLE.index(opened))

@@ -26,7 +26,8 @@ AHEAD = {"minute": (0, 2, *[1] * 10), "up": (-1, 0, 0, 1, 2, 3, 3, DAY, 2 * DAY,
 # What may come of events, by their kind, and a begin by its job's mode; and how often each does.
 OUTCOMES = {
     "begin": ("NotDue", "NotUp"), "begin none": ("started",), "begin skip": ("started", "skipped"),
-    "begin wait": ("started", "waiting"), "begin shared": ("started", "waiting"),
+    "begin try": ("started", "skipped"), "begin wait": ("started", "waiting"),
+    "begin shared": ("started", "waiting"),
     "got": ("NotUp", "NotWaiting", "LockHeld", "started"),
     "catch": ("NotUp", "NotCatchable", "started"),
     "end": ("NotRunning", "ended in time", "ended late"),

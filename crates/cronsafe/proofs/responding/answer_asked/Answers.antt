@@ -13,4 +13,4 @@ returns-in_ok-answer_check-in-Check-clause-value g c = λ fresh.
     let failed = g.I.Inputs.failed c.answer_check.new.inputs in
     let answer = c.in_ok-answer_check-in-Check.field-0 in
     let checked : IsChecked (asked_check c.in-Check.request) files before failed answer = record { answer = c.in_ok-answer_check-in-Check.ensures.value fresh; safe = c.in_ok-answer_check-in-Check.ensures.safe fresh } in
-    subst (λ (r : Request). AnswersAsked (asking r) files before failed (Ends answer)) (sym c.in-Check.is) checked
+    subst (λ (r : Request). AnswersAsked c.args.offset (asking r) files before failed (Ends answer)) (sym c.in-Check.is) checked

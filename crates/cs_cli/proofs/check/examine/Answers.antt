@@ -1,8 +1,10 @@
-use Rattle.std.proofs.Common.{◌≡◌, [], ◌∷◌, IfOk, Result, Ok, Err, Some, option_map, refl, subst}
+use Rattle.std.proofs.Common.{◌≡◌, ◌++◌, [], ◌∷◌, IfOk, Result, Ok, Err, Some, option_map, refl, subst}
 use Rattle.cs_args.specs.Asked.{asked_check}
+use Rattle.cs_check.specs.Checked.{plan_in}
 use Rattle.cs_check.specs.declared.checked.Checked.{Checked}
 use Rattle.cs_cli.specs.Check.{AreRead, Judges, answer_of, safe_text}
 use Rattle.cs_cli.specs.Safe.{IsSafe}
+use Rattle.cs_report.specs.Warning.{plan_notes}
 use Rattle.cs_files.specs.Response.{Ending, done}
 use Rattle.cs_files.specs.Reads.{ReadsTables}
 use Rattle.cs_files.specs.Trouble.{CameTo, ends, trouble}
@@ -25,11 +27,12 @@ returns-in-Ok-ruling-clause-value g c = λ fresh.
     let found = c.in-Ok-ruling_on_files.ruling in
     let one = subst (λ (f : Failed). ReadsTables files a.table a.anacrontab before f (Ok both)) c.in-Ok.ensures.works (c.in-Ok.ensures.step fresh) in
     let other = moved (λ w f. Judges w a both f after (Ok (answer_of found))) (g.I.Inputs.whole c.read_tables.new.inputs) files (g.I.Inputs.failed c.read_tables.new.inputs) before c.read_tables.ensures.whole c.in-Ok.ensures.works (c.in-Ok-ruling_on_files.ensures.step (c.in-Ok.ensures.fresh fresh)) in
-    answered (ReadsTables files a.table a.anacrontab) (λ b. Judges files a b) before after both c.in_ok-warnings.warnings (done safe_text []) (done safe_text c.in_ok-warnings.warnings) one c.in_ok-warnings.ensures
+    let notes = plan_notes (plan_in c.in-Ok-ruling.checked) in
+    answered (ReadsTables files a.table a.anacrontab) (λ b. Judges files a b) before after both c.in_ok-warnings.warnings (done safe_text notes) (done safe_text (c.in_ok-warnings.warnings ++ notes)) one c.in_ok-warnings.ensures
     (subst (λ (r : Result Checked Ending). Judges files a both before after (Ok (answer_of r))) c.in-Ok-ruling.is other) refl
 
-pub returns-in-Err-ruling-clause-value : goal.returns-in-Err-ruling-clause-value
-returns-in-Err-ruling-clause-value g c = λ fresh.
+pub returns-in_ok-behind-in-Err-ruling-clause-value : goal.returns-in_ok-behind-in-Err-ruling-clause-value
+returns-in_ok-behind-in-Err-ruling-clause-value g c = λ fresh.
     let files = g.I.Inputs.whole c.args.inputs.now in
     let before = g.I.Inputs.failed c.args.inputs.now in
     let after = g.I.Inputs.failed c.ruling_on_files.new.inputs in
@@ -37,8 +40,8 @@ returns-in-Err-ruling-clause-value g c = λ fresh.
     let both = c.in-Ok.tables in
     let one = subst (λ (f : Failed). ReadsTables files a.table a.anacrontab before f (Ok both)) c.in-Ok.ensures.works (c.in-Ok.ensures.step fresh) in
     let other = moved (λ w f. Judges w a both f after (Ok (answer_of c.in-Ok-ruling_on_files.ruling))) (g.I.Inputs.whole c.read_tables.new.inputs) files (g.I.Inputs.failed c.read_tables.new.inputs) before c.read_tables.ensures.whole c.in-Ok.ensures.works (c.in-Ok-ruling_on_files.ensures.step (c.in-Ok.ensures.fresh fresh)) in
-    answered (ReadsTables files a.table a.anacrontab) (λ b. Judges files a b) before after both c.in_ok-warnings.warnings c.in-Err-ruling.answer c.behind.result one c.in_ok-warnings.ensures
-    (subst (λ (r : Result Checked Ending). Judges files a both before after (Ok (answer_of r))) c.in-Err-ruling.is other) c.behind.ensures
+    answered (ReadsTables files a.table a.anacrontab) (λ b. Judges files a b) before after both c.in_ok-warnings.warnings c.in-Err-ruling.answer c.in_ok-behind-in-Err-ruling.field-0 one c.in_ok-warnings.ensures
+    (subst (λ (r : Result Checked Ending). Judges files a both before after (Ok (answer_of r))) c.in-Err-ruling.is other) c.in_ok-behind-in-Err-ruling.ensures.told
 
 pub returns-in-Ok-ruling-clause-accepted : goal.returns-in-Ok-ruling-clause-accepted
 returns-in-Ok-ruling-clause-accepted g c = λ fresh.
@@ -87,8 +90,13 @@ returns-in-Ok-ruling-clause-turn g c =
     let a = asked_check c.args.request.now in
     then_read (table_paths a.table a.anacrontab) (a.declarations ∷ a.certificate ∷ []) (g.I.Inputs.reads c.args.inputs.now) (g.I.Inputs.reads c.read_tables.new.inputs) (g.I.Inputs.reads c.ruling_on_files.new.inputs) c.read_tables.ensures.turn (c.ruling_on_files.ensures.turn)
 
-pub returns-in-Err-ruling-clause-turn : goal.returns-in-Err-ruling-clause-turn
-returns-in-Err-ruling-clause-turn g c =
+pub returns-in_err-behind-in-Err-ruling-clause-turn : goal.returns-in_err-behind-in-Err-ruling-clause-turn
+returns-in_err-behind-in-Err-ruling-clause-turn g c =
+    let a = asked_check c.args.request.now in
+    then_read (table_paths a.table a.anacrontab) (a.declarations ∷ a.certificate ∷ []) (g.I.Inputs.reads c.args.inputs.now) (g.I.Inputs.reads c.read_tables.new.inputs) (g.I.Inputs.reads c.ruling_on_files.new.inputs) c.read_tables.ensures.turn (c.ruling_on_files.ensures.turn)
+
+pub returns-in_ok-behind-in-Err-ruling-clause-turn : goal.returns-in_ok-behind-in-Err-ruling-clause-turn
+returns-in_ok-behind-in-Err-ruling-clause-turn g c =
     let a = asked_check c.args.request.now in
     then_read (table_paths a.table a.anacrontab) (a.declarations ∷ a.certificate ∷ []) (g.I.Inputs.reads c.args.inputs.now) (g.I.Inputs.reads c.read_tables.new.inputs) (g.I.Inputs.reads c.ruling_on_files.new.inputs) c.read_tables.ensures.turn (c.ruling_on_files.ensures.turn)
 
@@ -110,6 +118,14 @@ returns-in-Err-ruling_on_files-clause-ended g c =
       fault_fails c.in_ok-warnings.warnings (trouble fault) r told,
       honest_fault (g.I.Inputs.failed c.ruling_on_files.new.inputs) (g.I.Inputs.reads c.ruling_on_files.new.inputs) c.in_ok-warnings.warnings fault r c.in-Err-ruling_on_files.ensures.status told,
     )
+
+pub returns-in_err-behind-in-Err-ruling-clause-warned : goal.returns-in_err-behind-in-Err-ruling-clause-warned
+returns-in_err-behind-in-Err-ruling-clause-warned g c = λ fresh.
+    let a = asked_check c.args.request.now in
+    let e = c.in_err-behind-in-Err-ruling.field-0.0 in
+    let p = err_from_is_err_and c.from_residual-in_err-behind-in-Err-ruling.result c.from_residual-in_err-behind-in-Err-ruling.ensures.1 in
+    rw (p.1, p.2) (behind_warned (g.I.Inputs.whole c.args.inputs.now) a.table a.anacrontab (g.I.Inputs.failed c.args.inputs.now) (g.I.Inputs.failed c.read_tables.new.inputs)
+    (g.I.Inputs.reads c.args.inputs.now) (g.I.Inputs.reads c.ruling_on_files.new.inputs) c.in-Ok.tables c.in_ok-warnings.warnings e.warnings c.in_err-behind-in-Err-ruling.ensures.warned (c.in-Ok.ensures.step fresh) c.in-Ok.ensures.works c.in_ok-warnings.ensures)
 
 pub returns-in_err-response_behind-in-Err-ruling_on_files-clause-warned : goal.returns-in_err-response_behind-in-Err-ruling_on_files-clause-warned
 returns-in_err-response_behind-in-Err-ruling_on_files-clause-warned g c = λ fresh.

@@ -1,4 +1,4 @@
-use Rattle.std.proofs.Common.{◌≡◌, [], ◌∷◌, Ok, Err, Some, option_map, subst}
+use Rattle.std.proofs.Common.{◌≡◌, ◌++◌, [], ◌∷◌, Ok, Err, Some, option_map, subst}
 use Rattle.std.proofs.lemmas.Result.{IfErr-weaker, IfOk-weaker}
 use Rattle.cs_args.specs.Asked.{asked_judge}
 use Rattle.cs_cli.specs.Judge.{JudgesPlan}
@@ -21,7 +21,7 @@ returns-in-Ok-told-clause-value g c = λ fresh.
     let both = c.in-Ok.tables in
     let one = subst (λ (f : Failed). ReadsTables files a.table a.anacrontab before f (Ok both)) c.in-Ok.ensures.works (c.in-Ok.ensures.step fresh) in
     let other = moved (λ w f. JudgesPlan wanted w a both f after (Ok c.in-Ok-told.answer)) (g.I.Inputs.whole c.read_tables.new.inputs) files (g.I.Inputs.failed c.read_tables.new.inputs) before c.read_tables.ensures.whole c.in-Ok.ensures.works (c.in-Ok-told.ensures.step (c.in-Ok.ensures.fresh fresh)) in
-    answered (ReadsTables files a.table a.anacrontab) (λ b. JudgesPlan wanted files a b) before after both c.in_ok-warnings.warnings c.in-Ok-told.answer c.behind.result one c.in_ok-warnings.ensures other c.behind.ensures
+    IfOk-weaker c.behind.result _ _ (λ r is. answered (ReadsTables files a.table a.anacrontab) (λ b. JudgesPlan wanted files a b) before after both c.in_ok-warnings.warnings c.in-Ok-told.answer r one c.in_ok-warnings.ensures other is) c.behind.ensures.told
 
 pub returns-in-Err-told-clause-value : goal.returns-in-Err-told-clause-value
 returns-in-Err-told-clause-value g c = λ fresh.
@@ -61,6 +61,12 @@ returns-in-Err-told-clause-turn g c =
     let a = asked_judge c.args.request.now in
     then_read (table_paths a.table a.anacrontab) (a.declarations ∷ []) (g.I.Inputs.reads c.args.inputs.now) (g.I.Inputs.reads c.read_tables.new.inputs) (g.I.Inputs.reads c.told.new.inputs) c.read_tables.ensures.turn (first_read a.declarations [] _ _ c.told.ensures.alone)
 
+pub returns-in-Ok-told-clause-warned : goal.returns-in-Ok-told-clause-warned
+returns-in-Ok-told-clause-warned g c = λ fresh.
+    let a = asked_judge c.args.request.now in
+    IfErr-weaker c.behind.result _ _ (λ e is. behind_warned (g.I.Inputs.whole c.args.inputs.now) a.table a.anacrontab (g.I.Inputs.failed c.args.inputs.now) (g.I.Inputs.failed c.read_tables.new.inputs)
+    (g.I.Inputs.reads c.args.inputs.now) (g.I.Inputs.reads c.told.new.inputs) c.in-Ok.tables c.in_ok-warnings.warnings e.warnings is (c.in-Ok.ensures.step fresh) c.in-Ok.ensures.works c.in_ok-warnings.ensures) c.behind.ensures.warned
+
 pub returns-in-Err-told-clause-warned : goal.returns-in-Err-told-clause-warned
 returns-in-Err-told-clause-warned g c = λ fresh.
     let a = asked_judge c.args.request.now in
@@ -68,7 +74,7 @@ returns-in-Err-told-clause-warned g c = λ fresh.
     (g.I.Inputs.reads c.args.inputs.now) (g.I.Inputs.reads c.told.new.inputs) c.in-Ok.tables c.in_ok-warnings.warnings e.warnings is (c.in-Ok.ensures.step fresh) c.in-Ok.ensures.works c.in_ok-warnings.ensures) c.response_behind.ensures.warned
 
 pub returns-in-Ok-told-clause-status : goal.returns-in-Ok-told-clause-status
-returns-in-Ok-told-clause-status g c = honest_answer (g.I.Inputs.failed c.told.new.inputs) (g.I.Inputs.reads c.told.new.inputs) c.in-Ok-told.answer c.behind.result c.in_ok-warnings.warnings c.in-Ok-told.ensures.done c.behind.ensures
+returns-in-Ok-told-clause-status g c = IfOk-weaker c.behind.result _ _ (λ r is. honest_answer (g.I.Inputs.failed c.told.new.inputs) (g.I.Inputs.reads c.told.new.inputs) c.in-Ok-told.answer r (c.in_ok-warnings.warnings ++ c.in-Ok-told.answer.err) c.in-Ok-told.ensures.done is) c.behind.ensures.told
 
 pub returns-in-Err-told-clause-status : goal.returns-in-Err-told-clause-status
 returns-in-Err-told-clause-status g c = IfOk-weaker c.response_behind.result _ _ (λ r is. honest_fault (g.I.Inputs.failed c.told.new.inputs) (g.I.Inputs.reads c.told.new.inputs) c.in_ok-warnings.warnings c.in-Err-told.fault r c.in-Err-told.ensures.status is) c.response_behind.ensures.told

@@ -1,15 +1,28 @@
-use Rattle.std.proofs.Common.{refl, subst}
+use Rattle.std.proofs.Common.{◌++◌, ◌∙◌, ap, refl, sym, subst}
+use Rattle.std.proofs.lemmas.Result.{err_from_is_err_and}
 use Rattle.cs_args.specs.Asked.{asked_check}
-use Rattle.cs_cli.specs.Check.{AnswersCheck, IfAccepted, ending_of}
+use Rattle.cs_decl.specs.Plan.{Declared}
+use Rattle.cs_report.specs.Warning.{plan_notes}
+use Rattle.cs_files.specs.Response.{Ending, done}
+use Rattle.cs_cli.specs.Check.{AnswersCheck, IfAccepted, ending_of, safe_text}
 use Rattle.cs_cli.specs.Safe.{IsAcceptance}
 use Rattle.cs_cli.specs.declared.check.Examined.{Examined}
 use Rattle.cs_cli.proofs.order.answer_run.Goals as goal
 
-pub returns-in-Accepted-clause-value : goal.returns-in-Accepted-clause-value
-returns-in-Accepted-clause-value g c = λ fresh.
+pub returns-in_ok-warnings-in-Accepted-clause-value : goal.returns-in_ok-warnings-in-Accepted-clause-value
+returns-in_ok-warnings-in-Accepted-clause-value g c = λ fresh.
     let files = g.I.Inputs.whole c.args.inputs.now in
     let before = g.I.Inputs.failed c.args.inputs.now in
+    let failed = g.I.Inputs.failed c.examine.new.inputs in
     let a = asked_check c.args.request.now.check in
-    let value = subst (λ (found : Examined). AnswersCheck a files before (g.I.Inputs.failed c.examine.new.inputs) (ending_of found)) c.in-Accepted.is (c.in_ok-checked.ensures.value fresh) in
+    let value = subst (λ (found : Examined). AnswersCheck a files before failed (ending_of found)) c.in-Accepted.is (c.in_ok-checked.ensures.value fresh) in
     let accepted = subst (λ (found : Examined). IfAccepted found (IsAcceptance files a before)) c.in-Accepted.is (c.in_ok-checked.ensures.accepted fresh) in
-    record { safe = value; proof = accepted.proof; headline = accepted.safe.headline; stamps = refl; minutes = refl }
+    let told = ap (λ (d : Declared). done safe_text (c.in-Accepted.warnings ++ plan_notes d)) (sym c.plan.ensures) ∙ ap (done safe_text) (sym c.in_ok-warnings-in-Accepted.ensures.told) in
+    record { safe = subst (λ (e : Ending). AnswersCheck a files before failed e) told value; proof = accepted.proof; headline = accepted.safe.headline; stamps = refl; minutes = refl }
+
+pub returns-in_err-warnings-in-Accepted-clause-warned : goal.returns-in_err-warnings-in-Accepted-clause-warned
+returns-in_err-warnings-in-Accepted-clause-warned g c = λ fresh.
+    let a = asked_check c.args.request.now.check in
+    let accepted = subst (λ (found : Examined). IfAccepted found (IsAcceptance (g.I.Inputs.whole c.args.inputs.now) a (g.I.Inputs.failed c.args.inputs.now))) c.in-Accepted.is (c.in_ok-checked.ensures.accepted fresh) in
+    let p = err_from_is_err_and c.from_residual-in_err-warnings-in-Accepted.result c.from_residual-in_err-warnings-in-Accepted.ensures.1 in
+    rw (p.1, p.2, c.in_err-warnings-in-Accepted.ensures.warned) accepted.warned

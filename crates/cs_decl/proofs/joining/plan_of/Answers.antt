@@ -16,10 +16,13 @@ new-requires c =
       c.pass_of.ensures,
       c.hours_of.ensures,
       c.capacity_of.ensures,
+      c.defaulted-defaulted.ensures,
       c.in_ok-groups.ensures,
       c.as_slice.ensures,
       c.in_ok-jobs.ensures,
       c.lines.ensures.value,
       c.lines-2.ensures.value,
+      c.lines-3.ensures.value,
+      c.lines-4.ensures.value,
     )
-    (whole c.args.crontab c.args.anacrontab c.args.entries.now c.requires.valid c.lines.ensures.few c.lines-2.ensures.few c.lines-2.ensures.possible c.requires.timed)
+    (whole c.args.crontab c.args.left_out c.args.anacrontab c.args.entries.now c.requires.valid c.lines.ensures.few c.lines-2.ensures.few c.lines-2.ensures.possible c.requires.timed)

@@ -14,7 +14,7 @@ pub returns-clause-overload : goal.returns-clause-overload
 returns-clause-overload c s = omega (arith, s.1.load)
 
 pub returns-clause-skipped : goal.returns-clause-skipped
-returns-clause-skipped c s = s.2 refl
+returns-clause-skipped c s = s.2 refl refl
 
 pub returns-clause-shared : goal.returns-clause-shared
-returns-clause-shared c = (((((record { apart = tt; load = omega arith }), record { apart = tt; load = omega arith }, tt), record { apart = (tt, tt); load = omega arith }, λ e. cc), record { apart = ((refl, tt), (tt, tt)); load = omega arith }, λ e. cc), record { apart = ((refl, tt), (tt, tt)); load = omega arith }, λ e. cc)
+returns-clause-shared c = (((((record { apart = tt; load = omega arith }), record { apart = tt; load = omega arith }, tt), record { apart = (tt, tt); load = omega arith }, λ m e. cc), record { apart = ((refl, tt), (tt, tt)); load = omega arith }, λ m e. cc), record { apart = ((refl, tt), (tt, tt)); load = omega arith }, λ m e. cc)

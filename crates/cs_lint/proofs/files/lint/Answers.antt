@@ -1,11 +1,13 @@
-use Rattle.std.proofs.Common.{ℕ, List, Option, Bor, subst}
-use Rattle.std.specs.Option.{option_map}
-use Rattle.cs_lint.specs.Refused.{Finds}
-use Rattle.cs_lint.proofs.FirstLemmas.{tells_first}
+use Rattle.cs_lint.proofs.FirstLemmas.{judges_of, tells_first, tells_of}
 use Rattle.cs_lint.proofs.files.lint.Goals as goal
 
 pub returns-clause-told : goal.returns-clause-told
 returns-clause-told c =
-    let declarations : Option (List ℕ) = option_map (λ (text : Bor (List ℕ)). text.now) c.bytes_of-2.result in
-    let found = subst (λ (jobs : Option (List ℕ)). Finds c.in_ok-refusal.refusal c.args.table.now.bytes.now jobs declarations) c.bytes_of.ensures c.in_ok-refusal.ensures in
-    tells_first (λ file. file.now.bytes.now) c.in_ok-refusal.refusal c.args.jobs c.in_ok-text.text c.args.table.now.bytes.now declarations found c.in_ok-text.ensures
+    let table = c.args.table.now.bytes.now in
+    tells_of c.in_ok-text.text table _ _ _ _ c.bytes_of-job_bytes.ensures c.bytes_of-terms.ensures
+    (tells_first c.in_ok-refusal.refusal c.in_ok-found.found c.in_ok-text.text table _ _ c.in_ok-refusal.ensures c.in_ok-found.ensures c.in_ok-text.ensures)
+
+pub returns-clause-verdict : goal.returns-clause-verdict
+returns-clause-verdict c =
+    let table = c.args.table.now.bytes.now in
+    judges_of c.verdict_of-verdict.result table _ _ _ _ c.bytes_of-job_bytes.ensures c.bytes_of-terms.ensures (c.verdict_of-verdict.ensures table _ _ (c.in_ok-refusal.ensures))

@@ -1,4 +1,4 @@
-use Rattle.std.proofs.Common.{◌≡◌, Ok, Err, Some, option_map, subst}
+use Rattle.std.proofs.Common.{◌≡◌, ◌++◌, Ok, Err, Some, option_map, subst}
 use Rattle.std.proofs.lemmas.Result.{IfErr-weaker, IfOk-weaker}
 use Rattle.cs_args.specs.Asked.{asked_chart}
 use Rattle.cs_views.specs.ChartAnswer.{Charts}
@@ -20,7 +20,7 @@ returns-in-Ok-drawn-clause-value g c = λ fresh.
     let both = c.in-Ok.tables in
     let one = subst (λ (f : Failed). ReadsTables files a.day.table a.day.anacrontab before f (Ok both)) c.in-Ok.ensures.works (c.in-Ok.ensures.step fresh) in
     let other = moved (λ w f. Charts w a.declarations both f after (Ok c.in-Ok-drawn.answer)) (g.I.Inputs.whole c.read_tables.new.inputs) files (g.I.Inputs.failed c.read_tables.new.inputs) before c.read_tables.ensures.whole c.in-Ok.ensures.works (c.in-Ok-drawn.ensures.step (c.in-Ok.ensures.fresh fresh)) in
-    answered (ReadsTables files a.day.table a.day.anacrontab) (λ b. Charts files a.declarations b) before after both c.in_ok-warnings.warnings c.in-Ok-drawn.answer c.behind.result one c.in_ok-warnings.ensures other c.behind.ensures
+    IfOk-weaker c.behind.result _ _ (λ r is. answered (ReadsTables files a.day.table a.day.anacrontab) (λ b. Charts files a.declarations b) before after both c.in_ok-warnings.warnings c.in-Ok-drawn.answer r one c.in_ok-warnings.ensures other is) c.behind.ensures.told
 
 pub returns-in-Err-drawn-clause-value : goal.returns-in-Err-drawn-clause-value
 returns-in-Err-drawn-clause-value g c = λ fresh.
@@ -59,6 +59,12 @@ returns-in-Err-drawn-clause-turn g c =
     let a = asked_chart c.args.request.now in
     then_read (table_paths a.day.table a.day.anacrontab) (some_path a.declarations) (g.I.Inputs.reads c.args.inputs.now) (g.I.Inputs.reads c.read_tables.new.inputs) (g.I.Inputs.reads c.drawn.new.inputs) c.read_tables.ensures.turn (c.drawn.ensures.turn)
 
+pub returns-in-Ok-drawn-clause-warned : goal.returns-in-Ok-drawn-clause-warned
+returns-in-Ok-drawn-clause-warned g c = λ fresh.
+    let a = asked_chart c.args.request.now in
+    IfErr-weaker c.behind.result _ _ (λ e is. behind_warned (g.I.Inputs.whole c.args.inputs.now) a.day.table a.day.anacrontab (g.I.Inputs.failed c.args.inputs.now) (g.I.Inputs.failed c.read_tables.new.inputs)
+    (g.I.Inputs.reads c.args.inputs.now) (g.I.Inputs.reads c.drawn.new.inputs) c.in-Ok.tables c.in_ok-warnings.warnings e.warnings is (c.in-Ok.ensures.step fresh) c.in-Ok.ensures.works c.in_ok-warnings.ensures) c.behind.ensures.warned
+
 pub returns-in-Err-drawn-clause-warned : goal.returns-in-Err-drawn-clause-warned
 returns-in-Err-drawn-clause-warned g c = λ fresh.
     let a = asked_chart c.args.request.now in
@@ -66,7 +72,7 @@ returns-in-Err-drawn-clause-warned g c = λ fresh.
     (g.I.Inputs.reads c.args.inputs.now) (g.I.Inputs.reads c.drawn.new.inputs) c.in-Ok.tables c.in_ok-warnings.warnings e.warnings is (c.in-Ok.ensures.step fresh) c.in-Ok.ensures.works c.in_ok-warnings.ensures) c.response_behind.ensures.warned
 
 pub returns-in-Ok-drawn-clause-status : goal.returns-in-Ok-drawn-clause-status
-returns-in-Ok-drawn-clause-status g c = honest_answer (g.I.Inputs.failed c.drawn.new.inputs) (g.I.Inputs.reads c.drawn.new.inputs) c.in-Ok-drawn.answer c.behind.result c.in_ok-warnings.warnings c.in-Ok-drawn.ensures.done c.behind.ensures
+returns-in-Ok-drawn-clause-status g c = IfOk-weaker c.behind.result _ _ (λ r is. honest_answer (g.I.Inputs.failed c.drawn.new.inputs) (g.I.Inputs.reads c.drawn.new.inputs) c.in-Ok-drawn.answer r (c.in_ok-warnings.warnings ++ c.in-Ok-drawn.answer.err) c.in-Ok-drawn.ensures.done is) c.behind.ensures.told
 
 pub returns-in-Err-drawn-clause-status : goal.returns-in-Err-drawn-clause-status
 returns-in-Err-drawn-clause-status g c = IfOk-weaker c.response_behind.result _ _ (λ r is. honest_fault (g.I.Inputs.failed c.drawn.new.inputs) (g.I.Inputs.reads c.drawn.new.inputs) c.in_ok-warnings.warnings c.in-Err-drawn.fault r c.in-Err-drawn.ensures.status is) c.response_behind.ensures.told

@@ -20,7 +20,7 @@ returns-in-Ok-tried-clause-value g c = λ fresh.
     let both = c.in-Ok.tables in
     let one = subst (λ (f : Failed). ReadsTables files a.table a.anacrontab before f (Ok both)) c.in-Ok.ensures.works (c.in-Ok.ensures.step fresh) in
     let other = moved (λ w f. Replays w a both f after (Ok c.in-Ok-tried.answer)) (g.I.Inputs.whole c.read_tables.new.inputs) files (g.I.Inputs.failed c.read_tables.new.inputs) before c.read_tables.ensures.whole c.in-Ok.ensures.works (c.in-Ok-tried.ensures.step (c.in-Ok.ensures.fresh fresh)) in
-    answered (ReadsTables files a.table a.anacrontab) (λ b. Replays files a b) before after both c.in_ok-warnings.warnings c.in-Ok-tried.answer c.behind.result one c.in_ok-warnings.ensures other c.behind.ensures
+    IfOk-weaker c.behind.result _ _ (λ r is. answered (ReadsTables files a.table a.anacrontab) (λ b. Replays files a b) before after both c.in_ok-warnings.warnings c.in-Ok-tried.answer r one c.in_ok-warnings.ensures other is) c.behind.ensures.told
 
 pub returns-in-Err-tried-clause-value : goal.returns-in-Err-tried-clause-value
 returns-in-Err-tried-clause-value g c = λ fresh.
@@ -59,6 +59,12 @@ returns-in-Err-tried-clause-turn g c =
     let a = asked_replay c.args.request.now in
     then_read (table_paths a.table a.anacrontab) (some_path a.declarations ++ (a.script ∷ [])) (g.I.Inputs.reads c.args.inputs.now) (g.I.Inputs.reads c.read_tables.new.inputs) (g.I.Inputs.reads c.tried.new.inputs) c.read_tables.ensures.turn (c.tried.ensures.turn)
 
+pub returns-in-Ok-tried-clause-warned : goal.returns-in-Ok-tried-clause-warned
+returns-in-Ok-tried-clause-warned g c = λ fresh.
+    let a = asked_replay c.args.request.now in
+    IfErr-weaker c.behind.result _ _ (λ e is. behind_warned (g.I.Inputs.whole c.args.inputs.now) a.table a.anacrontab (g.I.Inputs.failed c.args.inputs.now) (g.I.Inputs.failed c.read_tables.new.inputs)
+    (g.I.Inputs.reads c.args.inputs.now) (g.I.Inputs.reads c.tried.new.inputs) c.in-Ok.tables c.in_ok-warnings.warnings e.warnings is (c.in-Ok.ensures.step fresh) c.in-Ok.ensures.works c.in_ok-warnings.ensures) c.behind.ensures.warned
+
 pub returns-in-Err-tried-clause-warned : goal.returns-in-Err-tried-clause-warned
 returns-in-Err-tried-clause-warned g c = λ fresh.
     let a = asked_replay c.args.request.now in
@@ -66,7 +72,7 @@ returns-in-Err-tried-clause-warned g c = λ fresh.
     (g.I.Inputs.reads c.args.inputs.now) (g.I.Inputs.reads c.tried.new.inputs) c.in-Ok.tables c.in_ok-warnings.warnings e.warnings is (c.in-Ok.ensures.step fresh) c.in-Ok.ensures.works c.in_ok-warnings.ensures) c.response_behind.ensures.warned
 
 pub returns-in-Ok-tried-clause-status : goal.returns-in-Ok-tried-clause-status
-returns-in-Ok-tried-clause-status g c = honest_answer (g.I.Inputs.failed c.tried.new.inputs) (g.I.Inputs.reads c.tried.new.inputs) c.in-Ok-tried.answer c.behind.result c.in_ok-warnings.warnings c.in-Ok-tried.ensures.done c.behind.ensures
+returns-in-Ok-tried-clause-status g c = IfOk-weaker c.behind.result _ _ (λ r is. honest_answer (g.I.Inputs.failed c.tried.new.inputs) (g.I.Inputs.reads c.tried.new.inputs) c.in-Ok-tried.answer r (c.in_ok-warnings.warnings ++ c.in-Ok-tried.answer.err) c.in-Ok-tried.ensures.done is) c.behind.ensures.told
 
 pub returns-in-Err-tried-clause-status : goal.returns-in-Err-tried-clause-status
 returns-in-Err-tried-clause-status g c = IfOk-weaker c.response_behind.result _ _ (λ r is. honest_fault (g.I.Inputs.failed c.tried.new.inputs) (g.I.Inputs.reads c.tried.new.inputs) c.in_ok-warnings.warnings c.in-Err-tried.fault r c.in-Err-tried.ensures.status is) c.response_behind.ensures.told

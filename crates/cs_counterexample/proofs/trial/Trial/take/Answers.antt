@@ -1,6 +1,6 @@
 use Rattle.std.proofs.Common.{◌≡◌, ◌∙◌, ap, sym, subst}
-use Rattle.cs_decl.specs.Plan.{as_plan}
-use Rattle.cs_counterexample.specs.Trial.{Tried, break_at_start, is_late}
+use Rattle.cs_decl.specs.Plan.{Declared, as_plan}
+use Rattle.cs_counterexample.specs.Trial.{Tried, break_at_start, break_by_reply, is_late}
 use Rattle.cs_counterexample.proofs.Takes.{shown_as, taken_as}
 use Rattle.cs_counterexample.proofs.trial.Trial.take.Goals as goal
 
@@ -20,6 +20,6 @@ returns-in-Ok-clause-taken c =
           (c.number-now.ensures.value ∙ c.now.ensures)
           c.run_by-run.ensures
           (subst (λ (t : Tried). c.break_at_start-at_start.result ≡ break_at_start t c.run_by-run.result) (sym c.self.view_is) c.break_at_start-at_start.ensures)
-          c.break_by_reply.ensures
+          (c.break_by_reply-broken.ensures ∙ ap (λ (d : Declared). break_by_reply (as_plan d) c.in-Ok.reply c.run_by-run.result c.break_at_start-at_start.result) (c.plan-in-Ok.ensures ∙ c.in-Ok.ensures.plan))
           c.or-self-inside.ensures;
     })

@@ -4,5 +4,5 @@ use Rattle.cs_diagnostics.proofs.findings.Findings.keep.Goals as goal
 
 pub returns : goal.returns
 returns c = c.in_ok-push.ensures c.args.fault.now
-    (kept c.args.fault.now c.max-self.result c.of.result.from (string_bytes c.in_ok-words.words) _
-    c.in_ok-words.ensures.ok c.max-self.ensures c.of.ensures)
+    (kept c.args.fault.now c.max.result c.of.result.from (string_bytes c.in_ok-words.words) _
+    c.in_ok-words.ensures.ok c.max.ensures c.of.ensures)

@@ -1,0 +1,55 @@
+-- What a plan has of the lines of a crontab.
+use Rattle.std.specs.Prelude.{◌≡◌, ◌⊎◌, ◌++◌, ℕ, List, [], ◌∷◌, map, Option, Some, None, Bool, true, false, All, Contains, IfSome, unsigned_abs}
+use Rattle.cs_crontab.specs.Crontab.{CommandLine}
+use Rattle.cs_history.specs.declared.mode.Mode.TheVariants.{Plain}
+use Rattle.cs_decl.specs.declared.entries.LineName.{LineName}
+use Rattle.cs_decl.specs.declared.entries.CronEntry.{CronEntry}
+use Rattle.cs_decl.specs.declared.entries.DefaultEntry.{DefaultEntry}
+use Rattle.cs_decl.specs.declared.entries.Entries.{Entries}
+use Rattle.cs_decl.specs.Job.{DeclaredJob}
+use Rattle.cs_decl.specs.Join.{is_named, group_place}
+
+-- the names of lines in all entries
+abbrev pub names_of : Entries → List LineName
+names_of d = map (λ e. e.name) d.cron ++ d.left_out
+
+-- the name tells no command, or that of each line that it names
+abbrev pub TellsOf : LineName → CommandLine → Type 0
+TellsOf name line = is_named name line ≡ true → IfSome name.command (λ told. told ≡ line.command)
+
+-- an entry of `left_out` names the line
+abbrev pub IsLeftOut : Entries → CommandLine → Type 0
+IsLeftOut d line = (name : LineName) × Contains d.left_out name × (is_named name line ≡ true)
+
+-- none does
+abbrev pub IsKept : Entries → CommandLine → Type 0
+IsKept d line = All (λ name. is_named name line ≡ false) d.left_out
+
+-- no entry of `cron` names the line
+abbrev pub HasNoEntry : Entries → CommandLine → Type 0
+HasNoEntry d line = All (λ e. is_named e.name line ≡ false) d.cron
+
+-- Of the lines, in order, each that is left out has its number among these, and the others are kept.
+abbrev pub AreParted : Entries → List CommandLine → List CommandLine → List ℕ → Type 0
+AreParted d [] kept numbers = (kept ≡ []) × (numbers ≡ [])
+AreParted d (line ∷ lines) kept numbers =
+    (IsLeftOut d line × (more : List ℕ) × (numbers ≡ line.number ∷ more)
+    × AreParted d lines kept more)
+    ⊎ (IsKept d line × (more : List CommandLine) × (kept ≡ line ∷ more)
+    × AreParted d lines more numbers)
+
+-- an entry that names the line declares the job
+abbrev pub HasEntry : Entries → CommandLine → DeclaredJob → Type 0
+HasEntry d line job = (e : CronEntry) × Contains d.cron e × (is_named e.name line ≡ true)
+    × (job.max ≡ unsigned_abs e.max) × (job.weight ≡ unsigned_abs e.weight)
+    × (job.group ≡ group_place d.groups e.group) × (job.mode ≡ e.mode)
+
+-- the default declares the job
+abbrev pub HasDefault : Entries → DeclaredJob → Type 0
+HasDefault d job = (e : DefaultEntry) × (d.default ≡ Some e)
+    × (job.max ≡ unsigned_abs e.max) × (job.weight ≡ unsigned_abs e.weight)
+    × (job.group ≡ None) × (job.mode ≡ Plain)
+
+-- The job of a line is that of an entry, or else has the default.
+abbrev pub IsDeclared : Entries → CommandLine → DeclaredJob → Type 0
+IsDeclared d line job = HasEntry d line job ⊎ (HasNoEntry d line × HasDefault d job)

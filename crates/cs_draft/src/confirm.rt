@@ -1,0 +1,101 @@
+//! Whether what was drawn up is what it is to be: it is read back.
+ghost use Rattle.std.specs.Prelude.{◌≡◌, All, IfOk, IsTrue, None, true};
+ghost use Rattle.cs_decl.specs.Faults.{first_fault};
+ghost use Rattle.cs_decl.specs.Join.{join_faults};
+ghost use Rattle.cs_draft.specs.Draft.{AreTerms, IsBound, IsDraft, IsDrafted, IsKeptJob, IsKeptLine, IsUpdate, is_lone};
+
+use crate::bound::are_bound;
+use crate::brief::are_drafted;
+use crate::kept::{are_kept_jobs, are_kept_lines, are_terms};
+use cs_anacrontab::{Anacrontab, Job};
+use cs_crontab::{Crontab, Line};
+use cs_decl::{DeclError, Declarations, Entries, join, read_declarations};
+use std::alloc::{AllocError, Global};
+
+/// Whether there is a plan of the tables and the declarations. The only error is want of memory.
+#[tactic(auto, using(crate::proofs::Joins::plan_fits))]
+fn is_fitting(
+    alloc: Global,
+    table: &Crontab,
+    jobs: &Anacrontab,
+    declarations: Declarations,
+) -> Result<bool, AllocError>
+    ensures { IfOk result (λ b. IsTrue b
+        → first_fault (join_faults table.now jobs.now declarations) ≡ None) }
+{
+    match join(alloc, table.copy(alloc)?, jobs.copy(alloc)?, declarations) {
+        Ok(_) => Ok(true),
+        Err(DeclError::OutOfMemory) => Err(AllocError),
+        Err(DeclError::At { .. }) => Ok(false),
+    }
+}
+
+/// Whether the entries are those of a draft.
+fn are_drafts(max: u64, offset: i16, entries: &Entries, lines: &[Line]) -> bool
+    ensures offset { IsTrue result → entries.now.offset ≡ offset }
+    ensures no_default { IsTrue result → entries.now.default ≡ None }
+    ensures bound { IsTrue result → All (IsBound entries.now) lines.now }
+    ensures lines { IsTrue result → All (IsDrafted max entries.now) lines.now }
+{
+    entries.offset == i128::from(offset)
+        && entries.default.is_none()
+        && are_bound(entries, lines)
+        && are_drafted(max, entries, lines)
+}
+
+/// Whether the entries are those of an update.
+fn are_updates(old: &Entries, new: &Entries, lines: &[Line], jobs: &[Job]) -> bool
+    ensures bound { IsTrue result → All (IsBound new.now) lines.now }
+    ensures lines { IsTrue result → All (λ line. is_lone lines.now old.now line ≡ true
+        → IsKeptLine old.now new.now line) lines.now }
+    ensures jobs { IsTrue result → All (IsKeptJob old.now new.now) jobs.now }
+    ensures terms { IsTrue result → AreTerms old.now new.now }
+{
+    are_bound(new, lines)
+        && are_kept_lines(old, new, lines)
+        && are_kept_jobs(old, new, jobs)
+        && are_terms(old, new)
+}
+
+/// Whether the text is a draft of the tables. The only error is want of memory.
+pub(crate) fn is_draft(
+    alloc: Global,
+    table: &Crontab,
+    jobs: &Anacrontab,
+    max: u64,
+    offset: i16,
+    text: &[u8],
+) -> Result<bool, AllocError>
+    ensures { IfOk result (λ b. IsTrue b → IsDraft table.now jobs.now max offset text.now) }
+{
+    let declarations = match read_declarations(alloc, text) {
+        Ok(declarations) => declarations,
+        Err(DeclError::OutOfMemory) => return Err(AllocError),
+        Err(DeclError::At { .. }) => return Ok(false),
+    };
+    if !are_drafts(max, offset, declarations.entries(), table.lines()) {
+        return Ok(false);
+    }
+    is_fitting(alloc, table, jobs, declarations)
+}
+
+/// Whether the text is an update of the declarations. The only error is want of memory.
+pub(crate) fn is_update(
+    alloc: Global,
+    table: &Crontab,
+    jobs: &Anacrontab,
+    old: &Entries,
+    text: &[u8],
+) -> Result<bool, AllocError>
+    ensures { IfOk result (λ b. IsTrue b → IsUpdate table.now jobs.now old.now text.now) }
+{
+    let declarations = match read_declarations(alloc, text) {
+        Ok(declarations) => declarations,
+        Err(DeclError::OutOfMemory) => return Err(AllocError),
+        Err(DeclError::At { .. }) => return Ok(false),
+    };
+    if !are_updates(old, declarations.entries(), table.lines(), jobs.lines()) {
+        return Ok(false);
+    }
+    is_fitting(alloc, table, jobs, declarations)
+}

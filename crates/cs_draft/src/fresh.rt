@@ -1,0 +1,48 @@
+//! The draft of tables of which nothing is declared yet.
+
+use crate::layout::Front;
+use crate::sheet::Sheet;
+use cs_anacrontab::Anacrontab;
+use cs_crontab::{Crontab, Line, When};
+use cs_decl::MAX_CAPACITY;
+use std::alloc::{AllocError, Global};
+
+/// Adds the entry of a command, or leaves it out where it is started at startup.
+fn add_line<'a>(alloc: Global, sheet: &mut Sheet<'a>, line: &'a Line) -> Result<(), AllocError> {
+    match line.when() {
+        When::At(schedule) => sheet.add_new(alloc, line, schedule),
+        When::Reboot => {
+            sheet.told.reboot(alloc, line.number())?;
+            sheet.leave_out(alloc, line, None, true)
+        }
+    }
+}
+
+/// The texts of declarations and of what is told, for a longest time in minutes and an offset, which
+/// is told unless it is 0. The only error is want of memory.
+pub(crate) fn fresh_texts(
+    alloc: Global,
+    table: &Crontab,
+    jobs: &Anacrontab,
+    max: u64,
+    offset: i16,
+) -> Result<(Vec<u8>, Vec<u8>), AllocError> {
+    let mut sheet = Sheet::new(alloc, max);
+    for line in table.lines() {
+        add_line(alloc, &mut sheet, line)?;
+    }
+    for job in jobs.lines() {
+        // the identifiers of a table that was read are UTF-8
+        if let Ok(identifier) = str::from_utf8(job.identifier()) {
+            sheet.add_job(alloc, identifier, None)?;
+        }
+    }
+    let mut front = Front::new(alloc);
+    let capacity = format!(in alloc; "{MAX_CAPACITY}")?;
+    front.add("capacity", capacity.as_str())?;
+    if offset != 0 {
+        let offset = format!(in alloc; "{offset}")?;
+        front.add("offset", offset.as_str())?;
+    }
+    sheet.into_texts(alloc, &front)
+}

@@ -1,0 +1,221 @@
+//! Whether new declarations keep what old ones declare.
+ghost use Rattle.std.specs.Prelude.{◌≡◌, ◌==◌, All, IsTrue, bytes_eq, length, option_map, take, true};
+ghost use Rattle.std.specs.List.{count_by, find, list_any};
+ghost use Rattle.cs_decl.specs.Join.{is_of_job};
+ghost use Rattle.cs_decl.specs.Lines.{names_of};
+ghost use Rattle.cs_draft.specs.Draft.{AreAlike, AreAlikeJobs, AreTerms, IsKept, IsKeptJob, IsKeptLine, is_lone, tells};
+
+use crate::names::{entry_of, is_left_out, is_reboot, tells};
+use cs_anacrontab::Job;
+use cs_civil::Bytes;
+use cs_crontab::Line;
+use cs_decl::{AnacronEntry, CronEntry, DefaultEntry, Entries, GroupEntry, LineName};
+
+fn is_same_name(old: &Option<Bytes>, new: &Option<Bytes>) -> bool
+    ensures { IsTrue result → new.now ≡ old.now }
+{
+    match (old, new) {
+        (Some(old), Some(new)) => old.as_slice() == new.as_slice(),
+        (None, None) => true,
+        _ => false,
+    }
+}
+
+fn are_alike(old: &CronEntry, new: &CronEntry) -> bool
+    ensures { IsTrue result → AreAlike old.now new.now }
+{
+    old.max == new.max
+        && old.weight == new.weight
+        && is_same_name(&old.group, &new.group)
+        && old.mode == new.mode
+}
+
+fn are_alike_jobs(old: &AnacronEntry, new: &AnacronEntry) -> bool
+    ensures { IsTrue result → AreAlikeJobs old.now new.now }
+{
+    old.max == new.max && old.weight == new.weight && is_same_name(&old.group, &new.group)
+}
+
+// ---- lines
+
+fn count_commands(lines: &[Line], command: &[u8]) -> usize
+    ensures { result ≡ count_by (λ l. bytes_eq l.command command.now) lines.now }
+{
+    lines
+        .iter()
+        .filter(|line| line.command() == command)
+        .count()
+}
+
+fn count_entries(entries: &[CronEntry], command: &[u8]) -> usize
+    ensures { result ≡ count_by (λ e. tells command.now e.name) entries.now }
+{
+    entries
+        .iter()
+        .filter(|entry| tells(command, &entry.name))
+        .count()
+}
+
+fn count_names(names: &[LineName], command: &[u8]) -> usize
+    ensures { result ≡ count_by (tells command.now) names.now }
+{
+    names.iter().filter(|name| tells(command, name)).count()
+}
+
+/// Whether one entry alone tells the command.
+#[tactic(auto, using(crate::proofs::Counts::told_once))]
+fn is_told_once(entries: &Entries, command: &[u8]) -> bool
+    ensures { result ≡ (count_by (tells command.now) (names_of entries.now) == 1) }
+{
+    let cron = count_entries(entries.cron.as_slice(), command);
+    let left_out = count_names(entries.left_out.as_slice(), command);
+    (cron == 1 && left_out == 0) || (cron == 0 && left_out == 1)
+}
+
+/// Whether one line alone has its command, not at startup, and one entry alone tells it.
+fn is_lone(lines: &[Line], old: &Entries, line: &Line) -> bool
+    ensures { result ≡ is_lone lines.now old.now line.now }
+{
+    !is_reboot(line)
+        && count_commands(lines, line.command()) == 1
+        && is_told_once(old, line.command())
+}
+
+/// The first entry that tells the command.
+fn entry_that_tells<'e>(entries: &'e Entries, command: &[u8]) -> Option<&'e CronEntry>
+    ensures { option_map (λ e. e.now) result
+        ≡ find (λ e. tells command.now e.name) entries.now.cron }
+{
+    let cron = entries.cron.as_slice();
+    cron.iter().find(|entry| tells(command, &entry.name))
+}
+
+fn is_kept(old: Option<&CronEntry>, new: Option<&CronEntry>) -> bool
+    ensures { IsTrue result → IsKept AreAlike (option_map (λ e. e.now) old.entry)
+        (option_map (λ e. e.now) new.entry) }
+{
+    match old {
+        Some(old) => match new {
+            Some(new) => are_alike(old, new),
+            None => false,
+        },
+        None => true,
+    }
+}
+
+/// Whether an entry of `left_out` tells the command.
+fn was_left_out(old: &Entries, command: &[u8]) -> bool
+    ensures { result ≡ list_any (tells command.now) old.now.left_out }
+{
+    let names = old.left_out.as_slice();
+    names.iter().any(|name| tells(command, name))
+}
+
+fn is_kept_line(old: &Entries, new: &Entries, line: &Line) -> bool
+    ensures { IsTrue result → IsKeptLine old.now new.now line.now }
+{
+    let command = line.command();
+    is_kept(entry_that_tells(old, command), entry_of(new, line))
+        && (!was_left_out(old, command) || is_left_out(new, line))
+}
+
+fn is_kept_if_lone(lines: &[Line], old: &Entries, new: &Entries, line: &Line) -> bool
+    ensures { IsTrue result → is_lone lines.now old.now line.now ≡ true
+        → IsKeptLine old.now new.now line.now }
+{
+    !is_lone(lines, old, line) || is_kept_line(old, new, line)
+}
+
+/// Whether each lone line is declared as before.
+pub(crate) fn are_kept_lines(old: &Entries, new: &Entries, lines: &[Line]) -> bool
+    ensures { IsTrue result → All (λ line. is_lone lines.now old.now line ≡ true
+        → IsKeptLine old.now new.now line) lines.now }
+{
+    for line in lines {
+        if !is_kept_if_lone(lines, old, new, line) {
+            return false;
+        }
+    }
+    true
+}
+
+// ---- jobs
+
+fn job_entry<'e>(entries: &'e Entries, identifier: &[u8]) -> Option<&'e AnacronEntry>
+    ensures { option_map (λ e. e.now) result
+        ≡ find (is_of_job identifier.now) entries.now.anacron }
+{
+    let anacron = entries.anacron.as_slice();
+    anacron
+        .iter()
+        .find(|entry| entry.identifier.as_slice() == identifier)
+}
+
+fn is_kept_job(old: &Entries, new: &Entries, job: &Job) -> bool
+    ensures { IsTrue result → IsKeptJob old.now new.now job.now }
+{
+    match job_entry(old, job.identifier()) {
+        Some(old) => match job_entry(new, job.identifier()) {
+            Some(new) => are_alike_jobs(old, new),
+            None => false,
+        },
+        None => true,
+    }
+}
+
+/// Whether each anacron job is declared as before.
+pub(crate) fn are_kept_jobs(old: &Entries, new: &Entries, jobs: &[Job]) -> bool
+    ensures { IsTrue result → All (IsKeptJob old.now new.now) jobs.now }
+{
+    for job in jobs {
+        if !is_kept_job(old, new, job) {
+            return false;
+        }
+    }
+    true
+}
+
+// ---- terms
+
+fn is_same_default(old: &Option<DefaultEntry>, new: &Option<DefaultEntry>) -> bool
+    ensures { IsTrue result → new.now ≡ old.now }
+{
+    match (old, new) {
+        (Some(old), Some(new)) => old.max == new.max && old.weight == new.weight,
+        (None, None) => true,
+        _ => false,
+    }
+}
+
+fn is_same_group(old: &GroupEntry, new: &GroupEntry) -> bool
+    ensures { IsTrue result → new.now ≡ old.now }
+{
+    old.name.as_slice() == new.name.as_slice() && old.exclusive == new.exclusive
+}
+
+/// Whether the new groups begin with the old ones.
+fn begin_with(old: &[GroupEntry], new: &[GroupEntry]) -> bool
+    ensures { IsTrue result → take (length old.now) new.now ≡ old.now }
+{
+    if new.len() < old.len() {
+        return false;
+    }
+    for i in 0..old.len() {
+        if !is_same_group(&old[i], &new[i]) {
+            return false;
+        }
+    }
+    true
+}
+
+/// Whether all else is as before.
+pub(crate) fn are_terms(old: &Entries, new: &Entries) -> bool
+    ensures { IsTrue result → AreTerms old.now new.now }
+{
+    old.capacity == new.capacity
+        && old.offset == new.offset
+        && old.hours == new.hours
+        && old.pass == new.pass
+        && is_same_default(&old.default, &new.default)
+        && begin_with(old.groups.as_slice(), new.groups.as_slice())
+}

@@ -1,0 +1,43 @@
+-- How soon a command is due again.
+use Rattle.std.specs.Prelude.{◌≡◌, ℕ, zero, suc, ◌+◌, ◌/◌, ◌%◌, ◌<◌, ◌≤◌, Bool, true, false, ◌&&◌, List, slice_index_or}
+use Rattle.std.specs.List.{list_any}
+use Rattle.cs_civil.specs.Calendar.{Kind, kind, kinds_after}
+use Rattle.cs_civil.specs.Order.{all_kinds}
+use Rattle.cs_schedule.specs.Minutes.{minutes_where}
+use Rattle.cs_schedule.specs.Numbers.{has}
+use Rattle.cs_schedule.specs.Times.{Times, is_day_due, is_due, is_time_due}
+
+-- due at this minute
+abbrev pub is_due_at : Times → ℕ → Bool
+is_due_at s t = is_due s (kind (t / 1440)) (t % 1440)
+
+-- from a minute at which it is due to a later one there are so many minutes at least
+abbrev pub AreApart : Times → ℕ → Type 0
+AreApart s gap =
+    (t u : ℕ) → is_due_at s t ≡ true → is_due_at s u ≡ true → t < u → t + gap ≤ u
+
+-- ---- over the days that can follow one another
+
+-- a day on which it is due can come so many days after a day of this kind
+abbrev pub is_day_due_after : Times → ℕ → Kind → Bool
+is_day_due_after s zero day = is_day_due s day
+is_day_due_after s (suc n) day = list_any (is_day_due_after s n) (kinds_after day)
+
+-- and so many days after another one
+unfoldable pub can_be_after : Times → ℕ → Bool
+can_be_after s n = list_any (λ day. is_day_due s day && is_day_due_after s n day) all_kinds
+
+-- two minutes at which it is due can be so many minutes apart
+unfoldable pub can_be_apart : Times → ℕ → Bool
+can_be_apart s gap = list_any
+    (λ m. can_be_after s ((m + gap) / 1440) && is_time_due s ((m + gap) % 1440))
+    (minutes_where (is_time_due s))
+
+-- and at no fewer
+abbrev pub NoneBelow : Times → ℕ → Type 0
+NoneBelow s gap = (g : ℕ) → 1 ≤ g → g < gap → can_be_apart s g ≡ false
+
+-- so many minutes after a minute of the day there is one of the set, on one of four days that can come
+abbrev pub is_followed : List ℕ → List Bool → ℕ → ℕ → Bool
+is_followed times days gap m =
+    slice_index_or days ((m + gap) / 1440) false && has times ((m + gap) % 1440)

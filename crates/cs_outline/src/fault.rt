@@ -1,0 +1,47 @@
+//! Why a text is no JSON, and where.
+use crate::outline::{is_space, trimmed};
+use crate::span::Span;
+use serde_json::Error;
+
+/// The byte at which a line begins, line 1 for 0.
+fn line_start(bytes: &[u8], line: usize) -> usize {
+    let before = bytes
+        .split(|byte| *byte == b'\n')
+        .take(line.saturating_sub(1));
+    before.fold(0usize, |start, text| {
+        start.saturating_add(text.len()).saturating_add(1)
+    })
+}
+
+fn reason(bytes: &[u8], place: usize) -> &'static str {
+    let front = Span::between(0, place).bytes(bytes);
+    let before = front.iter().rev().find(|byte| !is_space(**byte)).copied();
+    let ends_value = |byte: u8| matches!(byte, b'"' | b'}' | b']') || byte.is_ascii_alphanumeric();
+    if trimmed(bytes, Span::between(place, bytes.len())).is_empty() {
+        return match before {
+            None => "the file is empty: write an object, {..}",
+            Some(_) => "the end is missing: close each quote and bracket",
+        };
+    }
+    if str::from_utf8(bytes).is_err() {
+        return "this byte isn't UTF-8: save the file as UTF-8";
+    }
+    match (bytes.get(place), before) {
+        (Some(b'}' | b']'), Some(b',')) => "remove the comma before this bracket",
+        (Some(b'\''), _) => "write text in double quotes",
+        (Some(b'/' | b'#'), _) => "JSON has no comments: remove this one",
+        (Some(b'"' | b'{' | b'['), Some(byte)) if ends_value(byte) => "add a comma before this",
+        _ => "this is no JSON: check the quotes, commas and colons here",
+    }
+}
+
+/// Where a text is no JSON, and why it's none.
+pub fn no_json(bytes: &[u8], error: &Error) -> (Span, &'static str) {
+    let place = if error.is_eof() {
+        trimmed(bytes, Span::of(0, bytes.len())).to
+    } else {
+        let column = error.column().saturating_sub(1);
+        line_start(bytes, error.line()).saturating_add(column)
+    };
+    (Span::of(place, 1), reason(bytes, place))
+}

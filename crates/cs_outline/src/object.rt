@@ -1,0 +1,60 @@
+//! The objects of a JSON text, with the places of their members.
+use crate::outline::{Part, parts, text_in};
+use crate::span::Span;
+use serde_json::Value;
+use std::alloc::{AllocError, Global};
+
+/// An object of a JSON text.
+#[derive(Drop)]
+pub struct Object<'v> {
+    /// Its first byte, which is its bracket.
+    pub bracket: Span,
+    /// Its members in their order, each with its name.
+    pub members: Vec<(String, Part)>,
+    value: &'v Value,
+}
+
+impl<'v> Object<'v> {
+    /// The object at a span of a text, which is that value. The only error is want of memory.
+    pub fn new(
+        alloc: Global,
+        bytes: &[u8],
+        (value, span): (&'v Value, Span),
+    ) -> Result<Object<'v>, AllocError> {
+        let mut members = Vec::new(alloc);
+        for part in parts(alloc, bytes, span)? {
+            if let Some(name) = text_in(alloc, part.name.bytes(bytes))? {
+                members.push((name, part))?;
+            }
+        }
+        Ok(Object {
+            bracket: Span::of(span.from, 1),
+            members,
+            value,
+        })
+    }
+
+    /// Whether it has a member of that name.
+    pub fn has(&self, name: &str) -> bool {
+        self.members.iter().any(|(own, _)| own.as_str() == name)
+    }
+
+    /// The value of the last member of that name, which is the one that counts, and its place.
+    pub fn member(&self, name: &str) -> Option<(&'v Value, Span)> {
+        let mut last_first = self.members.iter().rev();
+        let (_, part) = last_first.find(|(own, _)| own.as_str() == name)?;
+        Some((self.value.get(name)?, part.value))
+    }
+
+    /// The text that a member is, if it's there and is one, and where it stands.
+    pub fn text(&self, name: &str) -> Option<(&'v str, Span)> {
+        let (value, span) = self.member(name)?;
+        Some((value.as_str()?, span))
+    }
+
+    /// The whole number that a member is, if it's there and is one, and where it stands.
+    pub fn whole(&self, name: &str) -> Option<(i128, Span)> {
+        let (value, span) = self.member(name)?;
+        Some((value.as_number()?.as_i128()?, span))
+    }
+}

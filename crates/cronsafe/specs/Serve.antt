@@ -1,5 +1,6 @@
 -- What comes of an order to run tables.
-use Rattle.std.specs.Prelude.{◌≡◌, ◌⊎◌, ◌+◌, ◌++◌, ℕ, List, [], None, IfSome, codes, sum}
+use Rattle.std.specs.Prelude.{◌≡◌, ◌⊎◌, ◌+◌, ◌<◌, ◌≤◌, ◌++◌, ℕ, List, [], Option, None, Some}
+use Rattle.std.specs.Prelude.{IfSome, codes, slice_index_or, sum}
 use Rattle.arrayvec.specs.ArrayVec.{array_vec_len}
 use Rattle.cs_check.specs.Checked.{plan_in}
 use Rattle.cs_check.specs.declared.checked.Checked.{Checked}
@@ -7,6 +8,8 @@ use Rattle.cs_daemon.specs.declared.end.Cause.{Cause}
 use Rattle.cs_daemon.specs.declared.end.Cause.TheVariants.{ClockBack, ClockFailed, HistoryFull}
 use Rattle.cs_daemon.specs.declared.end.Cause.TheVariants.{LastMinute, NoMemory, Stopped}
 use Rattle.cs_daemon.specs.declared.end.DaemonEnd.{DaemonEnd}
+use Rattle.cs_device.specs.declared.clock.Tick.{Tick}
+use Rattle.cs_device.specs.declared.clock.Tick.TheVariants.{Stop}
 use Rattle.cs_keep.specs.Closed.{checked_in, keeping_in}
 use Rattle.cs_keep.specs.Keeping.{IsKept}
 use Rattle.cs_files.specs.Response.{Ending, complaint}
@@ -21,15 +24,34 @@ without_folder order = record {
   err = order.warnings ++ complaint (codes "no folder " ++ order.stamps.now);
 }
 
--- the daemon was run over what was checked, and ended so: each event is the clock's or a worker's, and the
--- keep, where one was opened, is that of what was checked, with a legal history as its journal
-pub record HasRun (checked : Checked) (end : DaemonEnd) : Type 0 where
+-- what a clock and a store of stamps have told: the clock's last answer, how many of its answers
+-- were a minute later than all before, and how often each of the two failed
+pub record Tellings : Type 0 where
+  pub last : Option Tick
+  pub risen : ℕ
+  pub clock_failures : ℕ
+  pub stamp_failures : ℕ
+
+-- new ones have told nothing
+abbrev pub no_tellings : Tellings
+no_tellings = record { last = None; risen = 0; clock_failures = 0; stamp_failures = 0 }
+
+-- the daemon was run over what was checked, and ended so: each event is the clock's or a worker's; the
+-- keep, where one was opened, is that of what was checked, with a legal history as its journal; it
+-- stopped where its clock said so, with an event for each minute later than all before but the first;
+-- and no failure is counted that the devices didn't have
+pub record HasRun (checked : Checked) (before after : Tellings) (end : DaemonEnd) : Type 0 where
   pub threads : array_vec_len end.shares ≡ (plan_in checked).capacity + 1
   pub shares : sum end.shares.items ≡ end.total
   pub none : end.keep ≡ None → end.total ≡ 0
   pub same : IfSome end.keep (λ kept. checked_in kept ≡ checked)
   pub kept : IfSome end.keep (λ kept. IsKept (keeping_in kept))
   pub total : IfSome end.keep (λ kept. (keeping_in kept).total ≡ end.total)
+  pub stopped : end.cause ≡ Stopped → after.last ≡ Some Stop
+  pub rises : end.cause ≡ Stopped
+      → after.risen ≤ before.risen + slice_index_or end.shares.items 0 0 + 1
+  pub failed : end.cause ≡ ClockFailed → before.clock_failures < after.clock_failures
+  pub faults : end.stamp_faults + before.stamp_failures ≤ after.stamp_failures
 
 -- the status by why the daemon ended
 abbrev pub cause_status : Cause → ℕ
@@ -49,13 +71,19 @@ farewell ClockFailed = codes "cronsafe: can't read the clock\n"
 farewell HistoryFull = codes "cronsafe: the history is full\n"
 farewell NoMemory = codes "cronsafe: out of memory\n"
 
--- the daemon is run until it ends, and why it ended is told and is the status; of what it writes to
--- standard output nothing is said
-pub record IsServed (order : Order) (err-old err-new : Sink) (status : ℕ) : Type 0 where
+-- the daemon is run with these devices until it ends, and why it ended is told and is the status; of
+-- what it writes to standard output nothing is said
+pub record IsServedBy (checked : Checked) (before after : Tellings) (err-old err-new : Sink)
+    (status : ℕ) : Type 0 where
   pub end : DaemonEnd
-  pub run : HasRun order.checked end
+  pub run : HasRun checked before after end
   pub told : Tries (farewell end.cause) err-old err-new
   pub by_cause : status ≡ cause_status end.cause
+
+-- so it is with new devices of this machine
+abbrev pub IsServed : Order → Sink → Sink → ℕ → Type 0
+IsServed order err-old err-new status =
+    (after : Tellings) × IsServedBy order.checked no_tellings after err-old err-new status
 
 -- there is no folder of stamps, which is told behind the warnings; or the warnings are told, and then
 -- memory ran out, and nothing is run, or it was run

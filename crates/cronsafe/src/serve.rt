@@ -1,13 +1,15 @@
 //! Runs of checked tables on this machine.
-ghost use Rattle.std.specs.Prelude.{◌≡◌};
+ghost use Rattle.std.specs.Prelude.{◌≡◌, vec_len};
+ghost use Rattle.cs_check.specs.Checked.{plan_in};
 ghost use Rattle.cs_files.specs.Response.{status_of};
 ghost use Rattle.cronsafe.specs.Ending.{sink};
-ghost use Rattle.cronsafe.specs.Serve.{Serves, cause_status, farewell};
+ghost use Rattle.cronsafe.specs.Serve.{IsServedBy, Serves, cause_status, farewell};
 
 use crate::ending::{finish, run_out, tell};
+use cs_check::Checked;
 use cs_cli::Order;
 use cs_daemon::{Cause, run_daemon};
-use cs_device::{Gate, Point, Runner};
+use cs_device::{Gate, Point, Runner, StampStore};
 use cs_files::Status;
 use cs_history::Run;
 use cs_io::Output;
@@ -54,6 +56,48 @@ fn farewell(cause: Cause) -> &'static str
     }
 }
 
+/// Runs a checked plan with these devices until it ends, and gives the status: the log is written to
+/// standard output, why it ended to standard error.
+fn serve_by<
+    R: Threads + Wait + Sync,
+    C: cs_device::Clock,
+    W: Runner + Send + Drop,
+    S: StampStore,
+    O: Write + Send,
+    E: Output,
+>(
+    rt: &R,
+    alloc: Global,
+    checked: Checked,
+    clock: &mut C,
+    runners: Vec<W>,
+    store: &mut S,
+    out: &mut O,
+    err: &mut E,
+) -> Status
+    requires { vec_len runners ≡ (plan_in checked).capacity }
+    ensures { IsServedBy checked
+        (record {
+          last = C.last clock.old;
+          risen = C.risen clock.old;
+          clock_failures = C.failures clock.old;
+          stamp_failures = S.failures store.old;
+        })
+        (record {
+          last = C.last clock.new;
+          risen = C.risen clock.new;
+          clock_failures = C.failures clock.new;
+          stamp_failures = S.failures store.new;
+        })
+        (sink (E.contents err.old) (E.failed err.old))
+        (sink (E.contents err.new) (E.failed err.new))
+        (status_of result) }
+{
+    let end = run_daemon(rt, alloc, checked, clock, runners, &OpenGate, store, out);
+    tell(err, farewell(end.cause).as_bytes());
+    status_for(end.cause)
+}
+
 /// Runs what is ordered until it ends, and gives the status: the log is written to standard output,
 /// what is to be warned of and why it ended to standard error. A runner is made for each unit of the
 /// plan's capacity.
@@ -87,17 +131,14 @@ pub(crate) fn serve<
     let Ok(runners) = runners_by(alloc, plan.capacity(), new_runner) else {
         return run_out(err);
     };
-    let gate = OpenGate;
-    let end = run_daemon(
+    serve_by(
         rt,
         alloc,
         order.checked,
         &mut clock,
         runners,
-        &gate,
         &mut stamps,
         out,
-    );
-    tell(err, farewell(end.cause).as_bytes());
-    status_for(end.cause)
+        err,
+    )
 }

@@ -2,3 +2,4 @@ pub mod Check
 pub mod Safe
 pub mod Answer
 pub mod Judge
+pub mod Theorem

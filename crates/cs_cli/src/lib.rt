@@ -4,9 +4,11 @@
 mod answer;
 mod check;
 mod judge;
+mod laws;
 mod order;
 
 pub use answer::{Answer, Order};
 pub use check::answer_check;
 pub use judge::{answer_judge, answer_make};
+pub use laws::{what_an_order_says, what_check_says, what_judge_says};
 pub use order::answer_run;

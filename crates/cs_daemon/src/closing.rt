@@ -1,7 +1,8 @@
 //! The end of a daemon.
-ghost use Rattle.std.specs.Prelude.{◌≡◌, ◌≢◌, ◌+◌, ◌≤◌, IfSome, None, Some, sum};
+ghost use Rattle.std.specs.Prelude.{◌≡◌, ◌≢◌, ◌+◌, ◌≤◌, IfSome, List, None, Option, Some, sum, ℕ};
 ghost use Rattle.arrayvec.specs.ArrayVec.{array_vec_len};
 ghost use Rattle.cs_check.specs.Checked.{plan_in};
+ghost use Rattle.cs_daemon.specs.Stamps.{AreWritten};
 ghost use Rattle.cs_keep.specs.Closed.{checked_in, keeping_in};
 ghost use Rattle.cs_keep.specs.Keeping.{IsKept};
 
@@ -9,15 +10,15 @@ use crate::dispatch::Dispatch;
 use crate::end::{Cause, DaemonEnd};
 use crate::log::Log;
 use crate::plan_ledger::PlanLedger;
-use crate::stamps::Stored;
+use crate::stamps::{Stored, stamps_of};
 use crate::threads::Gathered;
 use arrayvec::ArrayVec;
 use cs_check::Checked;
 use cs_decl::Plan;
 use cs_device::StampStore;
-use cs_history::copy_stamps;
 use cs_keep::{Keep, Kept, Seat};
 use std::io;
+use std::sync::ledger::Ledger;
 
 /// Zeros for the clock's thread and each worker.
 fn no_shares(workers: usize) -> ArrayVec<u64, 65>
@@ -62,6 +63,7 @@ fn close<J: PlanLedger>(keep: Keep<J>, seat: Seat<J>, checked: Checked) -> Kept
     ensures checked { checked_in result ≡ checked }
     ensures kept { IsKept (keeping_in result) }
     ensures total { seat.share ≡ (keeping_in result).total }
+    ensures core { (keeping_in result).core ≡ keep.core }
 {
     let mut keep = keep;
     let mut seat = seat;
@@ -83,21 +85,24 @@ pub(crate) struct Left<J: PlanLedger> {
 
 impl<J: PlanLedger> Left<J> {
     /// Tries once more to write each stamp that the store lacks, and takes the counts.
-    pub(crate) fn behind<S: StampStore, O: io::Write>(
+    pub(crate) fn behind<T: Ledger, S: StampStore, O: io::Write>(
         plan: &Plan,
-        dispatch: Dispatch<J>,
+        dispatch: Dispatch<J, T>,
         log: Log<'_, O>,
         store: &mut S,
         stored: Stored,
     ) -> Left<J>
-        ensures { result.stamp_faults + S.failures store.old
+        ensures written { (known : List (Option ℕ))
+            × AreWritten S.writes plan.now.anacrontab.lines result.keep.core.state.stamps
+            stored.stamps.items store.old known store.new }
+        ensures faults { result.stamp_faults + S.failures store.old
             ≤ stored.faults + S.failures store.new }
     {
         let mut log = log;
         let mut stored = stored;
         let overruns = dispatch.overruns();
         let keep = dispatch.into_keep();
-        let stamps = copy_stamps(keep.core().stamps());
+        let stamps = stamps_of(&keep);
         let failed = stored.write(plan, store, &stamps);
         log.write_unwritten(failed.as_slice());
         Left {
@@ -119,6 +124,7 @@ impl<J: PlanLedger> Left<J> {
         ensures checked { IfSome result.keep (λ kept. checked_in kept ≡ checked) }
         ensures kept { IfSome result.keep (λ kept. IsKept (keeping_in kept)) }
         ensures total { IfSome result.keep (λ kept. (keeping_in kept).total ≡ result.total) }
+        ensures core { IfSome result.keep (λ kept. (keeping_in kept).core ≡ self.keep.core) }
         ensures faults { result.stamp_faults ≡ self.stamp_faults }
     {
         let Gathered {

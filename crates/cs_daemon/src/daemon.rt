@@ -1,9 +1,12 @@
 //! The daemon whole.
-ghost use Rattle.std.specs.Prelude.{◌≡◌, ◌+◌, ◌<◌, ◌≤◌, IfErr, IfOk, IfSome, None, Some, slice_index_or, sum, vec_len};
+ghost use Rattle.std.specs.Prelude.{◌≡◌, ◌≢◌, ◌+◌, ◌<◌, ◌≤◌, IfErr, IfOk, IfSome, None, Some, slice_index_or, sum, vec_len};
 ghost use Rattle.arrayvec.specs.ArrayVec.{array_vec_len};
 ghost use Rattle.cs_check.specs.Checked.{plan_in};
-ghost use Rattle.cs_daemon.specs.declared.end.Cause.TheVariants.{Stopped, ClockFailed};
-ghost use Rattle.cs_device.specs.declared.clock.Tick.TheVariants.{Stop};
+ghost use Rattle.cs_civil.specs.Calendar.{last_minute};
+ghost use Rattle.cs_daemon.specs.Causes.{IsBack};
+ghost use Rattle.cs_daemon.specs.Stamps.{AreKept};
+ghost use Rattle.cs_daemon.specs.declared.end.Cause.TheVariants.{Stopped, LastMinute, ClockBack, ClockFailed, HistoryFull};
+ghost use Rattle.cs_device.specs.declared.clock.Tick.TheVariants.{At, Stop};
 ghost use Rattle.cs_history.specs.Plan.{first_start};
 ghost use Rattle.cs_keep.specs.Closed.{checked_in, keeping_in};
 ghost use Rattle.cs_keep.specs.Keeping.{IsKept};
@@ -24,7 +27,7 @@ use cs_keep::Keep;
 use std::alloc::Global;
 use std::io;
 use std::marker::Brand;
-use std::sync::ledger::Blank;
+use std::sync::ledger::{Blank, Book, Ledger, Share};
 use std::sync::{Condvar, Mutex, Wait};
 use std::thread::Threads;
 
@@ -35,7 +38,11 @@ const FIRST_START: u64 = 4_320;
 fn first_minute<C: Clock>(clock: &mut C) -> Result<Minute, Cause>
     ensures start { IfOk result (λ m. first_start ≤ m) }
     ensures top { IfOk result (λ m. m ≤ C.top clock.new) }
+    ensures last { IfOk result (λ m. C.last clock.new ≡ Some (At m)) }
     ensures stopped { IfErr result (λ c. c ≡ Stopped → C.last clock.new ≡ Some Stop) }
+    ensures back { IfErr result (λ c. c ≡ ClockBack → IsBack (C.top clock.new) (C.last clock.new)) }
+    ensures full { IfErr result (λ c. c ≢ HistoryFull) }
+    ensures end { IfErr result (λ c. c ≢ LastMinute) }
     ensures risen { C.risen clock.new ≤ C.risen clock.old + 1 }
     ensures failures { C.failures clock.old ≤ C.failures clock.new }
     ensures failed { IfErr result (λ c. c ≡ ClockFailed
@@ -53,8 +60,20 @@ fn first_minute<C: Clock>(clock: &mut C) -> Result<Minute, Cause>
     }
 }
 
+/// A book that says this minute, and its whole share.
+fn opened_at<T: Ledger>(blank: Blank, first: Minute) -> (Book<T>, Share<T>)
+    requires { (blank.name ≡ T.name) × (blank.parts ≡ T.parts) × (0 < T.parts) }
+    ensures book { result.0.total ≡ first }
+    ensures share { (result.1.parts ≡ T.parts) × (result.1.amount ≡ first) }
+{
+    let (mut book, mut share) = blank.open::<T>();
+    book.add(&mut share, first.number());
+    (book, share)
+}
+
 fn run_on<
     J: PlanLedger + Send + Sync,
+    T: Ledger + Send + Sync,
     R: Threads + Wait + Sync,
     C: Clock,
     W: Runner + Send + Drop,
@@ -65,6 +84,7 @@ fn run_on<
     rt: &R,
     alloc: Global,
     blank: Blank,
+    time: Blank,
     checked: Checked,
     clock: &mut C,
     runners: Vec<W>,
@@ -77,6 +97,7 @@ fn run_on<
     requires blank { (blank.name ≡ J.name) × (blank.parts ≡ J.parts) }
     requires parts { blank.parts ≡ (plan_in checked).capacity + 1 }
     requires plan { J.plan ≡ plan_in checked }
+    requires time { (time.name ≡ T.name) × (time.parts ≡ T.parts) × (0 < T.parts) }
     ensures shares { array_vec_len result.shares ≡ (plan_in checked).capacity + 1 }
     ensures sum { sum result.shares.items ≡ result.total }
     ensures none { result.keep ≡ None → result.total ≡ 0 }
@@ -84,9 +105,16 @@ fn run_on<
     ensures kept { IfSome result.keep (λ kept. IsKept (keeping_in kept)) }
     ensures total { IfSome result.keep (λ kept. (keeping_in kept).total ≡ result.total) }
     ensures stopped { result.cause ≡ Stopped → C.last clock.new ≡ Some Stop }
+    ensures back { result.cause ≡ ClockBack → IsBack (C.top clock.new) (C.last clock.new) }
+    ensures end { result.cause ≡ LastMinute → C.last clock.new ≡ Some (At last_minute) }
+    ensures end_keep { result.cause ≡ LastMinute → result.keep ≢ None }
+    ensures full_keep { result.cause ≡ HistoryFull → result.keep ≢ None }
     ensures rises { result.cause ≡ Stopped
         → C.risen clock.new ≤ C.risen clock.old + slice_index_or result.shares.items 0 0 + 1 }
     ensures failed { result.cause ≡ ClockFailed → C.failures clock.old < C.failures clock.new }
+    ensures stamps { IfSome result.keep (λ kept.
+        AreKept S.reads S.writes (plan_in checked).anacrontab.lines
+        (keeping_in kept).core.state.stamps store.old store.new) }
     ensures faults { result.stamp_faults + S.failures store.old ≤ S.failures store.new }
 {
     let workers = runners.len();
@@ -102,16 +130,17 @@ fn run_on<
     let Ok((keep, seat)) = Keep::<J>::open(alloc, blank, parts, &checked, start) else {
         return no_keep(Cause::NoMemory, workers, stored.faults, log.faults());
     };
+    let (book, hand) = opened_at::<T>(time, first);
     let shared = Shared {
         rt,
         alloc,
         plan: checked.plan(),
         gate,
-        dispatch: Mutex::new(Dispatch::new(keep)),
+        dispatch: Mutex::new(Dispatch::new(keep, book)),
         bell: Condvar::new(),
         log: Mutex::new(log),
     };
-    let (stored, gathered) = run_threads(&shared, runners, clock, store, stored, seat, first);
+    let (stored, gathered) = run_threads(&shared, runners, clock, store, stored, seat, hand, first);
     let (dispatch, log) = shared.into_parts();
     let left = Left::behind(checked.plan(), dispatch, log, store, stored);
     left.close(checked, gathered)
@@ -151,17 +180,26 @@ pub fn run_daemon<
     ensures kept { IfSome result.keep (λ kept. IsKept (keeping_in kept)) }
     ensures total { IfSome result.keep (λ kept. (keeping_in kept).total ≡ result.total) }
     ensures stopped { result.cause ≡ Stopped → C.last clock.new ≡ Some Stop }
+    // The clock's last answer was a minute before an earlier one, or before 1970-01-04 00:00.
+    ensures back { result.cause ≡ ClockBack → IsBack (C.top clock.new) (C.last clock.new) }
+    ensures end { result.cause ≡ LastMinute → C.last clock.new ≡ Some (At last_minute) }
+    ensures end_keep { result.cause ≡ LastMinute → result.keep ≢ None }
+    ensures full_keep { result.cause ≡ HistoryFull → result.keep ≢ None }
     // The clock's thread made at least one event for each minute later than all before, except one.
     ensures rises { result.cause ≡ Stopped
         → C.risen clock.new ≤ C.risen clock.old + slice_index_or result.shares.items 0 0 + 1 }
     ensures failed { result.cause ≡ ClockFailed → C.failures clock.old < C.failures clock.new }
+    ensures stamps { IfSome result.keep (λ kept.
+        AreKept S.reads S.writes (plan_in checked).anacrontab.lines
+        (keeping_in kept).core.state.stamps store.old store.new) }
     ensures faults { result.stamp_faults + S.failures store.old ≤ S.failures store.new }
 {
     let parts = u64::from(checked.plan().capacity()) + 1;
-    run_on::<Brand, R, C, W, G, S, O>(
+    run_on::<Brand, Brand, R, C, W, G, S, O>(
         rt,
         alloc,
         Blank::new(parts),
+        Blank::new(1),
         checked,
         clock,
         runners,

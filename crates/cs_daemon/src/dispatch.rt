@@ -1,25 +1,58 @@
 //! What the lock guards: the keep, and the starts in its journal that workers take.
-ghost use Rattle.std.specs.Prelude.{◌≡◌, ◌+◌, ◌<◌, ◌≤◌, ◌^◌, OnOk};
+ghost use Rattle.std.specs.Prelude.{◌≡◌, ◌⊎◌, ◌+◌, ◌<◌, ◌≤◌, ◌^◌, ◌∷◌, [], IfErr, IfNone, IfSome, OnOk, drop, length, option_map};
+ghost use Rattle.cs_daemon.specs.Starts.{Adds, IsCut, IsTaken, Rounds, desk, starts_in, with_end};
+ghost use Rattle.cs_history.specs.declared.event.Event.TheVariants.{Down as GoesDown};
+ghost use Rattle.cs_keep.specs.Keeping.{with_event};
+ghost use Rattle.cs_keep.specs.declared.tick.TickFault.TheVariants.{ClockBack};
 
+use crate::commands::Returned;
 use crate::lines::LogLine;
 use crate::notices::Notices;
 use crate::plan_ledger::PlanLedger;
-use crate::stamps::Stamps;
+use crate::stamps::{CoreStamps, stamps_of};
 use cs_civil::Minute;
 use cs_core::Core;
-use cs_history::{Event, Reply, Run, copy_stamps};
-use cs_keep::{Keep, Seat, TickFault};
+use cs_history::{Event, Reply, Run};
+use cs_keep::{Entry, Keep, Seat, TickFault};
 use std::alloc::Global;
+use std::sync::ledger::{Book, Ledger, Share};
+
+/// A start that was taken from the journal, to be run. Only [`Dispatch::take`] makes one, and it can
+/// neither be copied nor be let go.
+pub(crate) struct Taken {
+    run: Run,
+}
+
+impl Taken {
+    /// The run.
+    pub(crate) fn run(&self) -> Run
+        ensures { result ≡ self.now.run }
+    {
+        self.run
+    }
+
+    /// The run, of which nothing is left to take.
+    pub(crate) fn into_run(self) -> Run
+        ensures { result ≡ self.run }
+    {
+        let Taken { run } = self;
+        run
+    }
+}
 
 /// The keep, the index in its journal from which starts are not taken yet, how many runs were found
-/// late, and whether no more starts will come.
+/// late, and whether no more starts will come. The book says in proofs which minute it is: the
+/// clock's thread has its share, so that no other thread goes on to a minute.
 #[derive(Drop)]
-pub(crate) struct Dispatch<J: PlanLedger> {
+pub(crate) struct Dispatch<J: PlanLedger, T: Ledger> {
     keep: Keep<J>,
+    time: Book<T>,
     next: usize,
     overruns: u64,
     over: bool,
     ghost plan: { keep.core.plan ≡ J.plan },
+    ghost place: { next ≤ length keep.journal },
+    ghost present: { time.total ≡ keep.core.state.now },
 }
 
 /// What a tick leaves to do outside the lock.
@@ -32,16 +65,18 @@ pub(crate) struct Round {
     /// What to log.
     pub(crate) notices: Notices,
     /// The stamps after the tick.
-    pub(crate) stamps: Stamps,
+    pub(crate) stamps: CoreStamps,
 }
 
-impl<J: PlanLedger> Dispatch<J> {
+impl<J: PlanLedger, T: Ledger> Dispatch<J, T> {
     /// A keep that has handed out no start yet.
-    pub(crate) fn new(keep: Keep<J>) -> Dispatch<J>
-        requires { keep.core.plan ≡ J.plan }
+    pub(crate) fn new(keep: Keep<J>, time: Book<T>) -> Dispatch<J, T>
+        requires plan { keep.core.plan ≡ J.plan }
+        requires time { time.total ≡ keep.core.state.now }
     {
         Dispatch {
             keep,
+            time,
             next: 0,
             overruns: 0,
             over: false,
@@ -53,49 +88,81 @@ impl<J: PlanLedger> Dispatch<J> {
         !self.over && self.next >= self.keep.journal().len()
     }
 
-    /// Takes the next start.
-    pub(crate) fn take(&mut self) -> Option<Run> {
-        for _ in 0..self.keep.journal().len() {
-            let journal = self.keep.journal();
-            if self.next >= journal.len() {
-                return None;
+    /// Takes the first start that nobody has taken.
+    pub(crate) fn take(&mut self) -> Option<Taken>
+        ensures taken { IsTaken
+            (desk self.old.keep self.old.next)
+            (option_map (λ taken. taken.run) result)
+            (desk self.new.keep self.new.next) }
+        ensures keep { self.new.keep ≡ self.old.keep }
+    {
+        match next_start(self.keep.journal(), self.next) {
+            Some((place, run)) => {
+                self.next = place + 1;
+                Some(Taken { run })
             }
-            let reply = journal[self.next].reply();
-            self.next += 1;
-            if let Reply::Started(run) = reply {
-                return Some(run);
+            None => {
+                self.next = self.keep.journal().len();
+                None
             }
         }
-        None
     }
 
-    /// Makes the event, and ignores a refusal.
-    pub(crate) fn make(&mut self, seat: &mut Seat<J>, event: Event)
+    /// Makes the end of a run whose command has returned. No other end is made. It is refused only
+    /// where the run doesn't go on.
+    #[tactic(auto, using(crate::proofs::Ending::ends))]
+    pub(crate) fn end(&mut self, seat: &mut Seat<J>, returned: Returned)
+        ensures keep { self.new.keep ≡ with_end self.old.keep returned.run }
+        ensures next { self.new.next ≡ self.old.next }
+        ensures grows { seat.old.share ≤ seat.new.share }
+        ensures one { seat.new.share ≤ seat.old.share + 1 }
+        ensures parts { seat.new.parts ≡ seat.old.parts }
+    {
+        let _ = self.keep.step(seat, Event::End(returned.into_run()));
+    }
+
+    /// Goes down, if that isn't refused.
+    pub(crate) fn go_down(&mut self, seat: &mut Seat<J>)
+        ensures keep { (self.new.keep ≡ with_event self.old.keep GoesDown)
+            ⊎ (self.new.keep ≡ self.old.keep) }
+        ensures next { self.new.next ≡ self.old.next }
         ensures grows { seat.old.share ≤ seat.new.share }
         ensures parts { seat.new.parts ≡ seat.old.parts }
     {
-        let _ = self.keep.step(seat, event);
+        let _ = self.keep.step(seat, Event::Down);
     }
 
     /// Goes on to the minute, notes what to log, and starts a new journal if it may.
+    #[tactic(auto, using(crate::proofs::Ticking::rounds))]
     pub(crate) fn round(
         &mut self,
         alloc: Global,
         seat: &mut Seat<J>,
+        time: &mut Share<T>,
         last: Minute,
         minute: Minute,
     ) -> Round
+        requires whole { time.old.parts ≡ T.parts }
+        requires last { time.old.amount ≡ last }
+        ensures whole { time.new.parts ≡ T.parts }
+        ensures now { OnOk result.ticked (time.new.amount ≡ minute) }
+        ensures back { IfErr result.ticked (λ fault. fault ≡ ClockBack → minute < last) }
+        ensures desk { Rounds
+            (desk self.old.keep self.old.next)
+            (desk self.new.keep self.new.next) }
+        ensures stamps { result.stamps.stamps.items ≡ self.new.keep.core.state.stamps }
         ensures rises { OnOk result.ticked (last < minute → seat.old.share < seat.new.share) }
         ensures grows { seat.old.share ≤ seat.new.share }
         ensures parts { seat.new.parts ≡ seat.old.parts }
     {
         let from = self.keep.journal().len();
-        let ticked = self.tick(seat, last, minute);
+        let ticked = self.tick(seat, time, last, minute);
         let mut notices = Notices::none(alloc);
         self.note_replies(&mut notices, from, last);
-        self.note_overruns(&mut notices, last, minute);
+        let late = note_overruns(self.keep.core(), &mut notices, last, minute);
+        self.overruns = self.overruns.saturating_add(late);
         let has_start = self.has_start(from);
-        let stamps = copy_stamps(self.keep.core().stamps());
+        let stamps = stamps_of(&self.keep);
         self.cut();
         Round {
             ticked,
@@ -105,12 +172,32 @@ impl<J: PlanLedger> Dispatch<J> {
         }
     }
 
-    fn tick(&mut self, seat: &mut Seat<J>, last: Minute, minute: Minute) -> Result<(), TickFault>
+    /// Goes on to the minute.
+    #[tactic(auto, using(crate::proofs::Ticking::ticks_place, crate::proofs::Ticking::ticks_back))]
+    fn tick(
+        &mut self,
+        seat: &mut Seat<J>,
+        time: &mut Share<T>,
+        last: Minute,
+        minute: Minute,
+    ) -> Result<(), TickFault>
+        requires whole { time.old.parts ≡ T.parts }
+        requires last { time.old.amount ≡ last }
+        ensures whole { time.new.parts ≡ T.parts }
+        ensures now { OnOk result (time.new.amount ≡ minute) }
+        ensures back { IfErr result (λ fault. fault ≡ ClockBack → minute < last) }
+        ensures desk { Adds
+            (desk self.old.keep self.old.next)
+            (desk self.new.keep self.new.next) }
         ensures rises { OnOk result (last < minute → seat.old.share < seat.new.share) }
         ensures grows { seat.old.share ≤ seat.new.share }
         ensures parts { seat.new.parts ≡ seat.old.parts }
     {
-        self.keep.tick(seat, last, minute)
+        self.time.audit(time);
+        let ticked = self.keep.tick(seat, last, minute);
+        self.time.sub(time, last.number());
+        self.time.add(time, self.keep.core().now().number());
+        ticked
     }
 
     /// Whether a run started, by the entries from an index on.
@@ -139,20 +226,16 @@ impl<J: PlanLedger> Dispatch<J> {
         }
     }
 
-    /// Notes which running runs are late at the minute, and were not at the last one.
-    fn note_overruns(&mut self, notices: &mut Notices, last: Minute, minute: Minute) {
-        let core = self.keep.core();
-        for going in core.running().iter() {
-            let deadline = deadline(core, going.run.job, going.since);
-            if last.number() < deadline && deadline <= minute.number() {
-                notices.add(LogLine::Overrun(going.run));
-                self.overruns = self.overruns.saturating_add(1);
-            }
+    /// Starts a new journal if it may, so that it doesn't fill up. It may only if each start was taken.
+    fn cut(&mut self)
+        ensures desk { IsCut
+            (desk self.old.keep self.old.next)
+            (desk self.new.keep self.new.next) }
+        ensures core { self.new.keep.core ≡ self.old.keep.core }
+    {
+        if next_start(self.keep.journal(), self.next).is_some() {
+            return;
         }
-    }
-
-    /// Starts a new journal if it may, so that it doesn't fill up. Then each start was taken.
-    fn cut(&mut self) {
         if self.keep.cut() {
             self.next = 0;
         }
@@ -182,12 +265,42 @@ impl<J: PlanLedger> Dispatch<J> {
     {
         let Dispatch {
             keep,
+            time: _,
             next: _,
             overruns: _,
             over: _,
         } = self;
         keep
     }
+}
+
+/// The first start at an index or behind it, with its own index.
+#[tactic(auto, using(crate::proofs::Taking::start_at, crate::proofs::Taking::no_start_at))]
+fn next_start(journal: &[Entry], from: usize) -> Option<(usize, Run)>
+    ensures some { IfSome result (λ found. (found.0 < length journal.now)
+        × (starts_in (drop from journal.now)
+        ≡ found.1 ∷ starts_in (drop (found.0 + 1) journal.now))) }
+    ensures none { IfNone result (starts_in (drop from journal.now) ≡ []) }
+{
+    for place in from..journal.len() {
+        if let Reply::Started(run) = journal[place].reply() {
+            return Some((place, run));
+        }
+    }
+    None
+}
+
+/// Notes which running runs are late at the minute, and were not at the last one. Returns how many.
+fn note_overruns(core: &Core, notices: &mut Notices, last: Minute, minute: Minute) -> u64 {
+    let mut late: u64 = 0;
+    for going in core.running().iter() {
+        let deadline = deadline(core, going.run.job, going.since);
+        if last.number() < deadline && deadline <= minute.number() {
+            notices.add(LogLine::Overrun(going.run));
+            late = late.saturating_add(1);
+        }
+    }
+    late
 }
 
 /// The minute from which on a run of this job is late, if it started in that one.

@@ -3,9 +3,11 @@
 
 mod clock_thread;
 mod closing;
+mod commands;
 mod daemon;
 mod dispatch;
 mod end;
+mod laws;
 mod lines;
 mod log;
 mod notices;
@@ -17,3 +19,4 @@ mod worker;
 
 pub use daemon::run_daemon;
 pub use end::{Cause, DaemonEnd};
+pub use laws::{starts_are_handed_out, starts_differ};

@@ -1,17 +1,38 @@
 //! The stamps of anacron jobs, and those that their store holds.
-ghost use Rattle.std.specs.Prelude.{◌≡◌, ◌+◌, ◌≤◌};
+ghost use Rattle.std.specs.Prelude.{◌≡◌, ◌+◌, ◌<◌, ◌≤◌, [], ◌∷◌, ◌++◌, true};
+ghost use Rattle.arrayvec.specs.ArrayVec.{array_vec_len};
+ghost use Rattle.cs_daemon.specs.Stamps.{AreRead, AreWritten, day_in, lacked, stamp_at, with_written};
 
 use arrayvec::ArrayVec;
 use cs_civil::Day;
 use cs_decl::Plan;
 use cs_device::{Stamp, StampStore};
 use cs_history::copy_stamps;
+use cs_keep::Keep;
+use std::sync::ledger::Ledger;
 
 /// A stamp for each anacron job, in the order of the plan.
 pub(crate) type Stamps = ArrayVec<Option<Day>, 64>;
 
 /// The anacron jobs whose stamp couldn't be read or written, by index.
 pub(crate) type Failed = ArrayVec<usize, 64>;
+
+/// The stamps of a keep's core. Only [`stamps_of`] makes them.
+#[derive(Drop)]
+pub(crate) struct CoreStamps {
+    stamps: Stamps,
+}
+
+/// The stamps of the keep's core.
+pub(crate) fn stamps_of<L: Ledger>(keep: &Keep<L>) -> CoreStamps
+    ensures { result.stamps.items ≡ keep.now.core.state.stamps }
+{
+    let core = keep.core();
+    let _jobs = core.plan().jobs();
+    CoreStamps {
+        stamps: copy_stamps(core.stamps()),
+    }
+}
 
 /// The stamps that the store holds, as far as is known, and how often it failed.
 #[derive(Drop)]
@@ -22,79 +43,113 @@ pub(crate) struct Stored {
 
 impl Stored {
     /// Reads the stamp of each job. One that can't be read is none.
+    #[tactic(auto, using(crate::proofs::Storing::read_none, crate::proofs::Storing::read_one, crate::proofs::Storing::read_all))]
     pub(crate) fn read<S: StampStore>(plan: &Plan, store: &mut S) -> (Stored, Failed)
-        ensures { result.0.faults + S.failures store.old ≤ S.failures store.new }
+        ensures read { AreRead S.reads plan.now.anacrontab.lines
+            store.old result.0.stamps.items store.new }
+        ensures faults { result.0.faults + S.failures store.old ≤ S.failures store.new }
     {
         let mut stamps = ArrayVec::new();
         let mut faults: u64 = 0;
         let mut failed = ArrayVec::new();
-        for (job, line) in plan.anacrontab().lines().iter().enumerate() {
-            let stamp = match store.read(line.identifier()) {
-                Stamp::On(day) => Some(day),
-                Stamp::Absent => None,
-                Stamp::Failed => {
-                    faults = faults.saturating_add(1);
-                    add(&mut failed, job);
-                    None
-                }
-            };
-            add(&mut stamps, stamp);
+        let lines = plan.anacrontab().lines();
+        for job in 0..lines.len() {
+            let answer = store.read(lines[job].identifier());
+            if answer == Stamp::Failed {
+                faults = faults.saturating_add(1);
+                add(&mut failed, job);
+            }
+            add(&mut stamps, day_in(answer));
         }
         (Stored { stamps, faults }, failed)
     }
 
     /// The stamps that the store holds.
-    pub(crate) fn stamps(&self) -> Stamps {
+    pub(crate) fn stamps(&self) -> Stamps
+        ensures { result.items ≡ self.now.stamps.items }
+    {
         copy_stamps(self.stamps.as_slice())
     }
 
-    /// Writes each stamp that the store lacks.
+    /// Writes each stamp that the store lacks, and no other.
+    #[tactic(auto, using(crate::proofs::Storing::write_none, crate::proofs::Storing::write_not, crate::proofs::Storing::write_one, crate::proofs::Storing::write_all))]
     pub(crate) fn write<S: StampStore>(
         &mut self,
         plan: &Plan,
         store: &mut S,
-        stamps: &Stamps,
+        stamps: &CoreStamps,
     ) -> Failed
-        ensures { self.new.faults + S.failures store.old ≤ self.old.faults + S.failures store.new }
+        ensures written { AreWritten S.writes plan.now.anacrontab.lines stamps.now.stamps.items
+            self.old.stamps.items store.old self.new.stamps.items store.new }
+        ensures faults { self.new.faults + S.failures store.old
+            ≤ self.old.faults + S.failures store.new }
     {
+        let before = self.stamps();
         let mut failed = ArrayVec::new();
-        for (job, line) in plan.anacrontab().lines().iter().enumerate() {
-            let Some(day) = stamp_at(stamps, job) else {
+        let lines = plan.anacrontab().lines();
+        for job in 0..lines.len() {
+            let Some(day) = lacked(stamp_at(&before, job), stamp_at(&stamps.stamps, job)) else {
                 continue;
             };
-            if stamp_at(&self.stamps, job) == Some(day) {
-                continue;
-            }
-            if store.write(line.identifier(), day) {
-                self.note(job, day);
-            } else {
-                self.faults = self.faults.saturating_add(1);
+            let done = store.write(lines[job].identifier(), day);
+            self.note(job, day, done);
+            if !done {
                 add(&mut failed, job);
             }
         }
         failed
     }
 
-    /// Notes that the store holds this stamp.
-    fn note(&mut self, job: usize, day: Day)
-        ensures { self.new.faults ≡ self.old.faults }
+    /// Notes that the store holds this stamp, or that it failed.
+    fn note(&mut self, job: usize, day: Day, done: bool)
+        ensures stamps { self.new.stamps.items
+            ≡ with_written self.old.stamps.items (record { job = job; day = day; done = done }) }
+        ensures written { done ≡ true → self.new.faults ≡ self.old.faults }
+        ensures failed { self.new.faults ≤ self.old.faults + 1 }
     {
-        let mut stamps = ArrayVec::new();
-        for (other, stamp) in self.stamps.as_slice().iter().enumerate() {
-            add(&mut stamps, if other == job { Some(day) } else { *stamp });
+        if !done {
+            self.faults = self.faults.saturating_add(1);
+            return;
         }
-        self.stamps = stamps;
+        if let Some(stamp) = self.stamps.get_mut(job) {
+            *stamp = Some(day);
+        }
     }
 }
 
 /// Adds the item if there is room.
-fn add<T: Default + Drop>(items: &mut ArrayVec<T, 64>, item: T) {
+fn add<T: Default + Drop>(items: &mut ArrayVec<T, 64>, item: T)
+    ensures { array_vec_len items.old < 64 → items.new.items ≡ items.old.items ++ item ∷ [] }
+{
     if !items.is_full() {
         items.push(item);
     }
 }
 
-fn stamp_at(stamps: &Stamps, job: usize) -> Option<Day> {
+/// The day of a stamp that was read.
+fn day_in(stamp: Stamp) -> Option<Day>
+    ensures { result ≡ day_in stamp }
+{
+    match stamp {
+        Stamp::On(day) => Some(day),
+        Stamp::Absent | Stamp::Failed => None,
+    }
+}
+
+/// The stamp, if it isn't the one that is known.
+fn lacked(known: Option<Day>, stamp: Option<Day>) -> Option<Day>
+    ensures { result ≡ lacked known stamp }
+{
+    match (known, stamp) {
+        (Some(known), Some(day)) => { if known == day { None } else { Some(day) } }
+        (None, stamp) => stamp,
+        (Some(_), None) => None,
+    }
+}
+
+fn stamp_at(stamps: &Stamps, job: usize) -> Option<Day>
+    ensures { result ≡ stamp_at stamps.now.items job }
+{
     match stamps.as_slice().get(job) {
         Some(stamp) => *stamp,
         None => None,

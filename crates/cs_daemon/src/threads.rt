@@ -1,8 +1,11 @@
 //! The threads of a daemon: one for each runner, and one for the clock.
 ghost use Rattle.std.specs.Prelude.{◌≡◌, ◌+◌, ◌<◌, ◌≤◌, ◌^◌, [], ◌∷◌, ◌++◌, IfSome, Some, slice_index_or, sum, vec_len};
 ghost use Rattle.arrayvec.specs.ArrayVec.{array_vec_len};
-ghost use Rattle.cs_daemon.specs.declared.end.Cause.TheVariants.{Stopped, ClockFailed};
-ghost use Rattle.cs_device.specs.declared.clock.Tick.TheVariants.{Stop};
+ghost use Rattle.cs_civil.specs.Calendar.{last_minute};
+ghost use Rattle.cs_daemon.specs.Causes.{IsBack};
+ghost use Rattle.cs_daemon.specs.Stamps.{HaveBeenWritten};
+ghost use Rattle.cs_daemon.specs.declared.end.Cause.TheVariants.{Stopped, LastMinute, ClockBack, ClockFailed};
+ghost use Rattle.cs_device.specs.declared.clock.Tick.TheVariants.{At, Stop};
 
 use crate::clock_thread::ClockEnd;
 use crate::end::Cause;
@@ -15,6 +18,7 @@ use cs_civil::Minute;
 use cs_device::{Clock, Gate, Runner, StampStore};
 use cs_keep::Seat;
 use std::sync::Wait;
+use std::sync::ledger::{Ledger, Share};
 use std::thread::{Scope, Threads};
 use std::{io, thread};
 
@@ -65,6 +69,7 @@ fn with_workers<
     'a: 's,
     'w: 'a,
     J: PlanLedger + Send + Sync,
+    T: Ledger + Send + Sync,
     R: Threads + Wait + Sync,
     C: Clock,
     W: Runner + Send + Drop + 'a,
@@ -73,31 +78,39 @@ fn with_workers<
     O: io::Write + Send,
 >(
     scope: &'s Scope<'s, &'a ()>,
-    shared: &'a Shared<'w, J, R, G, O>,
+    shared: &'a Shared<'w, J, T, R, G, O>,
     runners: Vec<W>,
     clock: &mut C,
     store: &mut S,
     stored: &mut Stored,
     seat: Seat<J>,
+    time: Share<T>,
     first: Option<Minute>,
 ) -> Gathered<J>
     requires few { (vec_len runners ≤ 64) × (J.parts < 2 ^ 64) }
+    requires whole { time.parts ≡ T.parts }
+    requires now { IfSome first (λ m. time.amount ≡ m) }
     requires top { IfSome first (λ m. m ≤ C.top clock.old) }
+    requires last { IfSome first (λ m. C.last clock.old ≡ Some (At m)) }
     requires parts { seat.parts ≡ vec_len runners + 1 }
     requires fresh { seat.share ≡ 0 }
     ensures stopped { result.cause ≡ Stopped → C.last clock.new ≡ Some Stop }
+    ensures back { result.cause ≡ ClockBack → IsBack (C.top clock.new) (C.last clock.new) }
+    ensures end { result.cause ≡ LastMinute → C.last clock.new ≡ Some (At last_minute) }
     ensures rises { result.cause ≡ Stopped
         → C.risen clock.new ≤ C.risen clock.old + slice_index_or result.shares.items 0 0 }
     ensures failures { C.failures clock.old ≤ C.failures clock.new }
     ensures failed { result.cause ≡ ClockFailed → C.failures clock.old < C.failures clock.new }
     ensures parts { result.seat.parts ≡ vec_len runners + 1 }
     ensures shares { array_vec_len result.shares ≡ vec_len runners + 1 }
+    ensures written { HaveBeenWritten S.writes shared.now.plan.now.anacrontab.lines
+        stored.old.stamps.items store.old stored.new.stamps.items store.new }
     ensures faults { stored.new.faults + S.failures store.old
         ≤ stored.old.faults + S.failures store.new }
 {
     let mut rest = runners;
     let Some(runner) = rest.pop() else {
-        return Gathered::new(shared.lead(clock, store, stored, seat, first));
+        return Gathered::new(shared.lead(clock, store, stored, seat, time, first));
     };
     let mut seat = seat;
     let Some(theirs) = seat.split() else {
@@ -112,12 +125,16 @@ fn with_workers<
     };
     match scope.spawn(job) {
         Ok(handle) => {
-            let mut gathered = with_workers(scope, shared, rest, clock, store, stored, seat, first);
+            let mut gathered = with_workers(
+                scope, shared, rest, clock, store, stored, seat, time, first,
+            );
             gathered.add(handle.join(shared.rt));
             gathered
         }
         Err(refused) => {
-            let mut gathered = with_workers(scope, shared, rest, clock, store, stored, seat, None);
+            let mut gathered = with_workers(
+                scope, shared, rest, clock, store, stored, seat, time, None,
+            );
             gathered.add((refused.value)());
             gathered
         }
@@ -133,6 +150,7 @@ pub(crate) fn run_threads<
     'a,
     'w: 'a,
     J: PlanLedger + Send + Sync,
+    T: Ledger + Send + Sync,
     R: Threads + Wait + Sync,
     C: Clock,
     W: Runner + Send + Drop + 'a,
@@ -140,25 +158,33 @@ pub(crate) fn run_threads<
     S: StampStore,
     O: io::Write + Send,
 >(
-    shared: &'a Shared<'w, J, R, G, O>,
+    shared: &'a Shared<'w, J, T, R, G, O>,
     runners: Vec<W>,
     clock: &mut C,
     store: &mut S,
     stored: Stored,
     seat: Seat<J>,
+    time: Share<T>,
     first: Minute,
 ) -> (Stored, Gathered<J>)
     requires few { (vec_len runners ≤ 64) × (J.parts < 2 ^ 64) }
+    requires whole { time.parts ≡ T.parts }
+    requires now { time.amount ≡ first }
     requires top { first ≤ C.top clock.old }
+    requires last { C.last clock.old ≡ Some (At first) }
     requires parts { seat.parts ≡ vec_len runners + 1 }
     requires fresh { seat.share ≡ 0 }
     ensures stopped { result.1.cause ≡ Stopped → C.last clock.new ≡ Some Stop }
+    ensures back { result.1.cause ≡ ClockBack → IsBack (C.top clock.new) (C.last clock.new) }
+    ensures end { result.1.cause ≡ LastMinute → C.last clock.new ≡ Some (At last_minute) }
     ensures rises { result.1.cause ≡ Stopped
         → C.risen clock.new ≤ C.risen clock.old + slice_index_or result.1.shares.items 0 0 }
     ensures failures { C.failures clock.old ≤ C.failures clock.new }
     ensures failed { result.1.cause ≡ ClockFailed → C.failures clock.old < C.failures clock.new }
     ensures parts { result.1.seat.parts ≡ vec_len runners + 1 }
     ensures shares { array_vec_len result.1.shares ≡ vec_len runners + 1 }
+    ensures written { HaveBeenWritten S.writes shared.now.plan.now.anacrontab.lines
+        stored.stamps.items store.old result.0.stamps.items store.new }
     ensures faults { result.0.faults + S.failures store.old
         ≤ stored.faults + S.failures store.new }
 {
@@ -167,11 +193,17 @@ pub(crate) fn run_threads<
         shared.rt,
         move |scope| -> (&mut C, &mut S, Stored, Gathered<J>)
             requires few { (vec_len runners ≤ 64) × (J.parts < 2 ^ 64) }
+            requires time { (time.parts ≡ T.parts) × (time.amount ≡ first) }
             requires top { first ≤ C.top clock.now }
+            requires last { C.last clock.now ≡ Some (At first) }
             requires seat { (seat.parts ≡ vec_len runners + 1) × (seat.share ≡ 0) }
             ensures same { (result.0.ghost_name ≡ clock.entry.ghost_name)
                 × (result.1.ghost_name ≡ store.entry.ghost_name) }
             ensures stopped { result.3.cause ≡ Stopped → C.last result.0.now ≡ Some Stop }
+            ensures back { result.3.cause ≡ ClockBack
+                → IsBack (C.top result.0.now) (C.last result.0.now) }
+            ensures end { result.3.cause ≡ LastMinute
+                → C.last result.0.now ≡ Some (At last_minute) }
             ensures rises { result.3.cause ≡ Stopped → C.risen result.0.now
                 ≤ C.risen clock.entry.now + slice_index_or result.3.shares.items 0 0 }
             ensures failures { C.failures clock.entry.now ≤ C.failures result.0.now }
@@ -179,10 +211,13 @@ pub(crate) fn run_threads<
                 → C.failures clock.entry.now < C.failures result.0.now }
             ensures parts { result.3.seat.parts ≡ vec_len runners + 1 }
             ensures shares { array_vec_len result.3.shares ≡ vec_len runners + 1 }
+            ensures written { HaveBeenWritten S.writes shared.entry.now.plan.now.anacrontab.lines
+                stored.stamps.items store.entry.now result.2.stamps.items result.1.now }
             ensures faults { result.2.faults + S.failures store.entry.now
                 ≤ stored.faults + S.failures result.1.now }
         {
             let seat = seat;
+            let time = time;
             let runners = runners;
             let mut stored = stored;
             let gathered = with_workers(
@@ -193,6 +228,7 @@ pub(crate) fn run_threads<
                 store,
                 &mut stored,
                 seat,
+                time,
                 Some(first),
             );
             (clock, store, stored, gathered)

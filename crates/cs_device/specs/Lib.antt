@@ -1,3 +1,4 @@
+pub mod Asked
 pub mod Count
 pub mod Rise
 pub mod Telling

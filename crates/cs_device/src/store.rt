@@ -16,18 +16,28 @@ pub enum Stamp {
 
 /// Keeps the stamps of anacron jobs, by their identifiers (anacron(8)).
 pub trait StampStore {
+    ghost use Rattle.std.specs.Prelude.{List, Bool};
+    ghost use Rattle.cs_device.specs.declared.store.Stamp.{Stamp};
     ghost use Rattle.cs_device.specs.declared.store.Stamp.TheVariants.{Failed};
+
+    /// What reading an identifier's stamp does to the store, by its answer.
+    ghost reads: { Self → List ℕ → Stamp → Self → Type 0 };
+
+    /// What writing an identifier's stamp, of a day, does to it, by whether it is written.
+    ghost writes: { Self → List ℕ → ℕ → Bool → Self → Type 0 };
 
     /// How often a stamp could not be read or written.
     ghost failures: { Self → ℕ };
 
     /// Reads the stamp of a job.
     fn read(&mut self, identifier: &[u8]) -> Stamp
+        ensures reads { reads self.old identifier.now result self.new }
         ensures failures { failures self.old ≤ failures self.new }
         ensures failed { result ≡ Failed → failures self.old < failures self.new };
 
     /// Writes the stamp of a job in place of the one before, and returns whether it is written.
     fn write(&mut self, identifier: &[u8], day: Day) -> bool
+        ensures writes { writes self.old identifier.now day result self.new }
         ensures failures { failures self.old ≤ failures self.new }
         ensures failed { result ≡ false → failures self.old < failures self.new };
 }

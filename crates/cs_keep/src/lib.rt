@@ -15,7 +15,7 @@ mod tick;
 pub use entry::Entry;
 pub use keep::Keep;
 pub use kept::Kept;
-pub use laws::choices_run_out;
+pub use laws::{choices_run_out, what_a_keep_promises};
 pub use limits::MAX_ENTRIES;
 pub use seat::Seat;
 pub use tick::TickFault;

@@ -68,6 +68,11 @@ impl<'r, P: Processes> ShellRunner<'r, P> {
 }
 
 impl<'r, P: Processes> Runner for ShellRunner<'r, P> {
+    ghost use Rattle.std.specs.Prelude.{⊤};
+
+    // nothing is known of what the machine does
+    ghost runs = { λ before words outcome behind. ⊤ };
+
     ghost failures = { λ r. r.failures };
 
     fn run(&mut self, command: &[u8], input: Option<&[u8]>, env: &[(Bytes, Bytes)]) -> Outcome {

@@ -145,6 +145,13 @@ impl<'r, 'f, R: Files> StampsFolder<'r, 'f, R> {
 }
 
 impl<'r, 'f, R: Files> StampStore for StampsFolder<'r, 'f, R> {
+    ghost use Rattle.std.specs.Prelude.{⊤};
+
+    // nothing is known of what the folder holds
+    ghost reads = { λ before identifier answer behind. ⊤ };
+
+    ghost writes = { λ before identifier day answer behind. ⊤ };
+
     ghost failures = { λ s. s.failures };
 
     fn read(&mut self, identifier: &[u8]) -> Stamp {

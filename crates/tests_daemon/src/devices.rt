@@ -102,6 +102,10 @@ pub(crate) struct FailingRunner {
 }
 
 impl Runner for FailingRunner {
+    ghost use Rattle.std.specs.Prelude.{⊤};
+
+    ghost runs = { λ before words outcome behind. ⊤ };
+
     ghost failures = { λ r. r.failures };
 
     fn run(&mut self, _command: &[u8], _input: Option<&[u8]>, _env: &[(Bytes, Bytes)]) -> Outcome {
@@ -203,6 +207,12 @@ pub(crate) struct FailingStore<'a> {
 }
 
 impl<'a> StampStore for FailingStore<'a> {
+    ghost use Rattle.std.specs.Prelude.{⊤};
+
+    ghost reads = { λ before identifier answer behind. ⊤ };
+
+    ghost writes = { λ before identifier day answer behind. ⊤ };
+
     ghost failures = { λ s. s.failures };
 
     fn read(&mut self, _identifier: &[u8]) -> Stamp {

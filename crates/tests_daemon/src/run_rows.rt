@@ -6,13 +6,21 @@ use crate::play::{InKeep, MIDNIGHT, Played, Script, day, play};
 use cs_daemon::Cause;
 use std::alloc::Global;
 
+/// 9999-12-31 23:59.
+const LAST: u64 = 4_223_371_679;
+
 /// The end of the line of a run that its runner has ended.
 const ENDED: &str = " status 3\n";
 
-/// Whether the daemon was stopped, with these shares.
-fn is_stopped(played: &Played, total: u64, shares: &[u64]) -> bool {
+/// Whether the daemon ended for this cause, with these shares.
+fn has_ended(played: &Played, cause: Cause, total: u64, shares: &[u64]) -> bool {
     let end = &played.end;
-    end.cause == Cause::Stopped && end.total == total && end.shares.as_slice() == shares
+    end.cause == cause && end.total == total && end.shares.as_slice() == shares
+}
+
+/// Whether it was stopped, with these shares.
+fn is_stopped(played: &Played, total: u64, shares: &[u64]) -> bool {
+    has_ended(played, Cause::Stopped, total, shares)
 }
 
 /// A keep of this total, down at this minute, without stamps.
@@ -85,4 +93,23 @@ fn a_day(rt: HostRuntime) {
     let played = play(&rt, alloc, &Script::plain(&HOURLY, minutes.as_slice()));
     assert!(&rt; is_stopped(&played, 1_428, &[1_405, 23]) && played.count(ENDED) == 23);
     assert!(&rt; played.end.keep == down(1_428, MIDNIGHT + 1_439));
+}
+
+/// In the last minute there is no other to go on to: a coming up, a minute and a going down.
+#[test]
+fn last_minute(rt: HostRuntime) {
+    let alloc: Global = rt.alloc();
+    let minutes = [LAST - 1, LAST];
+    let played = play(&rt, alloc, &Script::plain(&HOURLY, &minutes));
+    assert!(&rt; has_ended(&played, Cause::LastMinute, 3, &[3, 0]));
+    assert!(&rt; played.end.keep == down(3, LAST) && played.logs(""));
+}
+
+/// A clock that begins with the last minute: a coming up and a going down.
+#[test]
+fn first_is_last(rt: HostRuntime) {
+    let alloc: Global = rt.alloc();
+    let played = play(&rt, alloc, &Script::plain(&HOURLY, &[LAST]));
+    assert!(&rt; has_ended(&played, Cause::LastMinute, 2, &[2, 0]));
+    assert!(&rt; played.end.keep == down(2, LAST));
 }

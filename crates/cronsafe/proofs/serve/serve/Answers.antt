@@ -1,7 +1,8 @@
-use Rattle.std.proofs.Common.{rules, ◌≡◌, ◌∙◌, codes, inl, inr, subst}
+use Rattle.std.proofs.Common.{rules, ◌≡◌, ℕ, codes, inl, inr, subst}
+use Rattle.cs_device.specs.Telling.{Telling, nothing_told}
 use Rattle.cs_files.specs.Response.{status_of}
 use Rattle.cronsafe.specs.Ending.{Ends, RunsOut, Tries, sink}
-use Rattle.cronsafe.specs.Serve.{HasRun, cause_status, farewell, without_folder}
+use Rattle.cronsafe.specs.Serve.{IsServedBy, Tellings, no_tellings, without_folder}
 use Rattle.cronsafe.proofs.serve.serve.Goals.{in-Ok-without_folder, in-Err}
 use Rattle.cronsafe.proofs.serve.serve.Goals as goal
 
@@ -35,13 +36,18 @@ returns-in_default-runners_by g c =
     let ran : RunsOut out out between err-new (status_of c.run_out-in_default-runners_by.result) = search rules in
     inr (between, warned, inl ran)
 
+-- what a clock has told, and how often a store of stamps has failed
+abbrev tellings : Telling → ℕ → Tellings
+tellings t failures = record { last = t.last; risen = t.risen; clock_failures = t.failures; stamp_failures = failures }
+
 pub returns : goal.returns
 returns g c =
     let err-old = sink (g.E.Output.contents c.args.err.now) (g.E.Output.failed c.args.err.now) in
     let between = sink (g.E.Output.contents c.tell-2.new.err) (g.E.Output.failed c.tell-2.new.err) in
-    let err-new = sink (g.E.Output.contents c.tell-3.new.err) (g.E.Output.failed c.tell-3.new.err) in
+    let err-new = sink (g.E.Output.contents c.serve_by.new.err) (g.E.Output.failed c.serve_by.new.err) in
     let warned : Tries c.args.order.warnings err-old between = subst (λ t. Tries t err-old between) c.as_slice-2.ensures c.tell-2.ensures in
-    let run : HasRun c.args.order.checked c.run_daemon-end.result = search rules in
-    let told : Tries (farewell c.run_daemon-end.result.cause) between err-new = subst (λ t. Tries t between err-new) (c.as_bytes.ensures.value ∙ c.farewell.ensures) c.tell-3.ensures in
-    let by_cause : status_of c.status_for.result ≡ cause_status c.run_daemon-end.result.cause = search rules in
-    inr (between, warned, inr (record { end = c.run_daemon-end.result; run = run; told = told; by_cause = by_cause }))
+    let after = tellings c.serve_by.new.clock.told c.serve_by.new.store.failures in
+    let status = status_of c.serve_by.result in
+    let by_clock : IsServedBy c.args.order.checked (tellings nothing_told c.in-Ok.stamps.failures) after between err-new status = subst (λ (t : Telling). IsServedBy c.args.order.checked (tellings t c.in-Ok.stamps.failures) after between err-new status) c.new-clock.ensures.told c.serve_by.ensures in
+    let served : IsServedBy c.args.order.checked no_tellings after between err-new status = subst (λ (n : ℕ). IsServedBy c.args.order.checked (tellings nothing_told n) after between err-new status) c.in-Ok.ensures.fresh by_clock in
+    inr (between, warned, inr (after, served))

@@ -6,3 +6,6 @@ ghosts-run_on-J-Ledger g a = record { name = a.blank.name; parts = a.blank.parts
 
 abbrev pub ghosts-run_on-J-PlanLedger : goal.ghosts-run_on-J-PlanLedger
 ghosts-run_on-J-PlanLedger g a = record { plan = plan_in a.checked }
+
+abbrev pub ghosts-run_on-T-Ledger : goal.ghosts-run_on-T-Ledger
+ghosts-run_on-T-Ledger g a = record { name = a.time.name; parts = a.time.parts }

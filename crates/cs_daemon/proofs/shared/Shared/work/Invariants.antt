@@ -1,5 +1,12 @@
-use Rattle.std.proofs.Common.{◌≡◌}
+use Rattle.std.proofs.Common.{◌≡◌, ◌≤◌, ◌+◌, List, length}
+use Rattle.cs_history.specs.declared.run.Run.{Run}
+use Rattle.cs_device.specs.declared.runner.Outcome.{Outcome}
+use Rattle.cs_daemon.specs.Commands.{CarriesOutAll}
 use Rattle.cs_daemon.proofs.shared.Shared.work.Given as goal
 
 abbrev pub invariant-loop : goal.invariant-loop
-invariant-loop g l = l.seat.parts ≡ 1
+invariant-loop g l = record {
+  parts : l.seat.parts ≡ 1;
+  runs : (runs : List (Run × Outcome)) × CarriesOutAll g.W.Runner.runs l.fn.self.plan.now runs l.fn.runner l.runner
+      × (l.seat.share ≤ l.fn.seat.share + length runs);
+}

@@ -1,0 +1,220 @@
+-- What the answers to calls say of the bytes of their files.
+use Rattle.std.proofs.Common.{◌≡◌, ◌≢◌, inl, inr, ℕ, List, Option, Some, None, Result, Ok, Err, refl, ap, subst, sym, ◌∙◌}
+use Rattle.std.specs.Prelude.{IfSome}
+use Rattle.clap.specs.Words.{Text}
+use Rattle.cs_crontab.specs.Crontab.{Table}
+use Rattle.cs_crontab.specs.Faults.{Means}
+use Rattle.cs_anacrontab.specs.Anacrontab.{Table as JobTable}
+use Rattle.cs_anacrontab.specs.Faults.{Means as MeansJobs}
+use Rattle.cs_decl.specs.Faults.{Fault as DeclaredFault}
+use Rattle.cs_decl.specs.Join.{joined}
+use Rattle.cs_decl.specs.Meaning.{declared_by}
+use Rattle.cs_decl.specs.Plan.{Declared}
+use Rattle.cs_decl.specs.declared.entries.Entries.{Entries}
+use Rattle.cs_cert.specs.Denoted.{certificate_by}
+use Rattle.cs_check.specs.Checked.{certificate_in, plan_in}
+use Rattle.cs_check.specs.declared.checked.Checked.{Checked}
+use Rattle.cs_judge.proofs.Outcomes.{safe_stands, unsafe_stands}
+use Rattle.cs_judge.specs.declared.answers.Outcome.{Outcome}
+use Rattle.cs_judge.specs.declared.answers.Outcome.TheVariants as outcome
+use Rattle.cs_judge.specs.declared.answers.Wanted.TheVariants.{Verdict}
+use Rattle.cs_args.specs.CommandLine.{AskedCheck, AskedJudge, AskedRun}
+use Rattle.cs_io.specs.Files.{Failed}
+use Rattle.cs_files.specs.Reads.{AndThen, Gives, GivesSome, ReadsAs, ReadsDeclared, ReadsEntries, ReadsJobs, ReadsTables, behind, planned}
+use Rattle.cs_files.specs.Response.{Ending}
+use Rattle.cs_files.specs.Trouble.{InAnacrontab, InCertificate, InCrontab, InDeclarations, InScript, InWords, Trouble, Unread, trouble_status}
+use Rattle.cs_cli.specs.Answer.{IsOrder}
+use Rattle.cs_cli.specs.Check.{IsProofOf}
+use Rattle.cs_cli.specs.Judge.{AnswersJudge, IsJudged, JudgesPlan, outcome_status}
+use Rattle.cs_cli.specs.Safe.{IsChecked}
+use Rattle.cs_cli.specs.Theorem.{DenoteJobs, DenotesPlan, Given, Hold, HoldsIt, IsCalmSchedule, IsJudgedSafe, IsJudgedUnsafe, IsSafePlan, IsSafeSchedule}
+use Rattle.cs_cli.specs.declared.answer.Order.{Order}
+
+-- ---- what was read
+
+-- two steps that gave a value: the first gave one, and the second gave this one of it
+record BothGave {X Y : Type 0} (first : Failed → Failed → Result X Trouble → Type 0) (next : X → Failed → Failed → Result Y Trouble → Type 0) (before after : Failed) (y : Y) : Type 0 where
+  value : X
+  one : first before before (Ok value)
+  two : next value before after (Ok y)
+
+both_gave : {X Y : Type 0} (first : Failed → Failed → Result X Trouble → Type 0) (next : X → Failed → Failed → Result Y Trouble → Type 0) (before after : Failed) (y : Y)
+    → AndThen first next before after (Ok y) → BothGave first next before after y
+both_gave first next before after y (inl (t, stop, e)) = absurd (cc)
+both_gave first next before after y (inr (x, one, two)) = record { value = x; one = one; two = two }
+
+-- one result gives one value
+same_value : {X : Type 0} (r : Result X Trouble) (x y : X) → r ≡ Ok x → r ≡ Ok y → x ≡ y
+same_value r x y e f = cc
+
+-- what was given has the property
+some_given : {X : Type 0} (R : X → Type 0) (before after : Failed) (y : X) → GivesSome R before after (Ok y) → R y
+some_given R before after y (same, (x, is, e)) = subst R (same_value (Ok y) x y e refl) is
+
+-- a file of known bytes means what was read
+file_means : {M F : Type 0} (files : List ℕ → Option (List ℕ)) (path : Text) (means : List ℕ → Result M F → Type 0) (told : F → Trouble) (before after : Failed) (m : M) (bytes : List ℕ)
+    → files path ≡ Some bytes → ReadsAs files path means told before after (Ok m) → means bytes (Ok m)
+file_means files path means told before after m bytes holds read = subst (λ (o : Option (List ℕ)). IfSome o (λ text. means text (Ok m))) holds read.1
+
+jobs_denoted : (files : List ℕ → Option (List ℕ)) (anacrontab : Option Text) (bytes : Option (List ℕ)) (before after : Failed) (jobs : JobTable)
+    → HoldsIt files anacrontab bytes → ReadsJobs files anacrontab before after (Ok jobs) → DenoteJobs bytes jobs
+jobs_denoted files None None before after jobs holds read = let e = read.1 in cc
+jobs_denoted files None (Some bytes) before after jobs holds read = absurd holds
+jobs_denoted files (Some path) None before after jobs holds read = absurd holds
+jobs_denoted files (Some path) (Some bytes) before after jobs holds read = file_means files path MeansJobs InAnacrontab before after jobs bytes holds read
+
+tables_denoted : (files : List ℕ → Option (List ℕ)) (table : Text) (anacrontab : Option Text) (declarations : Text) (given : Given) (before after : Failed) (both : Table × JobTable)
+    → Hold files table anacrontab declarations given → ReadsTables files table anacrontab before after (Ok both)
+    → Means given.crontab (Ok both.0) × DenoteJobs given.anacrontab both.1
+tables_denoted files table anacrontab declarations given before after both hold read =
+    let one = both_gave (ReadsAs files table Means InCrontab) (λ t. AndThen (ReadsJobs files anacrontab) (λ jobs. Gives (Ok (t, jobs)))) before after both read in
+    let two = both_gave (ReadsJobs files anacrontab) (λ jobs. Gives (Ok (one.value, jobs))) before after both one.two in
+    let same = same_value (Ok both) both (one.value, two.value) refl two.two.1 in
+    subst (λ (b : Table × JobTable). Means given.crontab (Ok b.0) × DenoteJobs given.anacrontab b.1) (sym same) (
+      file_means files table Means InCrontab before before one.value given.crontab hold.crontab one.one,
+      jobs_denoted files anacrontab given.anacrontab before before two.value hold.anacrontab two.one,
+    )
+
+entries_denoted : (files : List ℕ → Option (List ℕ)) (path : Text) (before after : Failed) (d : Entries) (bytes : List ℕ)
+    → files path ≡ Some bytes → ReadsEntries files path before after (Ok d) → declared_by bytes ≡ Ok d
+entries_denoted files path before after d bytes holds (inl read) = file_means files path (λ text e. declared_by text ≡ e) InDeclarations before after d bytes holds read
+entries_denoted files path before after d bytes holds (inr (same, long, (t, told, e))) = absurd (cc)
+
+is_planned : (r : Result Declared DeclaredFault) (plan : Declared) → Ok plan ≡ planned r → r ≡ Ok plan
+is_planned (Ok p) plan e = cc
+is_planned (Err fault) plan e = absurd (cc)
+
+plan_denoted : (files : List ℕ → Option (List ℕ)) (table : Text) (anacrontab : Option Text) (declarations : Text) (given : Given) (before after before' after' : Failed) (both : Table × JobTable) (plan : Declared)
+    → Hold files table anacrontab declarations given → ReadsTables files table anacrontab before after (Ok both)
+    → ReadsDeclared files both declarations before' after' (Ok plan) → DenotesPlan given plan
+plan_denoted files table anacrontab declarations given before after before' after' both plan hold read rest =
+    let tables = tables_denoted files table anacrontab declarations given before after both hold read in
+    let one = both_gave (ReadsEntries files declarations) (λ d. Gives (planned (joined both.0 both.1 d))) before' after' plan rest in
+    record {
+      crontab = both.0;
+      is_crontab = tables.0;
+      anacrontab = both.1;
+      is_anacrontab = tables.1;
+      entries = one.value;
+      are_entries = entries_denoted files declarations before' before' one.value given.declarations hold.declarations one.one;
+      joins = is_planned (joined both.0 both.1 one.value) plan one.two.1;
+    }
+
+-- ---- `check`, and an order to run
+
+schedule : (files : List ℕ → Option (List ℕ)) (a : AskedCheck) (failed : Failed) (checked : Checked) (given : Given) (certificate : List ℕ)
+    → Hold files a.table a.anacrontab a.declarations given → files a.certificate ≡ Some certificate
+    → IsProofOf files a failed checked → IsSafePlan (plan_in checked) → IsSafeSchedule given certificate
+schedule files a failed checked given certificate hold holds proof safe = record {
+  plan = plan_in checked;
+  is_plan = plan_denoted files a.table a.anacrontab a.declarations given failed failed failed failed proof.tables (plan_in checked) hold proof.read proof.rest.plan;
+  content = certificate_in checked;
+  is_certificate = file_means files a.certificate (λ bytes c. certificate_by bytes ≡ c) InCertificate failed failed (certificate_in checked) certificate holds proof.rest.certificate;
+  accepted = checked.kept;
+  safe = safe;
+}
+
+pub checked_schedule : (files : List ℕ → Option (List ℕ)) (a : AskedCheck) (before after : Failed) (ending : Ending) (given : Given) (certificate : List ℕ)
+    → Hold files a.table a.anacrontab a.declarations given → files a.certificate ≡ Some certificate
+    → IsChecked a files before after ending → ending.status ≡ 0 → IsCalmSchedule given certificate
+unfolding schedule
+checked_schedule files a before after ending given certificate hold holds answered zero =
+    let s = answered.safe zero in
+    record {
+      schedule = schedule files a before s.checked given certificate hold holds s.proof s.safe.headline;
+      calm = s.safe.calm;
+    }
+
+pub ordered_schedule : (files : List ℕ → Option (List ℕ)) (a : AskedRun) (before after : Failed) (order : Order) (given : Given) (certificate : List ℕ)
+    → Hold files a.check.table a.check.anacrontab a.check.declarations given → files a.check.certificate ≡ Some certificate
+    → IsOrder a files before after order → IsSafeSchedule given certificate
+ordered_schedule files a before after order given certificate hold holds ordered =
+    schedule files a.check before order.checked given certificate hold holds ordered.proof ordered.headline
+
+-- ---- `judge`
+
+safe_found : (o : Outcome) → outcome_status o ≡ 0 → o ≡ outcome.Safe
+safe_found outcome.Safe e = refl
+safe_found outcome.Unsafe e = absurd (cc)
+safe_found outcome.Unknown e = absurd (cc)
+safe_found outcome.NoMemory e = absurd (cc)
+
+unsafe_found : (o : Outcome) → outcome_status o ≡ 1 → o ≡ outcome.Unsafe
+unsafe_found outcome.Safe e = absurd (cc)
+unsafe_found outcome.Unsafe e = refl
+unsafe_found outcome.Unknown e = absurd (cc)
+unsafe_found outcome.NoMemory e = absurd (cc)
+
+-- an answer was given of a plan that the files denote
+record IsAnswered (given : Given) (status : ℕ) (out : List ℕ) : Type 0 where
+  plan : Declared
+  is_plan : DenotesPlan given plan
+  answer : Ending
+  judged : IsJudged Verdict plan answer
+  same_status : answer.status ≡ status
+  same_out : answer.out ≡ out
+
+-- a fault of a file ends a call with status 3 or 6
+troubled : (t : Trouble) → trouble_status t ≢ 3 → trouble_status t ≢ 6 → ⊥
+troubled (InWords fault) three six = three refl
+troubled (Unread path reason) three six = six refl
+troubled (InCrontab fault) three six = three refl
+troubled (InAnacrontab fault) three six = three refl
+troubled (InDeclarations fault) three six = three refl
+troubled (InScript fault) three six = three refl
+troubled (InCertificate fault) three six = three refl
+
+answered_by : (files : List ℕ → Option (List ℕ)) (a : AskedJudge) (before after : Failed) (w : List ℕ) (both : Table × JobTable) (given : Given) (r : Result Ending Trouble)
+    → Hold files a.table a.anacrontab a.declarations given → ReadsTables files a.table a.anacrontab before before (Ok both)
+    → JudgesPlan Verdict files a both before after r → (behind w r).status ≢ 3 → (behind w r).status ≢ 6
+    → IsAnswered given (behind w r).status (behind w r).out
+answered_by files a before after w both given (Err t) hold read judged three six = absurd (troubled t three six)
+answered_by files a before after w both given (Ok answer) hold read judged three six =
+    let one = both_gave (ReadsDeclared files both a.declarations) (λ plan. GivesSome (IsJudged Verdict plan)) before after answer judged in
+    record {
+      plan = one.value;
+      is_plan = plan_denoted files a.table a.anacrontab a.declarations given before before before before both one.value hold read one.one;
+      answer = answer;
+      judged = some_given (IsJudged Verdict one.value) before after answer one.two;
+      same_status = refl;
+      same_out = refl;
+    }
+
+answered : (files : List ℕ → Option (List ℕ)) (a : AskedJudge) (before after : Failed) (ending : Ending) (given : Given)
+    → Hold files a.table a.anacrontab a.declarations given → AnswersJudge a files before after ending → ending.status ≢ 3 → ending.status ≢ 6
+    → IsAnswered given ending.status ending.out
+answered files a before after ending given hold (inl (t, read, is)) three six =
+    let same = ap (λ (e : Ending). e.status) is in
+    absurd (troubled t (λ h. three (same ∙ h)) (λ h. six (same ∙ h)))
+answered files a before after ending given hold (inr (both, read, (r, judged, is))) three six =
+    let same = ap (λ (e : Ending). e.status) is in
+    subst (λ (e : Ending). IsAnswered given e.status e.out) (sym is)
+    (answered_by files a before after _ both given r hold read judged (λ h. three (same ∙ h)) (λ h. six (same ∙ h)))
+
+pub judged_safe : (files : List ℕ → Option (List ℕ)) (a : AskedJudge) (before after : Failed) (ending : Ending) (given : Given)
+    → Hold files a.table a.anacrontab a.declarations given → AnswersJudge a files before after ending → ending.status ≡ 0 → IsJudgedSafe given
+judged_safe files a before after ending given hold is zero =
+    let k = answered files a before after ending given hold is (λ h. absurd (cc)) (λ h. absurd (cc)) in
+    let j = k.judged in
+    record {
+      plan = k.plan;
+      is_plan = k.is_plan;
+      safe = safe_stands Verdict k.plan j.judged j.found k.answer.out j.known j.printed (safe_found j.found (sym j.status ∙ (k.same_status ∙ zero)));
+    }
+
+pub judged_unsafe : (files : List ℕ → Option (List ℕ)) (a : AskedJudge) (before after : Failed) (ending : Ending) (given : Given)
+    → Hold files a.table a.anacrontab a.declarations given → AnswersJudge a files before after ending → ending.status ≡ 1 → IsJudgedUnsafe given ending.out
+judged_unsafe files a before after ending given hold is one =
+    let k = answered files a before after ending given hold is (λ h. absurd (cc)) (λ h. absurd (cc)) in
+    let j = k.judged in
+    let story = unsafe_stands Verdict k.plan j.judged j.found k.answer.out j.known j.printed (unsafe_found j.found (sym j.status ∙ (k.same_status ∙ one))) in
+    record {
+      plan = k.plan;
+      is_plan = k.is_plan;
+      script = story.script;
+      shown = story.shown;
+      printed = sym k.same_out ∙ story.told;
+      legal = story.shows.breaks.unsafe.legal;
+      in_time = story.shows.breaks.unsafe.in_time;
+      unsafe = story.shows.breaks.unsafe.unsafe;
+    }

@@ -1,0 +1,96 @@
+-- What the words of `check`, `judge` and `run` say of the bytes of their files.
+use Rattle.std.specs.Prelude.{◌≡◌, ℕ, List, Option, Some, None, Ok, ⊤}
+use Rattle.clap.specs.Words.{Text}
+use Rattle.cs_crontab.specs.Crontab.{Table}
+use Rattle.cs_crontab.specs.Faults.{Means}
+use Rattle.cs_anacrontab.specs.Anacrontab.{Table as JobTable, no_lines as no_jobs}
+use Rattle.cs_anacrontab.specs.Faults.{Means as MeansJobs}
+use Rattle.cs_history.specs.Plan.{IsReached}
+use Rattle.cs_history.specs.Calm.{IsCalm}
+use Rattle.cs_history.specs.History.{History, history, IsLegal, IsInTime, IsSafe}
+use Rattle.cs_history.specs.declared.script.Script.{Script}
+use Rattle.cs_decl.specs.Join.{joined}
+use Rattle.cs_decl.specs.Meaning.{declared_by}
+use Rattle.cs_decl.specs.Plan.{Declared, as_plan}
+use Rattle.cs_decl.specs.declared.entries.Entries.{Entries}
+use Rattle.cs_cert.specs.Content.{Content}
+use Rattle.cs_cert.specs.Denoted.{certificate_by}
+use Rattle.cs_check.specs.Case.{fault_of, reach_for}
+use Rattle.cs_counterexample.specs.declared.shown.Shown.{Shown}
+use Rattle.cs_judge.specs.Answer.{unsafe_text}
+
+-- the bytes of a crontab, of an anacrontab if one is given, and of declarations
+pub record Given : Type 0 where
+  pub crontab : List ℕ
+  pub anacrontab : Option (List ℕ)
+  pub declarations : List ℕ
+
+-- a file holds these bytes, and none is given where there is no path
+abbrev pub HoldsIt : (List ℕ → Option (List ℕ)) → Option Text → Option (List ℕ) → Type 0
+HoldsIt files None None = ⊤
+HoldsIt files None (Some bytes) = ⊥
+HoldsIt files (Some path) None = ⊥
+HoldsIt files (Some path) (Some bytes) = files path ≡ Some bytes
+
+-- the files at these paths hold what is given
+pub record Hold (files : List ℕ → Option (List ℕ)) (table : Text) (jobs : Option Text)
+    (terms : Text) (given : Given) : Type 0 where
+  pub crontab : files table ≡ Some given.crontab
+  pub anacrontab : HoldsIt files jobs given.anacrontab
+  pub declarations : files terms ≡ Some given.declarations
+
+-- the bytes denote this anacrontab, which has no job where there are none
+abbrev pub DenoteJobs : Option (List ℕ) → JobTable → Type 0
+DenoteJobs None jobs = jobs ≡ no_jobs
+DenoteJobs (Some bytes) jobs = MeansJobs bytes (Ok jobs)
+
+-- what is given denotes two tables and declarations, which join to this plan
+pub record DenotesPlan (given : Given) (plan : Declared) : Type 0 where
+  pub crontab : Table
+  pub is_crontab : Means given.crontab (Ok crontab)
+  pub anacrontab : JobTable
+  pub is_anacrontab : DenoteJobs given.anacrontab anacrontab
+  pub entries : Entries
+  pub are_entries : declared_by given.declarations ≡ Ok entries
+  pub joins : joined crontab anacrontab entries ≡ Ok plan
+
+-- every legal history of the plan in which each run ends within its declared time is safe
+abbrev pub IsSafePlan : Declared → Type 0
+IsSafePlan plan = (h : History) → IsLegal (as_plan plan) h → IsInTime (as_plan plan) h
+    → IsSafe (as_plan plan) h
+
+-- and each minute that a history may reach is calm, by the reaches of this certificate
+abbrev pub IsCalmPlan : Declared → Content → Type 0
+IsCalmPlan plan c = (t : ℕ) → IsReached t → IsCalm (as_plan plan) (reach_for plan c) t
+
+-- what is given denotes a plan, the certificate is one that the rules accept for it, and it is safe
+pub record IsSafeSchedule (given : Given) (certificate : List ℕ) : Type 0 where
+  pub plan : Declared
+  pub is_plan : DenotesPlan given plan
+  pub content : Content
+  pub is_certificate : certificate_by certificate ≡ Ok content
+  pub accepted : fault_of plan content ≡ None
+  pub safe : IsSafePlan plan
+
+-- each minute of the plan is calm too
+pub record IsCalmSchedule (given : Given) (certificate : List ℕ) : Type 0 where
+  pub schedule : IsSafeSchedule given certificate
+  pub calm : IsCalmPlan schedule.plan schedule.content
+
+-- what is given denotes a plan, which is safe
+pub record IsJudgedSafe (given : Given) : Type 0 where
+  pub plan : Declared
+  pub is_plan : DenotesPlan given plan
+  pub safe : IsSafePlan plan
+
+-- what is given denotes a plan, and the text is a line and the script of a legal history of it, in
+-- which each run ends within its declared time, and which isn't safe
+pub record IsJudgedUnsafe (given : Given) (text : List ℕ) : Type 0 where
+  pub plan : Declared
+  pub is_plan : DenotesPlan given plan
+  pub script : Script
+  pub shown : Shown
+  pub printed : text ≡ unsafe_text plan script shown
+  pub legal : IsLegal (as_plan plan) (history script.start script.events)
+  pub in_time : IsInTime (as_plan plan) (history script.start script.events)
+  pub unsafe : IsSafe (as_plan plan) (history script.start script.events) → ⊥

@@ -1,0 +1,86 @@
+-- Commands that are asked for, and runs that are carried out one after the other.
+use Rattle.std.proofs.Common.{◌≡◌, ◌≤◌, ◌+◌, ◌-◌, ℕ, List, [], ◌∷◌, ◌++◌, length, length-append, arith, map, All, Bor, None, Option, Some, option_map, Result, Ok, Err, inl, inr, refl, sym, subst, slice_get}
+use Rattle.std.specs.Prelude.{IfOk}
+use Rattle.std.specs.Slice.{IsItemAt}
+use Rattle.std.proofs.lemmas.Option.{slice_get_read}
+use Rattle.cs_table.specs.Environment.{Variable, IsLast, above, first_places, names_of}
+use Rattle.cs_crontab.specs.Command.{AreParts}
+use Rattle.cs_crontab.specs.Crontab.{CommandLine, Table as Crontab}
+use Rattle.cs_anacrontab.specs.Anacrontab.{JobLine, Table as Anacrontab}
+use Rattle.cs_decl.specs.Plan.{Declared, crons}
+use Rattle.cs_history.specs.declared.run.Run.{Run}
+use Rattle.cs_device.specs.Asked.{Asked, asked}
+use Rattle.cs_device.specs.declared.runner.Outcome.{Outcome}
+use Rattle.cs_daemon.specs.Commands.{AreSet, CarriesOut, CarriesOutAll, IsOfCommand, IsOfJob, RunsJob}
+
+-- an item that is lent stands at its index
+pub found : {X : Type 0} (xs : List X) (i : ℕ) (x : Bor X) → IsItemAt xs i (Some x) → slice_get xs i ≡ Some x.now
+found xs i x at = slice_get_read xs (length xs) i x.now refl at.3.0 at.1
+
+-- ---- what is asked
+
+pub of_command : (table : Crontab) (line : CommandLine) (number : ℕ) (text command lent_command : List ℕ) (input : Option (List ℕ)) (lent : Option (Bor (List ℕ))) (env lent_env : List Variable)
+    → number ≡ line.number → text ≡ line.command → AreParts text (command, input)
+    → map (λ (v : Variable). v.0) env ≡ first_places (names_of (above number table.settings)) → All (IsLast (above number table.settings)) env
+    → lent_command ≡ command → option_map (λ (t : Bor (List ℕ)). t.now) lent ≡ input → lent_env ≡ env
+    → IsOfCommand table line (asked lent_command lent lent_env)
+of_command table line number text command lent_command input lent env lent_env n t parts names values c i e =
+    record {
+      parts = subst (λ (x : List ℕ). AreParts x (lent_command, option_map (λ u. u.now) lent)) t (subst (λ (x : List ℕ). AreParts text (x, option_map (λ u. u.now) lent)) (sym c) (subst (λ (x : Option (List ℕ)). AreParts text (command, x)) (sym i) parts));
+      variables =
+          subst (λ (x : List Variable). AreSet (above line.number table.settings) x) (sym e)
+          (subst (λ (m : ℕ). AreSet (above m table.settings) env) n (record { names = names; values = values }));
+    }
+
+pub of_job : (table : Anacrontab) (line : JobLine) (number : ℕ) (text : List ℕ) (env lent_env : List Variable)
+    → number ≡ line.number → text ≡ line.command
+    → map (λ (v : Variable). v.0) env ≡ first_places (names_of (above number table.settings)) → All (IsLast (above number table.settings)) env
+    → lent_env ≡ env
+    → IsOfJob table line (asked text None lent_env)
+of_job table line number text env lent_env n t names values e =
+    record {
+      command = t;
+      input = refl;
+      variables =
+          subst (λ (x : List Variable). AreSet (above line.number table.settings) x) (sym e)
+          (subst (λ (m : ℕ). AreSet (above m table.settings) env) n (record { names = names; values = values }));
+    }
+
+-- ---- which job it is for
+
+module _ {W E : Type 0} (runs : W → Asked → Outcome → W → Type 0) (d : Declared) where
+  pub cron_runs : (job : ℕ) (table : Crontab) (lines : List CommandLine) (line : Bor CommandLine) (old new : W) (r : Result Outcome E)
+      → table ≡ d.crontab → lines ≡ table.lines → IsItemAt lines job (Some line)
+      → IfOk r (λ outcome. (asked : Asked) × IsOfCommand table line.now asked × runs old asked outcome new)
+      → IfOk r (λ outcome. RunsJob runs d job old outcome new)
+  cron_runs job table lines line old new (Ok outcome) is of at (a, for, ran) =
+      let here : slice_get d.crontab.lines job ≡ Some line.now = subst (λ (t : Crontab). slice_get t.lines job ≡ Some line.now) is (subst (λ (ls : List CommandLine). slice_get ls job ≡ Some line.now) of (found lines job line at)) in
+      inl (a, inl (line.now, here, subst (λ (t : Crontab). IsOfCommand t line.now a) is for), ran)
+  cron_runs job table lines line old new (Err e) is of at ran = tt
+
+  pub anacron_runs : (job above : ℕ) (table : Anacrontab) (lines : List JobLine) (line : Bor JobLine) (old new : W) (r : Result Outcome E)
+      → table ≡ d.anacrontab → lines ≡ table.lines → above ≡ crons d → crons d ≤ job → IsItemAt lines (job - above) (Some line)
+      → IfOk r (λ outcome. (asked : Asked) × IsOfJob table line.now asked × runs old asked outcome new)
+      → IfOk r (λ outcome. RunsJob runs d job old outcome new)
+  anacron_runs job above table lines line old new (Ok outcome) is of many past at (a, for, ran) =
+      let there : slice_get lines (job - crons d) ≡ Some line.now = subst (λ (n : ℕ). slice_get lines (job - n) ≡ Some line.now) many (found lines (job - above) line at) in
+      let here : slice_get d.anacrontab.lines (job - crons d) ≡ Some line.now = subst (λ (t : Anacrontab). slice_get t.lines (job - crons d) ≡ Some line.now) is (subst (λ (ls : List JobLine). slice_get ls (job - crons d) ≡ Some line.now) of there) in
+      inl (a, inr (line.now, past, here, subst (λ (t : Anacrontab). IsOfJob t line.now a) is for), ran)
+  anacron_runs job above table lines line old new (Err e) is of many past at ran = tt
+
+-- ---- one after the other
+
+module _ {W : Type 0} (runs : W → Asked → Outcome → W → Type 0) (d : Declared) where
+  -- one more
+  pub one_more : (es : List (Run × Outcome)) (run : Run) (outcome : Outcome) (old mid new : W) → CarriesOutAll runs d es old mid → CarriesOut runs d run mid outcome new → CarriesOutAll runs d (es ++ (run, outcome) ∷ []) old new
+  one_more [] run outcome old mid new all one = (new, subst (λ (w : W). CarriesOut runs d run w outcome new) all one, refl)
+  one_more (e ∷ es) run outcome old mid new all one = (all.0, all.1, one_more es run outcome all.0 mid new all.2 one)
+
+  -- runs that are carried out, at least as many as steps are made, and then one more of both
+  pub carried_on : (share mid_share new_share : ℕ) (run : Run) (outcome : Outcome) (old mid new : W) → ((es : List (Run × Outcome)) × CarriesOutAll runs d es old mid × (mid_share ≤ share + length es))
+      → CarriesOut runs d run mid outcome new → new_share ≤ mid_share + 1
+      → (es : List (Run × Outcome)) × CarriesOutAll runs d es old new × (new_share ≤ share + length es)
+  carried_on share mid_share new_share run outcome old mid new so one step =
+      let last : List (Run × Outcome) = (run, outcome) ∷ [] in
+      let longer = length-append so.0 last in
+      (so.0 ++ last, one_more so.0 run outcome old mid new so.1 one, omega (arith, so.2, step, longer))

@@ -1,0 +1,173 @@
+-- Stamps that are read and written one after the other.
+use Rattle.std.proofs.Common.{◌≡◌, ◌<◌, ◌≤◌, ℕ, suc, ◌+◌, Bool, List, [], ◌∷◌, ◌++◌, length, map, take, get_or, fold, Option, Some, None, refl, sym, ap, ◌∙◌, subst, append-nil, arith}
+use Rattle.std.proofs.lemmas.List.{get_or_default, map-append, take_all, take_more}
+use Rattle.std.proofs.lemmas.List.Concat.{flat_map-append}
+use Rattle.cs_anacrontab.specs.Anacrontab.{JobLine}
+use Rattle.std.specs.Prelude.{IfSome}
+use Rattle.cs_core.specs.Standing.{Standing}
+use Rattle.cs_decl.specs.Plan.{Declared, no_line}
+use Rattle.cs_history.specs.Lists.{below}
+use Rattle.cs_device.specs.declared.store.Stamp.{Stamp}
+use Rattle.cs_keep.specs.Closed.{keeping_in}
+use Rattle.cs_keep.specs.declared.kept.Kept.{Kept}
+use Rattle.cs_daemon.specs.Stamps.{AreKept, AreRead, AreWritten, HaveBeenWritten, ReadsAll, WritesAll, Written, day_in, identifier_at, lacked, lacking, lacks, stamp_at, with_written}
+
+-- a fold over one element more
+fold_push : {A B : Type 0} (f : A → B → A) (a : A) (xs : List B) (x : B) → fold f a (xs ++ x ∷ []) ≡ f (fold f a xs) x
+fold_push f a [] x = refl
+fold_push f a (y ∷ ys) x = fold_push f (f a y) ys x
+
+-- ---- reading
+
+module _ {S : Type 0} (reads : S → List ℕ → Stamp → S → Type 0) where
+  reads_more : (rs : List (List ℕ × Stamp)) (r : List ℕ × Stamp) (old mid new : S) → ReadsAll reads rs old mid → reads mid r.0 r.1 new → ReadsAll reads (rs ++ r ∷ []) old new
+  reads_more [] r old mid new all one = (new, subst (λ (s : S). reads s r.0 r.1 new) all one, refl)
+  reads_more (x ∷ rs) r old mid new all one = (all.0, all.1, reads_more rs r all.0 mid new all.2 one)
+
+-- nothing is read yet
+pub read_none : {S : Type 0} (reads : S → List ℕ → Stamp → S → Type 0) (lines : List JobLine) (s : S) → AreRead reads (take 0 lines) s [] s
+read_none reads lines s = record { answers = []; identifiers = refl; read = refl; said = refl }
+
+-- one more
+pub read_one : {S : Type 0} (reads : S → List ℕ → Stamp → S → Type 0) (lines : List JobLine) (job : ℕ) (d : JobLine) (old mid new : S) (known : List (Option ℕ)) (answer : Stamp)
+    → job < length lines → AreRead reads (take job lines) old known mid → reads mid (get_or lines job d).identifier answer new
+    → AreRead reads (take (job + 1) lines) old (known ++ day_in answer ∷ []) new
+read_one reads lines job d old mid new known answer less so one =
+    let id : List ℕ = (get_or lines job d).identifier in
+    record {
+      answers = so.answers ++ (id, answer) ∷ [];
+      identifiers =
+          map-append (λ (r : List ℕ × Stamp). r.0) so.answers ((id, answer) ∷ [])
+          ∙ ap (λ (ids : List (List ℕ)). ids ++ id ∷ []) so.identifiers
+          ∙ sym (map-append (λ (l : JobLine). l.identifier) (take job lines) (get_or lines job d ∷ []))
+          ∙ ap (λ (ls : List JobLine). map (λ l. l.identifier) ls) (sym (take_more lines job d less));
+      read = reads_more reads so.answers (id, answer) old mid new so.read one;
+      said =
+          ap (λ (k : List (Option ℕ)). k ++ day_in answer ∷ []) so.said
+          ∙ sym (map-append (λ (r : List ℕ × Stamp). day_in r.1) so.answers ((id, answer) ∷ []));
+    }
+
+pub read_all : {S : Type 0} (reads : S → List ℕ → Stamp → S → Type 0) (lines : List JobLine) (job : ℕ) (old new : S) (known : List (Option ℕ))
+    → length lines ≤ job → AreRead reads (take job lines) old known new → AreRead reads lines old known new
+read_all reads lines job old new known whole so = subst (λ (ls : List JobLine). AreRead reads ls old known new) (take_all job lines whole) so
+
+-- ---- writing
+
+module _ {S : Type 0} (writes : S → List ℕ → ℕ → Bool → S → Type 0) (lines : List JobLine) where
+  writes_more : (ws : List Written) (w : Written) (old mid new : S) → WritesAll writes lines ws old mid → writes mid (identifier_at lines w.job) w.day w.done new → WritesAll writes lines (ws ++ w ∷ []) old new
+  writes_more [] w old mid new all one = (new, subst (λ (s : S). writes s (identifier_at lines w.job) w.day w.done new) all one, refl)
+  writes_more (x ∷ ws) w old mid new all one = (all.0, all.1, writes_more ws w all.0 mid new all.2 one)
+
+-- what was written for the jobs below one
+pub record AreWrittenBelow {S : Type 0} (writes : S → List ℕ → ℕ → Bool → S → Type 0) (lines : List JobLine) (stamps known : List (Option ℕ)) (job : ℕ) (old : S) (then : List (Option ℕ)) (new : S) : Type 0 where
+  pub log : List Written
+  pub which : map (λ w. (w.job, w.day)) log ≡ lacking (below job) known stamps
+  pub written : WritesAll writes lines log old new
+  pub noted : then ≡ fold with_written known log
+
+pub write_none : {S : Type 0} (writes : S → List ℕ → ℕ → Bool → S → Type 0) (lines : List JobLine) (stamps known : List (Option ℕ)) (s : S) → AreWrittenBelow writes lines stamps known 0 s known s
+write_none writes lines stamps known s = record { log = []; which = refl; written = refl; noted = refl }
+
+-- the next job
+lacking_more : (job : ℕ) (known stamps : List (Option ℕ)) → lacking (below (job + 1)) known stamps ≡ lacking (below job) known stamps ++ lacks job (lacked (stamp_at known job) (stamp_at stamps job))
+lacking_more job known stamps =
+    let f : ℕ → List (ℕ × ℕ) = λ j. lacks j (lacked (stamp_at known j) (stamp_at stamps j)) in
+    let e : job + 1 ≡ suc job = omega arith in
+    ap (λ (n : ℕ). lacking (below n) known stamps) e
+    ∙ flat_map-append f (below job) (job ∷ [])
+    ∙ ap (λ (l : List (ℕ × ℕ)). lacking (below job) known stamps ++ l) (append-nil (f job))
+
+pub write_not : {S : Type 0} (writes : S → List ℕ → ℕ → Bool → S → Type 0) (lines : List JobLine) (stamps known then : List (Option ℕ)) (job : ℕ) (old new : S)
+    → AreWrittenBelow writes lines stamps known job old then new → lacked (stamp_at known job) (stamp_at stamps job) ≡ None
+    → AreWrittenBelow writes lines stamps known (job + 1) old then new
+write_not writes lines stamps known then job old new so none =
+    record {
+      log = so.log;
+      which = so.which ∙ sym (lacking_more job known stamps ∙ ap (λ (o : Option ℕ). lacking (below job) known stamps ++ lacks job o) none ∙ append-nil (lacking (below job) known stamps));
+      written = so.written;
+      noted = so.noted;
+    }
+
+pub write_one : {S : Type 0} (writes : S → List ℕ → ℕ → Bool → S → Type 0) (lines : List JobLine) (stamps known then : List (Option ℕ)) (job day : ℕ) (done : Bool) (old mid new : S)
+    → AreWrittenBelow writes lines stamps known job old then mid → lacked (stamp_at known job) (stamp_at stamps job) ≡ Some day → writes mid (identifier_at lines job) day done new
+    → AreWrittenBelow writes lines stamps known (job + 1) old (with_written then (record { job = job; day = day; done = done })) new
+write_one writes lines stamps known then job day done old mid new so some one =
+    let w : Written = record { job = job; day = day; done = done } in
+    record {
+      log = so.log ++ w ∷ [];
+      which =
+          map-append (λ (w : Written). (w.job, w.day)) so.log (w ∷ [])
+          ∙ ap (λ (l : List (ℕ × ℕ)). l ++ (job, day) ∷ []) so.which
+          ∙ sym (lacking_more job known stamps ∙ ap (λ (o : Option ℕ). lacking (below job) known stamps ++ lacks job o) some);
+      written = writes_more writes lines so.log w old mid new so.written one;
+      noted = ap (λ (k : List (Option ℕ)). with_written k w) so.noted ∙ sym (fold_push with_written known so.log w);
+    }
+
+pub write_all : {S : Type 0} (writes : S → List ℕ → ℕ → Bool → S → Type 0) (lines : List JobLine) (stamps known then : List (Option ℕ)) (job : ℕ) (old new : S)
+    → job ≡ length lines → AreWrittenBelow writes lines stamps known job old then new → AreWritten writes lines stamps known old then new
+write_all writes lines stamps known then job old new whole so =
+    record { log = so.log; which = subst (λ (n : ℕ). map (λ w. (w.job, w.day)) so.log ≡ lacking (below n) known stamps) whole so.which; written = so.written; noted = so.noted }
+
+-- ---- the loops' steps, as their goals read
+
+pub read_next : {S : Type 0} (reads : S → List ℕ → Stamp → S → Type 0) (lines : List JobLine) (job : ℕ) (line : JobLine) (id : List ℕ) (old mid new : S) (known more : List (Option ℕ)) (answer : Stamp) (stamp : Option ℕ)
+    → job < length lines → AreRead reads (take job lines) old known mid → line ≡ get_or lines job line → id ≡ line.identifier → reads mid id answer new → stamp ≡ day_in answer → more ≡ known ++ stamp ∷ []
+    → AreRead reads (take (job + 1) lines) old more new
+read_next reads lines job line id old mid new known more answer stamp less so is named one said pushed =
+    let one' : reads mid (get_or lines job line).identifier answer new = subst (λ (i : List ℕ). reads mid i answer new) (named ∙ ap (λ (l : JobLine). l.identifier) is) one in
+    let whole : more ≡ known ++ day_in answer ∷ [] = pushed ∙ ap (λ (o : Option ℕ). known ++ o ∷ []) said in
+    subst (λ (k : List (Option ℕ)). AreRead reads (take (job + 1) lines) old k new) (sym whole) (read_one reads lines job line old mid new known answer less so one')
+
+pub write_next : {S : Type 0} (writes : S → List ℕ → ℕ → Bool → S → Type 0) (lines : List JobLine) (stamps known then more : List (Option ℕ)) (job day : ℕ) (done : Bool) (line : JobLine) (id : List ℕ) (old mid new : S)
+    → job < length lines → AreWrittenBelow writes lines stamps known job old then mid → lacked (stamp_at known job) (stamp_at stamps job) ≡ Some day
+    → line ≡ get_or lines job line → id ≡ line.identifier → writes mid id day done new → more ≡ with_written then (record { job = job; day = day; done = done })
+    → AreWrittenBelow writes lines stamps known (job + 1) old more new
+write_next writes lines stamps known then more job day done line id old mid new less so some is named one noted =
+    let at : id ≡ identifier_at lines job = named ∙ ap (λ (l : JobLine). l.identifier) (is ∙ get_or_default lines job line no_line less) in
+    let one' : writes mid (identifier_at lines job) day done new = subst (λ (i : List ℕ). writes mid i day done new) at one in
+    subst (λ (k : List (Option ℕ)). AreWrittenBelow writes lines stamps known (job + 1) old k new) (sym noted) (write_one writes lines stamps known then job day done old mid new so some one')
+
+-- ---- over several writes
+
+module _ {S : Type 0} (writes : S → List ℕ → ℕ → Bool → S → Type 0) (lines : List JobLine) where
+  writes_join : (xs ys : List Written) (old mid new : S) → WritesAll writes lines xs old mid → WritesAll writes lines ys mid new → WritesAll writes lines (xs ++ ys) old new
+  writes_join [] ys old mid new a b = subst (λ (s : S). WritesAll writes lines ys s new) a b
+  writes_join (x ∷ xs) ys old mid new a b = (a.0, a.1, writes_join xs ys a.0 mid new a.2 b)
+
+  fold_join : (known : List (Option ℕ)) (xs ys : List Written) → fold with_written known (xs ++ ys) ≡ fold with_written (fold with_written known xs) ys
+  fold_join known [] ys = refl
+  fold_join known (x ∷ xs) ys = fold_join (with_written known x) xs ys
+
+  pub none_written : (known : List (Option ℕ)) (s : S) → HaveBeenWritten writes lines known s known s
+  none_written known s = record { log = []; written = refl; noted = refl }
+
+  pub then_written : (known mid_known new_known stamps : List (Option ℕ)) (old mid new : S) → HaveBeenWritten writes lines known old mid_known mid → AreWritten writes lines stamps mid_known mid new_known new → HaveBeenWritten writes lines known old new_known new
+  then_written known mid_known new_known stamps old mid new a b =
+      record {
+        log = a.log ++ b.log;
+        written = writes_join a.log b.log old mid new a.written b.written;
+        noted = b.noted ∙ ap (λ (k : List (Option ℕ)). fold with_written k b.log) a.noted ∙ sym (fold_join known a.log b.log);
+      }
+
+-- ---- over the life of a daemon
+
+-- stamps that are read, then written, and written at the end are all that is done for a keep
+pub all_kept : {S : Type 0} (reads : S → List ℕ → Stamp → S → Type 0) (writes : S → List ℕ → ℕ → Bool → S → Type 0) (d at_first at_work at_last : Declared) (core : Standing) (read known : List (Option ℕ)) (old begun late new : S) (keep : Option Kept)
+    → at_first ≡ d → at_work ≡ d → at_last ≡ d → IfSome keep (λ k. (keeping_in k).core ≡ core)
+    → AreRead reads at_first.anacrontab.lines old read begun → HaveBeenWritten writes at_work.anacrontab.lines read begun known late
+    → (known_then : List (Option ℕ)) × AreWritten writes at_last.anacrontab.lines core.state.stamps known late known_then new
+    → IfSome keep (λ k. AreKept reads writes d.anacrontab.lines (keeping_in k).core.state.stamps old new)
+all_kept reads writes d at_first at_work at_last core read known old begun late new None f w l is first between last = tt
+all_kept reads writes d at_first at_work at_last core read known old begun late new (Some k) f w l is first between last =
+    record {
+      read = read;
+      known = known;
+      known_then = last.0;
+      begun = begun;
+      late = late;
+      first = subst (λ (x : Declared). AreRead reads x.anacrontab.lines old read begun) f first;
+      between = subst (λ (x : Declared). HaveBeenWritten writes x.anacrontab.lines read begun known late) w between;
+      last =
+          subst (λ (c : Standing). AreWritten writes d.anacrontab.lines c.state.stamps known late last.0 new) (sym is)
+          (subst (λ (x : Declared). AreWritten writes x.anacrontab.lines core.state.stamps known late last.0 new) l last.1);
+    }

@@ -1,0 +1,13 @@
+use Rattle.std.proofs.Common.{◌∙◌, sym}
+use Rattle.cs_check.specs.Checked.{plan_in}
+use Rattle.cs_daemon.proofs.Storing.{all_kept}
+use Rattle.cs_daemon.proofs.daemon.run_on.Goals as goal
+
+pub returns-clause-back : goal.returns-clause-back
+returns-clause-back g c = λ is. c.run_threads-stored.ensures.back (sym c.close.ensures.cause ∙ is)
+
+pub returns-clause-stamps : goal.returns-clause-stamps
+returns-clause-stamps g c =
+    all_kept g.S.StampStore.reads g.S.StampStore.writes (plan_in c.args.checked) c.plan-2.result.now c.plan-4.result.now c.plan-5.result.now c.behind-left.result.keep.core
+    c.read-stored.result.0.stamps.items c.run_threads-stored.result.0.stamps.items c.args.store.now c.read-stored.new.store c.run_threads-stored.new.store c.behind-left.new.store c.close.result.keep
+    c.plan-2.ensures c.plan-4.ensures c.plan-5.ensures c.close.ensures.core c.read-stored.ensures.read c.run_threads-stored.ensures.written c.behind-left.ensures.written

@@ -1,0 +1,58 @@
+-- What a runner is asked for the run of a job.
+use Rattle.std.specs.Prelude.{◌≡◌, ◌≤◌, ◌⊎◌, ℕ, ◌+◌, ◌-◌, List, [], ◌∷◌, length, map, All, Some, None, slice_get}
+use Rattle.cs_table.specs.Environment.{Variable, IsLast, above, first_places, names_of}
+use Rattle.cs_table.specs.Setting.{SettingLine}
+use Rattle.cs_crontab.specs.Command.{AreParts}
+use Rattle.cs_crontab.specs.Crontab.{CommandLine, Table as Crontab}
+use Rattle.cs_anacrontab.specs.Anacrontab.{JobLine, Table as Anacrontab}
+use Rattle.cs_decl.specs.Plan.{Declared, crons}
+use Rattle.cs_history.specs.declared.run.Run.{Run}
+use Rattle.cs_device.specs.Asked.{Asked}
+use Rattle.cs_device.specs.declared.runner.Outcome.{Outcome}
+use Rattle.cs_device.specs.declared.runner.Outcome.TheVariants.{NotStarted}
+
+-- each name that is set, in order, with its last value (crontab(5))
+pub record AreSet (settings : List SettingLine) (variables : List Variable) : Type 0 where
+  pub names : map (λ v. v.0) variables ≡ first_places (names_of settings)
+  pub values : All (IsLast settings) variables
+
+-- a cron job: the command and the input that its line denotes, and the settings above it
+pub record IsOfCommand (table : Crontab) (line : CommandLine) (asked : Asked) : Type 0 where
+  pub parts : AreParts line.command (asked.command, asked.input)
+  pub variables : AreSet (above line.number table.settings) asked.variables
+
+-- an anacron job: the command of its line as it stands, no input, and the settings above it
+pub record IsOfJob (table : Anacrontab) (line : JobLine) (asked : Asked) : Type 0 where
+  pub command : asked.command ≡ line.command
+  pub input : asked.input ≡ None
+  pub variables : AreSet (above line.number table.settings) asked.variables
+
+-- what is asked for a job of the plan, by its number: those of the crontab are first
+abbrev pub IsFor : Declared → ℕ → Asked → Type 0
+IsFor d job asked =
+    ((line : CommandLine) × (slice_get d.crontab.lines job ≡ Some line) × IsOfCommand d.crontab line asked)
+    ⊎ ((line : JobLine) × (crons d ≤ job)
+    × (slice_get d.anacrontab.lines (job - crons d) ≡ Some line) × IsOfJob d.anacrontab line asked)
+
+-- the number is no job's
+abbrev pub IsPast : Declared → ℕ → Type 0
+IsPast d job = crons d + length d.anacrontab.lines ≤ job
+
+module _ {W : Type 0} (runs : W → Asked → Outcome → W → Type 0) (d : Declared) where
+  -- The runner runs the command of the job, once, and nothing else. If there is no such job, it
+  -- runs nothing, and the run isn't started.
+  abbrev pub RunsJob : ℕ → W → Outcome → W → Type 0
+  RunsJob job old outcome new =
+      ((asked : Asked) × IsFor d job asked × runs old asked outcome new)
+      ⊎ (IsPast d job × (outcome ≡ NotStarted) × (new ≡ old))
+
+  -- the same, or memory runs out before the command is run
+  abbrev pub CarriesOut : Run → W → Outcome → W → Type 0
+  CarriesOut run old outcome new =
+      RunsJob run.job old outcome new ⊎ ((outcome ≡ NotStarted) × (new ≡ old))
+
+  -- runs with their outcomes, one after the other
+  abbrev pub CarriesOutAll : List (Run × Outcome) → W → W → Type 0
+  CarriesOutAll [] old new = new ≡ old
+  CarriesOutAll (e ∷ es) old new =
+      (next : W) × CarriesOut e.0 old e.1 next × CarriesOutAll es next new

@@ -1,0 +1,74 @@
+-- The starts of a journal, which workers take one after the other.
+use Rattle.std.specs.Prelude.{◌≡◌, ◌≤◌, ◌⊎◌, ℕ, List, [], ◌∷◌, ◌++◌, length, drop, false, if◌then◌else◌, Option, MatchOption}
+use Rattle.std.specs.List.{AllByRecursion, flat_map, list_any}
+use Rattle.cs_history.specs.History.{same_run}
+use Rattle.cs_history.specs.declared.run.Run.{Run}
+use Rattle.cs_history.specs.declared.event.Event.{Event}
+use Rattle.cs_history.specs.declared.event.Event.TheVariants as event
+use Rattle.cs_history.specs.declared.reply.Reply.{Reply}
+use Rattle.cs_history.specs.declared.reply.Reply.TheVariants.{Clock, Started, Waiting, Skipped, Ended, Went, Came}
+use Rattle.cs_keep.specs.Keeping.{Keeping, is_end, with_event}
+
+-- the run that a reply starts
+abbrev pub start_in : Reply → List Run
+start_in Clock = []
+start_in (Started run) = run ∷ []
+start_in Waiting = []
+start_in Skipped = []
+start_in (Ended in_time) = []
+start_in Went = []
+start_in Came = []
+
+-- the runs that entries of a journal start, in order
+abbrev pub starts_in : List (Event × Reply) → List Run
+starts_in entries = flat_map (λ e. start_in e.1) entries
+
+-- a journal, and the place from which on its starts aren't taken yet
+pub record Desk : Type 0 where
+  pub journal : List (Event × Reply)
+  pub next : ℕ
+
+abbrev pub desk : Keeping → ℕ → Desk
+desk k next = record { journal = k.journal; next = next }
+
+-- before the first event
+abbrev pub empty : Desk
+empty = record { journal = []; next = 0 }
+
+-- the starts that no worker has taken, in order
+abbrev pub untaken : Desk → List Run
+untaken d = starts_in (drop d.next d.journal)
+
+-- A worker gets the first of them. It gets none only if there is none.
+pub record IsTaken (old : Desk) (got : Option Run) (new : Desk) : Type 0 where
+  pub journal : new.journal ≡ old.journal
+  pub place : new.next ≤ length new.journal
+  pub first : MatchOption got
+      ((untaken old ≡ []) × (untaken new ≡ []))
+      (λ run. untaken old ≡ run ∷ untaken new)
+
+-- entries come to the journal
+abbrev pub with_entries : List (Event × Reply) → Desk → Desk
+with_entries more d = record { journal = d.journal ++ more; next = d.next }
+
+-- The journal begins anew, if each start was taken; or all stays.
+abbrev pub IsCut : Desk → Desk → Type 0
+IsCut old new = ((untaken old ≡ []) × (new ≡ empty)) ⊎ (new ≡ old)
+
+-- entries that no end is among
+abbrev pub HaveNoEnd : List (Event × Reply) → Type 0
+HaveNoEnd entries = AllByRecursion (λ e. is_end e.0 ≡ false) entries
+
+-- entries come to the journal that no end is among
+abbrev pub Adds : Desk → Desk → Type 0
+Adds old new = (more : List (Event × Reply)) × HaveNoEnd more × (new ≡ with_entries more old)
+
+-- what the clock's thread does in a round: it makes no end, and the journal may begin anew
+abbrev pub Rounds : Desk → Desk → Type 0
+Rounds old new = (more : List (Event × Reply)) × HaveNoEnd more × IsCut (with_entries more old) new
+
+-- the end of a run is made, if it goes on; else all stays
+abbrev pub with_end : Keeping → Run → Keeping
+with_end k run =
+    if list_any (λ x. same_run run x.run) k.core.state.running
+    then with_event k (event.End run) else k

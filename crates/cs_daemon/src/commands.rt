@@ -1,0 +1,110 @@
+//! The commands of jobs.
+ghost use Rattle.std.specs.Prelude.{◌≡◌, IfOk, OnErr, option_map};
+ghost use Rattle.cs_daemon.specs.Commands.{CarriesOut, IsOfCommand, IsOfJob, RunsJob};
+ghost use Rattle.cs_device.specs.Asked.{Asked};
+
+use crate::dispatch::Taken;
+use cs_anacrontab::{Anacrontab, Job};
+use cs_civil::Bytes;
+use cs_crontab::{Crontab, Line, command_parts};
+use cs_decl::Plan;
+use cs_device::{Outcome, Runner};
+use cs_history::Run;
+use std::alloc::{AllocError, Global};
+
+/// A run whose command has returned, or couldn't be started. Only [`carry_out`] makes one, and it can
+/// neither be copied nor be let go.
+pub(crate) struct Returned {
+    run: Run,
+}
+
+impl Returned {
+    /// The run, of which nothing is left to end.
+    pub(crate) fn into_run(self) -> Run
+        ensures { result ≡ self.run }
+    {
+        let Returned { run } = self;
+        run
+    }
+}
+
+/// Runs the command of a start that was taken, and waits for its end. Without memory for its words
+/// it isn't started.
+pub(crate) fn carry_out<W: Runner>(
+    alloc: Global,
+    plan: &Plan,
+    runner: &mut W,
+    taken: Taken,
+) -> (Returned, Outcome)
+    ensures run { result.0.run ≡ taken.run }
+    ensures runs { CarriesOut W.runs plan.now taken.run runner.old result.1 runner.new }
+{
+    let run = taken.into_run();
+    let outcome = match run_command(alloc, plan, runner, usize::from(run.job)) {
+        Ok(outcome) => outcome,
+        Err(_) => Outcome::NotStarted,
+    };
+    (Returned { run }, outcome)
+}
+
+/// Runs the command of a job, with its input and its settings. The only error is out of memory.
+fn run_command<W: Runner>(
+    alloc: Global,
+    plan: &Plan,
+    runner: &mut W,
+    job: usize,
+) -> Result<Outcome, AllocError>
+    ensures runs { IfOk result (λ outcome.
+        RunsJob W.runs plan.now job runner.old outcome runner.new) }
+    ensures err { OnErr result (runner.new ≡ runner.old) }
+{
+    let crontab = plan.crontab();
+    if let Some(line) = crontab.lines().get(job) {
+        return run_line(alloc, crontab, runner, line);
+    }
+    let anacrontab = plan.anacrontab();
+    let Some(line) = anacrontab.lines().get(job - crontab.lines().len()) else {
+        return Ok(Outcome::NotStarted);
+    };
+    run_job_line(alloc, anacrontab, runner, line)
+}
+
+/// Runs the command of a crontab's line.
+fn run_line<W: Runner>(
+    alloc: Global,
+    table: &Crontab,
+    runner: &mut W,
+    line: &Line,
+) -> Result<Outcome, AllocError>
+    ensures runs { IfOk result (λ outcome. (asked : Asked) × IsOfCommand table.now line.now asked
+        × W.runs runner.old asked outcome runner.new) }
+    ensures err { OnErr result (runner.new ≡ runner.old) }
+{
+    let env = table.env_of(alloc, line.number())?;
+    let (command, input) = command_parts(alloc, line.command())?;
+    Ok(runner.run(command.as_slice(), lent(&input), env.as_slice()))
+}
+
+/// Runs the command of an anacrontab's line.
+fn run_job_line<W: Runner>(
+    alloc: Global,
+    table: &Anacrontab,
+    runner: &mut W,
+    line: &Job,
+) -> Result<Outcome, AllocError>
+    ensures runs { IfOk result (λ outcome. (asked : Asked) × IsOfJob table.now line.now asked
+        × W.runs runner.old asked outcome runner.new) }
+    ensures err { OnErr result (runner.new ≡ runner.old) }
+{
+    let env = table.env_of(alloc, line.number())?;
+    Ok(runner.run(line.command(), None, env.as_slice()))
+}
+
+fn lent(input: &Option<Bytes>) -> Option<&[u8]>
+    ensures { option_map (λ text. text.now) result ≡ input.now }
+{
+    match input {
+        Some(input) => Some(input.as_slice()),
+        None => None,
+    }
+}

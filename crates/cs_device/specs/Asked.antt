@@ -1,0 +1,17 @@
+-- What a runner is asked to run.
+use Rattle.std.specs.Prelude.{ℕ, List, Option, option_map}
+use Rattle.std.specs.Borrow.{Bor}
+
+-- a command, its standard input if it has one, and the settings in its environment
+pub record Asked : Type 0 where
+  pub command : List ℕ
+  pub input : Option (List ℕ)
+  pub variables : List (List ℕ × List ℕ)
+
+-- the same of the words of a call
+abbrev pub asked : List ℕ → Option (Bor (List ℕ)) → List (List ℕ × List ℕ) → Asked
+asked command input variables = record {
+  command = command;
+  input = option_map (λ text. text.now) input;
+  variables = variables;
+}

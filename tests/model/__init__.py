@@ -8,12 +8,14 @@ is wrong, or the words are unclear.
   faults        the faults by number and name
   calendar      days, dates, day kinds, and when a schedule is due
   crontab       the bytes of a crontab to a table
+  system        the bytes of a system table to a table
   anacrontab    the bytes of an anacrontab to a table
   json_text     the bytes of JSON to a value, as strictly as the program takes it
   declarations  the bytes of declarations and two tables to a plan
   script        the bytes of a script and a plan to a start, stamps and events, and back
   day           what `cronsafe day` prints
   draft         what a draft declares
+  gather        what `cronsafe gather` prints of tables
   replay        the rules of histories, and what `cronsafe replay` prints
   certificate   the bytes of a certificate to what it says
   claims        what a certificate stands for

@@ -6,6 +6,7 @@ whether there is a fault, of `draft` whether there is one of the words or of a f
 """
 import re
 from collections import namedtuple
+from itertools import chain
 
 from model import calendar, certificate, crontab, rules, script
 from model.anacrontab import NONE, read_anacrontab
@@ -13,7 +14,9 @@ from model.calendar import DAY
 from model.day import day_answer
 from model.declarations import GREATEST_MAX, plain_plan, read_declared, read_plan
 from model.faults import Fault
+from model.gather import gathered, shown, system_source, table_of, user_source
 from model.replay import replay_answer
+from model.users import users_in
 
 # The words of each subcommand and its options; those in capitals are the paths of inputs.
 CALLS = {
@@ -24,9 +27,12 @@ CALLS = {
     b"replay": (("TABLE", "SCRIPT"), ("ANACRONTAB", "DECLARATIONS", "max")),
     b"lint": (("TABLE", "DECLS"), ("ANACRONTAB",)),
     b"draft": (("TABLE",), ("ANACRONTAB", "max", "UPDATE")),
+    b"gather": ((), ("root", "SYSTEM", "USER")),
 }
 # How many of the last words of a subcommand may be left out.
 LEFT_OUT = {b"lint": 1}
+# The options that may be given more than once.
+LISTS = ("SYSTEM", "USER")
 NUMBERS = ("max", "from", "to")
 HELP = (b"help", b"-h", b"--help")
 # Settings that other programs know and this one passes over.
@@ -47,7 +53,7 @@ class NoCall(Exception):
 
 
 class Unread(Exception):
-    """A path can't be read."""
+    """A path can't be read, and why."""
 
 
 def asks_help(words):
@@ -89,7 +95,7 @@ def named(words, options):
         if not option.startswith(b"-") or option == b"-":
             plain.append(words[at - 1])
             continue
-        if option not in names or names[option] in found:
+        if option not in names or names[option] in found and names[option] not in LISTS:
             raise NoCall
         if option == b"--compact":
             if equals:
@@ -99,6 +105,8 @@ def named(words, options):
                 raise NoCall
             value = words[at]
             at += 1
+        if names[option] in LISTS:
+            value = [*found.get(names[option], []), value]
         found[names[option]] = value
     return plain, found
 
@@ -112,31 +120,38 @@ def asked(words):
     if not len(plain) - LEFT_OUT.get(words[0], 0) <= len(values) <= len(plain):
         raise NoCall
     found.update(zip(plain, values))
-    if sum(value == b"-" for name, value in found.items() if name.isupper()) > 1:
+    paths = [value for name, value in found.items() if name.isupper() and name not in LISTS]
+    if [*paths, *chain(*(found.get(name, []) for name in LISTS))].count(b"-") > 1:
         raise NoCall
     return {**found, **{it: number_of(found[it]) for it in NUMBERS if it in found}}
 
 
 def warnings_of_settings(table, of):
-    told = b"warning: %s on line %d of the %s has no effect\n"
+    told = b"warning: %s on line %d of %s has no effect\n"
     found = [it for it in table.settings if it.name in WITHOUT_EFFECT]
     return b"".join(told % (it.name, it.line, of) for it in found)
 
 
 def warnings_of(table, jobs):
     """Returns what is told of two tables that were read well: settings, and a user column."""
-    told = b"warning: the command on line %d of the crontab begins with root, as in a table with a "
-    told += b"user column\n"
-    lines = [it.line for it in table.commands if re.split(rb"[ \t]", it.command)[0] == b"root"]
-    users = b"".join(told % line for line in lines[:1])
-    of_settings = warnings_of_settings(table, b"crontab") + users
-    return of_settings + warnings_of_settings(jobs, b"anacrontab")
+    told = b"warning: the command on line %d of the crontab begins with %s, as in a table with a "
+    told += b"user column: see cronsafe gather\n"
+    users = b"".join(told % it for it in users_in(table)[:1])
+    of_settings = warnings_of_settings(table, b"the crontab") + users
+    return of_settings + warnings_of_settings(jobs, b"the anacrontab")
 
 
 def notes_of(plan):
-    """Returns what is told of a plan that is judged: what it leaves out, and what has the default.
+    """Returns what is told of a plan that is judged: what its declarations have twice, what it leaves
+    out, and what has the default.
     """
-    told = [b"note: line %d is left out of the plan\n" % it for it in plan.left_out]
+    told = []
+    if plan.doubled is not None:
+        name = plan.doubled.encode()
+        told.append(
+            b"warning: an object of the declarations has %s twice, and the last one counts\n" % name
+        )
+    told += [b"note: line %d is left out of the plan\n" % it for it in plan.left_out]
     if plan.left_out and not plan.jobs:
         told.append(b"note: the plan has no job\n")
     if plan.defaulted == 1:
@@ -157,7 +172,8 @@ class Call:
         if path == b"-":
             return self.stdin
         if path not in self.files:
-            raise Unread(path)
+            is_folder = path == b"."
+            raise Unread(path, b"it is a folder" if is_folder else b"there is no such file")
         return self.files[path]
 
     def read_tables(self, found):
@@ -197,6 +213,29 @@ class Call:
         finally:
             self.warned = b""
         return None, None
+
+    def look_at_root(self, path):
+        """Looks for a root folder, below which there is nothing: all files are in one folder."""
+        if path != b".":
+            is_file = path in self.files
+            raise Unread(path, b"it is no folder" if is_file else b"there is no such file")
+        self.warned = b"note: there are no tables below %s\n" % path
+
+    def gather(self, found):
+        """Gathers the tables, each of which is read once those before it had no fault."""
+        if not found:
+            raise NoCall
+        if "root" in found:
+            self.look_at_root(found["root"])
+        system = (system_source(it, self.bytes_of(it)) for it in found.get("SYSTEM", []))
+        users = (user_source(it, self.bytes_of(it)) for it in found.get("USER", []))
+        return 0, gathered(self.warned_of(chain(system, users)))
+
+    def warned_of(self, sources):
+        """Yields the sources, and tells of the settings of each once it has been gathered."""
+        for it in sources:
+            yield it
+            self.warned += warnings_of_settings(table_of(it), shown(it.path))
 
     def draft(self, found):
         look_at_max(found.get("max", 60))
@@ -241,8 +280,7 @@ class Call:
         except Fault as fault:
             return Answer(3, b"", self.warned + b"cronsafe: %s\n" % fault.text())
         except Unread as unread:
-            why = b"it is a folder" if unread.args[0] == b"." else b"there is no such file"
-            told = b"cronsafe: can't read %s: %s\n" % (unread.args[0], why)
+            told = b"cronsafe: can't read %s: %s\n" % unread.args
             return Answer(6, b"", self.warned + told)
         except NoCall:
             return Answer(4, b"", None)

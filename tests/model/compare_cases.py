@@ -3,8 +3,8 @@
 
   tests/model/compare_cases.py [NAME..]   all cases, those of a subcommand, or those named
 
-Read are the cases of `day`, `check`, `judge`, `make`, `replay`, `lint` and `draft`, but for those
-of help. Where the wanted answer is one of what is read, the reading has to answer the same: status
+Read are the cases of `day`, `check`, `judge`, `make`, `replay`, `lint`, `draft` and `gather`, but
+for those of help. Where the wanted answer is one of what is read, the reading has to answer the same: status
 and both outputs. Where it comes later, all has to read well, with the wanted warnings and notes.
 
 Judged are certificates; the reading of `check` has to give the whole answer, its verdict too:

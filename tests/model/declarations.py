@@ -6,7 +6,8 @@ from model.anacrontab import NONE, read_anacrontab
 from model.calendar import DAY, KINDS, is_day_due, minutes_of
 from model.crontab import Command, read_crontab
 from model.faults import Fault
-from model.json_text import NotJson, OtherShape, items_of, numbers_of, read_json, whole
+from model.json_text import NotJson, OtherShape, doubled_member, items_of, numbers_of, read_json
+from model.json_text import whole
 
 MODES = ("none", "skip", "try", "wait", "shared")
 MOST_GROUPS = 64
@@ -26,11 +27,11 @@ LineName = namedtuple("LineName", "number command")
 # `job` is the name of a line; of an anacron entry an identifier, and `mode` is whether it has one.
 Entry = namedtuple("Entry", "job max weight group mode")
 # Tables without the lines that are left out, whose numbers rise; the jobs of a plan, of which so
-# many have the default, are those of the crontab first.
+# many have the default, are those of the crontab first; a member that an object has twice.
 Plan = namedtuple(
     "Plan",
-    "crontab anacrontab jobs groups capacity hours pass_minute offset left_out defaulted",
-    defaults=[[], 0],
+    "crontab anacrontab jobs groups capacity hours pass_minute offset left_out defaulted doubled",
+    defaults=[[], 0, None],
 )
 
 
@@ -290,7 +291,7 @@ def read_plan(data, crontab, anacrontab):
     """Returns the plan that the bytes of declarations make of two tables."""
     declared = read_declared(data)
     tell_first(faults_of_tables(declared, crontab, anacrontab))
-    return joined(declared, crontab, anacrontab)
+    return joined(declared, crontab, anacrontab)._replace(doubled=doubled_member(data))
 
 
 def plain_plan(longest, crontab, anacrontab):

@@ -1,8 +1,8 @@
 -- What is answered to the words of a call.
 use Rattle.std.specs.Prelude.{◌≡◌, ◌⊎◌, ℕ, ℤ, List, [], Option}
 use Rattle.clap.specs.Words.{Text}
-use Rattle.cs_args.specs.CommandLine.{Asking, Asks, Chart, Check, Day, Draft, Explain, Help, Judge}
-use Rattle.cs_args.specs.CommandLine.{Lint, Make, Replay, Run}
+use Rattle.cs_args.specs.CommandLine.{Asking, Asks, Chart, Check, Day, Draft, Explain, Gather, Help}
+use Rattle.cs_args.specs.CommandLine.{Judge, Lint, Make, Replay, Run}
 use Rattle.cs_args.specs.CommandLine.{AsksHelp, AsksVersion, IsNoCall}
 use Rattle.cs_args.specs.Version.{version_text}
 use Rattle.cs_io.specs.Files.{Failed}
@@ -11,6 +11,7 @@ use Rattle.cs_views.specs.ChartAnswer.{AnswersChart}
 use Rattle.cs_views.specs.DayAnswer.{AnswersDay}
 use Rattle.cs_views.specs.DraftAnswer.{AnswersDraft}
 use Rattle.cs_views.specs.ExplainAnswer.{AnswersExplain}
+use Rattle.cs_views.specs.GatherAnswer.{AnswersGather}
 use Rattle.cs_views.specs.LintAnswer.{AnswersLint}
 use Rattle.cs_files.specs.Response.{Ending, done}
 use Rattle.cs_views.specs.Replayed.{AnswersReplay}
@@ -31,6 +32,7 @@ AnswersAsked offset (Check a) files before failed = EndsAs (IsChecked a files be
 AnswersAsked offset (Run a) files before failed = AnswersRun a files before failed
 AnswersAsked offset (Judge a) files before failed = EndsAs (AnswersJudge a files before failed)
 AnswersAsked offset (Make a) files before failed = EndsAs (AnswersMake a files before failed)
+AnswersAsked offset (Gather a) files before failed = EndsAs (AnswersGather a files before failed)
 AnswersAsked offset (Draft a) files before failed = EndsAs (AnswersDraft a offset files before failed)
 AnswersAsked offset (Lint a) files before failed = EndsAs (AnswersLint a files before failed)
 AnswersAsked offset (Chart a) files before failed = EndsAs (AnswersChart a files before failed)

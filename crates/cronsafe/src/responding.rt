@@ -1,29 +1,30 @@
 //! The answer to the words of a call.
 ghost use Rattle.std.specs.Prelude.{◌≡◌, [], IfErr, IfOk, map};
-ghost use Rattle.cs_io.specs.Files.{AreReadInTurn, IsFresh};
+ghost use Rattle.cs_io.specs.Files.{IsFresh};
 ghost use Rattle.cs_args.specs.Asked.{asking};
 ghost use Rattle.cs_args.specs.Version.{version_text};
 ghost use Rattle.cs_cli.specs.Answer.{IfEnds};
 ghost use Rattle.cs_files.specs.RanOut.{IsWarnedOf, RanOutOn};
 ghost use Rattle.cs_files.specs.Response.{done};
 ghost use Rattle.cs_files.specs.Trouble.{IsHonest};
-ghost use Rattle.cs_files.specs.Turn.{ReadsInTurn, paths_asked};
+ghost use Rattle.cs_files.specs.Turn.{ReadsAsked, ReadsInTurn};
 ghost use Rattle.cronsafe.specs.Call.{Answers, AnswersAsked};
 
 use cs_args::{Request, UsageFault, parse_words, version_text};
 use cs_civil::Bytes;
 use cs_cli::{Answer, answer_check, answer_judge, answer_make, answer_run};
 use cs_files::{RanOut, Response};
-use cs_io::Inputs;
+use cs_io::Folders;
 use cs_views::{
-    answer_chart, answer_day, answer_draft, answer_explain, answer_lint, answer_replay,
+    answer_chart, answer_day, answer_draft, answer_explain, answer_gather, answer_lint,
+    answer_replay,
 };
 use std::alloc::{AllocError, Global};
 use std::convert::AsStr;
 use std::thread::Threads;
 
 /// Answers what a call asks, or with what is to be run. The only error is want of memory.
-fn answer_asked<'a, R: Threads + Sync, I: Inputs>(
+fn answer_asked<'a, R: Threads + Sync, I: Folders>(
     rt: &R,
     alloc: Global,
     request: Request<'a>,
@@ -38,8 +39,7 @@ fn answer_asked<'a, R: Threads + Sync, I: Inputs>(
     ensures warned { IsFresh (I.whole inputs.old) (I.left inputs.old)
         → IfErr result (λ e. IsWarnedOf (asking request.entry) (I.whole inputs.old)
         (I.failed inputs.old) (I.reads inputs.old) (I.reads inputs.new) e.warnings) }
-    ensures turn { AreReadInTurn (paths_asked (asking request.entry))
-        (I.reads inputs.old) (I.reads inputs.new) }
+    ensures turn { ReadsAsked (asking request.entry) (I.reads inputs.old) (I.reads inputs.new) }
 {
     match request {
         Request::Day(request) => Ok(Answer::Ends(answer_day(alloc, &request, inputs)?)),
@@ -48,6 +48,7 @@ fn answer_asked<'a, R: Threads + Sync, I: Inputs>(
         Request::Run(request) => answer_run(rt, alloc, &request, inputs),
         Request::Judge(request) => Ok(Answer::Ends(answer_judge(rt, alloc, &request, inputs)?)),
         Request::Make(request) => Ok(Answer::Ends(answer_make(rt, alloc, &request, inputs)?)),
+        Request::Gather(request) => Ok(Answer::Ends(answer_gather(alloc, &request, inputs)?)),
         Request::Draft(request) => Ok(Answer::Ends(answer_draft(alloc, &request, offset, inputs)?)),
         Request::Lint(request) => Ok(Answer::Ends(answer_lint(alloc, &request, inputs)?)),
         Request::Chart(request) => Ok(Answer::Ends(answer_chart(alloc, &request, inputs)?)),
@@ -65,7 +66,7 @@ fn show_version(alloc: Global) -> Result<Response, AllocError>
 
 /// The answer to the words of a call, of which the first is the program's name, where clocks are ahead
 /// of UTC by `offset` minutes. A certificate is checked by the threads of `rt`. The only error is want of memory.
-pub(crate) fn respond<'a, R: Threads + Sync, S: AsStr, I: Inputs>(
+pub(crate) fn respond<'a, R: Threads + Sync, S: AsStr, I: Folders>(
     rt: &R,
     alloc: Global,
     words: &'a [S],

@@ -12,7 +12,7 @@ use crate::serve::serve;
 use cs_cli::Answer;
 use cs_device::Runner;
 use cs_files::Status;
-use cs_io::{Inputs, Output};
+use cs_io::{Folders, Output};
 use std::alloc::Global;
 use std::convert::AsStr;
 use std::io::Write;
@@ -54,7 +54,7 @@ fn carry_out<
 pub(crate) fn run_words<
     R: Threads + Wait + Sync + Files + Clock,
     S: AsStr,
-    I: Inputs,
+    I: Folders,
     O: Output + Write + Send,
     E: Output,
     W: Runner + Send + Drop,

@@ -1,14 +1,15 @@
 -- What `parse_words` answers, as what the words ask.
-use Rattle.std.specs.Prelude.{◌≡◌, ◌≢◌, ℕ, List, Option, option_map, Some, None, Result, Ok, Err, ⊤}
+use Rattle.std.specs.Prelude.{◌≡◌, ◌≢◌, ℕ, List, Option, map, option_map, Some, None, Result, Ok, Err, ⊤}
 use Rattle.clap.specs.Words.{Row, Text, kind_of}
 use Rattle.clap.specs.declared.error.Error.{Error}
 use Rattle.clap.specs.declared.error.kind.ErrorKind.TheVariants.{DisplayHelp, DisplayVersion}
 use Rattle.clap.specs.declared.error.kind.ErrorKind.TheVariants as kind
 use Rattle.cs_args.specs.CommandLine.{Asked, AskedCheck, AskedReplay, Asking, Asks, AsksHelp, AsksVersion, Check, Day, Help as HelpAsking, IsNoCall, Replay, asked_by, asked_in, check_in, help_in, replay_in}
-use Rattle.cs_args.specs.CommandLine.{AskedChart, AskedDraft, AskedLint, Chart, Draft, Explain, Lint}
-use Rattle.cs_args.specs.CommandLine.{chart_in, draft_in, lint_in}
+use Rattle.cs_args.specs.CommandLine.{AskedChart, AskedDraft, AskedGather, AskedLint, Chart, Draft, Explain, Gather, Lint}
+use Rattle.cs_args.specs.CommandLine.{chart_in, draft_in, gather_in, lint_in}
 use Rattle.cs_args.specs.declared.request.ChartWords.{ChartWords}
 use Rattle.cs_args.specs.declared.request.DraftWords.{DraftWords}
+use Rattle.cs_args.specs.declared.request.GatherWords.{GatherWords}
 use Rattle.cs_args.specs.declared.request.LintWords.{LintWords}
 use Rattle.cs_args.specs.declared.request.CheckWords.{CheckWords}
 use Rattle.cs_args.specs.CommandLine.{AskedJudge, AskedMake, AskedRun, Judge, Make, Run, judge_in, make_in, run_in}
@@ -62,6 +63,13 @@ asked_judge j = record {
 abbrev pub asked_make : MakeWords → AskedMake
 asked_make m = record { judge = asked_judge m.judge; compact = m.compact }
 
+abbrev pub asked_gather : GatherWords → AskedGather
+asked_gather g = record {
+  root = option_map (λ path. path.now) g.root;
+  system = map (λ path. path.now) g.system.items;
+  user = map (λ path. path.now) g.user.items;
+}
+
 abbrev pub asked_draft : DraftWords → AskedDraft
 asked_draft d = record {
   table = d.table.now;
@@ -91,6 +99,7 @@ asking (request.Check c) = Check (asked_check c)
 asking (request.Run r) = Run (asked_run r)
 asking (request.Judge j) = Judge (asked_judge j)
 asking (request.Make m) = Make (asked_make m)
+asking (request.Gather g) = Gather (asked_gather g)
 asking (request.Draft d) = Draft (asked_draft d)
 asking (request.Lint l) = Lint (asked_lint l)
 asking (request.Chart c) = Chart (asked_chart c)
@@ -138,6 +147,9 @@ JudgeAsked rows = AnswersFor asked_judge (judge_in rows)
 
 abbrev pub MakeAsked : List Row → Result MakeWords UsageFault → Type 0
 MakeAsked rows = AnswersFor asked_make (make_in rows)
+
+abbrev pub GatherAsked : List Row → Result GatherWords UsageFault → Type 0
+GatherAsked rows = AnswersFor asked_gather (gather_in rows)
 
 abbrev pub DraftAsked : List Row → Result DraftWords UsageFault → Type 0
 DraftAsked rows = AnswersFor asked_draft (draft_in rows)

@@ -1,13 +1,13 @@
 -- The command line, as `clap` reads it, and what its words ask.
-use Rattle.std.specs.Prelude.{◌≡◌, ◌≢◌, ◌⊎◌, ◌^◌, ℕ, Bool, false, List, [], ◌∷◌, Option, Some, None, true, codes, option_and_then, option_map, unwrap_or, length, if◌then◌else◌, nat_lt, ◌&&◌, ◌||◌}
+use Rattle.std.specs.Prelude.{◌≡◌, ◌≢◌, ◌⊎◌, ◌^◌, ◌+◌, ◌==◌, ℕ, Bool, false, List, [], ◌∷◌, count_by, is_some, not, Option, Some, None, true, codes, option_and_then, option_map, unwrap_or, length, if◌then◌else◌, nat_lt, ◌&&◌, ◌||◌}
 use Rattle.std.specs.Str.Parse.{digits_value}
 use Rattle.std.specs.Char.{is_ascii_digit}
 use Rattle.std.specs.List.{list_all}
 use Rattle.std.specs.Option.{option_map_or}
 use Rattle.std.specs.Str.{bytes_eq}
-use Rattle.clap.specs.Words.{App, IsAmong, Row, Rule, Text, fault_of, first_of, new_app, new_rule, subcommand_of, with_rule, with_subcommand}
+use Rattle.clap.specs.Words.{App, IsAmong, Row, Rule, Text, all_of, fault_of, first_of, new_app, new_rule, subcommand_of, with_rule, with_subcommand}
 use Rattle.clap.specs.Simple.{on_top}
-use Rattle.clap.specs.declared.builder.action.ArgAction.TheVariants.{SetTrue}
+use Rattle.clap.specs.declared.builder.action.ArgAction.TheVariants.{Append, SetTrue}
 use Rattle.clap.specs.declared.builder.command.Command.{Command}
 use Rattle.clap.specs.declared.builder.command.Command.TheViews.{out-Command as fields_of}
 use Rattle.clap.specs.declared.error.kind.ErrorKind.{ErrorKind}
@@ -24,6 +24,10 @@ IsLocal c = (fields_of c).has_globals ≡ false
 -- an option with one value, `--NAME VALUE`
 abbrev pub option_rule : Text → Rule
 option_rule id = record (new_rule id) { long = Some id; value_names = 1 }
+
+-- an option with one value, `--NAME VALUE`, which can be given more than once
+abbrev pub list_rule : Text → Rule
+list_rule id = record (option_rule id) { action = Some Append }
 
 -- an option with no value, `--NAME`
 abbrev pub flag_rule : Text → Rule
@@ -89,6 +93,12 @@ judge_app = plan_app (codes "judge")
 unfoldable pub make_app : App
 make_app = with_rule (plan_app (codes "make")) (flag_rule (codes "compact"))
 
+-- `gather [--root DIR] [--system FILE].. [--user FILE]..`
+unfoldable pub gather_app : App
+gather_app =
+    with_rule (with_rule (with_rule (new_app (codes "gather")) (option_rule (codes "root")))
+    (list_rule (codes "system"))) (list_rule (codes "user"))
+
 -- `draft TABLE [--anacrontab FILE] [--max N] [--update OLD]`
 unfoldable pub draft_app : App
 draft_app =
@@ -130,9 +140,11 @@ judge_and_check_app = with_subcommand (with_subcommand top_app judge_app.top) ch
 unfoldable pub up_to_run_app : App
 up_to_run_app = with_subcommand (with_subcommand judge_and_check_app make_app.top) run_app.top
 
--- and with `draft` and `lint`
+-- and with `gather`, `draft` and `lint`
 unfoldable pub up_to_lint_app : App
-up_to_lint_app = with_subcommand (with_subcommand up_to_run_app draft_app.top) lint_app.top
+up_to_lint_app =
+    with_subcommand (with_subcommand (with_subcommand up_to_run_app gather_app.top) draft_app.top)
+    lint_app.top
 
 -- and with `day` and `chart`
 unfoldable pub up_to_chart_app : App
@@ -198,6 +210,12 @@ pub record AskedMake : Type 0 where
   pub judge : AskedJudge
   pub compact : Bool
 
+-- what `gather` is asked: the paths of a root folder, of system tables and of users' tables
+pub record AskedGather : Type 0 where
+  pub root : Option Text
+  pub system : List Text
+  pub user : List Text
+
 -- what `draft` is asked: the paths of a table, of an anacrontab and of declarations to update, and a
 -- longest time in minutes
 pub record AskedDraft : Type 0 where
@@ -226,6 +244,7 @@ pub data Asking : Type 0 where
   Run : AskedRun → Asking
   Judge : AskedJudge → Asking
   Make : AskedMake → Asking
+  Gather : AskedGather → Asking
   Draft : AskedDraft → Asking
   Lint : AskedLint → Asking
   Chart : AskedChart → Asking
@@ -235,6 +254,10 @@ pub data Asking : Type 0 where
 -- the first value of an argument, and this text where it has none
 abbrev pub value_or : Text → Text → List Row → Text
 value_or absent id rows = unwrap_or (first_of id rows) absent
+
+-- all values of an argument, in order
+abbrev pub values_in : Text → List Row → List Text
+values_in id rows = unwrap_or (all_of id rows) []
 
 -- an option with no value is given
 abbrev pub has_flag : Text → List Row → Bool
@@ -349,6 +372,24 @@ make_in rows =
     option_map (λ judge. record { judge = judge; compact = has_flag (codes "compact") rows })
     (judge_in rows)
 
+-- no path is named
+abbrev pub is_asked_nothing : AskedGather → Bool
+is_asked_nothing a = not (is_some a.root) && ((length a.system == 0) && (length a.user == 0))
+
+-- standard input is named more than once
+abbrev pub has_two_dashes : AskedGather → Bool
+has_two_dashes a = nat_lt 1 (count_by is_dash a.system + count_by is_dash a.user)
+
+-- what the entries of `gather` ask: at least one path, and standard input is named once at most
+abbrev pub gather_in : List Row → Option AskedGather
+gather_in rows =
+    let asked : AskedGather = record {
+      root = first_of (codes "root") rows;
+      system = values_in (codes "system") rows;
+      user = values_in (codes "user") rows;
+    } in
+    if is_asked_nothing asked then None else if has_two_dashes asked then None else Some asked
+
 -- what the entries of `draft` ask, where `--max` has this number
 abbrev pub draft_with : List Row → ℕ → Option AskedDraft
 draft_with rows max =
@@ -402,8 +443,9 @@ is_planned_name name =
 
 abbrev pub is_shown_name : Text → Bool
 is_shown_name name =
-    bytes_eq name (codes "draft") || (bytes_eq name (codes "lint")
-    || (bytes_eq name (codes "chart") || bytes_eq name (codes "explain")))
+    bytes_eq name (codes "gather") || (bytes_eq name (codes "draft")
+    || (bytes_eq name (codes "lint")
+    || (bytes_eq name (codes "chart") || bytes_eq name (codes "explain"))))
 
 abbrev pub is_subcommand : Text → Bool
 is_subcommand name =
@@ -423,6 +465,7 @@ asked_by name rows =
     else if bytes_eq name (codes "run") then option_map Run (run_in rows)
     else if bytes_eq name (codes "judge") then option_map Judge (judge_in rows)
     else if bytes_eq name (codes "make") then option_map Make (make_in rows)
+    else if bytes_eq name (codes "gather") then option_map Gather (gather_in rows)
     else if bytes_eq name (codes "draft") then option_map Draft (draft_in rows)
     else if bytes_eq name (codes "lint") then option_map Lint (lint_in rows)
     else if bytes_eq name (codes "chart") then option_map Chart (chart_in rows)

@@ -1,18 +1,18 @@
 //! What the words of a call ask.
-ghost use Rattle.std.specs.Prelude.{◌≡◌, codes, map, option_map};
+ghost use Rattle.std.specs.Prelude.{◌≡◌, ◌++◌, IfOk, codes, count_by, map, option_map};
 ghost use Rattle.std.specs.Char.{is_ascii_digit};
 ghost use Rattle.std.specs.List.{list_all};
 ghost use Rattle.clap.specs.Words.{first_of, found_of, rows_of};
-ghost use Rattle.cs_args.specs.CommandLine.{are_dashes, has_flag, is_dash_in, is_twice_standard, minutes_of, number_of, value_or};
+ghost use Rattle.cs_args.specs.CommandLine.{are_dashes, has_flag, is_dash, is_dash_in, is_twice_standard, minutes_of, number_of, value_or, values_in};
 ghost use Rattle.cs_args.specs.Asked.{CheckAsked, DayAsked, FaultOf, HelpAsked, NumberAsked, Parses, ReplayAsked, RequestAsked};
 ghost use Rattle.cs_args.specs.Asked.{JudgeAsked, MakeAsked, MinutesAsked, RunAsked};
-ghost use Rattle.cs_args.specs.Asked.{ChartAsked, DraftAsked, LintAsked};
+ghost use Rattle.cs_args.specs.Asked.{ChartAsked, DraftAsked, GatherAsked, LintAsked};
 ghost use Rattle.cs_args.specs.CommandLine.{is_up_to_a_week};
 
 use crate::commands::{Subcommand, command};
 use crate::request::{
-    ChartWords, CheckWords, DayWords, DraftWords, JudgeWords, LintWords, MakeWords, ReplayWords,
-    Request, RunWords, UsageFault,
+    ChartWords, CheckWords, DayWords, DraftWords, GatherWords, JudgeWords, LintWords, MakeWords,
+    ReplayWords, Request, RunWords, UsageFault,
 };
 use clap::error::ErrorKind;
 use clap::{ArgMatches, Error};
@@ -70,6 +70,21 @@ fn text_of<'a>(given: &ArgMatches<'a>, id: &str, absent: &'a str) -> &'a str
     match value_of(given, id) {
         Some(text) => text,
         None => absent,
+    }
+}
+
+/// All values of an argument, in order.
+fn values_of<'a>(
+    alloc: Global,
+    given: &ArgMatches<'a>,
+    id: &str,
+) -> Result<Vec<&'a str>, AllocError>
+    ensures { IfOk result (λ values. map (λ text. text.now) values.items
+        ≡ values_in id.now (rows_of (found_of given.now))) }
+{
+    match given.get_strs(id) {
+        Some(values) => Vec::from_slice(alloc, values),
+        None => Ok(Vec::new(alloc)),
     }
 }
 
@@ -280,6 +295,30 @@ fn make_words<'a>(alloc: Global, given: &ArgMatches<'a>) -> Result<MakeWords<'a>
     Ok(MakeWords { judge, compact })
 }
 
+/// How many of the paths name standard input.
+fn dash_count(paths: &[&str]) -> usize
+    ensures { result ≡ count_by is_dash (map (λ path. path.now) paths.now) }
+{
+    paths.iter().filter(|path| **path == "-").count()
+}
+
+/// What the entries of `gather` ask.
+fn gather_words<'a>(alloc: Global, given: &ArgMatches<'a>) -> Result<GatherWords<'a>, UsageFault>
+    ensures { GatherAsked (rows_of (found_of given.now)) result }
+{
+    let root = value_of(given, "root");
+    let system = values_of(alloc, given, "system")?;
+    let user = values_of(alloc, given, "user")?;
+    if root.is_none() && system.is_empty() && user.is_empty() {
+        let message = "one of --root, --system and --user is required";
+        return Err(UsageFault::NoCall(Subcommand::Gather.fault(alloc, message)?));
+    }
+    if dash_count(&system) + dash_count(&user) > 1 {
+        return Err(UsageFault::NoCall(twice_standard(alloc, Subcommand::Gather)?));
+    }
+    Ok(GatherWords { root, system, user })
+}
+
 /// What the entries of `draft` ask.
 fn draft_words<'a>(alloc: Global, given: &ArgMatches<'a>) -> Result<DraftWords<'a>, UsageFault>
     ensures { DraftAsked (rows_of (found_of given.now)) result }
@@ -405,6 +444,13 @@ fn make_request<'a>(alloc: Global, given: &ArgMatches<'a>) -> Result<Request<'a>
     Ok(Request::Make(make_words(alloc, given)?))
 }
 
+/// The request of the entries of `gather`.
+fn gather_request<'a>(alloc: Global, given: &ArgMatches<'a>) -> Result<Request<'a>, UsageFault>
+    ensures { RequestAsked (codes "gather") (rows_of (found_of given.now)) result }
+{
+    Ok(Request::Gather(gather_words(alloc, given)?))
+}
+
 /// The request of the entries of `draft`.
 fn draft_request<'a>(alloc: Global, given: &ArgMatches<'a>) -> Result<Request<'a>, UsageFault>
     ensures { RequestAsked (codes "draft") (rows_of (found_of given.now)) result }
@@ -454,6 +500,7 @@ fn asked_by<'a>(
         "run" => run_request(alloc, given),
         "judge" => judge_request(alloc, given),
         "make" => make_request(alloc, given),
+        "gather" => gather_request(alloc, given),
         "draft" => draft_request(alloc, given),
         "lint" => lint_request(alloc, given),
         "chart" => chart_request(alloc, given),

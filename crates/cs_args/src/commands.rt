@@ -4,19 +4,19 @@ ghost use Rattle.clap.specs.Words.{App, app_of, new_app, new_rule, rule_of, with
 ghost use Rattle.cs_args.specs.CommandLine.{IsLocal, check_app, cronsafe_app, day_app, help_app, judge_and_check_app};
 ghost use Rattle.cs_args.specs.CommandLine.{judge_app, make_app, plan_app, replay_app, run_app};
 ghost use Rattle.cs_args.specs.CommandLine.{top_app, up_to_chart_app, up_to_run_app, with_certificate};
-ghost use Rattle.cs_args.specs.CommandLine.{chart_app, draft_app, explain_app, lint_app};
+ghost use Rattle.cs_args.specs.CommandLine.{chart_app, draft_app, explain_app, gather_app, lint_app};
 ghost use Rattle.cs_args.specs.CommandLine.{up_to_explain_app, up_to_lint_app};
 ghost use Rattle.cs_args.specs.CommandLine.{is_planned_name, is_shown_name};
-ghost use Rattle.cs_args.specs.CommandLine.{flag_rule, is_subcommand, option_rule, required_rule, with_hours, with_terms, with_words};
+ghost use Rattle.cs_args.specs.CommandLine.{flag_rule, is_subcommand, list_rule, option_rule, required_rule, with_hours, with_terms, with_words};
 
 use crate::texts::{
     ABOUT, ANACRONTAB_HELP, CERTIFICATE_HELP, CHART_ABOUT, CHART_EXAMPLE, CHECK_ABOUT,
     CHECK_EXAMPLE, COMMAND_HELP, COMPACT_HELP, DATE_HELP, DAY_ABOUT, DAY_EXAMPLE, DAYS_HELP,
     DECLARATIONS_HELP, DRAFT_ABOUT, DRAFT_EXAMPLE, DRAFT_MAX_HELP, EXAMPLE, EXPLAIN_ABOUT,
-    EXPLAIN_EXAMPLE, FROM_HELP, HELP_ABOUT, JUDGE_ABOUT, JUDGE_EXAMPLE, LINT_ABOUT, LINT_EXAMPLE,
-    MAKE_ABOUT, MAKE_EXAMPLE, MAX_HELP, MINUTES_HELP, NAME_HELP, REPLAY_ABOUT, REPLAY_EXAMPLE,
-    REPLAY_MAX_HELP, RUN_ABOUT, RUN_EXAMPLE, SCRIPT_HELP, STAMPS_HELP, TABLE_HELP, TO_HELP,
-    UPDATE_HELP,
+    EXPLAIN_EXAMPLE, FROM_HELP, GATHER_ABOUT, GATHER_EXAMPLE, HELP_ABOUT, JUDGE_ABOUT,
+    JUDGE_EXAMPLE, LINT_ABOUT, LINT_EXAMPLE, MAKE_ABOUT, MAKE_EXAMPLE, MAX_HELP, MINUTES_HELP,
+    NAME_HELP, REPLAY_ABOUT, REPLAY_EXAMPLE, REPLAY_MAX_HELP, ROOT_HELP, RUN_ABOUT, RUN_EXAMPLE,
+    SCRIPT_HELP, STAMPS_HELP, SYSTEM_HELP, TABLE_HELP, TO_HELP, UPDATE_HELP, USER_HELP,
 };
 use crate::version::version_text;
 use clap::error::ErrorKind;
@@ -40,6 +40,14 @@ fn option_arg<'a>(alloc: Global, name: &'a str, value: &'a str, help: &'a str) -
         .long(name)
         .value_name(value)
         .help(help)
+}
+
+/// An option with one value, `--NAME FILE`, which can be given more than once.
+fn list_arg<'a>(alloc: Global, name: &'a str, help: &'a str) -> Arg<'a>
+    ensures rule { rule_of result ≡ list_rule name.now }
+    ensures local { result.global ≡ false }
+{
+    option_arg(alloc, name, "FILE", help).action(ArgAction::Append)
 }
 
 /// An option with no value, `--NAME`.
@@ -120,6 +128,20 @@ fn with_option<'a>(
     ensures local { IfOk command.entry IsLocal → IfOk result IsLocal }
 {
     with_arg(command, option_arg(alloc, name, value, help))
+}
+
+/// A command with one option more that can be given more than once.
+fn with_list<'a>(
+    alloc: Global,
+    command: Result<Command<'a>, AllocError>,
+    name: &'a str,
+    help: &'a str,
+) -> Result<Command<'a>, AllocError>
+    ensures app { (app : App) → IfOk command.entry (λ c. app_of c ≡ app)
+        → IfOk result (λ c. app_of c ≡ with_rule app (list_rule name.now)) }
+    ensures local { IfOk command.entry IsLocal → IfOk result IsLocal }
+{
+    with_arg(command, list_arg(alloc, name, help))
 }
 
 /// A command with `TABLE DATE MAX`.
@@ -260,6 +282,18 @@ fn make_command<'a>(alloc: Global) -> Result<Command<'a>, AllocError>
     with_arg(command, flag_arg(alloc, "compact", COMPACT_HELP))
 }
 
+/// `gather [--root DIR] [--system FILE].. [--user FILE]..`.
+#[tactic(auto, unfolding(crate::specs::CommandLine::gather_app))]
+fn gather_command<'a>(alloc: Global) -> Result<Command<'a>, AllocError>
+    ensures app { IfOk result (λ c. app_of c ≡ gather_app) }
+    ensures local { IfOk result IsLocal }
+{
+    let command = described(alloc, "gather", GATHER_ABOUT, GATHER_EXAMPLE);
+    let command = with_option(alloc, command, "root", "DIR", ROOT_HELP);
+    let command = with_list(alloc, command, "system", SYSTEM_HELP);
+    with_list(alloc, command, "user", USER_HELP)
+}
+
 /// `draft TABLE [--anacrontab FILE] [--max N] [--update OLD]`.
 #[tactic(auto, unfolding(crate::specs::CommandLine::draft_app))]
 fn draft_command<'a>(alloc: Global) -> Result<Command<'a>, AllocError>
@@ -364,12 +398,13 @@ fn up_to_run<'a>(alloc: Global) -> Result<Command<'a>, AllocError>
     with_subcommand(cronsafe, run_command(alloc))
 }
 
-/// And with `draft` and `lint`.
+/// And with `gather`, `draft` and `lint`.
 #[tactic(auto, unfolding(crate::specs::CommandLine::up_to_lint_app))]
 fn up_to_lint<'a>(alloc: Global) -> Result<Command<'a>, AllocError>
     ensures { IfOk result (λ c. app_of c ≡ up_to_lint_app) }
 {
-    let cronsafe = with_subcommand(up_to_run(alloc), draft_command(alloc));
+    let cronsafe = with_subcommand(up_to_run(alloc), gather_command(alloc));
+    let cronsafe = with_subcommand(cronsafe, draft_command(alloc));
     with_subcommand(cronsafe, lint_command(alloc))
 }
 
@@ -416,6 +451,7 @@ pub(crate) enum Subcommand {
     Run,
     Judge,
     Make,
+    Gather,
     Draft,
     Lint,
     Chart,
@@ -441,6 +477,7 @@ fn shown_by(name: &str) -> Option<Subcommand>
     ensures { is_some result ≡ is_shown_name name.now }
 {
     match name {
+        "gather" => Some(Subcommand::Gather),
         "draft" => Some(Subcommand::Draft),
         "lint" => Some(Subcommand::Lint),
         "chart" => Some(Subcommand::Chart),
@@ -471,6 +508,7 @@ impl Subcommand {
             Subcommand::Run => "cronsafe run",
             Subcommand::Judge => "cronsafe judge",
             Subcommand::Make => "cronsafe make",
+            Subcommand::Gather => "cronsafe gather",
             Subcommand::Draft => "cronsafe draft",
             Subcommand::Lint => "cronsafe lint",
             Subcommand::Chart => "cronsafe chart",
@@ -488,6 +526,7 @@ impl Subcommand {
             Subcommand::Run => run_command(alloc),
             Subcommand::Judge => judge_command(alloc),
             Subcommand::Make => make_command(alloc),
+            Subcommand::Gather => gather_command(alloc),
             Subcommand::Draft => draft_command(alloc),
             Subcommand::Lint => lint_command(alloc),
             Subcommand::Chart => chart_command(alloc),

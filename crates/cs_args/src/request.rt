@@ -80,6 +80,17 @@ pub struct MakeWords<'a> {
     pub compact: bool,
 }
 
+/// What `gather` is asked.
+#[derive(Debug, Drop)]
+pub struct GatherWords<'a> {
+    /// The path of a machine's root folder.
+    pub root: Option<&'a str>,
+    /// The paths of crontabs whose lines name a user, in order.
+    pub system: Vec<&'a str>,
+    /// The paths of users' crontabs, in order.
+    pub user: Vec<&'a str>,
+}
+
 /// What `draft` is asked.
 #[derive(Clone, Copy, Debug)]
 pub struct DraftWords<'a> {
@@ -116,7 +127,7 @@ pub struct ChartWords<'a> {
 }
 
 /// What a call asks.
-#[derive(Clone, Copy, Debug)]
+#[derive(Debug, Drop)]
 pub enum Request<'a> {
     /// A day of the tables.
     Day(DayWords<'a>),
@@ -130,6 +141,8 @@ pub enum Request<'a> {
     Judge(JudgeWords<'a>),
     /// A certificate of a plan, or a history that breaks it.
     Make(MakeWords<'a>),
+    /// Many crontabs as one.
+    Gather(GatherWords<'a>),
     /// Declarations to begin from.
     Draft(DraftWords<'a>),
     /// All that is wrong or odd in files.

@@ -12,7 +12,7 @@ use Rattle.cs_files.specs.Reads.{ReadsDeclared}
 use Rattle.cs_files.specs.Response.{Ending}
 use Rattle.cs_files.specs.Trouble.{Trouble, ends, trouble_status}
 use Rattle.cs_io.specs.Files.{Failed}
-use Rattle.cs_files.specs.Trouble.{InAnacrontab, InCertificate, InCrontab, InDeclarations, InScript, InWords, Unread}
+use Rattle.cs_files.specs.Trouble.{InAnacrontab, InCertificate, InCrontab, InDeclarations, InGathered, InScript, InWords, Unread}
 
 -- what was accepted is what was read
 pub are_read : (files : List ℕ → Option (List ℕ)) (a : AskedCheck) (tables : Table × JobTable) (before : Failed) (plan : Declared) (x : Content) (found : Result Checked Ending)
@@ -30,6 +30,7 @@ fails (InWords fault) = λ e. absurd (cc)
 fails (Unread path reason) = λ e. absurd (cc)
 fails (InCrontab fault) = λ e. absurd (cc)
 fails (InAnacrontab fault) = λ e. absurd (cc)
+fails (InGathered path fault) = λ e. absurd (cc)
 fails (InDeclarations fault) = λ e. absurd (cc)
 fails (InScript fault) = λ e. absurd (cc)
 fails (InCertificate fault) = λ e. absurd (cc)

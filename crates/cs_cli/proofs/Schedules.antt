@@ -22,7 +22,7 @@ use Rattle.cs_args.specs.CommandLine.{AskedCheck, AskedJudge, AskedRun}
 use Rattle.cs_io.specs.Files.{Failed}
 use Rattle.cs_files.specs.Reads.{AndThen, Gives, GivesSome, ReadsAs, ReadsDeclared, ReadsEntries, ReadsJobs, ReadsTables, behind, planned}
 use Rattle.cs_files.specs.Response.{Ending}
-use Rattle.cs_files.specs.Trouble.{InAnacrontab, InCertificate, InCrontab, InDeclarations, InScript, InWords, Trouble, Unread, trouble_status}
+use Rattle.cs_files.specs.Trouble.{InAnacrontab, InCertificate, InCrontab, InDeclarations, InGathered, InScript, InWords, Trouble, Unread, trouble_status}
 use Rattle.cs_cli.specs.Answer.{IsOrder}
 use Rattle.cs_cli.specs.Check.{IsProofOf}
 use Rattle.cs_cli.specs.Judge.{AnswersJudge, IsJudged, JudgesPlan, outcome_status}
@@ -160,6 +160,7 @@ troubled (InWords fault) three six = three refl
 troubled (Unread path reason) three six = six refl
 troubled (InCrontab fault) three six = three refl
 troubled (InAnacrontab fault) three six = three refl
+troubled (InGathered path fault) three six = three refl
 troubled (InDeclarations fault) three six = three refl
 troubled (InScript fault) three six = three refl
 troubled (InCertificate fault) three six = three refl

@@ -1,11 +1,14 @@
 -- What a call comes to: an answer that ends it, or an order to run tables.
-use Rattle.std.specs.Prelude.{◌≡◌, ◌≢◌, ℕ, List, Option, ⊤}
+use Rattle.std.specs.Prelude.{◌≡◌, ◌≢◌, ◌⊎◌, ℕ, Bool, true, false, List, [], ◌++◌, Option, codes, ⊤}
+use Rattle.cs_gather.specs.Gather.{is_gathered}
+use Rattle.cs_check.specs.declared.checked.Checked.{Checked}
 use Rattle.cs_decl.specs.Plan.{as_plan}
 use Rattle.cs_check.specs.Checked.{IsHeadline, plan_in}
 use Rattle.cs_args.specs.CommandLine.{AskedRun}
 use Rattle.cs_io.specs.Files.{Failed}
 use Rattle.cs_cli.specs.Check.{AnswersCheck, IsProofOf, safe_text}
-use Rattle.cs_files.specs.Response.{Ending, done}
+use Rattle.cs_cli.specs.Safe.{IsAcceptance}
+use Rattle.cs_files.specs.Response.{Ending, complaint, done}
 use Rattle.cs_cli.specs.declared.answer.Answer.{Answer}
 use Rattle.cs_cli.specs.declared.answer.Answer.TheVariants.{Ends, Runs}
 use Rattle.cs_cli.specs.declared.answer.Order.{Order}
@@ -20,6 +23,10 @@ abbrev pub IfEnds : (Ending → Type 0) → Answer → Type 0
 IfEnds P (Ends ending) = P ending
 IfEnds P (Runs order) = ⊤
 
+-- the crontab of what was checked was gathered
+abbrev pub is_of_gathered : Checked → Bool
+is_of_gathered checked = is_gathered (plan_in checked).crontab.settings
+
 -- `check` would answer `safe` and the same warnings and notes, and what is to be run is the plan and
 -- the certificate that the files denote, of which every legal history in time is safe, with the
 -- stamps and the minutes that were asked
@@ -28,11 +35,28 @@ pub record IsOrder (a : AskedRun) (files : List ℕ → Option (List ℕ)) (befo
   pub safe : AnswersCheck a.check files before failed (done safe_text order.warnings)
   pub proof : IsProofOf files a.check before order.checked
   pub headline : IsHeadline (as_plan (plan_in order.checked))
+  pub own : is_of_gathered order.checked ≡ false
   pub stamps : order.stamps.now ≡ a.stamps
   pub minutes : order.minutes ≡ a.minutes
 
--- what comes of `run`: what `check` answers where that isn't `safe`, else an order
+-- the fault of a crontab that was gathered: `run` starts each command as its own user
+abbrev pub gathered_fault : List ℕ
+gathered_fault = codes "crontab: GatheredTable: run can't start commands as other users"
+
+-- `check` would answer `safe`, but the crontab was gathered, which is told behind the warnings
+pub record IsOfOthers (a : AskedRun) (files : List ℕ → Option (List ℕ)) (before : Failed)
+    (ending : Ending) : Type 0 where
+  pub checked : Checked
+  pub warnings : List ℕ
+  pub accepted : IsAcceptance files a.check before checked warnings
+  pub gathered : is_of_gathered checked ≡ true
+  pub told : ending
+      ≡ record { status = 3; out = []; err = warnings ++ complaint gathered_fault }
+
+-- what comes of `run`: what `check` answers where that isn't `safe`, or that the crontab was
+-- gathered, else an order
 abbrev pub AnswersRun : AskedRun → (List ℕ → Option (List ℕ)) → Failed → Failed → Answer → Type 0
 AnswersRun a files before failed (Ends ending) =
-    AnswersCheck a.check files before failed ending × (ending.status ≢ 0)
+    (AnswersCheck a.check files before failed ending × (ending.status ≢ 0))
+    ⊎ IsOfOthers a files before ending
 AnswersRun a files before failed (Runs order) = IsOrder a files before failed order

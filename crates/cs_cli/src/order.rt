@@ -1,8 +1,9 @@
 //! The subcommand `run`, up to where something is run.
-ghost use Rattle.std.specs.Prelude.{IfErr, IfOk};
+ghost use Rattle.std.specs.Prelude.{◌≡◌, ◌++◌, [], IfErr, IfOk, Some};
 ghost use Rattle.cs_args.specs.Asked.{asked_check, asked_run};
 ghost use Rattle.cs_io.specs.Files.{AreReadInTurn, IsFresh};
-ghost use Rattle.cs_cli.specs.Answer.{AnswersRun, IfEnds};
+ghost use Rattle.cs_cli.specs.Answer.{AnswersRun, IfEnds, gathered_fault};
+ghost use Rattle.cs_files.specs.Response.{complaint};
 ghost use Rattle.cs_files.specs.RanOut.{IsWarned};
 ghost use Rattle.cs_files.specs.Trouble.{IsHonest};
 ghost use Rattle.cs_files.specs.Turn.{check_paths};
@@ -10,13 +11,31 @@ ghost use Rattle.cs_files.specs.Turn.{check_paths};
 use crate::answer::{Answer, Order};
 use crate::check::{Examined, examine, notes_behind};
 use cs_args::RunWords;
-use cs_files::RanOut;
+use cs_civil::Bytes;
+use cs_files::{RanOut, Response, Status};
+use cs_gather::is_gathered;
 use cs_io::Inputs;
-use std::alloc::Global;
+use std::alloc::{AllocError, Global};
 use std::thread::Threads;
 
+/// What is answered where the crontab was gathered, behind what is to be warned of.
+fn refuse_gathered(alloc: Global, warnings: Bytes) -> Result<Response, RanOut>
+    ensures told { IfOk result (λ r. r
+        ≡ record { status = 3; out = []; err = warnings ++ complaint gathered_fault }) }
+    ensures warned { IfErr result (λ e. e.warnings ≡ Some warnings) }
+{
+    let fault = b"crontab: GatheredTable: run can't start commands as other users".as_slice();
+    match Response::fault(alloc, Status::BadInput, warnings.as_slice(), fault) {
+        Ok(response) => Ok(response),
+        Err(AllocError) => Err(RanOut {
+            warnings: Some(warnings),
+        }),
+    }
+}
+
 /// Answers `run TABLE DECLS CERT STAMPS [--anacrontab FILE] [--minutes N]`: like `check` where that
-/// doesn't answer `safe`, else with what to run. The only error is want of memory.
+/// doesn't answer `safe`, else with what to run, but with a fault where the crontab was gathered.
+/// The only error is want of memory.
 pub fn answer_run<'a, R: Threads + Sync, I: Inputs>(
     rt: &R,
     alloc: Global,
@@ -37,6 +56,9 @@ pub fn answer_run<'a, R: Threads + Sync, I: Inputs>(
 {
     match examine(rt, alloc, &request.check, inputs)? {
         Examined::Accepted(checked, warnings) => {
+            if is_gathered(checked.plan().crontab().settings()) {
+                return Ok(Answer::Ends(refuse_gathered(alloc, warnings)?));
+            }
             let warnings = notes_behind(alloc, checked.plan(), warnings)?;
             Ok(Answer::Runs(Order {
                 checked,

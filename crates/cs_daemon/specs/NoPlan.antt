@@ -16,4 +16,5 @@ no_plan = record {
   offset = pos 0;
   left_out = [];
   defaulted = 0;
+  doubled = None;
 }

@@ -1,19 +1,18 @@
 -- The lines that entries of a plan name.
-use Rattle.std.proofs.Common.{◌≡◌, ◌≢◌, ℕ, ◌<◌, ◌≤◌, ℤ, List, [], ◌∷◌, ◌++◌, Bool, true, false, not, ◌&&◌, map, length, get_or, Option, Some, None, Ok, pos, refl, sym, ap, ◌∙◌, arith}
-use Rattle.std.specs.Prelude.{All, Contains, IfSome, position, option_map}
+use Rattle.std.proofs.Common.{◌≡◌, ◌≢◌, ℕ, ◌<◌, ◌≤◌, List, Bool, true, false, ◌&&◌, map, length, get_or, Option, Some, None, Ok, pos, refl, sym, ap, ◌∙◌, arith}
+use Rattle.std.specs.Prelude.{All, IfSome, option_map}
 use Rattle.std.specs.Ordering.{int_eq}
-use Rattle.std.specs.List.{list_any, find, count_by}
+use Rattle.std.specs.List.{list_any, count_by}
 use Rattle.std.proofs.lemmas.Bool.{ltb-false}
 use Rattle.std.proofs.lemmas.Bool.Decides.{Decides-int_eq}
-use Rattle.std.proofs.lemmas.List.Elements.{All-weaker, All-map, All-append, All-contains, All-get_or}
+use Rattle.std.proofs.lemmas.List.Elements.{All-weaker, All-map, All-append, All-contains}
 use Rattle.std.proofs.lemmas.Slice.Eq.{bytes_eq-Decides}
 use Rattle.cs_crontab.specs.Crontab.{Table as Crontab, CommandLine}
 use Rattle.cs_anacrontab.specs.Anacrontab.{Table as Anacrontab}
 use Rattle.cs_decl.specs.declared.entries.LineName.{LineName}
-use Rattle.cs_decl.specs.declared.entries.CronEntry.{CronEntry}
 use Rattle.cs_decl.specs.declared.entries.Entries.{Entries}
 use Rattle.cs_decl.specs.Plan.{Declared}
-use Rattle.cs_decl.specs.Faults.{Fault, same_number, first_fault}
+use Rattle.cs_decl.specs.Faults.{Fault, same_number}
 use Rattle.cs_decl.specs.Meaning.{unless}
 use Rattle.cs_decl.specs.Join.{is_named, is_unlike, has_no_line, has_other_command, is_ambiguous, number_of, cron_numbers, rest, lines_left_out, naming_faults, undeclared, plan_of, joined}
 use Rattle.cs_decl.specs.Lines.{names_of, TellsOf, IsLeftOut, HasNoEntry}
@@ -24,7 +23,7 @@ use Rattle.cs_decl.proofs.Once.{none_pass, any_map, at_least_one, found_once, ap
 
 -- ---- a plan is made where there is no fault
 
-no_fault : {A : Type 0} (x y : A) (fault : Option Fault) → unless x fault ≡ Ok y → (fault ≡ None) × (x ≡ y)
+pub no_fault : {A : Type 0} (x y : A) (fault : Option Fault) → unless x fault ≡ Ok y → (fault ≡ None) × (x ≡ y)
 no_fault x y None h = (refl, cc)
 no_fault x y (Some f) h = absurd cc
 

@@ -1,21 +1,20 @@
 -- What declares the jobs of a plan.
-use Rattle.std.proofs.Common.{◌≡◌, ◌⊎◌, inl, inr, ℕ, zero, suc, ◌+◌, ◌<◌, List, [], ◌∷◌, ◌++◌, Bool, true, false, not, ◌&&◌, map, length, get_or, Option, Some, None, Ok, refl, sym, ap, subst, ◌∙◌, arith}
-use Rattle.std.specs.Prelude.{All, is_none}
-use Rattle.std.specs.List.{list_any, find, count_by}
+use Rattle.std.proofs.Common.{◌≡◌, inl, inr, ℕ, zero, suc, ◌+◌, ◌<◌, List, [], ◌∷◌, ◌++◌, Bool, true, false, not, ◌&&◌, map, length, get_or, Option, Some, None, Ok, refl, ap, subst, ◌∙◌, arith}
+use Rattle.std.specs.Prelude.{is_none}
+use Rattle.std.specs.List.{find, count_by}
 use Rattle.std.proofs.lemmas.List.Folds.{list_any_none}
 use Rattle.cs_crontab.specs.Crontab.{Table as Crontab, CommandLine}
-use Rattle.cs_anacrontab.specs.Anacrontab.{Table as Anacrontab, JobLine}
+use Rattle.cs_anacrontab.specs.Anacrontab.{Table as Anacrontab}
 use Rattle.cs_decl.specs.declared.entries.CronEntry.{CronEntry}
 use Rattle.cs_decl.specs.declared.entries.DefaultEntry.{DefaultEntry}
 use Rattle.cs_decl.specs.declared.entries.Entries.{Entries}
 use Rattle.cs_decl.specs.Job.{DeclaredJob}
 use Rattle.cs_decl.specs.Plan.{Declared, crons, places_of, no_job, no_command, job_at, command_of}
-use Rattle.cs_decl.specs.Join.{is_named, is_reboot, has_entry, has_job_entry, is_undeclared, is_undeclared_job, default_terms, cron_terms, cron_job, anacron_job, jobs_from, rest, lines_left_out, defaulted, plan_of, joined}
+use Rattle.cs_decl.specs.Join.{is_named, is_reboot, has_entry, has_job_entry, is_undeclared, is_undeclared_job, default_terms, cron_terms, cron_job, anacron_job, jobs_from, rest, lines_left_out, plan_of, joined}
 use Rattle.cs_decl.specs.Lines.{AreParted, HasDefault, IsDeclared}
 use Rattle.cs_decl.proofs.Positions.{find_none}
-use Rattle.cs_decl.proofs.Validity.{yes, locked}
+use Rattle.cs_decl.proofs.Validity.{locked}
 use Rattle.cs_decl.proofs.Once.{found_there, count_none}
-use Rattle.cs_decl.proofs.Joins.{JobsAreDeclared}
 use Rattle.cs_decl.proofs.Wholes.{plan_places}
 use Rattle.cs_decl.proofs.Parted.{parted}
 use Rattle.cs_decl.proofs.Commands.{declared_right, plan_is}

@@ -1,14 +1,14 @@
 -- Where tables and declarations have no fault.
-use Rattle.std.proofs.Common.{◌≡◌, List, [], ◌∷◌, ◌++◌, Option, Some, None, Err, refl, ap}
-use Rattle.std.specs.Prelude.{position, All}
+use Rattle.std.proofs.Common.{◌≡◌, List, [], ◌∷◌, Some, None, Err, ap}
+use Rattle.std.specs.Prelude.{position}
 use Rattle.std.specs.List.{find}
 use Rattle.cs_crontab.specs.Crontab.{Table as Crontab, CommandLine}
 use Rattle.cs_anacrontab.specs.Anacrontab.{Table as Anacrontab, JobLine}
 use Rattle.cs_decl.specs.declared.fault.DeclFault.TheVariants as faults
 use Rattle.cs_decl.specs.declared.fault.Place.TheVariants.{LeftOut, Line}
 use Rattle.cs_decl.specs.declared.entries.Entries.{Entries}
-use Rattle.cs_decl.specs.Faults.{first_again, first_twice, same_number, Fault, first_fault, at_cron, at_anacron, at_left_out}
-use Rattle.cs_decl.specs.Join.{has_no_line, has_no_job, has_other_command, is_ambiguous, cron_numbers, left_out_numbers, is_undeclared, is_undeclared_job, is_reboot, at_line, at_job, reboot_fault, lineless, misquoted, ambiguous, named_twice, naming_faults, undeclared, rest, lines_left_out, plan_of, joined}
+use Rattle.cs_decl.specs.Faults.{first_again, first_twice, same_number, Fault, first_fault, at_anacron, at_left_out}
+use Rattle.cs_decl.specs.Join.{has_no_line, has_no_job, has_other_command, is_ambiguous, cron_numbers, left_out_numbers, is_undeclared, is_undeclared_job, is_reboot, reboot_fault, lineless, misquoted, ambiguous, named_twice, naming_faults, undeclared, rest, lines_left_out, plan_of, joined}
 use Rattle.cs_decl.specs.Meaning.{unless}
 use Rattle.cs_decl.proofs.Validity.{no_row, no_part, mapped_none}
 use Rattle.cs_decl.proofs.Order.{in_front, behind}

@@ -1,6 +1,7 @@
 pub mod Plans
 pub mod Misreadings
 pub mod Texts
+pub mod Repeats
 pub mod Numbers
 pub mod Order
 pub mod Validity

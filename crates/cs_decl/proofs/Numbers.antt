@@ -1,5 +1,5 @@
 -- Numbers that come a second time, and sets of numbers.
-use Rattle.std.proofs.Common.{◌≡◌, ℕ, ◌+◌, ◌<◌, List, [], ◌∷◌, ◌++◌, Bool, true, false, not, ◌||◌, cond, drop, take, length, get_or, Some, None, Option, refl, ap, sym, ◌∙◌, ℤ, append_assoc}
+use Rattle.std.proofs.Common.{◌≡◌, ℕ, ◌+◌, ◌<◌, List, [], ◌∷◌, ◌++◌, Bool, true, false, ◌||◌, cond, drop, take, length, get_or, Some, None, Option, refl, sym, ◌∙◌, ℤ, append_assoc}
 use Rattle.std.specs.Ordering.{int_eq}
 use Rattle.std.specs.List.{list_any}
 use Rattle.indexmap.specs.IndexSet.{insert_key}

@@ -1,7 +1,7 @@
 -- Lines that are left out, and those that a plan keeps.
-use Rattle.std.proofs.Common.{◌≡◌, ◌⊎◌, inl, inr, ℕ, List, [], ◌∷◌, Bool, true, false, not, cond, map, refl}
+use Rattle.std.proofs.Common.{◌≡◌, inl, inr, ℕ, List, [], ◌∷◌, Bool, true, false, not, cond, map, refl}
 use Rattle.std.specs.List.{filter}
-use Rattle.cs_crontab.specs.Crontab.{Table as Crontab, CommandLine}
+use Rattle.cs_crontab.specs.Crontab.{CommandLine}
 use Rattle.cs_decl.specs.declared.entries.Entries.{Entries}
 use Rattle.cs_decl.specs.Join.{is_named, is_left_out}
 use Rattle.cs_decl.specs.Lines.{AreParted}

@@ -1,5 +1,5 @@
 -- From two tables and declarations to a plan.
-use Rattle.std.specs.Prelude.{◌≡◌, ℕ, ℤ, ◌+◌, pos, unsigned_abs, List, [], ◌∷◌, ◌++◌, map, Option, None, Some, option_map, option_and_then, is_none, Bool, true, false, not, ◌&&◌, nat_lt, bytes_eq, Result, position, IfSome}
+use Rattle.std.specs.Prelude.{ℕ, ℤ, ◌+◌, pos, unsigned_abs, List, [], ◌∷◌, ◌++◌, map, Option, None, Some, option_map, option_and_then, is_none, Bool, true, false, not, ◌&&◌, nat_lt, bytes_eq, Result, position}
 use Rattle.std.specs.Ordering.{int_eq}
 use Rattle.std.specs.List.{list_any, find, filter, count_by}
 use Rattle.cs_crontab.specs.Crontab.{Table as Crontab, CommandLine}
@@ -241,6 +241,7 @@ plan_of crontab left_out anacrontab d = record {
   offset = d.offset;
   left_out = left_out;
   defaulted = defaulted d crontab.lines anacrontab.lines;
+  doubled = d.doubled;
 }
 
 -- the plan of the tables and the declarations, or their first fault

@@ -5,6 +5,7 @@ pub mod Printed
 pub mod Shape
 pub mod Faults
 pub mod NameSet
+pub mod Doubled
 pub mod Meaning
 pub mod Join
 pub mod Plain

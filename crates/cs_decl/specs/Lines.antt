@@ -1,5 +1,5 @@
 -- What a plan has of the lines of a crontab.
-use Rattle.std.specs.Prelude.{◌≡◌, ◌⊎◌, ◌++◌, ℕ, List, [], ◌∷◌, map, Option, Some, None, Bool, true, false, All, Contains, IfSome, unsigned_abs}
+use Rattle.std.specs.Prelude.{◌≡◌, ◌⊎◌, ◌++◌, ℕ, List, [], ◌∷◌, map, Some, None, true, false, All, Contains, IfSome, unsigned_abs}
 use Rattle.cs_crontab.specs.Crontab.{CommandLine}
 use Rattle.cs_history.specs.declared.mode.Mode.TheVariants.{Plain}
 use Rattle.cs_decl.specs.declared.entries.LineName.{LineName}

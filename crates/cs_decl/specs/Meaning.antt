@@ -12,6 +12,7 @@ use Rattle.cs_decl.specs.declared.fault.DeclError.{DeclError}
 use Rattle.cs_decl.specs.declared.fault.DeclError.TheVariants.{At, OutOfMemory}
 use Rattle.cs_decl.specs.declared.entries.Entries.{Entries}
 use Rattle.cs_decl.specs.Shape.{entries_of}
+use Rattle.cs_decl.specs.Doubled.{doubled_member}
 use Rattle.cs_decl.specs.Faults.{Fault, faults_of, first_fault}
 
 -- What a call answered is what the definition answers, unless memory ran out.
@@ -53,7 +54,7 @@ unfoldable pub declared_by : List ℕ → Result Entries Fault
 declared_by bytes = do
   json ← with_fault (or_fault json.NotJson (json_of bytes))
   d ← with_fault (entries_of json)
-  unless d (first_fault (faults_of d))
+  unless (record d { doubled = doubled_member bytes }) (first_fault (faults_of d))
 
 -- The table finds no fault.
 abbrev pub IsValid : Entries → Type 0

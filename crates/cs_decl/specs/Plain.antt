@@ -30,6 +30,7 @@ plain_plan crontab anacrontab max = record {
   offset = pos 0;
   left_out = [];
   defaulted = 0;
+  doubled = None;
 }
 
 abbrev pub is_possible_max : ℕ → Bool

@@ -139,7 +139,7 @@ terms_of d = do
     default = default;
   })
 
--- all members
+-- all members; a value keeps the last of those that stand twice in the text
 unfoldable pub entries_of : Data → Result Entries JsonFault
 entries_of d = do
   o ← object_with is_member d
@@ -159,4 +159,5 @@ entries_of d = do
     cron = cron;
     anacron = anacron;
     left_out = left_out;
+    doubled = None;
   })

@@ -6,6 +6,7 @@ ghost use Rattle.cs_json.specs.declared.fault.JsonFault.TheVariants.{NotJson};
 ghost use Rattle.cs_decl.specs.Shape.{entries_of};
 ghost use Rattle.cs_decl.specs.Meaning.{Answers, declared_by, error_of, with_fault, IsValid};
 
+use crate::doubled::doubled_member;
 use crate::entries::Entries;
 use crate::fault::{DeclError, DeclFault};
 use crate::rows::fault_of;
@@ -90,9 +91,12 @@ pub fn read_declarations(alloc: Global, bytes: &[u8]) -> Result<Declarations, De
     ensures { Answers (λ d. d) (declared_by bytes.now) result }
 {
     let value = json_value(alloc, bytes)?;
-    let entries = entries_in(alloc, &value)?;
+    let mut entries = entries_in(alloc, &value)?;
     match fault_of(alloc, &entries)? {
-        None => Ok(Declarations { entries }),
+        None => {
+            entries.doubled = doubled_member(alloc, bytes)?;
+            Ok(Declarations { entries })
+        }
         Some((fault, place)) => Err(DeclError::At { fault, place }),
     }
 }

@@ -79,4 +79,6 @@ pub struct Entries {
     pub default: Option<DefaultEntry>,
     /// The lines of the crontab that the plan leaves out.
     pub left_out: Sequence<LineName>,
+    /// The first member that stands twice in one object of their text, if one does.
+    pub doubled: Option<Bytes>,
 }

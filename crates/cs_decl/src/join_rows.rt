@@ -1,7 +1,8 @@
 //! The table of faults of tables and declarations, row after row.
 ghost use Rattle.std.specs.Prelude.{◌≡◌, IfOk, option_map};
 ghost use Rattle.cs_decl.specs.Faults.{first_fault};
-ghost use Rattle.cs_decl.specs.Join.{at_line, at_job, lineless, misquoted, ambiguous, named_twice, naming_faults, undeclared};
+ghost use Rattle.cs_decl.specs.Join.{at_line, at_job, lineless, misquoted, ambiguous, named_twice};
+ghost use Rattle.cs_decl.specs.Join.{naming_faults, undeclared};
 
 use crate::entries::Entries;
 use crate::fault::{DeclFault, Place};

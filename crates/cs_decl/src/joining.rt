@@ -1,15 +1,17 @@
-ghost use Rattle.std.specs.Prelude.{◌≡◌, ◌≤◌, ◌++◌, All, length, option_map, None, IfOk, unsigned_abs};
+ghost use Rattle.std.specs.Prelude.{◌≡◌, ◌≤◌, ◌++◌, All, length, option_map, None, IfOk};
+ghost use Rattle.std.specs.Prelude.{unsigned_abs};
 ghost use Rattle.std.specs.List.{find};
 ghost use Rattle.cs_decl.specs.Faults.{Fault, first_fault};
 ghost use Rattle.cs_decl.specs.Meaning.{Answers, IsValid, unless};
-ghost use Rattle.cs_decl.specs.Join.{is_reboot, undeclared, rest, lines_left_out, declared_hours, plan_of, joined};
+ghost use Rattle.cs_decl.specs.Join.{is_reboot, undeclared, rest, lines_left_out, declared_hours};
+ghost use Rattle.cs_decl.specs.Join.{plan_of, joined};
 
 use crate::declarations::Declarations;
 use crate::entries::Entries;
 use crate::fault::{DeclError, DeclFault};
 use crate::join_rows::{naming_fault, undeclared_fault};
 use crate::lookups::{defaulted, lines_left_out};
-use crate::plan::Plan;
+use crate::plan::{Plan, copy_name};
 use crate::terms::{groups_of, jobs_of, small, smaller};
 use cs_anacrontab::Anacrontab;
 use cs_civil::{Hours, Sequence};
@@ -68,6 +70,7 @@ fn plan_of(
     let jobs = jobs_of(alloc, crontab.lines(), anacrontab.lines(), entries)?;
     let groups = groups_of(alloc, entries.groups.as_slice())?;
     let defaulted = defaulted(entries, crontab.lines(), anacrontab.lines());
+    let doubled = copy_name(alloc, &entries.doubled)?;
     Ok(Plan::new(
         crontab,
         anacrontab,
@@ -79,6 +82,7 @@ fn plan_of(
         offset_of(entries),
         left_out,
         defaulted,
+        doubled,
     ))
 }
 

@@ -7,7 +7,8 @@ ghost use Rattle.cs_decl.specs.declared.entries.Entries.{Entries};
 ghost use Rattle.cs_decl.specs.Faults.{Fault, faults_of, first_fault};
 ghost use Rattle.cs_decl.specs.Join.{is_named, joined};
 ghost use Rattle.cs_decl.specs.Law.{IsFirst, stands};
-ghost use Rattle.cs_decl.specs.Lines.{TellsOf, IsLeftOut, HasNoEntry, AreParted, IsDeclared, names_of};
+ghost use Rattle.cs_decl.specs.Lines.{TellsOf, IsLeftOut, HasNoEntry, AreParted, IsDeclared};
+ghost use Rattle.cs_decl.specs.Lines.{names_of};
 ghost use Rattle.cs_decl.specs.Plan.{Declared, places_of, command_of, job_at, crons};
 
 /// Lemma. The fault that is returned has the smallest number of those there are, and the first
@@ -22,7 +23,8 @@ pub fn first_of_faults()
 /// its line, one that is left out or not.
 pub fn commands_are_those_of_lines()
     ensures { (table : Table) (jobs : JobTable) (d : Entries) (plan : Declared)
-        → joined table jobs d ≡ Ok plan → All (λ name. All (TellsOf name) table.lines) (names_of d) }
+        → joined table jobs d ≡ Ok plan
+        → All (λ name. All (TellsOf name) table.lines) (names_of d) }
 {}
 
 /// Lemma. Where tables and declarations make a plan, each entry names exactly one line, left out or

@@ -2,6 +2,7 @@
 #![tactic(auto)]
 
 mod declarations;
+mod doubled;
 mod entries;
 mod fault;
 mod group;

@@ -3,7 +3,8 @@ ghost use Rattle.std.specs.Prelude.{◌≡◌, ◌≤◌, ◌+◌, not, length, 
 ghost use Rattle.std.specs.List.{find, filter, list_any, count_by};
 ghost use Rattle.cs_crontab.specs.declared.limits.TheConstants.{MAX_COMMANDS};
 ghost use Rattle.cs_anacrontab.specs.declared.limits.TheConstants.{MAX_JOBS};
-ghost use Rattle.cs_decl.specs.Join.{is_of_job, has_no_job, is_reboot, is_left_out, has_entry, has_job_entry, is_undeclared, is_undeclared_job, defaulted};
+ghost use Rattle.cs_decl.specs.Join.{is_of_job, has_no_job, is_reboot, is_left_out, has_entry};
+ghost use Rattle.cs_decl.specs.Join.{has_job_entry, is_undeclared, is_undeclared_job, defaulted};
 
 use crate::entries::{AnacronEntry, Entries};
 use crate::naming::is_named;

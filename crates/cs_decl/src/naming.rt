@@ -1,7 +1,8 @@
 //! The lines that entries name.
 ghost use Rattle.std.specs.Prelude.{◌≡◌, ◌&&◌, map, option_map, position, IfOk};
 ghost use Rattle.std.specs.List.{find, list_any, count_by};
-ghost use Rattle.cs_decl.specs.Join.{is_named, has_no_line, is_unlike, has_other_command, is_ambiguous, number_of, cron_numbers, left_out_numbers};
+ghost use Rattle.cs_decl.specs.Join.{is_named, has_no_line, is_unlike, has_other_command};
+ghost use Rattle.cs_decl.specs.Join.{is_ambiguous, number_of, cron_numbers, left_out_numbers};
 
 use crate::entries::{CronEntry, Entries, LineName};
 use cs_civil::{Bytes, Sequence};

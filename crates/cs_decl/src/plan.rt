@@ -1,12 +1,14 @@
-ghost use Rattle.std.specs.Prelude.{All, ◌≡◌, ℕ, ◌+◌, ◌<◌, ◌≤◌, length, false, Some, IfOk, IfSome, unsigned_abs};
+ghost use Rattle.std.specs.Prelude.{All, ◌≡◌, ℕ, ◌+◌, ◌<◌, ◌≤◌, length, false, Some, IfOk, IfSome};
+ghost use Rattle.std.specs.Prelude.{unsigned_abs};
 ghost use Rattle.cs_history.specs.Plan.{IsPlan, exclusive_group};
 ghost use Rattle.cs_civil.specs.declared.minute.TheConstants.{MINUTES_OF_DAY};
-ghost use Rattle.cs_decl.specs.declared.limits.TheConstants.{MAX_MINUTES, MAX_CAPACITY, MAX_OFFSET, MAX_GROUPS};
+ghost use Rattle.cs_decl.specs.declared.limits.TheConstants.{MAX_MINUTES, MAX_CAPACITY, MAX_OFFSET};
+ghost use Rattle.cs_decl.specs.declared.limits.TheConstants.{MAX_GROUPS};
 
 use crate::group::Group;
 use crate::job::Job;
 use cs_anacrontab::Anacrontab;
-use cs_civil::{Hours, Sequence};
+use cs_civil::{Bytes, Hours, Sequence};
 use cs_crontab::Crontab;
 use cs_history::Mode;
 use std::alloc::{AllocError, Global};
@@ -29,6 +31,7 @@ pub struct Plan {
     offset: i16,
     left_out: Sequence<u32>,
     defaulted: usize,
+    doubled: Option<Bytes>,
 }
 
 impl Model for Plan {
@@ -47,6 +50,7 @@ impl Model for Plan {
       offset = a.offset;
       left_out = a.left_out;
       defaulted = a.defaulted;
+      doubled = a.doubled;
     } };
 
     ghost invariant = { λ a. IsWhole
@@ -61,6 +65,7 @@ impl Model for Plan {
           offset = a.offset;
           left_out = a.left_out;
           defaulted = a.defaulted;
+          doubled = a.doubled;
         }) };
 }
 
@@ -72,6 +77,16 @@ fn copy_groups(alloc: Global, groups: &[Group]) -> Result<Sequence<Group>, Alloc
         copies.push(group.copy(alloc)?)?;
     }
     Ok(copies)
+}
+
+/// Copies a name, if there is one.
+pub(crate) fn copy_name(alloc: Global, name: &Option<Bytes>) -> Result<Option<Bytes>, AllocError>
+    ensures { IfOk result (λ copy. copy ≡ name.now) }
+{
+    match name {
+        Some(name) => Ok(Some(Bytes::from_slice(alloc, name.as_slice())?)),
+        None => Ok(None),
+    }
 }
 
 impl Plan {
@@ -88,6 +103,7 @@ impl Plan {
         offset: i16,
         left_out: Sequence<u32>,
         defaulted: usize,
+        doubled: Option<Bytes>,
     ) -> Plan
         requires { IsWhole (record {
           crontab = crontab;
@@ -100,6 +116,7 @@ impl Plan {
           offset = offset;
           left_out = left_out;
           defaulted = defaulted;
+          doubled = doubled;
         }) }
         ensures { result
             ≡ record {
@@ -113,6 +130,7 @@ impl Plan {
               offset = offset;
               left_out = left_out;
               defaulted = defaulted;
+              doubled = doubled;
             } }
     {
         Plan {
@@ -126,6 +144,7 @@ impl Plan {
             offset,
             left_out,
             defaulted,
+            doubled,
         }
     }
 
@@ -144,6 +163,7 @@ impl Plan {
             offset: self.offset,
             left_out: Sequence::from_slice(alloc, self.left_out.as_slice())?,
             defaulted: self.defaulted,
+            doubled: copy_name(alloc, &self.doubled)?,
         })
     }
 
@@ -262,5 +282,12 @@ impl Plan {
         ensures { result ≡ self.now.defaulted }
     {
         self.defaulted
+    }
+    /// Returns the first member that stands twice in one object of the declarations' text, if one
+    /// does. The last one of that name counts.
+    pub fn doubled(&self) -> &Option<Bytes>
+        ensures { result.now ≡ self.now.doubled }
+    {
+        &self.doubled
     }
 }

@@ -1,10 +1,16 @@
-ghost use Rattle.std.specs.Prelude.{◌≡◌, List, [], Some, None, Ok, map, option_map, option_and_then, string_bytes, pos, codes, is_some, ◌||◌};
+ghost use Rattle.std.specs.Prelude.{◌≡◌, List, [], Some, None, Ok, map, option_map};
+ghost use Rattle.std.specs.Prelude.{option_and_then, string_bytes, pos, codes, is_some, ◌||◌};
 ghost use Rattle.serde_json.specs.View.{view};
 ghost use Rattle.serde_json.specs.Find.{get};
 ghost use Rattle.cs_json.specs.Gives.{Gives};
-ghost use Rattle.cs_json.specs.Shape.{check, text, whole_number, list_as, member_as, member_or_default, member_or_none, object_with};
+ghost use Rattle.cs_json.specs.Shape.{check, text, whole_number, list_as, member_as};
+ghost use Rattle.cs_json.specs.Shape.{member_or_default, member_or_none, object_with};
 ghost use Rattle.cs_history.specs.declared.mode.Mode.TheVariants.{Plain};
-ghost use Rattle.cs_decl.specs.Shape.{mode_named, mode_of, note_of, group_of, line_name_of, cron_of, anacron_of, default_of, left_out_of, terms_of, entries_of, is_group_member, is_cron_member, is_anacron_member, is_default_member, is_left_out_member, is_member};
+ghost use Rattle.cs_decl.specs.Shape.{mode_named, mode_of, note_of, group_of, line_name_of};
+ghost use Rattle.cs_decl.specs.Shape.{cron_of, anacron_of, default_of, left_out_of, terms_of};
+ghost use Rattle.cs_decl.specs.Shape.{entries_of, is_group_member, is_cron_member};
+ghost use Rattle.cs_decl.specs.Shape.{is_anacron_member, is_default_member, is_left_out_member};
+ghost use Rattle.cs_decl.specs.Shape.{is_member};
 ghost use Rattle.cs_decl.specs.declared.entries.LineName.{LineName};
 ghost use Rattle.cs_decl.specs.declared.entries.GroupEntry.{GroupEntry};
 ghost use Rattle.cs_decl.specs.declared.entries.CronEntry.{CronEntry};
@@ -309,6 +315,7 @@ impl FromJson for Entries {
             cron: list_member(alloc, value, "cron")?,
             anacron: list_member(alloc, value, "anacron")?,
             left_out: list_member(alloc, value, "left_out")?,
+            doubled: None,
         })
     }
 }

@@ -1,7 +1,10 @@
 //! The table of faults, row after row.
 ghost use Rattle.std.specs.Prelude.{◌≡◌, IfOk, Some, position, map, option_map, bytes_eq};
 ghost use Rattle.std.specs.List.{list_any};
-ghost use Rattle.cs_decl.specs.Faults.{is_within, is_bad_offset, is_bad_max, is_bad_weight, is_bad_default, needs_group, is_unlisted, are_bad_hours, is_bad_pass, first_fault, twice_declared, bad_numbers, bad_groups, bad_times, faults_of};
+ghost use Rattle.cs_decl.specs.Faults.{is_within, is_bad_offset, is_bad_max, is_bad_weight};
+ghost use Rattle.cs_decl.specs.Faults.{is_bad_default, needs_group, is_unlisted, are_bad_hours};
+ghost use Rattle.cs_decl.specs.Faults.{is_bad_pass, first_fault, twice_declared, bad_numbers};
+ghost use Rattle.cs_decl.specs.Faults.{bad_groups, bad_times, faults_of};
 
 use crate::entries::{AnacronEntry, CronEntry, DefaultEntry, Entries};
 use crate::fault::{DeclFault, Place};

@@ -41,7 +41,8 @@ pub(crate) fn twice_identifier(
 /// The numbers that are there.
 fn set_of(alloc: Global, numbers: &[Option<i128>]) -> Result<IndexSet<i128>, AllocError>
     ensures { IfOk result
-        (λ set. (n : ℤ) → list_any (int_eq n) set.keys ≡ list_any (same_number (Some n)) numbers.now) }
+        (λ set. (n : ℤ) → list_any (int_eq n) set.keys
+        ≡ list_any (same_number (Some n)) numbers.now) }
 {
     let mut set = IndexSet::new(alloc);
     for number in numbers {

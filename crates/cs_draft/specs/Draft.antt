@@ -1,5 +1,5 @@
 -- What is drawn up: declarations that join with the tables, and that keep what older ones declare.
-use Rattle.std.specs.Prelude.{◌≡◌, ◌≤ℤ◌, ℕ, ℤ, pos, unsigned_abs, List, All, length, take, Bool, true, false, not, ◌==◌, ◌&&◌, bytes_eq, Option, None, Some, IfSome, IsSomeAnd, Ok}
+use Rattle.std.specs.Prelude.{◌≡◌, ◌≢◌, ◌⊎◌, ◌≤ℤ◌, ℕ, ℤ, pos, unsigned_abs, List, All, length, take, Bool, true, false, not, ◌==◌, ◌&&◌, bytes_eq, Option, None, Some, IfSome, IsSomeAnd, Ok}
 use Rattle.std.specs.List.{count_by, find, list_any}
 use Rattle.std.specs.Str.{IsUtf8}
 use Rattle.cs_crontab.specs.Crontab.{Table as Crontab, CommandLine}
@@ -8,14 +8,20 @@ use Rattle.cs_crontab.specs.declared.table.When.TheVariants.{At, Reboot}
 use Rattle.cs_anacrontab.specs.Anacrontab.{Table as Anacrontab, JobLine}
 use Rattle.cs_schedule.specs.Times.{Times}
 use Rattle.cs_gap.specs.Gap.{AreApart}
+use Rattle.cs_civil.specs.declared.minute.TheConstants.{MINUTES_OF_DAY}
+use Rattle.cs_history.specs.declared.mode.Mode.{Mode}
+use Rattle.cs_history.specs.declared.mode.Mode.TheVariants.{Plain}
+use Rattle.cs_decl.specs.declared.limits.TheConstants.{MAX_CAPACITY, MAX_GROUPS}
 use Rattle.cs_decl.specs.declared.entries.LineName.{LineName}
 use Rattle.cs_decl.specs.declared.entries.CronEntry.{CronEntry}
+use Rattle.cs_decl.specs.declared.entries.GroupEntry.{GroupEntry}
 use Rattle.cs_decl.specs.declared.entries.AnacronEntry.{AnacronEntry}
 use Rattle.cs_decl.specs.declared.entries.Entries.{Entries}
 use Rattle.cs_decl.specs.Faults.{first_fault}
 use Rattle.cs_decl.specs.Meaning.{declared_by}
 use Rattle.cs_decl.specs.Join.{is_left_out, is_named, is_of_job, is_reboot, join_faults}
 use Rattle.cs_decl.specs.Lines.{names_of}
+use Rattle.cs_draft.specs.Locks.{lock_of}
 
 -- ---- entries and lines
 
@@ -51,22 +57,72 @@ abbrev pub IsDrafted : ℕ → Entries → CommandLine → Type 0
 IsDrafted max d line =
     IsDraftedAs max (find (λ e. is_named e.name line) d.cron) (is_left_out d line) line.when
 
--- Each job has an entry of its own, `@reboot` lines alone are left out, and the offset is so many
--- minutes east.
-pub record IsDraft (crontab : Crontab) (anacrontab : Anacrontab) (max : ℕ) (east : ℤ)
-    (bytes : List ℕ) : Type 0 where
-  pub entries : Entries
-  pub sound : IsSound crontab anacrontab bytes entries
-  pub no_default : entries.default ≡ None
-  pub offset : entries.offset ≡ east
-  pub lines : All (IsDrafted max entries) crontab.lines
-
--- ---- updates
-
 -- the text is this one
 abbrev pub is_text : List ℕ → Option (List ℕ) → Bool
 is_text text None = false
 is_text text (Some told) = bytes_eq told text
+
+-- the entry takes no lock
+abbrev pub TakesNone : CronEntry → Type 0
+TakesNone e = (e.group ≡ None) × (e.mode ≡ Plain)
+
+-- an exclusive group of that name is declared
+abbrev pub has_exclusive : List GroupEntry → List ℕ → Bool
+has_exclusive groups name = list_any (λ g. g.exclusive && bytes_eq g.name name) groups
+
+-- the entry takes the lock of the file in that mode, by an exclusive group of the file's name
+abbrev pub TakesLock : List GroupEntry → List ℕ → Mode → CronEntry → Type 0
+TakesLock groups file mode e =
+    (e.group ≡ Some file) × (e.mode ≡ mode) × (has_exclusive groups file ≡ true)
+
+-- there are as many groups as there may be, and none of that name
+abbrev pub IsFull : List GroupEntry → List ℕ → Type 0
+IsFull groups file = (length groups ≡ MAX_GROUPS) × All (λ g. g.name ≢ file) groups
+
+-- It takes the lock that the command takes by flock(1), unless there can be no group for that; and
+-- else none.
+abbrev pub IsLocked : List GroupEntry → Option (List ℕ × Mode) → CronEntry → Type 0
+IsLocked groups None e = TakesNone e
+IsLocked groups (Some lock) e =
+    TakesLock groups lock.0 lock.1 e ⊎ (IsFull groups lock.0 × TakesNone e)
+
+-- the line's entry, if it has one, is locked as its command is
+abbrev pub HasLock : Entries → CommandLine → Type 0
+HasLock d line =
+    IfSome (find (λ e. is_named e.name line) d.cron) (IsLocked d.groups (lock_of line.command))
+
+-- the group is that of an entry
+abbrev pub IsUsed : Entries → GroupEntry → Type 0
+IsUsed d g = list_any (λ e. is_text g.name e.group) d.cron ≡ true
+
+-- the anacron job has an entry with the asked time, the least weight and no group
+abbrev pub IsDraftedJob : ℕ → Entries → JobLine → Type 0
+IsDraftedJob max d line = IsSomeAnd (find (is_of_job line.identifier) d.anacron)
+    (λ e. (e.max ≡ pos max) × (e.weight ≡ pos 1) × (e.group ≡ None))
+
+-- The capacity is the greatest, clocks are ahead of UTC by so many minutes, catch-up is at all hours
+-- and has no pass minute, no job has a default, and each command weighs 1.
+pub record AreFresh (east : ℤ) (d : Entries) : Type 0 where
+  pub capacity : d.capacity ≡ pos MAX_CAPACITY
+  pub offset : d.offset ≡ east
+  pub hours : d.hours ≡ (pos 0, pos MINUTES_OF_DAY)
+  pub pass : d.pass ≡ None
+  pub default : d.default ≡ None
+  pub weights : All (λ e. e.weight ≡ pos 1) d.cron
+
+-- Each job has an entry of its own, which has the lock of its command; `@reboot` lines alone are left
+-- out; and each group is that of an entry.
+pub record IsDraft (crontab : Crontab) (anacrontab : Anacrontab) (max : ℕ) (east : ℤ)
+    (bytes : List ℕ) : Type 0 where
+  pub entries : Entries
+  pub sound : IsSound crontab anacrontab bytes entries
+  pub terms : AreFresh east entries
+  pub lines : All (IsDrafted max entries) crontab.lines
+  pub locks : All (HasLock entries) crontab.lines
+  pub groups : All (IsUsed entries) entries.groups
+  pub jobs : All (IsDraftedJob max entries) anacrontab.lines
+
+-- ---- updates
 
 -- the name tells this command
 abbrev pub tells : List ℕ → LineName → Bool

@@ -2,11 +2,13 @@
 ghost use Rattle.std.specs.Prelude.{◌≡◌, All, IfOk, IsTrue, None, true};
 ghost use Rattle.cs_decl.specs.Faults.{first_fault};
 ghost use Rattle.cs_decl.specs.Join.{join_faults};
-ghost use Rattle.cs_draft.specs.Draft.{AreTerms, IsBound, IsDraft, IsDrafted, IsKeptJob, IsKeptLine, IsUpdate, is_lone};
+ghost use Rattle.cs_draft.specs.Draft.{AreFresh, AreTerms, IsBound, IsDraft, IsDrafted, IsDraftedJob, IsKeptJob, IsKeptLine, IsUpdate, IsUsed, is_lone};
 
 use crate::bound::are_bound;
 use crate::brief::are_drafted;
 use crate::kept::{are_kept_jobs, are_kept_lines, are_terms};
+use crate::locked::{are_used, have_locks};
+use crate::terms::{are_drafted_jobs, are_fresh};
 use cs_anacrontab::{Anacrontab, Job};
 use cs_crontab::{Crontab, Line};
 use cs_decl::{DeclError, Declarations, Entries, join, read_declarations};
@@ -30,17 +32,19 @@ fn is_fitting(
     }
 }
 
-/// Whether the entries are those of a draft.
-fn are_drafts(max: u64, offset: i16, entries: &Entries, lines: &[Line]) -> bool
-    ensures offset { IsTrue result → entries.now.offset ≡ offset }
-    ensures no_default { IsTrue result → entries.now.default ≡ None }
+/// Whether the entries are those of a draft, but for their locks.
+fn are_drafts(max: u64, offset: i16, entries: &Entries, lines: &[Line], jobs: &[Job]) -> bool
     ensures bound { IsTrue result → All (IsBound entries.now) lines.now }
+    ensures terms { IsTrue result → AreFresh offset entries.now }
     ensures lines { IsTrue result → All (IsDrafted max entries.now) lines.now }
+    ensures groups { IsTrue result → All (IsUsed entries.now) entries.now.groups }
+    ensures jobs { IsTrue result → All (IsDraftedJob max entries.now) jobs.now }
 {
-    entries.offset == i128::from(offset)
-        && entries.default.is_none()
-        && are_bound(entries, lines)
+    are_bound(entries, lines)
+        && are_fresh(offset, entries)
         && are_drafted(max, entries, lines)
+        && are_used(entries, entries.groups.as_slice())
+        && are_drafted_jobs(max, entries, jobs)
 }
 
 /// Whether the entries are those of an update.
@@ -73,7 +77,11 @@ pub(crate) fn is_draft(
         Err(DeclError::OutOfMemory) => return Err(AllocError),
         Err(DeclError::At { .. }) => return Ok(false),
     };
-    if !are_drafts(max, offset, declarations.entries(), table.lines()) {
+    let entries = declarations.entries();
+    if !are_drafts(max, offset, entries, table.lines(), jobs.lines()) {
+        return Ok(false);
+    }
+    if !have_locks(alloc, entries, table.lines())? {
         return Ok(false);
     }
     is_fitting(alloc, table, jobs, declarations)

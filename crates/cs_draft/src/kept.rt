@@ -1,11 +1,10 @@
 //! Whether new declarations keep what old ones declare.
 ghost use Rattle.std.specs.Prelude.{◌≡◌, ◌==◌, All, IsTrue, bytes_eq, length, option_map, take, true};
 ghost use Rattle.std.specs.List.{count_by, find, list_any};
-ghost use Rattle.cs_decl.specs.Join.{is_of_job};
 ghost use Rattle.cs_decl.specs.Lines.{names_of};
 ghost use Rattle.cs_draft.specs.Draft.{AreAlike, AreAlikeJobs, AreTerms, IsKept, IsKeptJob, IsKeptLine, is_lone, tells};
 
-use crate::names::{entry_of, is_left_out, is_reboot, tells};
+use crate::names::{entry_of, is_left_out, is_reboot, job_entry, tells};
 use cs_anacrontab::Job;
 use cs_civil::Bytes;
 use cs_crontab::Line;
@@ -140,16 +139,6 @@ pub(crate) fn are_kept_lines(old: &Entries, new: &Entries, lines: &[Line]) -> bo
 }
 
 // ---- jobs
-
-fn job_entry<'e>(entries: &'e Entries, identifier: &[u8]) -> Option<&'e AnacronEntry>
-    ensures { option_map (λ e. e.now) result
-        ≡ find (is_of_job identifier.now) entries.now.anacron }
-{
-    let anacron = entries.anacron.as_slice();
-    anacron
-        .iter()
-        .find(|entry| entry.identifier.as_slice() == identifier)
-}
 
 fn is_kept_job(old: &Entries, new: &Entries, job: &Job) -> bool
     ensures { IsTrue result → IsKeptJob old.now new.now job.now }

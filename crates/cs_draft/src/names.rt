@@ -1,11 +1,11 @@
-//! The lines that entries name.
+//! The lines and jobs that entries name.
 ghost use Rattle.std.specs.Prelude.{◌≡◌, option_map};
 ghost use Rattle.std.specs.List.{find};
-ghost use Rattle.cs_decl.specs.Join.{is_left_out, is_named, is_reboot};
+ghost use Rattle.cs_decl.specs.Join.{is_left_out, is_named, is_of_job, is_reboot};
 ghost use Rattle.cs_draft.specs.Draft.{tells};
 
 use cs_crontab::{Line, When};
-use cs_decl::{CronEntry, Entries, LineName};
+use cs_decl::{AnacronEntry, CronEntry, Entries, LineName};
 
 pub(crate) fn is_named(name: &LineName, line: &Line) -> bool
     ensures { result ≡ is_named name.now line.now }
@@ -43,6 +43,17 @@ pub(crate) fn entry_of<'e>(entries: &'e Entries, line: &Line) -> Option<&'e Cron
 {
     let cron = entries.cron.as_slice();
     cron.iter().find(|entry| is_named(&entry.name, line))
+}
+
+/// The first entry of the anacron job.
+pub(crate) fn job_entry<'e>(entries: &'e Entries, identifier: &[u8]) -> Option<&'e AnacronEntry>
+    ensures { option_map (λ e. e.now) result
+        ≡ find (is_of_job identifier.now) entries.now.anacron }
+{
+    let anacron = entries.anacron.as_slice();
+    anacron
+        .iter()
+        .find(|entry| entry.identifier.as_slice() == identifier)
 }
 
 /// Whether the command is started at startup.

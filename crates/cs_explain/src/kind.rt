@@ -1,13 +1,14 @@
 //! The kinds of inputs and answers that have names of their own.
 use crate::meaning::Meaning;
 use crate::{
-    anacrontab, call, certificate, crontab, declarations, event, refused, script, unknown,
+    anacrontab, call, certificate, crontab, declarations, event, refused, script, system, unknown,
 };
 
 /// A kind of input or answer. Each has names of its own; some of them other kinds have too.
 #[derive(Clone, Copy, Debug)]
 pub(crate) enum Kind {
     Crontab,
+    System,
     Anacrontab,
     Declarations,
     Script,
@@ -19,8 +20,9 @@ pub(crate) enum Kind {
 }
 
 /// All kinds, in the order in which they are told.
-pub(crate) const KINDS: [Kind; 9] = [
+pub(crate) const KINDS: [Kind; 10] = [
     Kind::Crontab,
+    Kind::System,
     Kind::Anacrontab,
     Kind::Declarations,
     Kind::Script,
@@ -36,6 +38,7 @@ impl Kind {
     pub(crate) fn heading(self) -> &'static str {
         match self {
             Kind::Crontab => "In a crontab:",
+            Kind::System => "In a system table:",
             Kind::Anacrontab => "In an anacrontab:",
             Kind::Declarations => "In declarations:",
             Kind::Script => "In a script:",
@@ -51,6 +54,7 @@ impl Kind {
     pub(crate) fn meanings(self) -> &'static [Meaning] {
         match self {
             Kind::Crontab => crontab::MEANINGS.as_slice(),
+            Kind::System => system::MEANINGS.as_slice(),
             Kind::Anacrontab => anacrontab::MEANINGS.as_slice(),
             Kind::Declarations => declarations::MEANINGS.as_slice(),
             Kind::Script => script::MEANINGS.as_slice(),

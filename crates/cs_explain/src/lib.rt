@@ -12,6 +12,7 @@ mod kind;
 mod meaning;
 mod refused;
 mod script;
+mod system;
 mod texts;
 mod unknown;
 

@@ -9,6 +9,8 @@ use Rattle.cs_crontab.specs.declared.fault.LineFault.{LineFault}
 use Rattle.cs_table.specs.declared.fault.TableFault.{TableFault}
 use Rattle.cs_table.specs.declared.fault.TableFault.TheVariants as table_fault
 use Rattle.cs_anacrontab.specs.declared.fault.JobFault.{JobFault}
+use Rattle.cs_system.specs.Printed.{fault_text as system_fault_text}
+use Rattle.cs_system.specs.declared.fault.SystemFault.{SystemFault}
 use Rattle.cs_decl.specs.Faults.{Fault as DeclaredFault}
 use Rattle.cs_decl.specs.Printed.{error_text}
 use Rattle.cs_decl.specs.declared.fault.DeclError.{DeclError}
@@ -30,7 +32,7 @@ use Rattle.cs_files.specs.Response.{Ending, complaint}
 use Rattle.cs_files.specs.declared.fault.Fault.{Fault}
 use Rattle.cs_files.specs.declared.fault.Fault.TheVariants.{Anacrontab, CannotRead, Certificate}
 use Rattle.cs_files.specs.declared.fault.Fault.TheVariants.{Crontab, Declarations, OutOfMemory}
-use Rattle.cs_files.specs.declared.fault.Fault.TheVariants.{Script, Words}
+use Rattle.cs_files.specs.declared.fault.Fault.TheVariants.{Gathered, Script, Words}
 
 -- why a call ends: its words hold a fault, this path can't be read, or what was read holds a fault
 pub data Trouble : Type 0 where
@@ -38,6 +40,7 @@ pub data Trouble : Type 0 where
   Unread : Text → Reason → Trouble
   InCrontab : Found LineFault → Trouble
   InAnacrontab : Found JobFault → Trouble
+  InGathered : Text → Found SystemFault → Trouble
   InDeclarations : DeclaredFault → Trouble
   InScript : ScriptFault → Trouble
   InCertificate : CertFault → Trouble
@@ -51,6 +54,11 @@ crontab_line fault =
 abbrev pub anacrontab_line : Found JobFault → List ℕ
 anacrontab_line fault =
     codes "anacrontab line " ++ (decimal fault.line ++ (codes ": " ++ anacrontab_fault_text fault.fault))
+
+-- `PATH line 3: 13 BadUser`: of the table at a path, one of those that are gathered
+abbrev pub gathered_line : Text → Found SystemFault → List ℕ
+gathered_line path fault = (path ++ codes " line ")
+    ++ (decimal fault.line ++ (codes ": " ++ system_fault_text fault.fault))
 
 -- `certificate: 5 TooDeep`
 abbrev pub certificate_line : CertFault → List ℕ
@@ -71,6 +79,7 @@ trouble_text (InWords fault) = word_fault fault
 trouble_text (Unread path reason) = codes "can't read " ++ (path ++ reason_text reason)
 trouble_text (InCrontab fault) = crontab_line fault
 trouble_text (InAnacrontab fault) = anacrontab_line fault
+trouble_text (InGathered path fault) = gathered_line path fault
 trouble_text (InDeclarations fault) = declared_line fault
 trouble_text (InScript fault) = script_line fault
 trouble_text (InCertificate fault) = certificate_line fault
@@ -81,6 +90,7 @@ trouble_status (InWords fault) = 3
 trouble_status (Unread path reason) = 6
 trouble_status (InCrontab fault) = 3
 trouble_status (InAnacrontab fault) = 3
+trouble_status (InGathered path fault) = 3
 trouble_status (InDeclarations fault) = 3
 trouble_status (InScript fault) = 3
 trouble_status (InCertificate fault) = 3
@@ -101,6 +111,11 @@ jobs_trouble (table_fault.At line column size fault) =
     Some (InAnacrontab (record { line = line; column = column; size = size; fault = fault }))
 jobs_trouble table_fault.OutOfMemory = None
 
+abbrev pub gathered_trouble : Text → TableFault SystemFault → Option Trouble
+gathered_trouble path (table_fault.At line column size fault) =
+    Some (InGathered path (record { line = line; column = column; size = size; fault = fault }))
+gathered_trouble path table_fault.OutOfMemory = None
+
 abbrev pub declared_trouble : DeclError → Option Trouble
 declared_trouble (decl_error.At fault place) = Some (InDeclarations (fault, place))
 declared_trouble decl_error.OutOfMemory = None
@@ -118,6 +133,7 @@ trouble (Words fault) = Some (InWords fault)
 trouble (CannotRead path reason) = Some (Unread path.now reason)
 trouble (Crontab fault) = table_trouble fault
 trouble (Anacrontab fault) = jobs_trouble fault
+trouble (Gathered path fault) = gathered_trouble path.now fault
 trouble (Declarations fault) = declared_trouble fault
 trouble (Script fault) = script_trouble fault
 trouble (Certificate fault) = certificate_trouble fault

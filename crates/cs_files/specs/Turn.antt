@@ -2,10 +2,10 @@
 use Rattle.std.specs.Prelude.{◌≡◌, ◌⊎◌, ◌++◌, List, [], ◌∷◌, Option, Some, None}
 use Rattle.clap.specs.Words.{Text}
 use Rattle.cs_io.specs.Files.{AreReadInTurn, Reads}
-use Rattle.cs_args.specs.CommandLine.{Asking, Asks, Chart, Check, Day, Draft, Explain, Help, Judge}
-use Rattle.cs_args.specs.CommandLine.{Lint, Make, Replay, Run}
-use Rattle.cs_args.specs.CommandLine.{AskedChart, AskedCheck, AskedDraft, AskedJudge, AskedLint}
-use Rattle.cs_args.specs.CommandLine.{AskedReplay}
+use Rattle.cs_args.specs.CommandLine.{Asking, Asks, Chart, Check, Day, Draft, Explain, Gather, Help}
+use Rattle.cs_args.specs.CommandLine.{Judge, Lint, Make, Replay, Run}
+use Rattle.cs_args.specs.CommandLine.{AskedChart, AskedCheck, AskedDraft, AskedGather, AskedJudge}
+use Rattle.cs_args.specs.CommandLine.{AskedLint, AskedReplay}
 
 -- the path of a file that may be left out
 abbrev pub some_path : Option Text → List Text
@@ -35,21 +35,31 @@ lint_paths a = table_paths a.table a.anacrontab ++ some_path a.declarations
 abbrev pub chart_paths : AskedChart → List Text
 chart_paths a = table_paths a.day.table a.day.anacrontab ++ some_path a.declarations
 
-abbrev pub paths_asked : Asking → List Text
-paths_asked (Day a) = table_paths a.table a.anacrontab
-paths_asked (Replay a) = replay_paths a
-paths_asked (Check a) = check_paths a
-paths_asked (Run a) = check_paths a.check
-paths_asked (Judge a) = judge_paths a
-paths_asked (Make a) = judge_paths a.judge
-paths_asked (Draft a) = draft_paths a
-paths_asked (Lint a) = lint_paths a
-paths_asked (Chart a) = chart_paths a
-paths_asked (Explain name) = []
-paths_asked Help = []
+-- those that the words name
+abbrev pub gather_paths : AskedGather → List Text
+gather_paths a = a.system ++ a.user
 
--- the files of what the words ask are read one after the other, each in its turn, and nothing else
--- is read
+-- those below the root folder, of which the words say nothing, and then those that the words name
+abbrev pub AreReadToGather : AskedGather → Reads → Reads → Type 0
+AreReadToGather a old new = (found : List Text) × (a.root ≡ None → found ≡ [])
+    × AreReadInTurn (found ++ gather_paths a) old new
+
+-- the files of what is asked are read one after the other, each in its turn, and nothing else is
+abbrev pub ReadsAsked : Asking → Reads → Reads → Type 0
+ReadsAsked (Day a) = AreReadInTurn (table_paths a.table a.anacrontab)
+ReadsAsked (Replay a) = AreReadInTurn (replay_paths a)
+ReadsAsked (Check a) = AreReadInTurn (check_paths a)
+ReadsAsked (Run a) = AreReadInTurn (check_paths a.check)
+ReadsAsked (Judge a) = AreReadInTurn (judge_paths a)
+ReadsAsked (Make a) = AreReadInTurn (judge_paths a.judge)
+ReadsAsked (Gather a) = AreReadToGather a
+ReadsAsked (Draft a) = AreReadInTurn (draft_paths a)
+ReadsAsked (Lint a) = AreReadInTurn (lint_paths a)
+ReadsAsked (Chart a) = AreReadInTurn (chart_paths a)
+ReadsAsked (Explain name) = AreReadInTurn []
+ReadsAsked Help = AreReadInTurn []
+
+-- and so of what the words ask; else nothing is read
 abbrev pub ReadsInTurn : List Text → Reads → Reads → Type 0
 ReadsInTurn words old new =
-    ((a : Asking) × Asks words a × AreReadInTurn (paths_asked a) old new) ⊎ (new ≡ old)
+    ((a : Asking) × Asks words a × ReadsAsked a old new) ⊎ (new ≡ old)

@@ -4,6 +4,7 @@ ghost use Rattle.cs_args.specs.Words.{word_fault};
 ghost use Rattle.cs_io.specs.Reasons.{reason_text};
 ghost use Rattle.cs_files.specs.Response.{status_of};
 ghost use Rattle.cs_files.specs.Trouble.{Says, certificate_trouble, declared_trouble, ends};
+ghost use Rattle.cs_files.specs.Trouble.{gathered_trouble};
 ghost use Rattle.cs_files.specs.Trouble.{jobs_trouble, script_trouble, table_trouble, trouble};
 ghost use Rattle.cs_files.specs.Trouble.{trouble_status};
 ghost use Rattle.cs_files.specs.declared.fault.Fault.TheVariants.{Anacrontab, Crontab, Declarations};
@@ -15,10 +16,12 @@ use cs_anacrontab::AnacronFault;
 use cs_args::WordFault;
 use cs_cert::CertError;
 use cs_civil::{Bytes, push_number};
-use cs_crontab::TableFault;
+use cs_crontab::TableFault as CrontabFault;
 use cs_decl::DeclError;
 use cs_io::Reason;
 use cs_report::ScriptError;
+use cs_system::SystemFault;
+use cs_table::TableFault;
 use std::alloc::{AllocError, AllocFailed, Global};
 
 /// Why a call ends before all of it was done.
@@ -29,9 +32,11 @@ pub enum Fault<'a> {
     /// This path can't be read, for this reason.
     CannotRead(&'a str, Reason),
     /// The crontab holds a fault.
-    Crontab(TableFault),
+    Crontab(CrontabFault),
     /// The anacrontab holds a fault.
     Anacrontab(AnacronFault),
+    /// The table at this path, one of those that are gathered, holds a fault.
+    Gathered(&'a str, TableFault<SystemFault>),
     /// The declarations, or the plan that they make of the tables, hold a fault.
     Declarations(DeclError),
     /// The script holds a fault.
@@ -66,10 +71,10 @@ impl<'a> From<WordFault> for Fault<'a> {
     }
 }
 
-impl<'a> From<TableFault> for Fault<'a> {
+impl<'a> From<CrontabFault> for Fault<'a> {
     ghost from_gives = { λ error fault. fault ≡ Crontab error };
 
-    fn from(error: TableFault) -> Fault<'a> {
+    fn from(error: CrontabFault) -> Fault<'a> {
         Fault::Crontab(error)
     }
 }
@@ -123,14 +128,14 @@ fn unread_text(alloc: Global, path: &str, reason: Reason) -> Result<Vec<u8>, All
 }
 
 /// What is told of a fault of a crontab.
-fn crontab_text(alloc: Global, fault: TableFault) -> Result<Vec<u8>, AllocError>
+fn crontab_text(alloc: Global, fault: CrontabFault) -> Result<Vec<u8>, AllocError>
     ensures { IfOk result (λ text. Says (table_trouble fault) text.items) }
 {
     match fault {
-        TableFault::At { line, fault, .. } => {
+        CrontabFault::At { line, fault, .. } => {
             line_text(alloc, b"crontab line ".as_slice(), line, fault.text())
         }
-        TableFault::OutOfMemory => Err(AllocError),
+        CrontabFault::OutOfMemory => Err(AllocError),
     }
 }
 
@@ -143,6 +148,23 @@ fn anacrontab_text(alloc: Global, fault: AnacronFault) -> Result<Vec<u8>, AllocE
             line_text(alloc, b"anacrontab line ".as_slice(), line, fault.text())
         }
         AnacronFault::OutOfMemory => Err(AllocError),
+    }
+}
+
+/// What is told of a fault of a table that is gathered.
+fn gathered_text(
+    alloc: Global,
+    path: &str,
+    fault: TableFault<SystemFault>,
+) -> Result<Vec<u8>, AllocError>
+    ensures { IfOk result (λ text. Says (gathered_trouble path.now fault) text.items) }
+{
+    match fault {
+        TableFault::At { line, fault, .. } => {
+            let table = named_text(alloc, path.as_bytes(), b" line ".as_slice())?;
+            line_text(alloc, table.as_slice(), line, fault.text())
+        }
+        TableFault::OutOfMemory => Err(AllocError),
     }
 }
 
@@ -204,6 +226,7 @@ impl Fault<'_> {
             Fault::CannotRead(path, reason) => unread_text(alloc, path, *reason),
             Fault::Crontab(fault) => crontab_text(alloc, *fault),
             Fault::Anacrontab(fault) => anacrontab_text(alloc, *fault),
+            Fault::Gathered(path, fault) => gathered_text(alloc, path, *fault),
             Fault::Declarations(fault) => declared_text(alloc, fault),
             Fault::Script(fault) => script_text(alloc, *fault),
             Fault::Certificate(fault) => certificate_text(alloc, *fault),
@@ -221,6 +244,7 @@ impl Fault<'_> {
             Fault::Words(_) => Status::BadInput,
             Fault::Crontab(_) => Status::BadInput,
             Fault::Anacrontab(_) => Status::BadInput,
+            Fault::Gathered(_, _) => Status::BadInput,
             Fault::Declarations(_) => Status::BadInput,
             Fault::Script(_) => Status::BadInput,
             Fault::Certificate(_) => Status::BadInput,

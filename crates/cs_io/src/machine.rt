@@ -1,9 +1,13 @@
 //! The machine's files and its standard input.
-ghost use Rattle.std.specs.Prelude.{◌≡◌, ◌≤◌, IfOk, false, length};
+ghost use Rattle.std.specs.Prelude.{◌≡◌, ◌≤◌, IfOk, IfSome, false, length};
+ghost use Rattle.cs_io.specs.Folders.{IsInByteOrder};
 
-use crate::inputs::{CannotRead, Inputs};
+use crate::folders::{FileKind, Folders, MOST_NAMES, names_in_order, read_list};
+use crate::inputs::{CannotRead, Inputs, ReadFault};
 use crate::reason::Reason;
-use std::io::Read;
+use cs_civil::{Bytes, Sequence};
+use std::alloc::{AllocError, Global};
+use std::io::{ErrorKind, Read};
 use std::rt::Files;
 use std::{fs, io};
 
@@ -47,6 +51,61 @@ impl<'a, R: Files + Input> Machine<'a, R> {
     {
         self.rt.reader().read(buf)
     }
+
+    fn kind_at(&self, path: &str) -> Result<Option<FileKind>, Reason> {
+        let found = match fs::metadata(self.rt, path) {
+            Ok(found) => found,
+            Err(error) => return kind_behind(&error),
+        };
+        if found.is_file() {
+            return Ok(Some(FileKind::Regular));
+        }
+        if found.is_dir() {
+            return Ok(Some(FileKind::Folder));
+        }
+        Ok(Some(FileKind::Other))
+    }
+
+    fn open_folder(&self, path: &str) -> Result<Option<R::Dir>, ReadFault> {
+        match self.rt.open_dir(path) {
+            Ok(folder) => Ok(Some(folder)),
+            Err(error) => match error.kind() {
+                ErrorKind::NotFound => Ok(None),
+                ErrorKind::NotADirectory => Err(ReadFault::CannotRead(Reason::NoFolder)),
+                _ => Err(ReadFault::CannotRead(Reason::of(&error))),
+            },
+        }
+    }
+
+    fn list(&self, alloc: Global, path: &str) -> Result<Option<Sequence<Bytes>>, ReadFault>
+        ensures few { IfOk result (λ found. IfSome found (λ names. length names ≤ MOST_NAMES)) }
+        ensures order { IfOk result (λ found. IfSome found IsInByteOrder) }
+    {
+        let path = with_slash(alloc, path)?;
+        let Some(mut folder) = self.open_folder(path.as_str())? else {
+            return Ok(None);
+        };
+        let list = read_list(alloc, &mut folder)?;
+        Ok(Some(names_in_order(alloc, list.as_slice())?))
+    }
+}
+
+/// What a path leads to that the machine can't follow, if that is known.
+fn kind_behind(error: &io::Error) -> Result<Option<FileKind>, Reason> {
+    match error.kind() {
+        ErrorKind::NotFound | ErrorKind::NotADirectory => Ok(None),
+        ErrorKind::FilesystemLoop => Ok(Some(FileKind::Other)),
+        _ => Err(Reason::of(error)),
+    }
+}
+
+/// The path of a folder with a slash at its end, behind which a link to a folder is followed.
+fn with_slash(alloc: Global, path: &str) -> Result<String, AllocError> {
+    let mut folder = String::from_str(alloc, path)?;
+    if !path.is_empty() && !path.ends_with('/') {
+        folder.push('/')?;
+    }
+    Ok(folder)
 }
 
 impl<'a, R: Files + Input> Inputs for Machine<'a, R> {
@@ -67,6 +126,28 @@ impl<'a, R: Files + Input> Inputs for Machine<'a, R> {
                     reason: Reason::of(&error),
                 })
             }
+        }
+    }
+}
+
+impl<'a, R: Files + Input> Folders for Machine<'a, R> {
+    fn kind_of(&mut self, path: &str) -> Result<Option<FileKind>, CannotRead> {
+        match self.kind_at(path) {
+            Ok(kind) => Ok(kind),
+            Err(reason) => {
+                self.has_failed = true;
+                Err(CannotRead { reason })
+            }
+        }
+    }
+
+    fn names(&mut self, alloc: Global, path: &str) -> Result<Option<Sequence<Bytes>>, ReadFault> {
+        match self.list(alloc, path) {
+            Err(ReadFault::CannotRead(reason)) => {
+                self.has_failed = true;
+                Err(ReadFault::CannotRead(reason))
+            }
+            given => given,
         }
     }
 }

@@ -14,6 +14,10 @@ pub enum Reason {
     NotAllowed,
     /// It is a folder.
     Folder,
+    /// It is no folder.
+    NoFolder,
+    /// It is a folder with too many names.
+    TooManyNames,
     /// It has no end after the most reads of a path.
     Endless,
     /// Another reason, or none.
@@ -38,6 +42,8 @@ impl Reason {
             Reason::Absent => ": there is no such file",
             Reason::NotAllowed => ": it isn't allowed",
             Reason::Folder => ": it is a folder",
+            Reason::NoFolder => ": it is no folder",
+            Reason::TooManyNames => ": it has more than 65536 names",
             Reason::Endless => ": it has no end",
             Reason::Unknown => "",
         }

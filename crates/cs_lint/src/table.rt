@@ -4,10 +4,13 @@ use crate::front::Front;
 use crate::line::{bad_setting, word_behind, word_from};
 use cs_anacrontab::{Entry as JobEntry, JobFault, MAX_JOBS, read_line as read_job_line};
 use cs_civil::all_kinds;
-use cs_crontab::{Entry, LineFault, MAX_COMMANDS, Schedule, When, read_line};
+use cs_crontab::{
+    Entry, LineFault, MAX_COMMANDS, Schedule, TableFault, When, read_crontab, read_line,
+};
 use cs_decl::DeclFault;
 use cs_diagnostics::{Done, Findings, shown};
 use cs_outline::Span;
+use cs_report::first_behind_user;
 use cs_schedule::Part;
 use cs_table::text::has_nul;
 use cs_table::{MAX_LINE, MAX_TABLE};
@@ -42,6 +45,17 @@ impl<'a> Begun<'a> {
     /// Whether its command is that one, or can't be read.
     pub(crate) fn may_be(&self, command: &str) -> bool {
         self.name.is_none() || self.is(command)
+    }
+
+    /// The place of the first word of its command, in the bytes of the table.
+    fn word_of_command(&self, bytes: &[u8]) -> Span {
+        let rest = &bytes[self.place.from.min(bytes.len())..];
+        let len = rest
+            .iter()
+            .position(|byte| *byte == b'\n')
+            .unwrap_or(rest.len());
+        let command = self.name.map_or(0, |command| command.len());
+        word_from(&rest[..len], len.saturating_sub(command)).behind(self.place.from)
     }
 
     fn find_misfit(&self, findings: &mut Findings, declared: &Declared<'_>) -> Done {
@@ -81,7 +95,6 @@ pub(crate) struct Table<'a> {
     pub(crate) begun: Vec<Begun<'a>>,
     /// The commands or identifiers, each with the first and the last line on which it stands.
     names: IndexMap<&'a [u8], (u32, u32)>,
-    has_user: bool,
     /// Whether it isn't too long, and has no more commands or jobs than it may have.
     pub(crate) is_whole: bool,
     /// Whether each of its lines can be read.
@@ -99,7 +112,6 @@ impl<'a> Table<'a> {
             start: 0,
             begun: Vec::new(alloc),
             names: IndexMap::new(alloc),
-            has_user: false,
             is_whole: bytes.len() <= MAX_TABLE,
             is_read: true,
         };
@@ -117,6 +129,9 @@ impl<'a> Table<'a> {
             }
             table.find_too_many()?;
             table.start = table.start.saturating_add(line.len()).saturating_add(1);
+        }
+        if kind == Kind::Crontab {
+            table.find_user(bytes)?;
         }
         Ok(table)
     }
@@ -243,7 +258,6 @@ impl<'a> Table<'a> {
     }
 
     fn look_at_command(&mut self, when: When, command: &'a [u8]) -> Done {
-        self.find_user(command)?;
         if let When::At(schedule) = &when {
             self.find_never_due(schedule)?;
         }
@@ -269,15 +283,24 @@ impl<'a> Table<'a> {
         )
     }
 
-    fn find_user(&mut self, command: &[u8]) -> Done {
-        let from = self.line.len().saturating_sub(command.len());
-        let user = word_from(self.line, from);
-        if self.has_user || user.bytes(self.line) != b"root".as_slice() {
+    /// Adds the first command that seems to stand behind a user, if the table can be read.
+    fn find_user(&mut self, bytes: &[u8]) -> Done {
+        let crontab = match read_crontab(self.findings.alloc, bytes) {
+            Ok(crontab) => crontab,
+            Err(TableFault::At { .. }) => return Ok(()),
+            Err(TableFault::OutOfMemory) => return Err(AllocError),
+        };
+        let Some(line) = first_behind_user(crontab.lines()) else {
             return Ok(());
-        }
-        self.has_user = true;
-        let why = "here `root` is the command: this table has no user column, so remove it";
-        self.odd(user, why)
+        };
+        let Some(begun) = self.begun_on(i128::from(line.number())) else {
+            return Ok(());
+        };
+        let place = begun.word_of_command(bytes);
+        let user = shown(self.findings.alloc, place.bytes(bytes))?;
+        let why = "is the command: this table has no user column, so remove it";
+        self.findings
+            .odd(place, format_args!("here `{user}` {why}"))
     }
 
     /// Adds that a setting of that name has no effect, if it's one that other daemons heed

@@ -1,5 +1,6 @@
 pub mod Named
 pub mod Digits
+pub mod Known
 pub mod Lines
 pub mod Stamps
 pub mod Loop

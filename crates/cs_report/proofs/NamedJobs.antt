@@ -1,11 +1,9 @@
 -- What a script that can be named names.
-use Rattle.std.proofs.Common.{◌≡◌, ◌<◌, ◌≤◌, ◌-◌, ℕ, Bool, true, false, ◌&&◌, List, length, get_or, refl, sym, ◌∙◌, nat_lt, nat_le}
+use Rattle.std.proofs.Common.{◌≡◌, ◌<◌, ◌≤◌, ◌-◌, ℕ, Bool, true, false, ◌&&◌, length, refl, nat_lt, nat_le}
 use Rattle.std.specs.List.{list_all}
 use Rattle.std.proofs.lemmas.Bool.{ltb-true, leb-true}
-use Rattle.std.proofs.lemmas.List.Folds.{list_all_at}
 use Rattle.cs_civil.specs.Calendar.{last_minute}
 use Rattle.cs_history.specs.Plan.{first_start}
-use Rattle.cs_history.specs.declared.event.Event.{Event}
 use Rattle.cs_history.specs.declared.script.Script.{Script}
 use Rattle.cs_decl.specs.Plan.{Declared, crons}
 use Rattle.cs_report.specs.ScriptText.{are_nameable_stamps, is_anacron_name, is_job_name, is_nameable, is_nameable_event}

@@ -12,4 +12,5 @@ pub mod Seen
 pub mod ScriptText
 pub mod Reply
 pub mod ReadBack
+pub mod User
 pub mod Warning

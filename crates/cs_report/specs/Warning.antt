@@ -7,6 +7,7 @@ use Rattle.std.specs.Str.{bytes_eq}
 use Rattle.cs_anacrontab.specs.Anacrontab.{Table as JobTable}
 use Rattle.cs_crontab.specs.Crontab.{CommandLine, Table}
 use Rattle.cs_decl.specs.Plan.{Declared}
+use Rattle.cs_report.specs.User.{is_behind_user}
 use Rattle.cs_table.specs.Setting.{SettingLine}
 use Rattle.cs_table.specs.Text.{front, is_solid}
 
@@ -28,27 +29,25 @@ warning table setting =
 unfoldable pub warnings_of : List ℕ → List SettingLine → List ℕ
 warnings_of table settings = flat_map (warning table) (filter is_unheeded settings)
 
--- a command with `root` as its first word: in tables with a user column, as /etc/crontab and those of
--- /etc/cron.d, a user stands before each command (crontab(5))
-abbrev pub is_as_root : CommandLine → Bool
-is_as_root line = bytes_eq (front is_solid line.command) (codes "root")
-
--- `warning: the command on line N of the crontab begins with root, as in a table with a user column`
--- and a newline
+-- `warning: the command on line N of the crontab begins with NAME, as in a table with a user column:
+-- see cronsafe gather` and a newline
 abbrev pub user_warning : CommandLine → List ℕ
-user_warning line = codes "warning: the command on line " ++ (decimal line.number
-    ++ codes " of the crontab begins with root, as in a table with a user column\n")
+user_warning line = codes "warning: the command on line "
+    ++ (decimal line.number
+    ++ (codes " of the crontab begins with "
+    ++ (front is_solid line.command ++ codes ", as in a table with a user column: see cronsafe gather\n")))
 
--- such a line for the first such command
+-- such a line for a command that seems to stand behind a user, if there is one: in tables with a user
+-- column, as /etc/crontab and those of /etc/cron.d, a user stands before each command (crontab(5))
 abbrev pub user_warning_of : Option CommandLine → List ℕ
 user_warning_of None = []
 user_warning_of (Some line) = user_warning line
 
--- those of the crontab's settings, that of the first command that begins with `root`, and then those
--- of the anacrontab's settings
+-- those of the crontab's settings, that of the first command that seems to stand behind a user, and
+-- then those of the anacrontab's settings
 abbrev pub warnings : Table → JobTable → List ℕ
 warnings crontab anacrontab = warnings_of (codes "crontab") crontab.settings
-    ++ (user_warning_of (find is_as_root crontab.lines)
+    ++ (user_warning_of (find (is_behind_user crontab.lines) crontab.lines)
     ++ warnings_of (codes "anacrontab") anacrontab.settings)
 
 -- `note: line N is left out of the plan` and a newline
@@ -70,8 +69,16 @@ default_note jobs =
     if jobs == 1 then codes "note: 1 job without an entry has the default\n"
     else codes "note: " ++ (decimal jobs ++ codes " jobs without an entry have the default\n"))
 
--- those of the lines that a plan leaves out, in their order, that it has no job, and how many of its
--- jobs have the default
+-- `warning: an object of the declarations has NAME twice, and the last one counts` and a newline, and
+-- nothing where none has one
+abbrev pub doubled_warning : Option (List ℕ) → List ℕ
+doubled_warning None = []
+doubled_warning (Some name) = codes "warning: an object of the declarations has "
+    ++ (name ++ codes " twice, and the last one counts\n")
+
+-- that of a member that stands twice, those of the lines that a plan leaves out, in their order, that
+-- it has no job, and how many of its jobs have the default
 abbrev pub plan_notes : Declared → List ℕ
-plan_notes d = flat_map left_out_note d.left_out
-    ++ (no_job_note d.left_out (length d.jobs) ++ default_note d.defaulted)
+plan_notes d = doubled_warning d.doubled
+    ++ (flat_map left_out_note d.left_out
+    ++ (no_job_note d.left_out (length d.jobs) ++ default_note d.defaulted))

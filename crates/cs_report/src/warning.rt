@@ -2,10 +2,12 @@ ghost use Rattle.std.specs.Prelude.{◌≡◌, ◌++◌, IfOk, OnOk};
 ghost use Rattle.std.specs.Fmt.{decimal};
 ghost use Rattle.std.specs.List.{find, flat_map};
 ghost use Rattle.std.specs.Option.{option_map};
-ghost use Rattle.cs_report.specs.Warning.{default_note, is_as_root, is_unheeded, left_out_note};
+ghost use Rattle.cs_report.specs.User.{is_behind_user};
+ghost use Rattle.cs_report.specs.Warning.{default_note, doubled_warning, is_unheeded, left_out_note};
 ghost use Rattle.cs_report.specs.Warning.{no_job_note, plan_notes, user_warning, user_warning_of};
 ghost use Rattle.cs_report.specs.Warning.{warning, warnings, warnings_of};
 
+use crate::user::first_behind_user;
 use cs_anacrontab::Anacrontab;
 use cs_civil::{Bytes, push_number};
 use cs_crontab::{Crontab, Line};
@@ -14,8 +16,8 @@ use cs_table::Setting;
 use cs_table::text::word;
 use std::alloc::{AllocError, Global};
 
-/// Whether other daemons heed the setting.
-fn is_unheeded(setting: &Setting) -> bool
+/// Whether other daemons heed the setting, and it has no effect here.
+pub fn is_unheeded(setting: &Setting) -> bool
     ensures { result ≡ is_unheeded setting.now }
 {
     let name = setting.name();
@@ -59,21 +61,6 @@ fn push_warnings(
     Ok(())
 }
 
-/// Whether the command begins with the word `root`.
-fn is_as_root(line: &Line) -> bool
-    ensures { result ≡ is_as_root line.now }
-{
-    let (first, _) = word(line.command());
-    first == b"root".as_slice()
-}
-
-/// The first of the lines whose command begins with the word `root`.
-fn first_as_root(lines: &[Line]) -> Option<&Line>
-    ensures { option_map (λ line. line.now) result ≡ find is_as_root lines.now }
-{
-    lines.iter().find(|line| is_as_root(line))
-}
-
 /// Writes a number between two texts behind the text.
 fn push_numbered(
     alloc: Global,
@@ -90,16 +77,37 @@ fn push_numbered(
     text.extend_from_slice(end)
 }
 
-/// Writes the warning of a command that begins with `root` behind the text.
+/// Writes a number and a name between three texts behind the text.
+fn push_named(
+    alloc: Global,
+    text: &mut Vec<u8>,
+    front: &[u8],
+    number: u128,
+    middle: &[u8],
+    name: &[u8],
+    end: &[u8],
+) -> Result<(), AllocError>
+    ensures { OnOk result (text.new.items ≡ text.old.items
+        ++ (front.now ++ (decimal number ++ (middle.now ++ (name.now ++ end.now))))) }
+{
+    push_numbered(alloc, text, front, number, middle)?;
+    text.extend_from_slice(name)?;
+    text.extend_from_slice(end)
+}
+
+/// Writes the warning of a command that seems to stand behind a user behind the text.
 fn push_user_warning(alloc: Global, text: &mut Vec<u8>, line: &Line) -> Result<(), AllocError>
     ensures { OnOk result (text.new.items ≡ text.old.items ++ user_warning line.now) }
 {
-    push_numbered(
+    let (name, _) = word(line.command());
+    push_named(
         alloc,
         text,
         b"warning: the command on line ",
         u128::from(line.number()),
-        b" of the crontab begins with root, as in a table with a user column\n",
+        b" of the crontab begins with ",
+        name,
+        b", as in a table with a user column: see cronsafe gather\n",
     )
 }
 
@@ -110,9 +118,9 @@ fn push_first_user_warning(
     lines: &[Line],
 ) -> Result<(), AllocError>
     ensures { OnOk result (text.new.items
-        ≡ text.old.items ++ user_warning_of (find is_as_root lines.now)) }
+        ≡ text.old.items ++ user_warning_of (find (is_behind_user lines.now) lines.now)) }
 {
-    match first_as_root(lines) {
+    match first_behind_user(lines) {
         Some(line) => push_user_warning(alloc, text, line),
         None => Ok(()),
     }
@@ -123,10 +131,11 @@ fn push_first_user_warning(
 /// user column, as /etc/crontab and those of /etc/cron.d have it.
 ///
 /// A setting's is `warning: CRON_TZ on line 1 of the crontab has no effect`, or `.. of the anacrontab ..`.
-/// The first command that begins with the word `root` has `warning: the command on line 1 of the
-/// crontab begins with root, as in a table with a user column`. The settings of the crontab come first,
-/// in order of their numbers, then the command, then the settings of the anacrontab, each line with a
-/// newline. Where there is nothing to warn of, no text. The only error is want of memory.
+/// The first command that seems to stand behind a user has `warning: the command on line 1 of the
+/// crontab begins with root, as in a table with a user column: see cronsafe gather`
+/// ([`first_behind_user`]). The settings of the crontab come first, in order of their numbers, then
+/// the command, then the settings of the anacrontab, each line with a newline. Where there is nothing
+/// to warn of, no text. The only error is want of memory.
 pub fn warnings(
     alloc: Global,
     crontab: &Crontab,
@@ -193,7 +202,23 @@ fn push_default(alloc: Global, text: &mut Vec<u8>, jobs: usize) -> Result<(), Al
     }
 }
 
-/// A line for each line of the crontab that the plan leaves out, in order of their numbers:
+/// Writes the warning of a member that stands twice behind the text.
+fn push_doubled(text: &mut Vec<u8>, doubled: &Option<Bytes>) -> Result<(), AllocError>
+    ensures { OnOk result (text.new.items ≡ text.old.items ++ doubled_warning doubled.now) }
+{
+    match doubled {
+        None => Ok(()),
+        Some(name) => {
+            text.extend_from_slice(b"warning: an object of the declarations has ")?;
+            text.extend_from_slice(name.as_slice())?;
+            text.extend_from_slice(b" twice, and the last one counts\n")
+        }
+    }
+}
+
+/// First, if an object of the declarations has a member twice, the first such name:
+/// `warning: an object of the declarations has max twice, and the last one counts`. Then a line for
+/// each line of the crontab that the plan leaves out, in order of their numbers:
 /// `note: line 4 is left out of the plan`. Then, if lines are left out and no job is left in either
 /// table, `note: the plan has no job`. Then, if jobs have the default,
 /// `note: 12 jobs without an entry have the default` or `note: 1 job without an entry has the default`.
@@ -202,6 +227,7 @@ pub fn plan_notes(alloc: Global, plan: &Plan) -> Result<Bytes, AllocError>
     ensures { IfOk result (λ text. text ≡ plan_notes plan.now) }
 {
     let mut text = Vec::new(alloc);
+    push_doubled(&mut text, plan.doubled())?;
     push_all_left_out(alloc, &mut text, plan.left_out())?;
     push_no_job(&mut text, plan.left_out(), plan.jobs().len())?;
     push_default(alloc, &mut text, plan.defaulted())?;

@@ -3,3 +3,6 @@ pub mod ReplayLemmas
 pub mod DayLemmas
 pub mod DraftLemmas
 pub mod LintLemmas
+pub mod PathLemmas
+pub mod ListingLemmas
+pub mod GatherLemmas

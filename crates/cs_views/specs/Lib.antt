@@ -6,3 +6,6 @@ pub mod DraftAnswer
 pub mod LintAnswer
 pub mod ChartAnswer
 pub mod ExplainAnswer
+pub mod GatherTables
+pub mod GatherAnswer
+pub mod Listing

@@ -6,6 +6,7 @@
   declarations  any value anywhere, deep ones, doubled members, limits
   names         lines named by number and command, left out, or with the default
   histories     scripts of random events
+  gathers       system tables and users' tables, gathered
 
 Certificates:
   parts         places in a certificate, certificates with one part changed, accepted ones

@@ -1,4 +1,4 @@
-use Rattle.std.proofs.Common.{◌≡◌, ◌++◌, ◌∙◌, ap, sym, subst}
+use Rattle.std.proofs.Common.{◌≡◌, ◌++◌, ◌∙◌, ap, sym, subst, ℕ}
 use Rattle.std.proofs.lemmas.Result.{IfErr-weaker, IfOk-weaker}
 use Rattle.cs_args.specs.Asked.{asked_check}
 use Rattle.cs_decl.specs.Plan.{Declared}
@@ -7,6 +7,7 @@ use Rattle.cs_cli.specs.Check.{AnswersCheck, IfAccepted, ending_of, safe_text}
 use Rattle.cs_cli.specs.Safe.{IsAcceptance}
 use Rattle.cs_cli.specs.declared.check.Examined.{Examined}
 use Rattle.cs_files.specs.Response.{Ending, done}
+use Rattle.cs_files.specs.Trouble.{IsHonest}
 use Rattle.cs_cli.proofs.check.answer_check.Goals as goal
 
 pub returns-in-Accepted-clause-value : goal.returns-in-Accepted-clause-value
@@ -25,3 +26,8 @@ pub returns-in-Accepted-clause-warned : goal.returns-in-Accepted-clause-warned
 returns-in-Accepted-clause-warned g c = λ fresh.
     let accepted = subst (λ (found : Examined). IfAccepted found (IsAcceptance (g.I.Inputs.whole c.args.inputs.now) (asked_check c.args.request.now) (g.I.Inputs.failed c.args.inputs.now))) c.in-Accepted.is (c.in_ok-checked.ensures.accepted fresh) in
     IfErr-weaker c.acceptance.result _ _ (λ e is. rw is accepted.warned) c.acceptance.ensures.warned
+
+pub returns-in-Accepted-clause-status : goal.returns-in-Accepted-clause-status
+returns-in-Accepted-clause-status g c =
+    IfOk-weaker c.acceptance.result _ (IsHonest (g.I.Inputs.failed c.examine.new.inputs) (g.I.Inputs.reads c.examine.new.inputs))
+    (λ r is six. let zero : r.status ≡ 0 = ap (λ (e : Ending). e.status) is in absurd (cc)) c.acceptance.ensures.told

@@ -1,4 +1,4 @@
-use Rattle.std.proofs.Common.{rules, ◌≡◌, None, Some, subst, sym}
+use Rattle.std.proofs.Common.{rules, ◌≡◌, None, Some, subst}
 use Rattle.cs_decl.specs.declared.entries.Entries.{Entries}
 use Rattle.cs_decl.specs.Faults.{first_fault}
 use Rattle.cs_decl.specs.Join.{lines_left_out, naming_faults, plan_of, rest, undeclared}

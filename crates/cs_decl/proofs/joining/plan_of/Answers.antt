@@ -16,6 +16,7 @@ new-requires c =
       c.pass_of.ensures,
       c.hours_of.ensures,
       c.capacity_of.ensures,
+      c.in_ok-doubled.ensures,
       c.defaulted-defaulted.ensures,
       c.in_ok-groups.ensures,
       c.as_slice.ensures,

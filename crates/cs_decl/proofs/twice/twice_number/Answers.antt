@@ -1,7 +1,7 @@
-use Rattle.std.proofs.Common.{rules, ◌≡◌, ◌∙◌, ◌++◌, take, ℤ, List, Option, Some, None, true, false, get_or, int_eq, sym, subst}
+use Rattle.std.proofs.Common.{rules, ◌≡◌, ◌∙◌, ◌++◌, take, ℤ, Option, Some, None, true, false, get_or, int_eq, sym}
 use Rattle.std.specs.List.{list_any}
 use Rattle.indexmap.specs.IndexSet.{insert_key}
-use Rattle.cs_decl.proofs.Numbers.{HasNumbers, found_at, goes_on, passes_none, with_number, with_none, one_more}
+use Rattle.cs_decl.proofs.Numbers.{found_at, goes_on, passes_none, with_number, with_none, one_more}
 use Rattle.cs_decl.proofs.Texts.{not_true, not_false}
 use Rattle.cs_decl.proofs.twice.twice_number.Goals.{in-Some+in_ok-insert+else-not-branch, in_default}
 use Rattle.cs_decl.proofs.twice.twice_number.Goals as goal

@@ -1,0 +1,57 @@
+-- A command that is gathered from a table, and the comment with its place.
+use Rattle.std.specs.Prelude.{ℕ, ◌+◌, ◌/◌, ◌%◌, Bool, ◌&&◌, ◌==◌, not, nat_le, nat_lt, if◌then◌else◌, List, [], ◌∷◌, ◌++◌, flat_map, decimal, codes}
+use Rattle.cs_crontab.specs.declared.table.When.{When}
+use Rattle.cs_crontab.specs.Crontab.{CommandLine}
+use Rattle.cs_system.specs.System.{SystemCommand}
+
+-- a command, when it is started, the user that it runs as, the name of its table, and the number of
+-- its line there, counted from 1
+pub record GatheredCommand : Type 0 where
+  pub name : List ℕ
+  pub number : ℕ
+  pub user : List ℕ
+  pub when : When
+  pub command : List ℕ
+
+-- a command of the system table of that name
+abbrev pub of_system : List ℕ → SystemCommand → GatheredCommand
+of_system name line = record {
+  name = name;
+  number = line.number;
+  user = line.user;
+  when = line.when;
+  command = line.command;
+}
+
+-- a command of that user's table
+abbrev pub of_user : List ℕ → List ℕ → CommandLine → GatheredCommand
+of_user name user line = record {
+  name = name;
+  number = line.number;
+  user = user;
+  when = line.when;
+  command = line.command;
+}
+
+-- ---- the comment
+
+-- a byte that a comment shows as it is: no control byte and no `\`
+abbrev pub is_plain : ℕ → Bool
+is_plain b = nat_le 32 b && not (b == 127) && not (b == 92)
+
+abbrev pub hex_digit : ℕ → ℕ
+hex_digit n = if nat_lt n 10 then 48 + n else 87 + n
+
+-- any other byte is shown as `\xNN`
+abbrev pub shown : ℕ → List ℕ
+shown b =
+    if is_plain b then b ∷ [] else 92 ∷ 120 ∷ hex_digit (b / 16) ∷ hex_digit (b % 16) ∷ []
+
+-- `NAME:LINE`
+abbrev pub place_text : List ℕ → ℕ → List ℕ
+place_text name number = flat_map shown name ++ 58 ∷ decimal number
+
+-- `#@ NAME:LINE USER`
+abbrev pub place_comment : GatheredCommand → List ℕ
+place_comment c =
+    codes "#@ " ++ (place_text c.name c.number ++ 32 ∷ flat_map shown c.user)

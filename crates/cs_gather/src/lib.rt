@@ -1,0 +1,17 @@
+//! Tables of a machine, gathered as one user's table.
+#![tactic(auto)]
+
+mod comment;
+mod confirm;
+mod fault;
+mod gathering;
+mod line;
+mod mark;
+mod reading;
+mod when;
+mod writing;
+
+pub use comment::push_shown;
+pub use fault::{GatherFault, TextFault};
+pub use gathering::Gathering;
+pub use mark::is_gathered;

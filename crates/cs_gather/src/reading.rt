@@ -1,0 +1,44 @@
+//! The commands of a table.
+ghost use Rattle.std.specs.Prelude.{◌≡◌, All, IfOk, map};
+ghost use Rattle.cs_gather.specs.Normal.{IsNormal};
+ghost use Rattle.cs_gather.specs.Gathered.{of_system, of_user};
+
+use crate::line::GatheredLine;
+use cs_crontab::Line;
+use cs_system::SystemLine;
+use std::alloc::{AllocError, Global};
+
+pub(crate) fn system_lines(
+    alloc: Global,
+    name: &[u8],
+    lines: &[SystemLine],
+) -> Result<Vec<GatheredLine>, AllocError>
+    requires { All (λ line. IsNormal line.when) lines.now }
+    ensures { IfOk result (λ gathered. gathered.items ≡ map (of_system name.now) lines.now) }
+{
+    let mut gathered = Vec::new(alloc);
+    for line in lines {
+        let (number, user) = (line.number(), line.user());
+        let command = GatheredLine::new(alloc, name, number, user, line.when(), line.command())?;
+        gathered.push(command)?;
+    }
+    Ok(gathered)
+}
+
+pub(crate) fn user_lines(
+    alloc: Global,
+    name: &[u8],
+    user: &[u8],
+    lines: &[Line],
+) -> Result<Vec<GatheredLine>, AllocError>
+    requires { All (λ line. IsNormal line.when) lines.now }
+    ensures { IfOk result (λ gathered. gathered.items ≡ map (of_user name.now user.now) lines.now) }
+{
+    let mut gathered = Vec::new(alloc);
+    for line in lines {
+        let number = line.number();
+        let command = GatheredLine::new(alloc, name, number, user, line.when(), line.command())?;
+        gathered.push(command)?;
+    }
+    Ok(gathered)
+}

@@ -1,0 +1,124 @@
+//! The lines of a table, as those of the text.
+ghost use Rattle.std.specs.Prelude.{◌≡◌, ◌≤◌, IfErr, length};
+ghost use Rattle.cs_crontab.specs.declared.fault.LineFault.TheVariants.{TooLong};
+ghost use Rattle.cs_table.specs.declared.limits.TheConstants.{MAX_TABLE};
+ghost use Rattle.cs_table.specs.Table.{as_error, found_at};
+ghost use Rattle.cs_table.specs.Text.{after, is_blank};
+ghost use Rattle.cs_table.specs.Wrong.{whole};
+ghost use Rattle.cs_system.specs.declared.fault.SystemFault.TheVariants.{Line};
+ghost use Rattle.cs_gather.specs.Gather.{IsOverflow};
+
+use crate::comment::{push_place, push_shown};
+use crate::fault::GatherFault;
+use crate::line::GatheredLine;
+use crate::mark::MARK;
+use cs_crontab::{Entry, LineFault, read_line};
+use cs_system::SystemFault;
+use cs_table::text::{first_line, skip_blanks};
+use cs_table::{MAX_LINE, MAX_TABLE, Wrong};
+use std::alloc::{AllocError, Global};
+
+/// The fields or the word of a command line, and the blanks behind them.
+fn time_text(line: &[u8]) -> &[u8] {
+    let text = skip_blanks(line);
+    match read_line(line) {
+        Ok(Entry::Command(_, behind)) => &text[..text.len().saturating_sub(behind.len())],
+        _ => text,
+    }
+}
+
+/// Adds the place of a command and the command. Says whether the text stays short enough.
+fn push_command(
+    alloc: Global,
+    text: &mut Vec<u8>,
+    line: &[u8],
+    gathered: &GatheredLine,
+) -> Result<bool, AllocError> {
+    let comment = gathered.comment(alloc)?;
+    text.extend_from_slice(comment.as_slice())?;
+    text.push(b'\n')?;
+    text.extend_from_slice(time_text(line))?;
+    text.extend_from_slice(gathered.command())?;
+    text.push(b'\n')?;
+    Ok(comment.len() <= MAX_LINE && text.len() <= MAX_TABLE - MARK.len())
+}
+
+/// Returns the comment `# NAME:LINE SETTING`, or `# NAME:LINE` if that is too long.
+fn setting_comment(
+    alloc: Global,
+    name: &[u8],
+    number: u32,
+    line: &[u8],
+) -> Result<Vec<u8>, AllocError> {
+    let mut comment = Vec::from_slice(alloc, b"# ".as_slice())?;
+    push_place(alloc, &mut comment, name, number)?;
+    let len = comment.len();
+    comment.push(b' ')?;
+    push_shown(&mut comment, skip_blanks(line))?;
+    if comment.len() > MAX_LINE {
+        comment.truncate(len);
+    }
+    Ok(comment)
+}
+
+/// Adds the comment of a setting, and nothing for another line. Says whether the text stays short
+/// enough.
+fn push_setting(
+    alloc: Global,
+    text: &mut Vec<u8>,
+    name: &[u8],
+    number: u32,
+    line: &[u8],
+) -> Result<bool, AllocError> {
+    let Ok(Entry::Setting(_, _)) = read_line(line) else {
+        return Ok(true);
+    };
+    let comment = setting_comment(alloc, name, number, line)?;
+    text.extend_from_slice(comment.as_slice())?;
+    text.push(b'\n')?;
+    Ok(comment.len() <= MAX_LINE && text.len() <= MAX_TABLE - MARK.len())
+}
+
+/// The fault of the whole line.
+fn overflow(fault: LineFault, number: u32, line: &[u8]) -> GatherFault
+    ensures { result
+        ≡ as_error (found_at number line.now (whole (Line fault) (after is_blank line.now))) }
+{
+    Wrong::whole(SystemFault::Line(fault), skip_blanks(line)).at(number, line)
+}
+
+/// Adds the lines of a table with these commands, for some of which there is room.
+pub(crate) fn push_lines(
+    alloc: Global,
+    text: &mut Vec<u8>,
+    name: &[u8],
+    bytes: &[u8],
+    room: usize,
+    commands: &[GatheredLine],
+) -> Result<(), GatherFault>
+    requires { length bytes.now ≤ MAX_TABLE }
+    ensures { IfErr result (IsOverflow bytes.now room commands.now) }
+{
+    let mut index = 0;
+    let mut number = 0u32;
+    let mut rest = bytes;
+    while !rest.is_empty() {
+        let (line, behind) = first_line(rest);
+        number += 1;
+        let is_short = match commands.get(index) {
+            Some(command) if command.number() == number => {
+                if index == room {
+                    return Err(overflow(LineFault::TooManyJobs, number, line));
+                }
+                index += 1;
+                push_command(alloc, text, line, command)?
+            }
+            _ => push_setting(alloc, text, name, number, line)?,
+        };
+        if !is_short {
+            return Err(overflow(LineFault::TooLong, number, line));
+        }
+        rest = behind;
+    }
+    Ok(())
+}

@@ -1,0 +1,151 @@
+//! The folders that the program looks into.
+ghost use Rattle.std.specs.Prelude.{◌≡◌, ◌<◌, ◌≤◌, ℕ, List, Option, None, true, IfOk, IfErr, IfSome};
+ghost use Rattle.std.specs.Prelude.{IsPermutation, OnErr, OnOk, length, map};
+ghost use Rattle.std.specs.List.{list_all};
+ghost use Rattle.cs_io.specs.Folders.{IsInByteOrder, is_listed, is_name_byte, is_table_name, names_in};
+ghost use Rattle.cs_io.specs.Reasons.{IsCannotRead};
+
+use crate::inputs::{CannotRead, Inputs, ReadFault};
+use crate::reason::Reason;
+use cs_civil::{Bytes, Sequence};
+use std::alloc::{AllocError, Global};
+use std::io::Read;
+
+/// What a path leads to, behind its links.
+#[derive(Clone, Copy, Debug, PartialEq, Eq)]
+pub enum FileKind {
+    /// A regular file.
+    Regular,
+    /// A folder.
+    Folder,
+    /// Something else: a FIFO, a socket, a device, or links in a circle.
+    Other,
+}
+
+/// The most names of a folder that are listed.
+pub const MOST_NAMES: usize = 65_536;
+
+/// Folders by their paths. Only a folder is ever opened, so no name in one keeps a call waiting.
+pub trait Folders: Inputs {
+    ghost use Rattle.cs_io.specs.declared.folders.FileKind.{FileKind};
+
+    /// What a path leads to, if known: `Some None` if that is nothing.
+    ghost kinds: { Self → List ℕ → Option (Option FileKind) } = { λ _ _. None };
+
+    /// The names in a folder, if known: `Some None` if there is nothing at its path.
+    ghost listing: { Self → List ℕ → Option (Option (List (List ℕ))) } = { λ _ _. None };
+
+    /// What a path leads to, `None` if that is nothing.
+    fn kind_of(&mut self, path: &str) -> Result<Option<FileKind>, CannotRead>
+        ensures value { IfOk result (λ kind. IfSome (kinds self.old path.now)
+            (λ known. kind ≡ known)) }
+        ensures stays { (kinds self.new ≡ kinds self.old) × (listing self.new ≡ listing self.old) }
+        ensures files { (Self.whole self.new ≡ Self.whole self.old)
+            × (Self.left self.new ≡ Self.left self.old)
+            × (Self.reads self.new ≡ Self.reads self.old) }
+        ensures works { OnOk result (Self.failed self.new ≡ Self.failed self.old) }
+        ensures fails { OnErr result (Self.failed self.new path.now ≡ true) };
+
+    /// The names in a folder in the order of their bytes, `None` if there is nothing at its path.
+    fn names(&mut self, alloc: Global, path: &str) -> Result<Option<Sequence<Bytes>>, ReadFault>
+        ensures value { IfOk result (λ found. IfSome (listing self.old path.now)
+            (λ known. found ≡ known)) }
+        ensures few { IfOk result (λ found. IfSome found (λ names. length names ≤ MOST_NAMES)) }
+        ensures order { IfOk result (λ found. IfSome found IsInByteOrder) }
+        ensures stays { (kinds self.new ≡ kinds self.old) × (listing self.new ≡ listing self.old) }
+        ensures files { (Self.whole self.new ≡ Self.whole self.old)
+            × (Self.left self.new ≡ Self.left self.old)
+            × (Self.reads self.new ≡ Self.reads self.old) }
+        ensures works { OnOk result (Self.failed self.new ≡ Self.failed self.old) }
+        ensures fails { IfErr result (λ e. IsCannotRead e
+            → Self.failed self.new path.now ≡ true) };
+}
+
+/// Whether a table of this name in a folder of tables is read: one of ASCII letters, digits, `_` and
+/// `-` alone (cron(8), run-parts(8)).
+pub fn is_table_name(name: &[u8]) -> bool
+    ensures { result ≡ is_table_name name.now }
+{
+    !name.is_empty() && has_only_name_bytes(name)
+}
+
+/// Whether all bytes may be in the name of a table.
+fn has_only_name_bytes(name: &[u8]) -> bool
+    ensures { result ≡ list_all is_name_byte name.now }
+{
+    name.iter().all(|byte| is_name_byte(*byte))
+}
+
+/// Whether a byte may be in the name of a table.
+fn is_name_byte(byte: u8) -> bool
+    ensures { result ≡ is_name_byte byte }
+{
+    byte.is_ascii_alphanumeric() || byte == b'_' || byte == b'-'
+}
+
+/// Whether this is a name of something in a folder, and not of the folder or of the one above it.
+fn is_listed(name: &[u8]) -> bool
+    ensures { result ≡ is_listed name.now }
+{
+    !name.is_empty() && name != b".".as_slice() && name != b"..".as_slice()
+}
+
+/// The most bytes of a folder's list, in which each name has 255 bytes and a NUL.
+const MOST_BYTES: usize = 16_777_728;
+
+/// The most reads of a folder's list, each of one name, and the one at its end.
+const MOST_READS: usize = 65_539;
+
+/// Reads a folder's list, as the machine gives it: a NUL ends each name.
+pub(crate) fn read_list<D: Read>(alloc: Global, folder: &mut D) -> Result<Vec<u8>, ReadFault>
+    ensures { IfOk result (λ list. IfSome (D.remaining folder.old) (λ all. list.items ≡ all)) }
+{
+    let mut list = Vec::new(alloc);
+    let mut buf = [0u8; 4096];
+    for _reads in 0..MOST_READS {
+        match folder.read(buf.as_mut_slice()) {
+            Err(error) => return Err(ReadFault::CannotRead(Reason::of(&error))),
+            Ok(0) => return Ok(list),
+            Ok(n) => list.extend_from_slice(&buf[..n])?,
+        }
+        if list.len() > MOST_BYTES {
+            break;
+        }
+    }
+    Err(ReadFault::CannotRead(Reason::TooManyNames))
+}
+
+/// The names in a folder's list.
+fn listed<'a>(alloc: Global, list: &'a [u8]) -> Result<Vec<&'a [u8]>, AllocError>
+    ensures { IfOk result (λ names. map (λ name. name.now) names.items ≡ names_in list.now) }
+{
+    list.split(|byte| *byte == 0)
+        .filter(|name| is_listed(name))
+        .collect(alloc)
+}
+
+/// Copies of the names.
+fn copied(alloc: Global, names: &[&[u8]]) -> Result<Sequence<Bytes>, AllocError>
+    ensures { IfOk result (λ copies. copies ≡ map (λ name. name.now) names.now) }
+{
+    let mut copies = Sequence::new(alloc);
+    for name in names {
+        copies.push(Bytes::from_slice(alloc, name)?)?;
+    }
+    Ok(copies)
+}
+
+/// The names in a folder's list, in the order of their bytes.
+pub(crate) fn names_in_order(alloc: Global, list: &[u8]) -> Result<Sequence<Bytes>, ReadFault>
+    ensures same { IfOk result (IsPermutation (names_in list.now)) }
+    ensures few { IfOk result (λ names. length names ≤ MOST_NAMES) }
+    ensures order { IfOk result IsInByteOrder }
+    ensures fails { IfErr result (λ e. IsCannotRead e → MOST_NAMES < length (names_in list.now)) }
+{
+    let mut names = listed(alloc, list)?;
+    if names.len() > MOST_NAMES {
+        return Err(ReadFault::CannotRead(Reason::TooManyNames));
+    }
+    names.sort_unstable();
+    Ok(copied(alloc, names.as_slice())?)
+}

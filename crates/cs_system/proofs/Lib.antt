@@ -1,0 +1,3 @@
+pub mod Entries
+pub mod Failures
+pub mod Tables

@@ -1,0 +1,23 @@
+-- What a line adds to a system table, or its fault, as the code reads it.
+use Rattle.std.specs.Prelude.{ℕ, nat_lt, if◌then◌else◌, List, length, Result, Ok, Err}
+use Rattle.cs_table.specs.declared.fault.Wrong.{Wrong}
+use Rattle.cs_table.specs.Text.{after, is_blank}
+use Rattle.cs_table.specs.Wrong.{◌>>=◌, whole}
+use Rattle.cs_crontab.specs.declared.fault.LineFault.TheVariants.{TooManyJobs}
+use Rattle.cs_crontab.specs.declared.limits.TheConstants.{MAX_COMMANDS}
+use Rattle.cs_system.specs.declared.fault.SystemFault.{SystemFault}
+use Rattle.cs_system.specs.declared.fault.SystemFault.TheVariants.{Line}
+use Rattle.cs_system.specs.System.{Entry, Nothing, Setting, Command, Table, with_entry}
+use Rattle.cs_system.specs.Reading.{line_of}
+
+-- the table with the entry of a line at its end, or the fault of a command above the limit
+abbrev pub put : ℕ → List ℕ → Table → Entry → Result Table (Wrong SystemFault)
+put number line table Nothing = Ok table
+put number line table (Setting name value) = Ok (with_entry number (Setting name value) table)
+put number line table (Command when user command) =
+    if nat_lt (length table.lines) MAX_COMMANDS
+    then Ok (with_entry number (Command when user command) table)
+    else Err (whole (Line TooManyJobs) (after is_blank line))
+
+abbrev pub added : ℕ → Table → List ℕ → Result Table (Wrong SystemFault)
+added number table line = line_of line >>= put number line table

@@ -1,0 +1,12 @@
+//! Reading a system table: `/etc/crontab` and the files of `/etc/cron.d` (crontab(5)).
+#![tactic(auto)]
+
+mod fault;
+mod line;
+mod reader;
+mod table;
+
+pub use fault::SystemFault;
+pub use line::{SystemEntry, read_system_line};
+pub use reader::read_system_crontab;
+pub use table::{SystemLine, SystemTable};

@@ -1,0 +1,195 @@
+-- What is answered to `gather`.
+use Rattle.std.proofs.Common.{◌≡◌, ◌<◌, ◌≤◌, ◌∙◌, ℕ, true, List, [], ◌∷◌, ◌++◌, Option, Some, None, IfSome, IfErr, IfOk, Ok, Err, Result, ap, arith, inl, inr, length, map, option_map, refl, string_bytes, subst, sym, append_assoc}
+use Rattle.std.specs.List.{AllZip}
+use Rattle.std.specs.Result.{IsErrAnd}
+use Rattle.std.proofs.lemmas.List.{map-append}
+use Rattle.clap.specs.Words.{Text}
+use Rattle.cs_table.specs.Table as tables
+use Rattle.cs_table.specs.Table.{Found, Kind, as_error}
+use Rattle.cs_table.specs.declared.fault.TableFault.{TableFault}
+use Rattle.cs_table.specs.declared.fault.TableFault.TheVariants.{At, OutOfMemory}
+use Rattle.cs_table.specs.declared.limits.TheConstants.{MAX_TABLE}
+use Rattle.cs_crontab.specs.Faults.{crontab}
+use Rattle.cs_system.specs.declared.fault.SystemFault.{SystemFault}
+use Rattle.cs_system.specs.Faults.{system}
+use Rattle.cs_gather.specs.Gathered.{GatheredCommand}
+use Rattle.cs_io.specs.Files.{AreReadInTurn, Failed, IsFresh, IsUpTo, Reads}
+use Rattle.cs_io.specs.declared.reason.Reason.{Reason}
+use Rattle.cs_args.specs.CommandLine.{AskedGather}
+use Rattle.cs_files.specs.Reads.{IsRead, IsUnreadAt}
+use Rattle.cs_files.specs.Response.{Ending}
+use Rattle.cs_files.specs.Trouble.{IsHonest, IsUnread, TellsPath, Trouble, Unread, ends, gathered_trouble, trouble, trouble_status}
+use Rattle.cs_files.specs.Turn.{AreReadToGather, gather_paths}
+use Rattle.cs_files.specs.declared.fault.Fault.{Fault}
+use Rattle.cs_files.proofs.TroubleLemmas.{some_is}
+use Rattle.cs_files.proofs.TurnLemmas.{some_read, then_read}
+use Rattle.cs_views.specs.GatherTables.{AreFound, AreNamed, Given, IsUserFile, system_table}
+use Rattle.cs_views.specs.GatherAnswer.{Adds, AddsAs, EndsFor, FaultsAs, FirstStops, GathersAll, ShowsGathered, Stops}
+use Rattle.cs_views.specs.Listing.{IsUnlisted, TellsUnlisted}
+use Rattle.cs_views.specs.declared.gather_below.Unlisted.{Unlisted}
+use Rattle.cs_views.specs.declared.gather_below.Unlisted.TheVariants.{CannotRead, OutOfMemory as NoMemory}
+
+-- ---- of the bytes that were read
+
+pub is_short : (user : Option Text) (path : Text) (bytes : List ℕ) (old more : List GatheredCommand) → AddsAs user path bytes old more → length bytes ≤ MAX_TABLE
+is_short None path bytes old more (table, is, same) = is.short
+is_short (Some user) path bytes old more (table, is, same) = is.short
+
+-- what the bytes add the file adds
+pub adds_read : (files left : List ℕ → Option (List ℕ)) (user : Option Text) (path : Text) (bytes : List ℕ) (old more : List GatheredCommand)
+    → IsFresh files left → IsRead MAX_TABLE path left bytes → AddsAs user path bytes old more → IfSome (files path) (λ text. AddsAs user path text old more)
+adds_read files left user path bytes old more fresh read adds = by_file (files path) (left path) (fresh path) read
+  where
+    same : (text : List ℕ) → IsUpTo MAX_TABLE text bytes → AddsAs user path text old more
+    same text (inl e) = subst (λ (b : List ℕ). AddsAs user path b old more) e adds
+    same text (inr (long, other)) = absurd (let short = is_short user path bytes old more adds in omega (arith, short, long))
+
+    by_file : (whole rest : Option (List ℕ)) → IfSome whole (λ text. rest ≡ Some text) → IfSome rest (λ text. IsUpTo MAX_TABLE text bytes) → IfSome whole (λ text. AddsAs user path text old more)
+    by_file None rest is up = tt
+    by_file (Some text) rest is up = same text (subst (λ (o : Option (List ℕ)). IfSome o (λ t. IsUpTo MAX_TABLE t bytes)) is up)
+
+-- a fault of bytes is that of a text that is too long too
+same_fault : {Y F : Type 0} (kind : Kind Y F) (bytes text : List ℕ) (fault : TableFault F) → MAX_TABLE < length bytes → MAX_TABLE < length text → tables.IsFaultOf kind bytes fault → tables.IsFaultOf kind text fault
+same_fault kind bytes text OutOfMemory long other is = tt
+same_fault kind bytes text (At line column size fault) long other (inl (past, is)) = inl (other, is)
+same_fault kind bytes text (At line column size fault) long other (inr first) = absurd (let short = first.short in omega (arith, short, long))
+
+long_faults : (user : Option Text) (path : Text) (bytes text : List ℕ) (old : List GatheredCommand) (fault : TableFault SystemFault) → MAX_TABLE < length bytes → MAX_TABLE < length text → FaultsAs user path bytes old fault → FaultsAs user path text old fault
+long_faults None path bytes text old fault long other (inl is) = inl (same_fault system bytes text fault long other is)
+long_faults None path bytes text old fault long other (inr (table, is, over)) = absurd (let short = is.short in omega (arith, short, long))
+long_faults (Some user) path bytes text old fault long other (inl (inner, is, same)) = inl (inner, same_fault crontab bytes text inner long other is, same)
+long_faults (Some user) path bytes text old fault long other (inr (table, is, over)) = absurd (let short = is.short in omega (arith, short, long))
+
+-- which fault the bytes have the file has
+faults_read : (files left : List ℕ → Option (List ℕ)) (user : Option Text) (path : Text) (bytes : List ℕ) (old : List GatheredCommand) (fault : TableFault SystemFault)
+    → IsFresh files left → IsRead MAX_TABLE path left bytes → FaultsAs user path bytes old fault → IfSome (files path) (λ text. FaultsAs user path text old fault)
+faults_read files left user path bytes old fault fresh read faults = by_file (files path) (left path) (fresh path) read
+  where
+    same : (text : List ℕ) → IsUpTo MAX_TABLE text bytes → FaultsAs user path text old fault
+    same text (inl e) = subst (λ (b : List ℕ). FaultsAs user path b old fault) e faults
+    same text (inr (long, other)) = long_faults user path bytes text old fault long other faults
+
+    by_file : (whole rest : Option (List ℕ)) → IfSome whole (λ text. rest ≡ Some text) → IfSome rest (λ text. IsUpTo MAX_TABLE text bytes) → IfSome whole (λ text. FaultsAs user path text old fault)
+    by_file None rest is up = tt
+    by_file (Some text) rest is up = same text (subst (λ (o : Option (List ℕ)). IfSome o (λ t. IsUpTo MAX_TABLE t bytes)) is up)
+
+-- a table with a fault stops the call
+pub stops_read : (files left : List ℕ → Option (List ℕ)) (before after : Failed) (given : Given) (bytes : List ℕ) (old : List GatheredCommand) (fault : TableFault SystemFault)
+    → IsFresh files left → after ≡ before → IsRead MAX_TABLE given.path left bytes → FaultsAs given.user given.path bytes old fault
+    → IfSome (gathered_trouble given.path fault) (Stops files before after given old)
+stops_read files left before after given bytes old OutOfMemory fresh works read faults = tt
+stops_read files left before after given bytes old (At line column size fault) fresh works read faults =
+    inr (works, (record { line = line; column = column; size = size; fault = fault }, refl, faults_read files left given.user given.path bytes old (At line column size fault) fresh read faults))
+
+-- and so does one that can't be read
+pub stops_unread : (files : List ℕ → Option (List ℕ)) (before after : Failed) (given : Given) (old : List GatheredCommand) (e : Fault) → IsUnreadAt given.path after e → IfSome (trouble e) (Stops files before after given old)
+stops_unread files before after given old e = by_trouble (trouble e)
+  where
+    by_trouble : (o : Option Trouble) → IfSome o (λ t. (after given.path ≡ true) × TellsPath given.path t) → IfSome o (Stops files before after given old)
+    by_trouble None h = h
+    by_trouble (Some t) h = inl h
+
+-- a fault of a table is no failure of a device
+pub honest_gathered : (failed : Failed) (reads : Reads) (path : Text) (fault : TableFault SystemFault) → IfSome (gathered_trouble path fault) (λ t. trouble_status t ≡ 6 → (p : Text) × IsUnread p failed reads × TellsPath p t)
+honest_gathered failed reads path OutOfMemory = tt
+honest_gathered failed reads path (At line column size fault) = λ six. absurd (cc)
+
+-- ---- of tables in turn
+
+-- the first that stops the call is behind one that adds its commands
+pub later_stops : (files : List ℕ → Option (List ℕ)) (before after : Failed) (given : Given) (later : List Given) (old between : List GatheredCommand) (e : Fault)
+    → Adds files given old between → IfSome (trouble e) (FirstStops files before after later between) → IfSome (trouble e) (FirstStops files before after (given ∷ later) old)
+later_stops files before after given later old between e adds = by_trouble (trouble e)
+  where
+    by_trouble : (o : Option Trouble) → IfSome o (FirstStops files before after later between) → IfSome o (FirstStops files before after (given ∷ later) old)
+    by_trouble None h = h
+    by_trouble (Some t) h = inr (between, adds, h)
+
+pub some_so : (P Q : Trouble → Type 0) (o : Option Trouble) → ((t : Trouble) → P t → Q t) → IfSome o P → IfSome o Q
+some_so P Q None so h = h
+some_so P Q (Some t) so h = so t h
+
+-- ---- what is answered
+
+pub ends_for : (P : Trouble → Type 0) (notes : List ℕ) (e : Fault) (r : Ending) → IfSome (trouble e) P → option_map (ends notes) (trouble e) ≡ Some r → (t : Trouble) × P t × EndsFor t r
+ends_for P notes e r = by_trouble (trouble e)
+  where
+    by_trouble : (o : Option Trouble) → IfSome o P → option_map (ends notes) o ≡ Some r → (t : Trouble) × P t × EndsFor t r
+    by_trouble None h is = absurd (cc)
+    by_trouble (Some t) h is = (t, h, (notes, sym (some_is (ends notes t) r is)))
+
+-- a gathered table, or one that isn't, is no failure of a device
+pub honest_shown : (failed : Failed) (reads : Reads) (commands : List GatheredCommand) (r : Ending) → ShowsGathered commands r → IsHonest failed reads r
+honest_shown failed reads commands r (inl (done, gathers)) = λ six. absurd (let e = sym done ∙ six in cc)
+honest_shown failed reads commands r (inr (notes, is)) = λ six. absurd (let e = sym (ap (λ (x : Ending). x.status) is) ∙ six in cc)
+
+-- the same where nothing has failed yet
+pub stops_same : (files whole : List ℕ → Option (List ℕ)) (before mid after : Failed) (given : Given) (old : List GatheredCommand) (t : Trouble) → whole ≡ files → mid ≡ before → Stops whole mid after given old t → Stops files before after given old t
+stops_same files whole before mid after given old t same works stops =
+    subst (λ (w : List ℕ → Option (List ℕ)). Stops w before after given old t) same (subst (λ (f : Failed). Stops whole f after given old t) works stops)
+
+pub err_so : {T E : Type 0} (P Q : E → Type 0) (r : Result T E) → ((e : E) → P e → Q e) → IsErrAnd r P → IfErr r Q
+err_so P Q (Ok x) so h = absurd h
+err_so P Q (Err e) so h = so e h
+
+-- it holds of what was answered
+pub if_ok : {T E : Type 0} (P Q : T → Type 0) (r : Result T E) → ((x : T) → P x → Q x) → IfOk r P → IfOk r Q
+if_ok P Q (Ok x) so h = so x h
+if_ok P Q (Err e) so h = h
+
+-- that a path can't be read
+pub told_unread : {E : Type 0} (path text notes : List ℕ) (reason : Reason) (r : Result Ending E) → path ≡ text → IfOk r (λ x. Some (ends notes (Unread path reason)) ≡ Some x)
+    → IfOk r (λ x. (ns : List ℕ) × (x ≡ ends ns (Unread text reason)))
+told_unread path text notes reason (Ok x) same is = (notes, sym (some_is (ends notes (Unread path reason)) x is) ∙ ap (λ (p : List ℕ). ends notes (Unread p reason)) same)
+told_unread path text notes reason (Err e) same is = is
+
+pub tells_unlisted : (u : Unlisted) (r : Ending) → TellsUnlisted u r → (path : Text) × (t : Trouble) × TellsPath path t × EndsFor t r
+tells_unlisted (CannotRead path reason) r told = (string_bytes path, Unread (string_bytes path) reason, (reason, refl), told)
+tells_unlisted NoMemory r told = absurd told
+
+pub honest_unlisted : (failed : Failed) (reads : Reads) (u : Unlisted) (r : Ending) → IsUnlisted failed reads u → TellsUnlisted u r → IsHonest failed reads r
+honest_unlisted failed reads (CannotRead path reason) r unread (notes, is) = λ six.
+    record { path = string_bytes path; unread = unread; warnings = notes; reason = reason; told = is }
+honest_unlisted failed reads NoMemory r unread told = absurd told
+
+-- ---- which files are read
+
+system_paths : (paths : List Text) → map (λ given. given.path) (map system_table paths) ≡ paths
+system_paths [] = refl
+system_paths (path ∷ paths) = ap (λ (ps : List Text). path ∷ ps) (system_paths paths)
+
+user_paths : (paths : List Text) (users : List Given) → AllZip IsUserFile paths users → map (λ given. given.path) users ≡ paths
+user_paths [] [] are = refl
+user_paths [] (user ∷ users) are = absurd are
+user_paths (path ∷ paths) [] are = absurd are
+user_paths (path ∷ paths) (user ∷ users) ((name, part, is), are) =
+    ap (λ (p : Text). p ∷ map (λ given. given.path) users) (ap (λ (given : Given). given.path) is) ∙ ap (λ (ps : List Text). path ∷ ps) (user_paths paths users are)
+
+named_paths : (a : AskedGather) (named : List Given) → AreNamed a named → map (λ given. given.path) named ≡ gather_paths a
+named_paths a named (users, are, is) =
+    let path_of = λ (given : Given). given.path in
+    ap (map path_of) is ∙ map-append path_of (map system_table a.system) users ∙ ap (λ (ps : List Text). ps ++ map path_of users) (system_paths a.system) ∙ ap (λ (ps : List Text). a.system ++ ps) (user_paths a.user users are)
+
+none_found : (root : Option Text) (found : List Given) → root ≡ None → AreFound root found → found ≡ []
+none_found None found none are = are
+none_found (Some root) found none are = absurd (cc)
+
+-- the root, the tables below it and those that the words name
+pub all_read : (a : AskedGather) (paths : List Text) (found named tables : List Given) (old mid new : Reads)
+    → (a.root ≡ None → paths ≡ []) → AreReadInTurn paths old mid → AreFound a.root found → AreNamed a named → tables ≡ found ++ named
+    → AreReadInTurn (map (λ given. given.path) tables) mid new → AreReadToGather a old new
+all_read a paths found named tables old mid new none root are_found are_named is turn =
+    let path_of = λ (given : Given). given.path in
+    let same : map path_of tables ≡ map path_of found ++ gather_paths a = ap (map path_of) is ∙ map-append path_of found named ∙ ap (λ (ps : List Text). map path_of found ++ ps) (named_paths a named are_named) in
+    let all = then_read paths (map path_of found ++ gather_paths a) old mid new root (subst (λ (ps : List Text). AreReadInTurn ps mid new) same turn) in
+    let nothing : a.root ≡ None → paths ++ map path_of found ≡ [] = λ no. ap (λ (ps : List Text). ps ++ map path_of found) (none no) ∙ ap (map path_of) (none_found a.root found no are_found) in
+    (paths ++ map path_of found, nothing, subst (λ (ps : List Text). AreReadInTurn ps old new) (sym (append_assoc paths (map path_of found) (gather_paths a))) all)
+
+-- the root alone
+pub root_read : (a : AskedGather) (paths : List Text) (old new : Reads) → (a.root ≡ None → paths ≡ []) → AreReadInTurn paths old new → AreReadToGather a old new
+root_read a paths old new none turn = (paths, none, some_read paths (gather_paths a) old new turn)
+
+-- tables that are gathered
+pub gathers_same : (files whole : List ℕ → Option (List ℕ)) (before mid after : Failed) (tables all : List Given) (r : Ending) → whole ≡ files → mid ≡ before → tables ≡ all → GathersAll whole mid after tables r → GathersAll files before after all r
+gathers_same files whole before mid after tables all r same works is gathers =
+    subst (λ (w : List ℕ → Option (List ℕ)). GathersAll w before after all r) same (subst (λ (f : Failed). GathersAll whole f after all r) works (subst (λ (ts : List Given). GathersAll whole mid after ts r) is gathers))

@@ -1,0 +1,10 @@
+use Rattle.std.proofs.Common.{All, List, subst, sym}
+use Rattle.std.proofs.lemmas.List.Elements.{All-nil}
+use Rattle.cs_views.specs.GatherTables.{Given, IsBelow}
+use Rattle.cs_views.proofs.gather_root.tables_below.Goals as goal
+
+pub returns-clause-found : goal.returns-clause-found
+returns-clause-found g c =
+    let P = IsBelow c.front.result.now in
+    let none = subst (λ (xs : List Given). All P xs) (sym c.new-found.ensures.items) (All-nil P) in
+    (c.front.result.now, c.front.ensures, c.in_ok-push_all.ensures.found none)

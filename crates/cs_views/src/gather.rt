@@ -1,0 +1,146 @@
+//! The subcommand `gather`.
+ghost use Rattle.std.specs.Prelude.{◌≡◌, IfErr, IfOk, IfSome, None, OnOk, map};
+ghost use Rattle.cs_args.specs.Asked.{asked_gather};
+ghost use Rattle.cs_io.specs.Files.{AreReadInTurn, IsFresh, IsReadAlone};
+ghost use Rattle.cs_files.specs.Trouble.{IsHonest, IsHonestOf, trouble};
+ghost use Rattle.cs_files.specs.Turn.{AreReadToGather};
+ghost use Rattle.cs_views.specs.GatherAnswer.{Adds, AllAdded, AnswersGather, FirstStops};
+ghost use Rattle.cs_views.specs.GatherAnswer.{GathersAll, ShowsGathered, Stops};
+ghost use Rattle.cs_views.specs.Listing.{TellsUnlisted};
+
+use crate::gather_below::Unlisted;
+use crate::gather_given::{Given, push_named};
+use crate::gather_note::push_warnings;
+use crate::gather_root::found_tables;
+use cs_args::GatherWords;
+use cs_civil::Bytes;
+use cs_files::{Fault, RanOut, Response, Status, bytes_at};
+use cs_gather::{Gathering, TextFault};
+use cs_io::{Folders, Inputs};
+use cs_table::MAX_TABLE;
+use std::alloc::{AllocError, Global};
+
+/// Reads a table and adds its commands; what is to be warned of in it comes behind the notes.
+fn add_table<'a, I: Inputs>(
+    alloc: Global,
+    inputs: &mut I,
+    given: &'a Given,
+    gathering: &mut Gathering,
+    notes: &mut Vec<u8>,
+) -> Result<(), Fault<'a>>
+    ensures adds { IsFresh (I.whole inputs.old) (I.left inputs.old)
+        → OnOk result (Adds (I.whole inputs.old) given.now gathering.old gathering.new) }
+    ensures stops { IsFresh (I.whole inputs.old) (I.left inputs.old)
+        → IfErr result (λ e. IfSome (trouble e) (Stops (I.whole inputs.old)
+        (I.failed inputs.old) (I.failed inputs.new) given.now gathering.old)) }
+    ensures works { OnOk result (I.failed inputs.new ≡ I.failed inputs.old) }
+    ensures whole { I.whole inputs.new ≡ I.whole inputs.old }
+    ensures fresh { OnOk result (IsFresh (I.whole inputs.old) (I.left inputs.old)
+        → IsFresh (I.whole inputs.new) (I.left inputs.new)) }
+    ensures status { IfErr result (IsHonestOf (I.failed inputs.new) (I.reads inputs.new)) }
+    ensures alone { IsReadAlone given.now.path (I.reads inputs.old) (I.reads inputs.new) }
+{
+    let path = given.path();
+    let bytes = bytes_at(alloc, inputs, path, MAX_TABLE as u32)?;
+    match given.add(alloc, gathering, bytes.as_slice()) {
+        Ok(()) => Ok(push_warnings(alloc, notes, given, bytes.as_slice())?),
+        Err(fault) => Err(Fault::Gathered(path, fault)),
+    }
+}
+
+/// Reads tables and adds their commands, one table after the other.
+fn add_tables<'a, I: Inputs>(
+    alloc: Global,
+    inputs: &mut I,
+    tables: &'a [Given],
+    gathering: &mut Gathering,
+    notes: &mut Vec<u8>,
+) -> Result<(), Fault<'a>>
+    ensures adds { IsFresh (I.whole inputs.old) (I.left inputs.old)
+        → OnOk result (AllAdded (I.whole inputs.old) tables.now gathering.old gathering.new) }
+    ensures stops { IsFresh (I.whole inputs.old) (I.left inputs.old)
+        → IfErr result (λ e. IfSome (trouble e) (FirstStops (I.whole inputs.old)
+        (I.failed inputs.old) (I.failed inputs.new) tables.now gathering.old)) }
+    ensures works { OnOk result (I.failed inputs.new ≡ I.failed inputs.old) }
+    ensures status { IfErr result (IsHonestOf (I.failed inputs.new) (I.reads inputs.new)) }
+    ensures turn { AreReadInTurn (map (λ given. given.path) tables.now)
+        (I.reads inputs.old) (I.reads inputs.new) }
+{
+    let mut rest = tables;
+    while let [given, later @ ..] = rest {
+        add_table(alloc, inputs, given, gathering, notes)?;
+        rest = later;
+    }
+    Ok(())
+}
+
+/// The text of what was gathered.
+fn show(alloc: Global, gathering: Gathering, notes: Vec<u8>) -> Result<Response, AllocError>
+    ensures { IfOk result (ShowsGathered gathering) }
+{
+    match gathering.text(alloc) {
+        Ok(text) => Ok(Response::done(text.into_vec(), Bytes::from_vec(notes))),
+        Err(TextFault::NotReadBack) => {
+            let fault = b"the gathered table reads otherwise than its parts".as_slice();
+            Response::fault(alloc, Status::Unknown, notes.as_slice(), fault)
+        }
+        Err(TextFault::OutOfMemory) => Err(AllocError),
+    }
+}
+
+/// What is answered of tables, behind notes.
+fn gather<I: Inputs>(
+    alloc: Global,
+    inputs: &mut I,
+    tables: &[Given],
+    notes: Vec<u8>,
+) -> Result<Response, AllocError>
+    ensures value { IsFresh (I.whole inputs.old) (I.left inputs.old)
+        → IfOk result (GathersAll (I.whole inputs.old)
+        (I.failed inputs.old) (I.failed inputs.new) tables.now) }
+    ensures status { IfOk result (IsHonest (I.failed inputs.new) (I.reads inputs.new)) }
+    ensures turn { AreReadInTurn (map (λ given. given.path) tables.now)
+        (I.reads inputs.old) (I.reads inputs.new) }
+{
+    let mut notes = notes;
+    let mut gathering = Gathering::new(alloc);
+    match add_tables(alloc, inputs, tables, &mut gathering, &mut notes) {
+        Ok(()) => show(alloc, gathering, notes),
+        Err(fault) => fault.response(alloc, notes.as_slice()),
+    }
+}
+
+/// What is answered where the tables below a root folder aren't known.
+fn tell(alloc: Global, unlisted: &Unlisted, notes: &[u8]) -> Result<Response, AllocError>
+    ensures { IfOk result (TellsUnlisted unlisted.now) }
+{
+    match unlisted {
+        Unlisted::CannotRead(path, reason) => {
+            Fault::CannotRead(path.as_str(), *reason).response(alloc, notes)
+        }
+        Unlisted::OutOfMemory => Err(AllocError),
+    }
+}
+
+/// The answer to `gather [--root DIR] [--system FILE].. [--user FILE]..`.
+pub fn answer_gather<I: Folders>(
+    alloc: Global,
+    request: &GatherWords<'_>,
+    inputs: &mut I,
+) -> Result<Response, RanOut>
+    ensures value { IsFresh (I.whole inputs.old) (I.left inputs.old)
+        → IfOk result (AnswersGather (asked_gather request.now) (I.whole inputs.old)
+        (I.failed inputs.old) (I.failed inputs.new)) }
+    ensures status { IfOk result (IsHonest (I.failed inputs.new) (I.reads inputs.new)) }
+    ensures warned { IfErr result (λ e. e.warnings ≡ None) }
+    ensures turn { AreReadToGather (asked_gather request.now)
+        (I.reads inputs.old) (I.reads inputs.new) }
+{
+    let mut notes = Vec::new(alloc);
+    let mut tables = match found_tables(alloc, inputs, request.root, &mut notes) {
+        Ok(found) => found,
+        Err(unlisted) => return Ok(tell(alloc, &unlisted, notes.as_slice())?),
+    };
+    push_named(alloc, request, &mut tables)?;
+    Ok(gather(alloc, inputs, tables.as_slice(), notes)?)
+}

@@ -1,0 +1,234 @@
+//! The tables below a root folder.
+ghost use Rattle.std.specs.Prelude.{◌≡◌, ◌⊎◌, ◌++◌, [], ◌∷◌, All, IfErr, IfOk, OnOk, string_bytes};
+ghost use Rattle.cs_views.specs.GatherTables.{IsBelow};
+ghost use Rattle.cs_views.specs.Listing.{HasName, IsUnlisted, given_in, place_of};
+
+use crate::gather_given::Given;
+use crate::gather_note::push_passed_over;
+use cs_civil::{Bytes, Sequence};
+use cs_io::{FileKind, Folders, ReadFault, Reason, is_table_name};
+use std::alloc::{AllocError, AllocFailed, Global};
+use std::str;
+
+/// Why the tables below a root folder aren't known.
+#[derive(Drop)]
+pub(crate) enum Unlisted {
+    /// This path can't be read.
+    CannotRead(String, Reason),
+    /// Memory ran out.
+    OutOfMemory,
+}
+
+impl From<AllocError> for Unlisted {
+    ghost use Rattle.cs_views.specs.declared.gather_below.Unlisted.TheVariants.{OutOfMemory};
+
+    ghost from_gives = { λ _ e. e ≡ OutOfMemory };
+
+    fn from(_error: AllocError) -> Unlisted {
+        Unlisted::OutOfMemory
+    }
+}
+
+impl<T: Drop> From<AllocFailed<T>> for Unlisted {
+    ghost use Rattle.cs_views.specs.declared.gather_below.Unlisted.TheVariants.{OutOfMemory};
+
+    ghost from_gives = { λ _ e. e ≡ OutOfMemory };
+
+    fn from(_error: AllocFailed<T>) -> Unlisted {
+        Unlisted::OutOfMemory
+    }
+}
+
+/// A folder of tables below a root folder.
+#[derive(Clone, Copy)]
+pub(crate) enum Shelf {
+    /// That of system tables.
+    CronD,
+    /// That of users' tables.
+    Crontabs,
+}
+
+impl Shelf {
+    /// Its path below the root folder, with a slash at the end.
+    fn place(self) -> &'static str
+        ensures { result.now ≡ place_of self }
+    {
+        match self {
+            Shelf::CronD => "/etc/cron.d/",
+            Shelf::Crontabs => "/var/spool/cron/crontabs/",
+        }
+    }
+
+    /// The name of a table in it, or why nothing of this name is gathered.
+    fn name(self, name: &[u8]) -> Result<&str, &'static str>
+        ensures name { IfOk result (λ text. text.now ≡ name.now) }
+        ensures signs { OnOk result (HasName self name.now) }
+    {
+        match self {
+            Shelf::CronD if !is_table_name(name) => {
+                return Err("its name holds other signs than letters, digits, _ and -");
+            }
+            Shelf::Crontabs if name.first() == Some(&b'.') => {
+                return Err("its name begins with a dot");
+            }
+            _ => {}
+        }
+        str::from_utf8(name).map_err(|_| "its name isn't UTF-8")
+    }
+
+    /// A table in it.
+    fn given(self, alloc: Global, path: String, name: &str) -> Result<Given, AllocError>
+        ensures { IfOk result (λ given. given ≡ given_in self (string_bytes path) name.now) }
+    {
+        match self {
+            Shelf::CronD => Ok(Given::system(path)),
+            Shelf::Crontabs => Ok(Given::user(path, String::from_str(alloc, name)?)),
+        }
+    }
+}
+
+/// A path in two parts.
+fn joined(alloc: Global, front: &str, rest: &str) -> Result<String, AllocError>
+    ensures { IfOk result (λ path. string_bytes path ≡ front.now ++ rest.now) }
+{
+    let mut path = String::from_str(alloc, front)?;
+    path.push_str(rest)?;
+    Ok(path)
+}
+
+/// What a path leads to.
+fn kind_at<I: Folders>(
+    alloc: Global,
+    inputs: &mut I,
+    path: &str,
+) -> Result<Option<FileKind>, Unlisted>
+    ensures stays { (I.whole inputs.new ≡ I.whole inputs.old)
+        × (I.left inputs.new ≡ I.left inputs.old) × (I.reads inputs.new ≡ I.reads inputs.old) }
+    ensures works { OnOk result (I.failed inputs.new ≡ I.failed inputs.old) }
+    ensures fails { IfErr result (IsUnlisted (I.failed inputs.new) (I.reads inputs.new)) }
+{
+    match inputs.kind_of(path) {
+        Ok(kind) => Ok(kind),
+        Err(error) => Err(Unlisted::CannotRead(String::from_str(alloc, path)?, error.reason)),
+    }
+}
+
+/// The names in a folder; none where there is no such folder.
+fn names_at<I: Folders>(
+    alloc: Global,
+    inputs: &mut I,
+    path: &str,
+) -> Result<Sequence<Bytes>, Unlisted>
+    ensures stays { (I.whole inputs.new ≡ I.whole inputs.old)
+        × (I.left inputs.new ≡ I.left inputs.old) × (I.reads inputs.new ≡ I.reads inputs.old) }
+    ensures works { OnOk result (I.failed inputs.new ≡ I.failed inputs.old) }
+    ensures fails { IfErr result (IsUnlisted (I.failed inputs.new) (I.reads inputs.new)) }
+{
+    match inputs.names(alloc, path) {
+        Ok(Some(names)) => Ok(names),
+        Ok(None) => Ok(Sequence::new(alloc)),
+        Err(ReadFault::CannotRead(reason)) => {
+            Err(Unlisted::CannotRead(String::from_str(alloc, path)?, reason))
+        }
+        Err(ReadFault::OutOfMemory) => Err(Unlisted::OutOfMemory),
+    }
+}
+
+/// Adds a table, if a regular file is there; else it is passed over.
+fn push_found(
+    kind: Option<FileKind>,
+    given: Given,
+    found: &mut Vec<Given>,
+    notes: &mut Vec<u8>,
+) -> Result<(), AllocError>
+    ensures { OnOk result
+        ((found.new.items ≡ found.old.items) ⊎ (found.new.items ≡ found.old.items ++ given ∷ [])) }
+{
+    if let Some(FileKind::Regular) = kind {
+        found.push(given)?;
+        return Ok(());
+    }
+    push_passed_over(notes, given.path(), b"", "it is no regular file")
+}
+
+/// Adds the table of the machine, if there is one.
+pub(crate) fn push_crontab<I: Folders>(
+    alloc: Global,
+    inputs: &mut I,
+    front: &str,
+    found: &mut Vec<Given>,
+    notes: &mut Vec<u8>,
+) -> Result<(), Unlisted>
+    ensures found { OnOk result (All (IsBelow front.now) found.old.items
+        → All (IsBelow front.now) found.new.items) }
+    ensures stays { (I.whole inputs.new ≡ I.whole inputs.old)
+        × (I.left inputs.new ≡ I.left inputs.old) × (I.reads inputs.new ≡ I.reads inputs.old) }
+    ensures works { OnOk result (I.failed inputs.new ≡ I.failed inputs.old) }
+    ensures fails { IfErr result (IsUnlisted (I.failed inputs.new) (I.reads inputs.new)) }
+{
+    let path = joined(alloc, front, "/etc/crontab")?;
+    let kind = kind_at(alloc, inputs, path.as_str())?;
+    if kind.is_some() {
+        push_found(kind, Given::system(path), found, notes)?;
+    }
+    Ok(())
+}
+
+/// Adds the table of a name in a folder of tables, or passes it over.
+fn push_named<I: Folders>(
+    alloc: Global,
+    inputs: &mut I,
+    folder: &str,
+    shelf: Shelf,
+    name: &[u8],
+    found: &mut Vec<Given>,
+    notes: &mut Vec<u8>,
+) -> Result<(), Unlisted>
+    ensures found { (front : _) → folder.now ≡ front ++ place_of shelf
+        → OnOk result (All (IsBelow front) found.old.items → All (IsBelow front) found.new.items) }
+    ensures stays { (I.whole inputs.new ≡ I.whole inputs.old)
+        × (I.left inputs.new ≡ I.left inputs.old) × (I.reads inputs.new ≡ I.reads inputs.old) }
+    ensures works { OnOk result (I.failed inputs.new ≡ I.failed inputs.old) }
+    ensures fails { IfErr result (IsUnlisted (I.failed inputs.new) (I.reads inputs.new)) }
+{
+    let name = match shelf.name(name) {
+        Ok(name) => name,
+        Err(why) => return Ok(push_passed_over(notes, folder, name, why)?),
+    };
+    let path = joined(alloc, folder, name)?;
+    let kind = kind_at(alloc, inputs, path.as_str())?;
+    let given = shelf.given(alloc, path, name)?;
+    Ok(push_found(kind, given, found, notes)?)
+}
+
+/// Adds the tables in a folder of tables, in the order of their names.
+pub(crate) fn push_shelf<I: Folders>(
+    alloc: Global,
+    inputs: &mut I,
+    front: &str,
+    shelf: Shelf,
+    found: &mut Vec<Given>,
+    notes: &mut Vec<u8>,
+) -> Result<(), Unlisted>
+    ensures found { OnOk result (All (IsBelow front.now) found.old.items
+        → All (IsBelow front.now) found.new.items) }
+    ensures stays { (I.whole inputs.new ≡ I.whole inputs.old)
+        × (I.left inputs.new ≡ I.left inputs.old) × (I.reads inputs.new ≡ I.reads inputs.old) }
+    ensures works { OnOk result (I.failed inputs.new ≡ I.failed inputs.old) }
+    ensures fails { IfErr result (IsUnlisted (I.failed inputs.new) (I.reads inputs.new)) }
+{
+    let folder = joined(alloc, front, shelf.place())?;
+    let names = names_at(alloc, inputs, folder.as_str())?;
+    for name in names.as_slice() {
+        push_named(
+            alloc,
+            inputs,
+            folder.as_str(),
+            shelf,
+            name.as_slice(),
+            found,
+            notes,
+        )?;
+    }
+    Ok(())
+}

@@ -1,0 +1,123 @@
+//! The root folder of a machine's tables.
+ghost use Rattle.std.specs.Prelude.{◌≡◌, All, IfErr, IfOk, OnErr, OnOk, IsSome, None, Some, [], option_map};
+ghost use Rattle.cs_io.specs.Files.{AreReadInTurn, IsFresh};
+ghost use Rattle.cs_io.specs.Reasons.{IsCannotRead};
+ghost use Rattle.cs_files.specs.Trouble.{IsUnread};
+ghost use Rattle.cs_views.specs.GatherTables.{AreFound, IsBelow, IsFront};
+ghost use Rattle.cs_views.specs.Listing.{AreSomeRead, IsUnlisted};
+
+use crate::gather_below::{Shelf, Unlisted, push_crontab, push_shelf};
+use crate::gather_given::Given;
+use crate::gather_note::push_no_tables;
+use cs_io::{Folders, ReadFault, read_whole};
+use std::alloc::Global;
+
+/// The path of the root folder: by the name of standard input it is no standard input.
+fn folder(root: &str) -> &str {
+    if root == "-" { "./-" } else { root }
+}
+
+/// How paths below the root folder begin.
+fn front(root: &str) -> &str
+    ensures { IsFront root.now result.now }
+{
+    if root == "-" {
+        return "./-";
+    }
+    match root.strip_suffix('/') {
+        Some(front) => front,
+        None => root,
+    }
+}
+
+/// Whether a folder can be looked into.
+fn look_into<I: Folders>(alloc: Global, inputs: &mut I, root: &str) -> Result<(), ReadFault>
+    ensures works { OnOk result (I.failed inputs.new ≡ I.failed inputs.old) }
+    ensures whole { I.whole inputs.new ≡ I.whole inputs.old }
+    ensures fresh { OnOk result (IsFresh (I.whole inputs.old) (I.left inputs.old)
+        → IsFresh (I.whole inputs.new) (I.left inputs.new)) }
+    ensures fails { IfErr result (λ e. IsCannotRead e
+        → IsUnread root.now (I.failed inputs.new) (I.reads inputs.new)) }
+    ensures turn { AreSomeRead (I.reads inputs.old) (I.reads inputs.new) }
+{
+    if inputs.names(alloc, root)?.is_none() {
+        // Nothing is there, and a read says so.
+        read_whole(alloc, inputs, root)?;
+    }
+    Ok(())
+}
+
+/// Adds the tables below the front of paths.
+fn push_all<I: Folders>(
+    alloc: Global,
+    inputs: &mut I,
+    front: &str,
+    found: &mut Vec<Given>,
+    notes: &mut Vec<u8>,
+) -> Result<(), Unlisted>
+    ensures found { OnOk result (All (IsBelow front.now) found.old.items
+        → All (IsBelow front.now) found.new.items) }
+    ensures stays { (I.whole inputs.new ≡ I.whole inputs.old)
+        × (I.left inputs.new ≡ I.left inputs.old) × (I.reads inputs.new ≡ I.reads inputs.old) }
+    ensures works { OnOk result (I.failed inputs.new ≡ I.failed inputs.old) }
+    ensures fails { IfErr result (IsUnlisted (I.failed inputs.new) (I.reads inputs.new)) }
+{
+    push_crontab(alloc, inputs, front, found, notes)?;
+    push_shelf(alloc, inputs, front, Shelf::CronD, found, notes)?;
+    push_shelf(alloc, inputs, front, Shelf::Crontabs, found, notes)
+}
+
+/// The tables below a root folder, in the order in which they are gathered.
+fn tables_below<I: Folders>(
+    alloc: Global,
+    inputs: &mut I,
+    root: &str,
+    notes: &mut Vec<u8>,
+) -> Result<Vec<Given>, Unlisted>
+    ensures found { IfOk result (λ found. AreFound (Some root.now) found.items) }
+    ensures works { OnOk result (I.failed inputs.new ≡ I.failed inputs.old) }
+    ensures whole { I.whole inputs.new ≡ I.whole inputs.old }
+    ensures fresh { OnOk result (IsFresh (I.whole inputs.old) (I.left inputs.old)
+        → IsFresh (I.whole inputs.new) (I.left inputs.new)) }
+    ensures fails { IfErr result (IsUnlisted (I.failed inputs.new) (I.reads inputs.new)) }
+    ensures turn { AreSomeRead (I.reads inputs.old) (I.reads inputs.new) }
+{
+    let folder = folder(root);
+    match look_into(alloc, inputs, folder) {
+        Ok(()) => {}
+        Err(ReadFault::CannotRead(reason)) => {
+            return Err(Unlisted::CannotRead(String::from_str(alloc, folder)?, reason));
+        }
+        Err(ReadFault::OutOfMemory) => return Err(Unlisted::OutOfMemory),
+    }
+    let mut found = Vec::new(alloc);
+    push_all(alloc, inputs, front(root), &mut found, notes)?;
+    if found.is_empty() {
+        push_no_tables(notes, root)?;
+    }
+    Ok(found)
+}
+
+/// The tables below a root folder, if one is asked.
+pub(crate) fn found_tables<I: Folders>(
+    alloc: Global,
+    inputs: &mut I,
+    root: Option<&str>,
+    notes: &mut Vec<u8>,
+) -> Result<Vec<Given>, Unlisted>
+    ensures found { IfOk result
+        (λ found. AreFound (option_map (λ root. root.now) root.entry) found.items) }
+    ensures works { OnOk result (I.failed inputs.new ≡ I.failed inputs.old) }
+    ensures whole { I.whole inputs.new ≡ I.whole inputs.old }
+    ensures fresh { OnOk result (IsFresh (I.whole inputs.old) (I.left inputs.old)
+        → IsFresh (I.whole inputs.new) (I.left inputs.new)) }
+    ensures asked { OnErr result (IsSome (option_map (λ root. root.now) root.entry)) }
+    ensures fails { IfErr result (IsUnlisted (I.failed inputs.new) (I.reads inputs.new)) }
+    ensures turn { (paths : _) × (option_map (λ root. root.now) root.entry ≡ None → paths ≡ [])
+        × AreReadInTurn paths (I.reads inputs.old) (I.reads inputs.new) }
+{
+    match root {
+        Some(root) => tables_below(alloc, inputs, root, notes),
+        None => Ok(Vec::new(alloc)),
+    }
+}

@@ -1,7 +1,7 @@
 use Rattle.std.proofs.Common.{rules, arith, ◌<◌, length, sym, subst}
 use Rattle.json.specs.Tree.{json_tokens, items_tokens, members_tokens}
 use Rattle.json.specs.Value.{value_view, items_view, members_view}
-use Rattle.cs_decl.proofs.Repeats.{item_smaller, member_smaller}
+use Rattle.json.proofs.Trees.{item_smaller, member_smaller}
 use Rattle.cs_decl.proofs.doubled.+doubled.Goals as goal
 
 pub in_items-in_value-requires : goal.in_items-in_value-requires

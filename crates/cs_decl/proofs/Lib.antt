@@ -10,6 +10,7 @@ pub mod Once
 pub mod Rests
 pub mod Joins
 pub mod Wholes
+pub mod Uniques
 pub mod Commands
 pub mod Parted
 pub mod JobTerms

@@ -83,7 +83,7 @@ again_step before i x xs false is e more =
       AllPairs-cons (λ y z. y ≢ z) x xs (All-weaker (λ y. list_any (bytes_eq y) (before ++ x ∷ []) ≡ false) (λ y. x ≢ y) (λ y h. other y x (any_push y before x h).1) xs rest.0) rest.1,
     )
 
-none_again : (before : List (List ℕ)) (i : ℕ) (xs : List (List ℕ)) → first_again bytes_eq before i xs ≡ None → New before xs
+pub none_again : (before : List (List ℕ)) (i : ℕ) (xs : List (List ℕ)) → first_again bytes_eq before i xs ≡ None → New before xs
 none_again before i [] e = (All-nil (λ x. list_any (bytes_eq x) before ≡ false), λ a b d low high. absurd (omega (arith, high)))
 none_again before i (x ∷ xs) e = again_step before i x xs (list_any (bytes_eq x) before) refl e (none_again (before ++ x ∷ []) (i + 1) xs)
 

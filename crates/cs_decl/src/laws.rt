@@ -1,5 +1,8 @@
 //! Which fault of declarations is returned, and what there is where none is.
-ghost use Rattle.std.specs.Prelude.{◌≡◌, ◌++◌, ℕ, ◌<◌, map, Some, None, Ok, All, true};
+ghost use Rattle.std.specs.Prelude.{◌≡◌, ◌++◌, ℕ, ◌<◌, map, List, Some, None, Ok, All, IsUtf8, true};
+ghost use Rattle.json.specs.Json.{Json, document};
+ghost use Rattle.json.specs.Strict.{HasUniqueKeys};
+ghost use Rattle.cs_decl.specs.Doubled.{doubled_member};
 ghost use Rattle.std.specs.List.{count_by};
 ghost use Rattle.cs_crontab.specs.Crontab.{Table};
 ghost use Rattle.cs_anacrontab.specs.Anacrontab.{Table as JobTable};
@@ -60,4 +63,13 @@ pub fn each_line_has_its_job()
         → IsDeclared d (command_of plan j) (job_at plan j) }
     ensures defaulted { (table : Table) (jobs : JobTable) (d : Entries) (plan : Declared)
         → joined table jobs d ≡ Ok plan → d.default ≡ None → plan.defaulted ≡ 0 }
+{}
+
+/// Lemma. A member is found that stands twice exactly if an object of the text has one, as the JSON
+/// library defines it.
+pub fn doubled_members_are_told()
+    ensures all { (text : List ℕ) (j : Json) → IsUtf8 text → document text ≡ Some j
+        → doubled_member text ≡ None → HasUniqueKeys j }
+    ensures only { (text : List ℕ) (j : Json) → IsUtf8 text → document text ≡ Some j
+        → HasUniqueKeys j → doubled_member text ≡ None }
 {}

@@ -30,8 +30,8 @@ pub use job::Job;
 pub use job_names::{identifier_of, push_command_name, push_due_name};
 pub use joining::join;
 pub use laws::{
-    commands_are_those_of_lines, each_entry_names_one_line, each_line_has_its_job, first_of_faults,
-    left_out_lines_have_no_entry,
+    commands_are_those_of_lines, doubled_members_are_told, each_entry_names_one_line,
+    each_line_has_its_job, first_of_faults, left_out_lines_have_no_entry,
 };
 pub use limits::{MAX_CAPACITY, MAX_GROUPS, MAX_MINUTES, MAX_OFFSET, MAX_WEIGHT};
 pub use plan::Plan;

@@ -18,6 +18,11 @@ MAX = 2
 # a job of an anacrontab that says that it ran
 ONE_JOB = "7 0 a echo x >>ran\n"
 ONCE = ("--minutes", "0")
+# What is told beside a refusal that the certificate of other files would have.
+STALE = (
+    "note: the tables or declarations may have changed since the certificate was made: "
+    "cronsafe make TABLE DECLS makes a new one\n"
+)
 # the table of `jobs_are_run`, above and below its shell
 TABLE = r"""# no command stands here
 FIRST = 'of two  words '
@@ -196,7 +201,7 @@ def refused_certificate(room):
     window = "catch-up of a from 1970-01-02 00:00 at 1970-01-03 00:00"
     plan = declared(1, [], ["a"])
     for table, declarations, certificate, answer in (
-        ("", plan, empty_leaf, (1, f"refused 5 WindowMissing: {window}\n", "")),
+        ("", plan, empty_leaf, (1, f"refused 5 WindowMissing: {window}\n", STALE)),
         ("", plan, empty_leaf[:-1], (3, "", "cronsafe: certificate: 2 NotJson\n")),
         ("", plan, None, (6, "", absent)),
         ("", declared(1), empty_leaf, (3, "", "cronsafe: declarations: 4 Undeclared at job a\n")),

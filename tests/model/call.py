@@ -52,8 +52,20 @@ class NoCall(Exception):
     """The words are no call."""
 
 
+JOBS_HINT = b"cronsafe: the table reads as an anacrontab: give it with --anacrontab\n"
+
+
 class Unread(Exception):
     """A path can't be read, and why."""
+
+
+def has_jobs(text):
+    """Returns whether a text is that of an anacrontab, whose jobs have identifiers with letters."""
+    try:
+        jobs = read_anacrontab(text).jobs
+    except Fault:
+        return False
+    return bool(jobs) and all(re.search(rb"[A-Za-z]", it.identifier) for it in jobs)
 
 
 def asks_help(words):
@@ -126,6 +138,17 @@ def asked(words):
     return {**found, **{it: number_of(found[it]) for it in NUMBERS if it in found}}
 
 
+# The comment above a line of a gathered table, and how a refusal names a line.
+PLACE = re.compile(rb"#@ ([^\x00-\x1f\x7f]*?:[^\x00-\x1f\x7f]*?) +([^\x00-\x20\x7f]+)")
+NAMED = re.compile(rb"\bline (\d+)\b")
+# What a certificate of other tables or declarations is refused with, and what is told of that.
+STALE = (b"refused 1 ", b"refused 2 ", b"refused 5 ")
+STALE_NOTE = (
+    b"note: the tables or declarations may have changed since the certificate was made: "
+    b"cronsafe make TABLE DECLS makes a new one\n"
+)
+
+
 def warnings_of_settings(table, of):
     told = b"warning: %s on line %d of %s has no effect\n"
     found = [it for it in table.settings if it.name in WITHOUT_EFFECT]
@@ -161,12 +184,34 @@ def notes_of(plan):
     return b"".join(told)
 
 
+def places_of(text, table):
+    """Returns the place and the user of each line of a gathered table, by its number."""
+    if all(it.name != b"CRONSAFE_TABLE" for it in table.settings):
+        return {}
+    lines = enumerate(text.split(b"\n"), 2)
+    return {number: found.groups() for number, it in lines if (found := PLACE.fullmatch(it))}
+
+
+def notes_of_lines(named, text, table, head):
+    """Returns a note on each line of a gathered table that a text names, with its place."""
+    places, numbers = places_of(text, table), {int(it) for it in NAMED.findall(named)}
+    told = head + b"line %d is %s (%s): %s\n"
+    placed = [it for it in table.commands if it.line in numbers & places.keys()]
+    return b"".join(told % (it.line, *places[it.line], shown(it.text)) for it in placed)
+
+
+def notes_of_refusal(verdict, text):
+    """Returns the places of the lines that a refusal names, and if its certificate seems old."""
+    places = notes_of_lines(verdict, text, crontab.read_crontab(text), b"note: ")
+    return places + (STALE_NOTE if verdict.startswith(STALE) else b"")
+
+
 class Call:
     """A call that is answered, with its warnings and notes so far."""
 
     def __init__(self, words, files, stdin, is_judged):
         self.words, self.files, self.stdin, self.is_judged = words, files, stdin, is_judged
-        self.warned = b""
+        self.warned = self.hint = b""
 
     def bytes_of(self, path):
         if path == b"-":
@@ -178,12 +223,20 @@ class Call:
 
     def read_tables(self, found):
         """Reads both tables, and warns of them once both were read well."""
-        table = crontab.read_crontab(self.bytes_of(found["TABLE"]))
+        table = self.crontab_of(self.bytes_of(found["TABLE"]))
         jobs = NONE
         if "ANACRONTAB" in found:
             jobs = read_anacrontab(self.bytes_of(found["ANACRONTAB"]))
         self.warned = warnings_of(table, jobs)
         return table, jobs
+
+    def crontab_of(self, text):
+        """Returns the crontab of a text; of another text it is told if it is an anacrontab's."""
+        try:
+            return crontab.read_crontab(text)
+        except Fault:
+            self.hint = JOBS_HINT if has_jobs(text) else b""
+            raise
 
     def read_plan(self, found):
         tables = self.read_tables(found)
@@ -232,10 +285,17 @@ class Call:
         return 0, gathered(self.warned_of(chain(system, users)))
 
     def warned_of(self, sources):
-        """Yields the sources, and tells of the settings of each once it has been gathered."""
+        """Yields the sources, and warns of each once it has been gathered: settings, and users
+        where there are none.
+        """
+        told = b"warning: the command on line %d of %s begins with %s, as in a system table: "
         for it in sources:
             yield it
-            self.warned += warnings_of_settings(table_of(it), shown(it.path))
+            table, path = table_of(it), shown(it.path)
+            self.warned += warnings_of_settings(table, path)
+            users = [] if it.user is None else users_in(table)[:1]
+            for line, user in users:
+                self.warned += told % (line, path, shown(user)) + b"see --system\n"
 
     def draft(self, found):
         look_at_max(found.get("max", 60))
@@ -260,7 +320,10 @@ class Call:
         if said is None:
             return None, None
         verdict = rules.verdict(plan, said)
-        return 0 if verdict == b"safe\n" else 1, verdict
+        if verdict == b"safe\n":
+            return 0, verdict
+        self.warned += notes_of_refusal(verdict, self.bytes_of(found["TABLE"]))
+        return 1, verdict
 
     def replay(self, found):
         tables = self.read_tables(found)
@@ -278,7 +341,8 @@ class Call:
             status, out = getattr(self, self.words[0].decode())(found)
             return Answer(status, out, self.warned)
         except Fault as fault:
-            return Answer(3, b"", self.warned + b"cronsafe: %s\n" % fault.text())
+            told = b"cronsafe: %s\n" % fault.text()
+            return Answer(3, b"", self.warned + told + self.hint)
         except Unread as unread:
             told = b"cronsafe: can't read %s: %s\n" % unread.args
             return Answer(6, b"", self.warned + told)

@@ -44,7 +44,9 @@ def is_met(wanted, got):
     if got.status is None:
         if wanted.status == 3:
             return wanted.err.startswith(lines_with(WARNING, got.err) + OF_CERTIFICATES)
-        return wanted.err == got.err and wanted.status in (0, 1, 2)
+        beside = wanted.err.removeprefix(got.err)
+        is_beside = beside == lines_with(NOTE, beside) and wanted.err.startswith(got.err)
+        return is_beside and wanted.status in (0, 1, 2)
     return agrees(got, wanted)
 
 

@@ -2,3 +2,4 @@ pub mod Call
 pub mod Ending
 pub mod Serve
 pub mod Run
+pub mod Served

@@ -1,15 +1,17 @@
 -- What comes of an order to run tables.
-use Rattle.std.specs.Prelude.{◌≡◌, ◌⊎◌, ◌+◌, ◌<◌, ◌≤◌, ◌++◌, ℕ, List, [], Option, None, Some}
+use Rattle.std.specs.Prelude.{◌≡◌, ◌≢◌, ◌⊎◌, ◌+◌, ◌<◌, ◌≤◌, ◌++◌, ℕ, List, [], Option, None, Some}
 use Rattle.std.specs.Prelude.{IfSome, codes, slice_index_or, sum}
 use Rattle.arrayvec.specs.ArrayVec.{array_vec_len}
 use Rattle.cs_check.specs.Checked.{plan_in}
 use Rattle.cs_check.specs.declared.checked.Checked.{Checked}
+use Rattle.cs_civil.specs.Calendar.{last_minute}
+use Rattle.cs_daemon.specs.Causes.{IsBack}
 use Rattle.cs_daemon.specs.declared.end.Cause.{Cause}
 use Rattle.cs_daemon.specs.declared.end.Cause.TheVariants.{ClockBack, ClockFailed, HistoryFull}
 use Rattle.cs_daemon.specs.declared.end.Cause.TheVariants.{LastMinute, NoMemory, Stopped}
 use Rattle.cs_daemon.specs.declared.end.DaemonEnd.{DaemonEnd}
 use Rattle.cs_device.specs.declared.clock.Tick.{Tick}
-use Rattle.cs_device.specs.declared.clock.Tick.TheVariants.{Stop}
+use Rattle.cs_device.specs.declared.clock.Tick.TheVariants.{At, Stop}
 use Rattle.cs_keep.specs.Closed.{checked_in, keeping_in}
 use Rattle.cs_keep.specs.Keeping.{IsKept}
 use Rattle.cs_files.specs.Response.{Ending, complaint}
@@ -24,22 +26,25 @@ without_folder order = record {
   err = order.warnings ++ complaint (codes "no folder " ++ order.stamps.now);
 }
 
--- what a clock and a store of stamps have told: the clock's last answer, how many of its answers
--- were a minute later than all before, and how often each of the two failed
+-- what a clock and a store of stamps have told: the clock's last answer, its greatest minute, how
+-- many of its answers were a minute later than all before, and how often each of the two failed
 pub record Tellings : Type 0 where
   pub last : Option Tick
+  pub top : ℕ
   pub risen : ℕ
   pub clock_failures : ℕ
   pub stamp_failures : ℕ
 
 -- new ones have told nothing
 abbrev pub no_tellings : Tellings
-no_tellings = record { last = None; risen = 0; clock_failures = 0; stamp_failures = 0 }
+no_tellings = record { last = None; top = 0; risen = 0; clock_failures = 0; stamp_failures = 0 }
 
--- the daemon was run over what was checked, and ended so: each event is the clock's or a worker's; the
--- keep, where one was opened, is that of what was checked, with a legal history as its journal; it
--- stopped where its clock said so, with an event for each minute later than all before but the first;
--- and no failure is counted that the devices didn't have
+-- The daemon was run over what was checked, and ended so. Each event is the clock's or a worker's.
+-- The keep, where one was opened, is that of what was checked, and its journal is a legal history.
+-- It stopped where its clock said so, with an event for each minute later than all before but the
+-- first; it ended for its clock where that went back or failed, and with the last minute where that
+-- came. Then there is a keep, as there is where the history is full. No failure is counted that the
+-- devices didn't have.
 pub record HasRun (checked : Checked) (before after : Tellings) (end : DaemonEnd) : Type 0 where
   pub threads : array_vec_len end.shares ≡ (plan_in checked).capacity + 1
   pub shares : sum end.shares.items ≡ end.total
@@ -50,6 +55,10 @@ pub record HasRun (checked : Checked) (before after : Tellings) (end : DaemonEnd
   pub stopped : end.cause ≡ Stopped → after.last ≡ Some Stop
   pub rises : end.cause ≡ Stopped
       → after.risen ≤ before.risen + slice_index_or end.shares.items 0 0 + 1
+  pub back : end.cause ≡ ClockBack → IsBack after.top after.last
+  pub came : end.cause ≡ LastMinute → after.last ≡ Some (At last_minute)
+  pub last_keep : end.cause ≡ LastMinute → end.keep ≢ None
+  pub full_keep : end.cause ≡ HistoryFull → end.keep ≢ None
   pub failed : end.cause ≡ ClockFailed → before.clock_failures < after.clock_failures
   pub faults : end.stamp_faults + before.stamp_failures ≤ after.stamp_failures
 

@@ -2,6 +2,7 @@
 #![tactic(auto)]
 
 mod ending;
+mod laws;
 mod offset;
 mod program;
 mod responding;

@@ -79,12 +79,14 @@ fn serve_by<
     ensures { IsServedBy checked
         (record {
           last = C.last clock.old;
+          top = C.top clock.old;
           risen = C.risen clock.old;
           clock_failures = C.failures clock.old;
           stamp_failures = S.failures store.old;
         })
         (record {
           last = C.last clock.new;
+          top = C.top clock.new;
           risen = C.risen clock.new;
           clock_failures = C.failures clock.new;
           stamp_failures = S.failures store.new;

@@ -1,1 +1,5 @@
 pub mod Shown
+pub mod Plain
+pub mod Joined
+pub mod Rows
+pub mod Begun

@@ -1,5 +1,5 @@
 -- The bars of a job, and the minutes that its windows hold.
-use Rattle.std.specs.Prelude.{ℕ, ◌+◌, ◌-◌, ◌*◌, ◌/◌, ◌%◌, ◌≤◌, Bool, ◌&&◌, List, [], ◌∷◌, nat_le, nat_lt}
+use Rattle.std.specs.Prelude.{◌≡◌, ℕ, ◌+◌, ◌-◌, ◌*◌, ◌/◌, ◌%◌, ◌<◌, ◌≤◌, ◌⊎◌, min, max, Bool, true, ◌&&◌, List, [], ◌∷◌, All, nat_le, nat_lt}
 use Rattle.std.specs.List.{list_any}
 use Rattle.cs_civil.specs.Calendar.{Kind, four_days, last_day}
 use Rattle.cs_chart.specs.declared.bar.Bar.{Bar}
@@ -18,6 +18,13 @@ pub record AreShown (s : Days) : Type 0 where
   pub some : 1 ≤ s.days
   pub few : s.days ≤ 7
   pub late : s.first + s.days ≤ last_day + 1
+
+-- so many days from one on, one to seven, from 1970-01-04 to 9999-12-31
+abbrev pub days_shown : ℕ → ℕ → Days
+days_shown from count = record {
+  first = max from 3;
+  days = min (max 1 (min count 7)) (last_day - max from 3 + 1);
+}
 
 -- whether the bar covers a minute of the picture
 abbrev pub covers : Bar → ℕ → Bool
@@ -44,3 +51,33 @@ abbrev pub is_occupied : Job Kind → ℕ → ℕ → Bool
 is_occupied job first minute =
     list_any (holds (minute % MINUTES_OF_DAY))
     (windows_on (job ∷ []) (four_days (first + minute / MINUTES_OF_DAY)))
+
+-- whether the minute is one of the days, and a window of the job holds it
+unfoldable pub is_held : Days → Job Kind → ℕ → Bool
+is_held days job minute =
+    nat_lt minute (MINUTES_OF_DAY * days.days) && is_occupied job days.first minute
+
+-- ---- bars as a picture shows them
+
+-- the minute is between two that are held, and fewer than `gap` are between these
+pub record IsInGap (held : ℕ → Bool) (gap minute : ℕ) : Type 0 where
+  pub before : ℕ
+  pub behind : ℕ
+  pub held_before : held before ≡ true
+  pub held_behind : held behind ≡ true
+  pub above : before < minute
+  pub below : minute < behind
+  pub near : behind ≤ before + gap
+
+-- the bar begins and ends with a minute that is held, and goes over such gaps alone
+pub record IsBarOf (held : ℕ → Bool) (gap : ℕ) (bar : Bar) : Type 0 where
+  pub some : bar.from < bar.to
+  pub first : held bar.from ≡ true
+  pub last : held (bar.to - 1) ≡ true
+  pub near : (minute : ℕ) → covers bar minute ≡ true
+      → (held minute ≡ true) ⊎ IsInGap held gap minute
+
+-- The bars cover each minute that is held, and besides only gaps.
+pub record AreBarsOf (held : ℕ → Bool) (gap : ℕ) (bars : List Bar) : Type 0 where
+  pub whole : (minute : ℕ) → held minute ≡ true → is_covered bars minute ≡ true
+  pub each : All (IsBarOf held gap) bars

@@ -1,1 +1,6 @@
 pub mod Bars
+pub mod Picture
+pub mod Colours
+pub mod Chart
+pub mod Rows
+pub mod Begun

@@ -1,11 +1,13 @@
 //! The dates and hours along a picture, and the lines below them.
-ghost use Rattle.std.specs.Prelude.{◌≤◌};
+ghost use Rattle.std.specs.Prelude.{◌≡◌, ◌+◌, ◌≤◌, true, OnOk};
+ghost use Rattle.cs_chart.specs.Picture.{KeepsBars, has_no_bars};
 
 use crate::sheet::{Sheet, place_of};
-use crate::text::push_day;
+use crate::span::DaySpan;
+use crate::svg::Svg;
+use crate::text::{push_day, push_pair};
 use cs_civil::MINUTES_OF_DAY;
 use std::alloc::AllocError;
-use std::fmt::Write;
 
 const MINUTES_OF_HOUR: u32 = 60;
 
@@ -22,73 +24,94 @@ fn hours_apart(days: u8) -> u32
 }
 
 /// Adds the dates, each in the middle of its day.
-fn push_dates(sheet: &mut Sheet) -> Result<(), AllocError> {
-    let y = sheet.below(12);
-    let span = sheet.span;
+#[tactic(auto, using(crate::proofs::Plain::no_bars_append, crate::proofs::Plain::no_bars_decimal), unfolding(crate::specs::Picture::has_no_bars))]
+fn push_dates(svg: &mut Svg, span: DaySpan, y: u32) -> Result<(), AllocError>
+    ensures { OnOk result (KeepsBars svg.old svg.new) }
+{
     for place in 0..span.days() {
         let noon = u32::from(MINUTES_OF_DAY) * u32::from(place) + u32::from(MINUTES_OF_DAY) / 2;
         let x = place_of(noon, span);
-        write!(sheet.svg, "<text x=\"{x}\" y=\"{y}\">")?;
-        push_day(&mut sheet.svg, span.day(place))?;
-        sheet.svg.push_str("</text>\n")?;
+        write!(svg, "<text x=\"{x}\" y=\"{y}\">")?;
+        push_day(svg, span.day(place))?;
+        svg.push_str("</text>\n")?;
     }
     Ok(())
 }
 
 /// Adds the numbers of the hours, each at the beginning of its hour.
-fn push_hours(sheet: &mut Sheet, below: u32) -> Result<(), AllocError> {
-    let y = sheet.below(below);
-    let days = sheet.span.days();
-    let apart = hours_apart(days);
-    let hours = 24 * u32::from(days);
+#[tactic(auto, using(crate::proofs::Plain::no_bars_append, crate::proofs::Plain::no_bars_decimal), unfolding(crate::specs::Picture::has_no_bars))]
+fn push_hours(svg: &mut Svg, span: DaySpan, y: u32) -> Result<(), AllocError>
+    ensures { OnOk result (KeepsBars svg.old svg.new) }
+{
+    let apart = hours_apart(span.days());
+    let hours = 24 * u32::from(span.days());
     for count in 0..=hours / apart {
         let hour = apart * count;
-        let x = place_of(MINUTES_OF_HOUR * hour, sheet.span);
+        let x = place_of(MINUTES_OF_HOUR * hour, span);
         let named = if hour == hours { 24 } else { hour % 24 };
-        write!(sheet.svg, "<text x=\"{x}\" y=\"{y}\">{named:02}</text>")?;
+        write!(svg, "<text x=\"{x}\" y=\"{y}\">")?;
+        push_pair(svg, named as u16)?;
+        svg.push_str("</text>")?;
     }
-    sheet.svg.push_str("\n")
+    svg.push_str("\n")
 }
 
 /// Adds the dates and the hours, and goes below them.
-pub(crate) fn push_axis(sheet: &mut Sheet) -> Result<(), AllocError> {
+#[tactic(auto, unfolding(crate::specs::Picture::has_no_bars))]
+pub(crate) fn push_axis(sheet: &mut Sheet, span: DaySpan) -> Result<(), AllocError>
+    ensures svg { OnOk result (KeepsBars sheet.old.svg sheet.new.svg) }
+    ensures y { sheet.new.y ≤ sheet.old.y + 30 }
+{
+    let (upper, lower) = (sheet.below(12), sheet.below(26));
     sheet.svg.push_str("<g text-anchor=\"middle\">\n")?;
-    push_dates(sheet)?;
-    push_hours(sheet, 26)?;
+    push_dates(&mut sheet.svg, span, upper)?;
+    push_hours(&mut sheet.svg, span, lower)?;
     sheet.svg.push_str("</g>\n")?;
     sheet.down(30);
     Ok(())
 }
 
 /// Adds the hours once more, below what they belong to.
-pub(crate) fn push_foot_hours(sheet: &mut Sheet) -> Result<(), AllocError> {
+#[tactic(auto, unfolding(crate::specs::Picture::has_no_bars))]
+pub(crate) fn push_foot_hours(sheet: &mut Sheet, span: DaySpan) -> Result<(), AllocError>
+    ensures { OnOk result (KeepsBars sheet.old.svg sheet.new.svg) }
+{
+    let y = sheet.below(12);
     sheet.svg.push_str("<g text-anchor=\"middle\">")?;
-    push_hours(sheet, 12)?;
+    push_hours(&mut sheet.svg, span, y)?;
     sheet.svg.push_str("</g>\n")?;
     sheet.down(16);
     Ok(())
 }
 
 /// Adds lines from top to foot, so many hours apart.
-fn push_lines(sheet: &mut Sheet, apart: u32, colour: &str) -> Result<(), AllocError> {
-    let width = sheet.fine();
-    let hours = 24 * u32::from(sheet.span.days());
+#[tactic(auto, using(crate::proofs::Plain::no_bars_append, crate::proofs::Plain::no_bars_decimal), unfolding(crate::specs::Picture::has_no_bars))]
+fn push_lines(svg: &mut Svg, span: DaySpan, apart: u32, colour: &str) -> Result<(), AllocError>
+    requires { has_no_bars colour.now ≡ true }
+    ensures { OnOk result (KeepsBars svg.old svg.new) }
+{
+    let width = span.days();
+    let hours = 24 * u32::from(span.days());
     write!(
-        sheet.svg,
+        svg,
         "<path stroke=\"{colour}\" stroke-width=\"{width}\" d=\""
     )?;
     for count in 0..=hours / apart.max(1) {
         let minute = MINUTES_OF_HOUR * (apart.max(1) * count);
-        write!(sheet.svg, "M{minute} 0v1")?;
+        write!(svg, "M{minute} 0v1")?;
     }
-    sheet.svg.push_str("\"/>")
+    svg.push_str("\"/>")
 }
 
 /// Adds the lines of the hours and of the days over what is drawn next, so high.
-pub(crate) fn push_grid(sheet: &mut Sheet, height: u32) -> Result<(), AllocError> {
-    let apart = hours_apart(sheet.span.days());
-    sheet.begin_plot(height, 1)?;
-    push_lines(sheet, apart, "#DDD")?;
-    push_lines(sheet, 24, "#888")?;
-    sheet.end_plot()
+#[tactic(auto, unfolding(crate::specs::Picture::has_no_bars))]
+pub(crate) fn push_grid(sheet: &mut Sheet, span: DaySpan, height: u32) -> Result<(), AllocError>
+    ensures svg { OnOk result (KeepsBars sheet.old.svg sheet.new.svg) }
+    ensures y { sheet.new.y ≡ sheet.old.y }
+{
+    let apart = hours_apart(span.days());
+    sheet.begin_plot(span, height, 1)?;
+    push_lines(&mut sheet.svg, span, apart, "#DDD")?;
+    push_lines(&mut sheet.svg, span, 24, "#888")?;
+    sheet.svg.push_str("</svg>\n")
 }

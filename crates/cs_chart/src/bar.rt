@@ -1,7 +1,7 @@
 //! The bars of a job: its windows, joined where they touch.
-ghost use Rattle.std.specs.Prelude.{◌≡◌, ◌*◌, ◌<◌, ◌≤◌, ◌||◌, ℕ, [], ◌∷◌, IfOk, OnOk, IsTrue};
+ghost use Rattle.std.specs.Prelude.{◌≡◌, ◌≤◌, ◌||◌, ℕ, [], ◌∷◌, IfOk, OnOk};
 ghost use Rattle.cs_windows.specs.Occupied.{job_of};
-ghost use Rattle.cs_chart.specs.Bars.{covers, is_covered, is_held_on, is_occupied};
+ghost use Rattle.cs_chart.specs.Bars.{covers, is_covered, is_held, is_held_on};
 
 use crate::span::DaySpan;
 use cs_civil::{MINUTES_OF_DAY, four_days};
@@ -65,14 +65,14 @@ fn add_windows(bars: &mut Vec<Bar>, windows: &[Window], start: u32) -> Result<()
 /// The bars of a job over the days of the picture: they cover the very minutes that its windows
 /// hold, those that began up to three days before among them. Windows that touch make one bar. The
 /// only error is want of memory.
-#[tactic(auto, using(crate::proofs::Shown::next_day))]
+#[tactic(auto, using(crate::proofs::Shown::next_day), unfolding(crate::specs::Bars::is_held))]
 pub(crate) fn bars_of(
     alloc: Global,
     occupied: Occupied<'_>,
     span: DaySpan,
 ) -> Result<Vec<Bar>, AllocError>
-    ensures { IfOk result (λ bars. (minute : ℕ) → minute < MINUTES_OF_DAY * span.days
-        → is_covered bars.items minute ≡ is_occupied (job_of occupied.entry) span.first minute) }
+    ensures { IfOk result (λ bars. (minute : ℕ)
+        → is_covered bars.items minute ≡ is_held span (job_of occupied.entry) minute) }
 {
     let mut bars = Vec::new(alloc);
     for place in 0..span.days() {

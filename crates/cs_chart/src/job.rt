@@ -1,40 +1,74 @@
 //! The row of a job: its name, its bars and its marks.
-use crate::bar::Bar;
-use crate::look::look_of;
+ghost use Rattle.std.specs.Prelude.{◌≡◌, ◌≤◌, ◌+◌, ◌++◌, ◌∷◌, [], List, ℕ, true, IfOk, OnOk};
+ghost use Rattle.cs_windows.specs.Occupied.{job_of};
+ghost use Rattle.cs_chart.specs.Picture.{IsLonger, KeepsBars, has_no_bars};
+ghost use Rattle.cs_chart.specs.Chart.{IsNamed};
+ghost use Rattle.cs_chart.specs.Rows.{AddsJob, AddsPlot, AddsRowOf, group_of, shown_of, start_of};
+
+use crate::bar::{Bar, bars_of};
+use crate::load::Load;
+use crate::look::{colour_of, push_lines};
 use crate::marks::{Drawn, marks_of, without_gaps};
 use crate::row::{Name, Row};
-use crate::sheet::{MARGIN, NAME_CELLS, PLOT_LEFT, PLOT_RIGHT, ROW, Sheet};
+use crate::sheet::{GROUP_CELLS, NAME_CELLS, PLOT_LEFT, PLOT_RIGHT, ROW, Sheet};
+use crate::span::DaySpan;
+use crate::svg::Svg;
 use crate::text::push_cut;
 use cs_decl::Group;
 use cs_history::Mode;
 use cs_windows::Occupied;
 use std::alloc::{AllocError, Global};
-use std::fmt::Write;
 
-/// How many cells of a group's name have room behind the days.
-pub(crate) const GROUP_CELLS: usize = 16;
+/// The name of a row, and where it is.
+#[derive(Clone, Copy, Debug)]
+struct Place<'a> {
+    span: DaySpan,
+    name: &'a str,
+    top: u32,
+}
 
 /// How many cells of a name are told where a reader points at its row.
 const TOLD_CELLS: usize = 120;
 
-/// `line 5 /usr/bin/backup` or `job cron.weekly`.
-fn name_text(alloc: Global, name: Name<'_>) -> Result<Vec<u8>, AllocError> {
+/// Adds how a name begins: `line 5 ` or `job `.
+#[tactic(auto, using(crate::proofs::Plain::no_bars_append, crate::proofs::Plain::no_bars_decimal), unfolding(crate::specs::Picture::has_no_bars))]
+fn push_start(text: &mut Svg, name: Name<'_>) -> Result<(), AllocError>
+    ensures keeps { OnOk result (KeepsBars text.old text.new) }
+    ensures value { OnOk result (text.new ≡ text.old ++ start_of name.entry) }
+{
     match name {
-        Name::Line(number, command) => {
-            let mut text = format!(in alloc; "line {number} ")?.into_bytes();
-            text.extend_from_slice(command)?;
-            Ok(text)
-        }
-        Name::Job(identifier) => {
-            let mut text = Vec::from_slice(alloc, b"job ")?;
-            text.extend_from_slice(identifier)?;
-            Ok(text)
-        }
+        Name::Line(number, _) => write!(text, "line {number} "),
+        Name::Job(_) => text.push_str("job "),
     }
 }
 
+/// Adds the command or the identifier that a name ends with, so many cells of it at most.
+fn push_end(text: &mut Svg, name: Name<'_>, cells: usize) -> Result<(), AllocError>
+    ensures keeps { OnOk result (KeepsBars text.old text.new) }
+    ensures longer { OnOk result (IsLonger text.old text.new) }
+{
+    match name {
+        Name::Line(_, command) => push_cut(text, command, cells),
+        Name::Job(identifier) => push_cut(text, identifier, cells),
+    }
+}
+
+/// `line 5 /usr/bin/backup` or `job cron.weekly`, so many cells of it at most.
+fn name_text(alloc: Global, name: Name<'_>, cells: usize) -> Result<Svg, AllocError>
+    ensures { IfOk result (λ text. IsNamed (start_of name.entry) text) }
+{
+    let mut text = Svg::new(alloc);
+    push_start(&mut text, name)?;
+    let left = cells.saturating_sub(text.as_str().len());
+    push_end(&mut text, name, left)?;
+    Ok(text)
+}
+
 /// What a mode says of a job.
-fn mode_text(mode: Mode) -> &'static str {
+#[tactic(auto, unfolding(crate::specs::Picture::has_no_bars))]
+fn mode_text(mode: Mode) -> &'static str
+    ensures { has_no_bars result.now ≡ true }
+{
     match mode {
         Mode::Plain => "",
         Mode::Skip => ", skips where its lock is held",
@@ -51,134 +85,186 @@ fn group_of<'a>(row: &Row<'_>, groups: &'a [Group]) -> Option<&'a Group> {
 }
 
 /// Adds what a reader is told who points at the row.
-fn push_told(
-    sheet: &mut Sheet,
-    row: &Row<'_>,
-    name: &[u8],
-    groups: &[Group],
-) -> Result<(), AllocError> {
+#[tactic(auto, using(crate::proofs::Plain::no_bars_append, crate::proofs::Plain::no_bars_decimal), unfolding(crate::specs::Picture::has_no_bars))]
+fn push_told(svg: &mut Svg, row: &Row<'_>, name: &str, groups: &[Group]) -> Result<(), AllocError>
+    requires { has_no_bars name.now ≡ true }
+    ensures { OnOk result (KeepsBars svg.old svg.new) }
+{
     let max = row.max;
-    sheet.svg.push_str("<title>")?;
-    push_cut(&mut sheet.svg, name, TOLD_CELLS)?;
-    write!(sheet.svg, ": at most {max} min")?;
+    write!(svg, "<title>{name}: at most {max} min")?;
     if let Some(job) = row.declared {
         let weight = job.weight;
-        write!(sheet.svg, ", weight {weight}")?;
+        write!(svg, ", weight {weight}")?;
         if let Some(group) = group_of(row, groups) {
-            sheet.svg.push_str(", group ")?;
-            push_cut(&mut sheet.svg, group.name(), TOLD_CELLS)?;
+            svg.push_str(", group ")?;
+            push_cut(svg, group.name(), TOLD_CELLS)?;
         }
-        sheet.svg.push_str(mode_text(job.mode))?;
+        svg.push_str(mode_text(job.mode))?;
     }
-    sheet.svg.push_str("</title>\n")
+    svg.push_str("</title>\n")
 }
 
-/// Adds a text at the height of the row's, so far from the left.
-fn push_label(sheet: &mut Sheet, x: u32, text: &[u8], cells: usize) -> Result<(), AllocError> {
-    let y = sheet.below(13);
-    write!(sheet.svg, "<text x=\"{x}\" y=\"{y}\">")?;
-    push_cut(&mut sheet.svg, text, cells)?;
-    sheet.svg.push_str("</text>\n")
+/// Adds a text in a row, so far from the left and from the top.
+#[tactic(auto, using(crate::proofs::Plain::no_bars_append, crate::proofs::Plain::no_bars_decimal), unfolding(crate::specs::Picture::has_no_bars))]
+fn push_label(svg: &mut Svg, x: u32, y: u32, text: &[u8]) -> Result<(), AllocError>
+    ensures { OnOk result (KeepsBars svg.old svg.new) }
+{
+    write!(svg, "<text x=\"{x}\" y=\"{y}\">")?;
+    push_cut(svg, text, GROUP_CELLS)?;
+    svg.push_str("</text>\n")
 }
 
-/// Adds a line for each bar.
-fn push_bars(
-    sheet: &mut Sheet,
-    class: &str,
-    bars: &[Bar],
-    colour: &str,
-    width: u32,
-) -> Result<(), AllocError> {
-    write!(
-        sheet.svg,
-        "<path class=\"{class}\" stroke=\"{colour}\" stroke-width=\"{width}\" d=\""
-    )?;
-    for bar in bars {
-        let from = bar.from;
-        let length = bar.to.saturating_sub(from);
-        if 0 < length {
-            write!(sheet.svg, "M{from} 9h{length}")?;
-        }
+/// Adds the name of the group behind the days, if the job is in one.
+fn push_group(svg: &mut Svg, row: &Row<'_>, y: u32, groups: &[Group]) -> Result<(), AllocError>
+    ensures { OnOk result (KeepsBars svg.old svg.new) }
+{
+    match group_of(row, groups) {
+        Some(group) => push_label(svg, PLOT_RIGHT + 8, y, group.name()),
+        None => Ok(()),
     }
-    sheet.svg.push_str("\"/>")
 }
 
 /// Adds a mark at the first and at the last minute of each bar.
-fn push_ends(sheet: &mut Sheet, bars: &[Bar]) -> Result<(), AllocError> {
-    let width = 2 * sheet.fine();
+#[tactic(auto, using(crate::proofs::Plain::no_bars_append, crate::proofs::Plain::no_bars_decimal), unfolding(crate::specs::Picture::has_no_bars))]
+fn push_ends(svg: &mut Svg, span: DaySpan, bars: &[Bar]) -> Result<(), AllocError>
+    ensures { OnOk result (KeepsBars svg.old svg.new) }
+{
+    let width = 2 * u32::from(span.days());
     write!(
-        sheet.svg,
+        svg,
         "<path class=\"due\" stroke=\"#000\" stroke-width=\"{width}\" d=\""
     )?;
     for bar in bars {
         let from = bar.from;
         let to = bar.to;
-        write!(sheet.svg, "M{from} 1v16")?;
+        write!(svg, "M{from} 1v16")?;
         if from < to {
-            write!(sheet.svg, "M{to} 1v16")?;
+            write!(svg, "M{to} 1v16")?;
         }
     }
-    sheet.svg.push_str("\"/>")
+    svg.push_str("\"/>")
 }
 
 /// Adds due minutes: a mark for each, or a band from the first to the last of many.
-fn push_marks(sheet: &mut Sheet, marks: &Drawn) -> Result<(), AllocError> {
+#[tactic(auto, unfolding(crate::specs::Picture::has_no_bars))]
+fn push_marks(svg: &mut Svg, span: DaySpan, marks: &Drawn) -> Result<(), AllocError>
+    ensures { OnOk result (KeepsBars svg.old svg.new) }
+{
     if marks.bars.is_empty() {
         return Ok(());
     }
     if marks.is_coarse {
-        push_bars(sheet, "many", marks.bars.as_slice(), "#000", 3)?;
+        svg.push_str("<path class=\"many\" stroke=\"#000\" stroke-width=\"3\" d=\"")?;
+        svg.push_path(marks.bars.as_slice())?;
+        svg.push_str("\"/>")?;
     }
-    push_ends(sheet, marks.bars.as_slice())
+    push_ends(svg, span, marks.bars.as_slice())
 }
 
-/// Adds the bars and marks of a job, and tells whether some are drawn as one.
+/// Adds the due minutes of a cron job, and tells whether some are drawn as one.
+fn push_due(
+    alloc: Global,
+    svg: &mut Svg,
+    span: DaySpan,
+    occupied: &Occupied<'_>,
+) -> Result<bool, AllocError>
+    ensures { OnOk result (KeepsBars svg.old svg.new) }
+{
+    let Occupied::Cron { schedule, reach: _ } = occupied else {
+        return Ok(false);
+    };
+    let marks = marks_of(alloc, schedule, span, 4 * u32::from(span.days()))?;
+    push_marks(svg, span, &marks)?;
+    Ok(marks.is_coarse)
+}
+
+/// Adds the name of a job with its bars and marks, and its weight to the load. Tells whether some are
+/// drawn as one.
+#[tactic(auto, unfolding(crate::specs::Picture::has_no_bars))]
 fn push_plot(
     alloc: Global,
-    sheet: &mut Sheet,
+    svg: &mut Svg,
     row: &Row<'_>,
     occupied: &Occupied<'_>,
-    bars: &[Bar],
-) -> Result<bool, AllocError> {
-    let look = look_of(row.declared.and_then(|job| job.group));
-    let bars = without_gaps(alloc, bars, 2 * sheet.fine())?;
-    let mut is_coarse = bars.is_coarse;
-    let minutes = sheet.minutes();
-    sheet.begin_plot(ROW, ROW)?;
-    push_bars(sheet, "bars", bars.bars.as_slice(), look.colour, 10)?;
-    look.push_lines(sheet, 0, 9, minutes)?;
-    if let Occupied::Cron { schedule, reach: _ } = occupied {
-        let marks = marks_of(alloc, schedule, sheet.span, 4 * sheet.fine())?;
-        push_marks(sheet, &marks)?;
-        is_coarse = is_coarse || marks.is_coarse;
+    place: &Place<'_>,
+    load: &mut Load,
+) -> Result<bool, AllocError>
+    requires { place.now.top ≤ 10_000 }
+    ensures { OnOk result (AddsPlot place.now.span (job_of occupied.now) (group_of row.now.declared)
+        place.now.name.now place.now.top svg.old svg.new) }
+{
+    let span = place.span;
+    let bars = bars_of(alloc, *occupied, span)?;
+    if let Some(job) = row.declared {
+        load.add(bars.as_slice(), job.weight);
     }
-    sheet.end_plot()?;
-    Ok(is_coarse)
+    let drawn = without_gaps(alloc, bars.as_slice(), 2 * u32::from(span.days()))?;
+    let group = row.group();
+    let minutes = span.minutes();
+    svg.push_bars(
+        place.name,
+        place.top,
+        minutes,
+        colour_of(group),
+        drawn.bars.as_slice(),
+    )?;
+    push_lines(svg, group, 0, 9, minutes)?;
+    let is_coarse = push_due(alloc, svg, span, occupied)?;
+    svg.push_str("</svg>\n")?;
+    Ok(is_coarse || drawn.is_coarse)
 }
 
-/// Adds the row of a job with its bars, and goes below it. Tells whether something is drawn coarser
-/// than it is.
+/// Adds the name of a job and what is drawn of it.
+#[tactic(auto, unfolding(crate::specs::Picture::has_no_bars))]
+fn push_job(
+    alloc: Global,
+    svg: &mut Svg,
+    row: &Row<'_>,
+    place: &Place<'_>,
+    load: &mut Load,
+) -> Result<bool, AllocError>
+    requires { place.now.top ≤ 10_000 }
+    ensures { OnOk result (AddsJob place.now.span (shown_of row.now) place.now.name.now place.now.top svg.old svg.new) }
+{
+    match &row.occupied {
+        Some(occupied) => {
+            let is_coarse = push_plot(alloc, svg, row, occupied, place, load)?;
+            Ok(is_coarse)
+        }
+        None => {
+            svg.push_name(place.name, place.top)?;
+            push_label(svg, PLOT_LEFT + 4, place.top + 13, b"at reboot")?;
+            Ok(false)
+        }
+    }
+}
+
+/// Adds the row of a job, and goes below it. Tells whether something is drawn coarser than it is.
+#[tactic(auto, unfolding(crate::specs::Picture::has_no_bars))]
 pub(crate) fn push_row(
     alloc: Global,
     sheet: &mut Sheet,
+    span: DaySpan,
     row: &Row<'_>,
-    bars: &[Bar],
     groups: &[Group],
-) -> Result<bool, AllocError> {
-    let name = name_text(alloc, row.name)?;
+    load: &mut Load,
+) -> Result<bool, AllocError>
+    requires { sheet.old.y ≤ 10_000 }
+    ensures y { OnOk result (sheet.new.y ≡ sheet.old.y + 18) }
+    ensures row { OnOk result (AddsRowOf span (shown_of row.now) sheet.old.y sheet.old.svg sheet.new.svg) }
+{
+    let top = sheet.y;
+    let told = name_text(alloc, row.name, TOLD_CELLS)?;
+    let name = name_text(alloc, row.name, NAME_CELLS)?;
     sheet.svg.push_str("<g class=\"row\">")?;
-    push_told(sheet, row, name.as_slice(), groups)?;
-    push_label(sheet, MARGIN, name.as_slice(), NAME_CELLS)?;
-    let is_coarse = match &row.occupied {
-        Some(occupied) => push_plot(alloc, sheet, row, occupied, bars)?,
-        None => {
-            push_label(sheet, PLOT_LEFT + 4, b"at reboot", NAME_CELLS)?;
-            false
-        }
+    push_told(&mut sheet.svg, row, told.as_str(), groups)?;
+    let place = Place {
+        span,
+        name: name.as_str(),
+        top,
     };
-    if let Some(group) = group_of(row, groups) {
-        push_label(sheet, PLOT_RIGHT + 8, group.name(), GROUP_CELLS)?;
-    }
+    let is_coarse = push_job(alloc, &mut sheet.svg, row, &place, load)?;
+    push_group(&mut sheet.svg, row, top + 13, groups)?;
     sheet.svg.push_str("</g>\n")?;
     sheet.down(ROW);
     Ok(is_coarse)

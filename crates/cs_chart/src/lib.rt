@@ -6,6 +6,7 @@ mod axis;
 mod bar;
 mod heading;
 mod job;
+mod laws;
 mod load;
 mod look;
 mod marks;
@@ -13,7 +14,9 @@ mod picture;
 mod row;
 mod sheet;
 mod span;
+mod svg;
 mod text;
 
+pub use laws::rows_have_bars;
 pub use picture::{chart, plan_chart};
 pub use row::Terms;

@@ -1,4 +1,7 @@
 //! What a picture can show of bars and of due minutes.
+ghost use Rattle.std.specs.Prelude.{◌≡◌, ◌||◌, ℕ, [], Bool, true, All, IfOk, OnOk};
+ghost use Rattle.cs_chart.specs.Bars.{AreBarsOf, IsBarOf, covers, is_covered};
+
 use crate::bar::Bar;
 use crate::span::DaySpan;
 use cs_civil::{MINUTES_OF_DAY, kind_of};
@@ -14,24 +17,31 @@ pub(crate) struct Drawn {
 }
 
 impl Drawn {
-    fn new(alloc: Global) -> Drawn {
+    fn new(alloc: Global) -> Drawn
+        ensures { result.bars.items ≡ [] }
+    {
         Drawn {
             bars: Vec::new(alloc),
             is_coarse: false,
         }
     }
 
-    /// Adds a bar behind the others, or makes the last longer, where there are less than `gap`
-    /// minutes between both.
-    fn push(&mut self, bar: Bar, gap: u32) -> Result<(), AllocError> {
+    /// Adds a bar behind the others; to the last, where there are less than `gap` minutes between both.
+    fn push(&mut self, bar: Bar, gap: u32) -> Result<(), AllocError>
+        ensures whole { OnOk result ((minute : ℕ)
+            → (is_covered self.old.bars.items minute || covers bar minute) ≡ true
+            → is_covered self.new.bars.items minute ≡ true) }
+        ensures each { OnOk result ((held : ℕ → Bool) → All (IsBarOf held gap) self.old.bars.items
+            → IsBarOf held gap bar → All (IsBarOf held gap) self.new.bars.items) }
+    {
         let Some(last) = self.bars.pop() else {
             self.bars.push(bar)?;
             return Ok(());
         };
-        if bar.from < last.to.saturating_add(gap) {
+        if bar.from < last.to.saturating_add(gap) && last.from < bar.to.saturating_add(gap) {
             self.is_coarse = true;
             self.bars.push(Bar {
-                from: last.from,
+                from: last.from.min(bar.from),
                 to: last.to.max(bar.to),
             })?;
             return Ok(());
@@ -52,10 +62,14 @@ impl Drawn {
 }
 
 /// The bars, with no gap of less than so many minutes.
-pub(crate) fn without_gaps(alloc: Global, bars: &[Bar], gap: u32) -> Result<Drawn, AllocError> {
+pub(crate) fn without_gaps(alloc: Global, bars: &[Bar], gap: u32) -> Result<Drawn, AllocError>
+    ensures { IfOk result (λ drawn. AreBarsOf (is_covered bars.now) gap drawn.bars.items) }
+{
     let mut drawn = Drawn::new(alloc);
     for bar in bars {
-        drawn.push(*bar, gap)?;
+        if bar.from < bar.to {
+            drawn.push(*bar, gap)?;
+        }
     }
     Ok(drawn)
 }

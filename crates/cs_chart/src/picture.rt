@@ -1,18 +1,23 @@
 //! The whole picture.
+ghost use Rattle.std.specs.Prelude.{◌≡◌, ◌+◌, ◌*◌, ◌≤◌, true, length, map, string_bytes, IfOk, OnOk};
+ghost use Rattle.cs_chart.specs.Bars.{days_shown};
+ghost use Rattle.cs_chart.specs.Chart.{IsPictureOf, jobs_of_plan, jobs_of_tables};
+ghost use Rattle.cs_chart.specs.Picture.{KeepsBars, has_no_bars};
+ghost use Rattle.cs_chart.specs.Rows.{AddsRowsOf, shown_of};
+
 use crate::axis::{push_axis, push_foot_hours, push_grid};
-use crate::bar::bars_of;
 use crate::heading::{plan_text, push_groups, push_key, push_title, terms_text, title};
 use crate::job::push_row;
 use crate::load::Load;
 use crate::row::{Row, Terms, plan_rows, table_rows};
 use crate::sheet::{ROW, Sheet};
 use crate::span::{DaySpan, MOST_DAYS};
+use crate::svg::Svg;
 use cs_anacrontab::Anacrontab;
 use cs_civil::Day;
 use cs_crontab::Crontab;
 use cs_decl::{Group, Plan};
 use std::alloc::{AllocError, Global};
-use std::fmt::Write;
 
 /// From how many rows on the hours come once more below them.
 const MANY_ROWS: usize = 25;
@@ -30,6 +35,7 @@ struct Scene<'a> {
     rows: &'a [Row<'a>],
     groups: &'a [Group],
     capacity: Option<u8>,
+    span: DaySpan,
     /// How many days were asked for.
     days: u8,
 }
@@ -39,26 +45,28 @@ struct Scene<'a> {
 fn push_rows(
     alloc: Global,
     sheet: &mut Sheet,
-    scene: &Scene<'_>,
+    span: DaySpan,
+    rows: &[Row<'_>],
+    groups: &[Group],
     load: &mut Load,
-) -> Result<bool, AllocError> {
+) -> Result<bool, AllocError>
+    requires { sheet.old.y + 18 * length rows.now ≤ 10_000 }
+    ensures { OnOk result (AddsRowsOf span (map shown_of rows.now) sheet.old.y
+        sheet.old.svg sheet.new.svg) }
+{
     let mut is_coarse = false;
-    for row in scene.rows {
-        let bars = match row.occupied {
-            Some(occupied) => bars_of(alloc, occupied, sheet.span)?,
-            None => Vec::new(alloc),
-        };
-        if let Some(job) = row.declared {
-            load.add(bars.as_slice(), job.weight);
-        }
-        let coarse = push_row(alloc, sheet, row, bars.as_slice(), scene.groups)?;
+    for row in rows {
+        let coarse = push_row(alloc, sheet, span, row, groups, load)?;
         is_coarse = is_coarse || coarse;
     }
     Ok(is_coarse)
 }
 
 /// Adds a line of the foot, and goes below it.
-fn push_note(sheet: &mut Sheet, note: &str) -> Result<(), AllocError> {
+fn push_note(sheet: &mut Sheet, note: &str) -> Result<(), AllocError>
+    requires { has_no_bars note.now ≡ true }
+    ensures { OnOk result (KeepsBars sheet.old.svg sheet.new.svg) }
+{
     sheet.push_line(12, note)?;
     sheet.down(15);
     Ok(())
@@ -72,18 +80,30 @@ fn waits(row: &Row<'_>) -> bool {
     }
 }
 
+/// Adds that due minutes or bars are drawn as one.
+#[tactic(auto, using(crate::proofs::Plain::no_bars_append, crate::proofs::Plain::no_bars_decimal), unfolding(crate::specs::Picture::has_no_bars))]
+fn push_coarse(sheet: &mut Sheet, span: DaySpan) -> Result<(), AllocError>
+    ensures { OnOk result (KeepsBars sheet.old.svg sheet.new.svg) }
+{
+    let due = 4 * u32::from(span.days());
+    let gap = 2 * u32::from(span.days());
+    let y = sheet.below(12);
+    write!(
+        sheet.svg,
+        "<text x=\"10\" y=\"{y}\">left out: due minutes less than {due} min behind the one before, \
+         and gaps of less than {gap} min between bars</text>\n"
+    )?;
+    sheet.down(15);
+    Ok(())
+}
+
 /// Adds what the picture leaves out, at its foot.
-fn push_notes(sheet: &mut Sheet, scene: &Scene<'_>, is_coarse: bool) -> Result<(), AllocError> {
+#[tactic(auto, unfolding(crate::specs::Picture::has_no_bars))]
+fn push_notes(sheet: &mut Sheet, scene: &Scene<'_>, is_coarse: bool) -> Result<(), AllocError>
+    ensures { OnOk result (KeepsBars sheet.old.svg sheet.new.svg) }
+{
     if is_coarse {
-        let due = 4 * sheet.fine();
-        let gap = 2 * sheet.fine();
-        let y = sheet.below(12);
-        write!(
-            sheet.svg,
-            "<text x=\"10\" y=\"{y}\">left out: due minutes less than {due} min behind the one before, \
-             and gaps of less than {gap} min between bars</text>\n"
-        )?;
-        sheet.down(15);
+        push_coarse(sheet, scene.span)?;
     }
     if scene.rows.iter().any(|row| waits(row)) {
         push_note(
@@ -91,62 +111,127 @@ fn push_notes(sheet: &mut Sheet, scene: &Scene<'_>, is_coarse: bool) -> Result<(
             "a run that waits for its lock may go on later than its bar shows",
         )?;
     }
-    if sheet.span.days() < scene.days.min(MOST_DAYS) {
+    if scene.span.days() < scene.days.min(MOST_DAYS) {
         push_note(sheet, "days past 9999-12-31 are left out")?;
     }
     Ok(())
 }
 
-/// Draws everything below the head of the file.
-fn body(alloc: Global, scene: &Scene<'_>, span: DaySpan) -> Result<Sheet, AllocError> {
-    let mut sheet = Sheet::new(alloc, span);
-    let mut load = Load::new(alloc, sheet.minutes())?;
-    push_title(&mut sheet, scene.title, scene.terms)?;
-    push_key(&mut sheet)?;
-    push_groups(&mut sheet, scene.groups)?;
+/// Adds everything above the rows.
+#[tactic(auto, unfolding(crate::specs::Picture::has_no_bars))]
+fn push_head(sheet: &mut Sheet, scene: &Scene<'_>) -> Result<(), AllocError>
+    requires title { has_no_bars scene.now.title.now ≡ true }
+    requires terms { has_no_bars scene.now.terms.now ≡ true }
+    ensures svg { OnOk result (KeepsBars sheet.old.svg sheet.new.svg) }
+    ensures y { OnOk result (sheet.new.y ≤ sheet.old.y + 18 * length scene.now.groups.now + 120) }
+{
+    push_title(sheet, scene.title, scene.terms)?;
+    push_key(sheet)?;
+    push_groups(sheet, scene.groups)?;
     sheet.down(4);
-    push_axis(&mut sheet)?;
+    push_axis(sheet, scene.span)?;
     let height = ROW.saturating_mul(u32::try_from(scene.rows.len()).unwrap_or(u32::MAX));
-    push_grid(&mut sheet, height)?;
-    sheet.svg.push_str("<g font-family=\"monospace\">\n")?;
-    let is_coarse = push_rows(alloc, &mut sheet, scene, &mut load)?;
-    sheet.svg.push_str("</g>\n")?;
-    if MANY_ROWS <= scene.rows.len() {
-        push_foot_hours(&mut sheet)?;
-    }
+    push_grid(sheet, scene.span, height)?;
+    sheet.svg.push_str("<g font-family=\"monospace\">\n")
+}
+
+/// Adds the load beside the capacity, if that is declared.
+fn push_load(sheet: &mut Sheet, scene: &Scene<'_>, load: &Load) -> Result<(), AllocError>
+    ensures { OnOk result (KeepsBars sheet.old.svg sheet.new.svg) }
+{
     if let Some(capacity) = scene.capacity {
         sheet.down(12);
-        load.push(&mut sheet, capacity)?;
-        push_foot_hours(&mut sheet)?;
+        load.push(sheet, scene.span, capacity)?;
+        push_foot_hours(sheet, scene.span)?;
     }
+    Ok(())
+}
+
+/// Adds everything below the rows.
+#[tactic(auto, unfolding(crate::specs::Picture::has_no_bars))]
+fn push_foot(
+    sheet: &mut Sheet,
+    scene: &Scene<'_>,
+    load: &Load,
+    is_coarse: bool,
+) -> Result<(), AllocError>
+    ensures { OnOk result (KeepsBars sheet.old.svg sheet.new.svg) }
+{
+    sheet.svg.push_str("</g>\n")?;
+    if MANY_ROWS <= scene.rows.len() {
+        push_foot_hours(sheet, scene.span)?;
+    }
+    push_load(sheet, scene, load)?;
     sheet.down(6);
-    push_notes(&mut sheet, scene, is_coarse)?;
+    push_notes(sheet, scene, is_coarse)?;
     sheet.down(10);
+    Ok(())
+}
+
+/// Draws everything below the head of the file.
+fn body(alloc: Global, scene: &Scene<'_>) -> Result<Sheet, AllocError>
+    requires title { has_no_bars scene.now.title.now ≡ true }
+    requires terms { has_no_bars scene.now.terms.now ≡ true }
+    requires few { 18 * length scene.now.groups.now + 18 * length scene.now.rows.now ≤ 9_000 }
+    ensures { IfOk result (λ sheet.
+        IsPictureOf scene.now.span (map shown_of scene.now.rows.now) sheet.svg) }
+{
+    let mut sheet = Sheet::new(alloc);
+    let mut load = Load::new(alloc, scene.span.minutes())?;
+    push_head(&mut sheet, scene)?;
+    let is_coarse = push_rows(
+        alloc,
+        &mut sheet,
+        scene.span,
+        scene.rows,
+        scene.groups,
+        &mut load,
+    )?;
+    push_foot(&mut sheet, scene, &load, is_coarse)?;
     Ok(sheet)
 }
 
-/// Draws a scene.
-fn draw(alloc: Global, scene: &Scene<'_>, span: DaySpan) -> Result<String, AllocError> {
-    let sheet = body(alloc, scene, span)?;
+/// Adds the head of the file.
+#[tactic(auto, using(crate::proofs::Plain::no_bars_append, crate::proofs::Plain::no_bars_decimal), unfolding(crate::specs::Picture::has_no_bars))]
+fn push_file(svg: &mut Svg, scene: &Scene<'_>, height: u32) -> Result<(), AllocError>
+    requires { has_no_bars scene.now.title.now ≡ true }
+    ensures { OnOk result (KeepsBars svg.old svg.new) }
+{
     let title = scene.title;
-    let height = sheet.y;
     let width = if scene.groups.is_empty() {
         WIDTH
     } else {
         WIDTH_WITH_GROUPS
     };
-    let mut svg = format!(in alloc;
+    write!(
+        svg,
         "<?xml version=\"1.0\" encoding=\"UTF-8\"?>\n\
          <svg xmlns=\"http://www.w3.org/2000/svg\" width=\"{width}\" height=\"{height}\" \
-         viewBox=\"0 0 {width} {height}\" font-family=\"sans-serif\" font-size=\"11\">\n\
-         <title>{title}</title>\n\
-         <rect width=\"{width}\" height=\"{height}\" fill=\"#FFF\"/>\n"
+         viewBox=\"0 0 {width} {height}\" font-family=\"sans-serif\" font-size=\"11\">\n"
     )?;
-    svg.push_str(sheet.svg.as_str())?;
-    svg.push_str("</svg>\n")?;
-    Ok(svg)
+    write!(
+        svg,
+        "<title>{title}</title>\n\
+         <rect width=\"{width}\" height=\"{height}\" fill=\"#FFF\"/>\n"
+    )
 }
 
+/// Draws a scene.
+#[tactic(auto, unfolding(crate::specs::Picture::has_no_bars))]
+fn draw(alloc: Global, scene: &Scene<'_>) -> Result<String, AllocError>
+    requires title { has_no_bars scene.now.title.now ≡ true }
+    requires terms { has_no_bars scene.now.terms.now ≡ true }
+    requires few { 18 * length scene.now.groups.now + 18 * length scene.now.rows.now ≤ 9_000 }
+    ensures { IfOk result (λ svg.
+        IsPictureOf scene.now.span (map shown_of scene.now.rows.now) (string_bytes svg)) }
+{
+    let sheet = body(alloc, scene)?;
+    let mut svg = Svg::new(alloc);
+    push_file(&mut svg, scene, sheet.y)?;
+    svg.push_drawn(&sheet.svg)?;
+    svg.push_str("</svg>\n")?;
+    Ok(svg.into_string())
+}
 /// The picture of two tables of which nothing is declared, over so many days from one on, as an SVG
 /// document (SVG 1.1): a row for each command line and each anacron job, with bars over the minutes in
 /// which its runs may go on and marks at its due minutes.
@@ -165,20 +250,25 @@ pub fn chart(
     terms: Terms,
     from: Day,
     days: u8,
-) -> Result<String, AllocError> {
+) -> Result<String, AllocError>
+    ensures { IfOk result (λ svg. IsPictureOf (days_shown from days)
+        (jobs_of_tables terms table.now jobs.now) (string_bytes svg)) }
+{
     let span = DaySpan::new(from, days);
     let rows = table_rows(alloc, table, jobs, terms)?;
     let title = title(alloc, subject, span)?;
-    let terms = terms_text(alloc, terms)?;
+    let words = terms_text(alloc, terms)?;
     let scene = Scene {
         title: title.as_str(),
-        terms: terms.as_str(),
+        terms: words.as_str(),
         rows: rows.as_slice(),
         groups: &[],
         capacity: None,
+        span,
         days,
     };
-    draw(alloc, &scene, span)
+    let svg = draw(alloc, &scene)?;
+    Ok(svg)
 }
 
 /// The picture of a plan, as [`chart`] draws that of two tables, with what is declared of its jobs: each
@@ -193,7 +283,10 @@ pub fn plan_chart(
     plan: &Plan,
     from: Day,
     days: u8,
-) -> Result<String, AllocError> {
+) -> Result<String, AllocError>
+    ensures { IfOk result (λ svg. IsPictureOf (days_shown from days) (jobs_of_plan plan.now)
+        (string_bytes svg)) }
+{
     let span = DaySpan::new(from, days);
     let rows = plan_rows(alloc, plan)?;
     let title = title(alloc, subject, span)?;
@@ -204,7 +297,9 @@ pub fn plan_chart(
         rows: rows.as_slice(),
         groups: plan.groups(),
         capacity: Some(plan.capacity()),
+        span,
         days,
     };
-    draw(alloc, &scene, span)
+    let svg = draw(alloc, &scene)?;
+    Ok(svg)
 }

@@ -1,4 +1,10 @@
 //! The rows of a picture: what is drawn of each job.
+ghost use Rattle.std.specs.Prelude.{◌≡◌, ◌≤◌, IfOk, length, map};
+ghost use Rattle.cs_decl.specs.Plan.{job_at};
+ghost use Rattle.cs_chart.specs.Chart.{jobs_of_plan, jobs_of_tables, shown_anacron, shown_command};
+ghost use Rattle.cs_chart.specs.Chart.{terms_at};
+ghost use Rattle.cs_chart.specs.Rows.{group_of, shown_of};
+
 use cs_anacrontab::{Anacrontab, Job};
 use cs_crontab::{Crontab, Line, When};
 use cs_decl::{Job as PlanJob, Plan};
@@ -47,8 +53,22 @@ pub(crate) struct Row<'a> {
     pub(crate) declared: Option<Declared>,
 }
 
+impl Row<'_> {
+    /// The place of its group, if it is in one.
+    pub(crate) fn group(&self) -> Option<u8>
+        ensures { result ≡ group_of self.now.declared }
+    {
+        match self.declared {
+            Some(declared) => declared.group,
+            None => None,
+        }
+    }
+}
+
 /// What a plan says of a job.
-fn declared_of(job: &PlanJob) -> Declared {
+fn declared_of(job: PlanJob) -> Declared
+    ensures { result.group ≡ job.group }
+{
     Declared {
         weight: job.weight(),
         group: job.group(),
@@ -57,7 +77,9 @@ fn declared_of(job: &PlanJob) -> Declared {
 }
 
 /// The row of a command line.
-fn line_row(line: &Line, max: u16, declared: Option<Declared>) -> Row<'_> {
+fn line_row(line: &Line, max: u16, declared: Option<Declared>) -> Row<'_>
+    ensures { shown_of result ≡ shown_command max (group_of declared) line.now }
+{
     let occupied = match line.when() {
         When::At(schedule) => Some(Occupied::Cron {
             schedule,
@@ -75,7 +97,9 @@ fn line_row(line: &Line, max: u16, declared: Option<Declared>) -> Row<'_> {
 
 /// The row of an anacron job: from the first minute at which it may be started on, up to where a run
 /// ends that starts in the last.
-fn job_row(job: &Job, terms: Terms, declared: Option<Declared>) -> Row<'_> {
+fn job_row(job: &Job, terms: Terms, declared: Option<Declared>) -> Row<'_>
+    ensures { shown_of result ≡ shown_anacron terms (group_of declared) }
+{
     let hours = terms.to.saturating_sub(1).saturating_sub(terms.from);
     Row {
         name: Name::Job(job.identifier()),
@@ -94,7 +118,11 @@ pub(crate) fn table_rows<'a>(
     table: &'a Crontab,
     jobs: &'a Anacrontab,
     terms: Terms,
-) -> Result<Vec<Row<'a>>, AllocError> {
+) -> Result<Vec<Row<'a>>, AllocError>
+    ensures shown { IfOk result (λ rows. map shown_of rows.items
+        ≡ jobs_of_tables terms table.now jobs.now) }
+    ensures few { IfOk result (λ rows. length rows.items ≤ 320) }
+{
     let mut rows = Vec::new(alloc);
     for line in table.lines() {
         rows.push(line_row(line, terms.max, None))?;
@@ -105,21 +133,36 @@ pub(crate) fn table_rows<'a>(
     Ok(rows)
 }
 
-/// The rows of the jobs of a plan.
-pub(crate) fn plan_rows(alloc: Global, plan: &Plan) -> Result<Vec<Row<'_>>, AllocError> {
+/// The row of an anacron job of a plan, by the job's number.
+fn plan_row<'a>(plan: &Plan, job: &'a Job, number: u16) -> Row<'a>
+    ensures { shown_of result
+        ≡ shown_anacron (terms_at plan.now number) (job_at plan.now number).group }
+{
     let hours = plan.hours();
+    let declared = plan.job_at(number);
+    let terms = Terms {
+        max: declared.max(),
+        from: hours.from(),
+        to: hours.to(),
+    };
+    job_row(job, terms, Some(declared_of(declared)))
+}
+
+/// The rows of the jobs of a plan.
+pub(crate) fn plan_rows(alloc: Global, plan: &Plan) -> Result<Vec<Row<'_>>, AllocError>
+    ensures shown { IfOk result (λ rows. map shown_of rows.items ≡ jobs_of_plan plan.now) }
+    ensures few { IfOk result (λ rows. length rows.items ≤ 320) }
+{
+    let lines = plan.crontab().lines();
     let mut rows = Vec::new(alloc);
-    for (line, job) in plan.crontab().lines().iter().zip(plan.jobs()) {
-        rows.push(line_row(line, job.max(), Some(declared_of(job))))?;
+    for place in 0..lines.len() {
+        let job = plan.job_at(place as u16);
+        rows.push(line_row(&lines[place], job.max(), Some(declared_of(job))))?;
     }
-    let behind = plan.jobs().iter().skip(plan.crons());
-    for (line, job) in plan.anacrontab().lines().iter().zip(behind) {
-        let terms = Terms {
-            max: job.max(),
-            from: hours.from(),
-            to: hours.to(),
-        };
-        rows.push(job_row(line, terms, Some(declared_of(job))))?;
+    let crons = plan.crons();
+    let jobs = plan.anacrontab().lines();
+    for place in 0..jobs.len() {
+        rows.push(plan_row(plan, &jobs[place], (crons + place) as u16))?;
     }
     Ok(rows)
 }

@@ -1,8 +1,10 @@
 //! The sheet that a picture is drawn on, from its top to its foot.
+ghost use Rattle.std.specs.Prelude.{◌≡◌, ◌+◌, ◌-◌, ◌^◌, ◌≤◌, min, true, OnOk};
+ghost use Rattle.cs_chart.specs.Picture.{KeepsBars, has_no_bars};
+
 use crate::span::DaySpan;
-use cs_civil::MINUTES_OF_DAY;
+use crate::svg::Svg;
 use std::alloc::{AllocError, Global};
-use std::fmt::Write;
 
 /// Where the names of rows begin, in pixels from the left, as all lengths here.
 pub(crate) const MARGIN: u32 = 10;
@@ -19,31 +21,38 @@ pub(crate) const PLOT_RIGHT: u32 = PLOT_LEFT + PLOT_WIDTH;
 /// How many cells of a name have room before the first day.
 pub(crate) const NAME_CELLS: usize = 36;
 
+/// How many cells of a group's name have room behind the days.
+pub(crate) const GROUP_CELLS: usize = 16;
+
 /// How high a row is.
 pub(crate) const ROW: u32 = 18;
 
 /// A picture that is being drawn: what has been written of it, and how far down it has come.
 #[derive(Debug, Drop)]
 pub(crate) struct Sheet {
-    pub(crate) svg: String,
+    pub(crate) svg: Svg,
     /// The top of what is drawn next.
     pub(crate) y: u32,
-    pub(crate) span: DaySpan,
 }
 
 impl Sheet {
-    ghost use Rattle.std.specs.Prelude.{◌≤◌};
+    ghost use Rattle.std.specs.Prelude.{[]};
 
-    pub(crate) fn new(alloc: Global, span: DaySpan) -> Sheet {
+    pub(crate) fn new(alloc: Global) -> Sheet
+        ensures svg { result.svg ≡ [] }
+        ensures y { result.y ≡ 0 }
+    {
         Sheet {
-            svg: String::new(alloc),
+            svg: Svg::new(alloc),
             y: 0,
-            span,
         }
     }
 
     /// Goes down so far.
-    pub(crate) fn down(&mut self, by: u32) {
+    pub(crate) fn down(&mut self, by: u32)
+        ensures svg { self.new.svg ≡ self.old.svg }
+        ensures y { self.new.y ≡ min (self.old.y + by) (2 ^ 32 - 1) }
+    {
         self.y = self.y.saturating_add(by);
     }
 
@@ -52,25 +61,20 @@ impl Sheet {
         self.y.saturating_add(by)
     }
 
-    /// How many minutes the picture shows.
-    pub(crate) fn minutes(&self) -> u32
-        ensures { result ≤ 10_080 }
-    {
-        u32::from(MINUTES_OF_DAY) * u32::from(self.span.days())
-    }
-
-    /// So many minutes are a little more than half a pixel wide: seven days are as wide as one.
-    pub(crate) fn fine(&self) -> u32
-        ensures { result ≤ 7 }
-    {
-        u32::from(self.span.days())
-    }
-
     /// Begins a part as wide as the days, in which a place from the left is a minute of the picture,
     /// and a place from the top one of so many steps.
-    pub(crate) fn begin_plot(&mut self, height: u32, steps: u32) -> Result<(), AllocError> {
+    #[tactic(auto, using(crate::proofs::Plain::no_bars_append, crate::proofs::Plain::no_bars_decimal), unfolding(crate::specs::Picture::has_no_bars))]
+    pub(crate) fn begin_plot(
+        &mut self,
+        span: DaySpan,
+        height: u32,
+        steps: u32,
+    ) -> Result<(), AllocError>
+        ensures svg { OnOk result (KeepsBars self.old.svg self.new.svg) }
+        ensures y { self.new.y ≡ self.old.y }
+    {
         let y = self.y;
-        let minutes = self.minutes();
+        let minutes = span.minutes();
         write!(
             self.svg,
             "<svg x=\"{PLOT_LEFT}\" y=\"{y}\" width=\"{PLOT_WIDTH}\" height=\"{height}\" \
@@ -78,13 +82,13 @@ impl Sheet {
         )
     }
 
-    /// Ends what [`begin_plot`](Sheet::begin_plot) began.
-    pub(crate) fn end_plot(&mut self) -> Result<(), AllocError> {
-        self.svg.push_str("</svg>\n")
-    }
-
     /// Adds a line of text at the margin, so far below.
-    pub(crate) fn push_line(&mut self, below: u32, text: &str) -> Result<(), AllocError> {
+    #[tactic(auto, using(crate::proofs::Plain::no_bars_append, crate::proofs::Plain::no_bars_decimal), unfolding(crate::specs::Picture::has_no_bars))]
+    pub(crate) fn push_line(&mut self, below: u32, text: &str) -> Result<(), AllocError>
+        requires { has_no_bars text.now ≡ true }
+        ensures svg { OnOk result (KeepsBars self.old.svg self.new.svg) }
+        ensures y { self.new.y ≡ self.old.y }
+    {
         let y = self.below(below);
         write!(self.svg, "<text x=\"{MARGIN}\" y=\"{y}\">{text}</text>\n")
     }
@@ -92,7 +96,7 @@ impl Sheet {
 
 /// The place of a minute of the picture from the left.
 pub(crate) fn place_of(minute: u32, span: DaySpan) -> u32 {
-    let minutes = u32::from(MINUTES_OF_DAY) * u32::from(span.days());
+    let minutes = span.minutes();
     let along = u64::from(PLOT_WIDTH) * u64::from(minute.min(minutes)) / u64::from(minutes.max(1));
     PLOT_LEFT + (along as u32)
 }

@@ -1,8 +1,8 @@
 //! The days of a picture.
-ghost use Rattle.std.specs.Prelude.{◌≡◌, ◌+◌, ◌<◌, ◌≤◌};
+ghost use Rattle.std.specs.Prelude.{◌≡◌, ◌+◌, ◌*◌, ◌<◌, ◌≤◌};
 ghost use Rattle.cs_civil.specs.Calendar.{last_day};
 
-use cs_civil::Day;
+use cs_civil::{Day, MINUTES_OF_DAY};
 use std::marker::Model;
 
 /// The first day of which windows can be told, 1970-01-04: they may begin three days before it.
@@ -34,10 +34,12 @@ impl Model for DaySpan {
 }
 
 impl DaySpan {
-    ghost use Rattle.cs_chart.specs.Bars.{AreShown};
+    ghost use Rattle.cs_chart.specs.Bars.{AreShown, days_shown};
 
     /// So many days from one on, as far as they can be shown; at least one, and at most seven.
-    pub(crate) fn new(from: Day, days: u8) -> DaySpan {
+    pub(crate) fn new(from: Day, days: u8) -> DaySpan
+        ensures { result ≡ days_shown from days }
+    {
         let first = from.number().max(FIRST_DAY);
         let left = LAST_DAY - first + 1;
         let count = u64::from(days.clamp(1, MOST_DAYS)).min(left) as u8;
@@ -53,6 +55,14 @@ impl DaySpan {
         ensures shown { AreShown self }
     {
         self.count
+    }
+
+    /// How many minutes.
+    pub(crate) fn minutes(self) -> u32
+        ensures value { result ≡ MINUTES_OF_DAY * self.days }
+        ensures few { result ≤ 10_080 }
+    {
+        u32::from(MINUTES_OF_DAY) * u32::from(self.days())
     }
 
     /// The day so many days after the first.

@@ -1,8 +1,11 @@
 //! Texts of a picture: escaped, and cut to fit.
+ghost use Rattle.std.specs.Prelude.{◌≡◌, ◌≢◌, true, OnOk};
+ghost use Rattle.cs_chart.specs.Picture.{IsLonger, KeepsBars};
+
+use crate::svg::Svg;
 use bstr::ByteSlice;
 use cs_civil::{Day, day_text, kind_of, weekday_name};
 use std::alloc::AllocError;
-use std::fmt::Write;
 use unicode_width::UnicodeWidthChar;
 
 /// How many cells of a fixed width a character takes, one at least: so no text goes on for ever in none.
@@ -24,7 +27,11 @@ fn is_hidden(character: char) -> bool {
 }
 
 /// Adds a character of a text. A tab becomes a blank, and what may not stand there U+FFFD.
-fn push_character(svg: &mut String, character: char) -> Result<(), AllocError> {
+#[tactic(auto, unfolding(crate::specs::Picture::has_no_bars))]
+fn push_character(svg: &mut Svg, character: char) -> Result<(), AllocError>
+    ensures keeps { OnOk result (KeepsBars svg.old svg.new) }
+    ensures longer { OnOk result (IsLonger svg.old svg.new) }
+{
     match character {
         '&' => svg.push_str("&amp;"),
         '<' => svg.push_str("&lt;"),
@@ -52,7 +59,11 @@ fn fits(text: &[u8], cells: usize) -> bool {
 
 /// Adds the beginning of a text, so many cells of it at most. `…` stands for what is cut off, and
 /// U+FFFD for bytes that are no UTF-8.
-pub(crate) fn push_cut(svg: &mut String, text: &[u8], cells: usize) -> Result<(), AllocError> {
+#[tactic(auto, unfolding(crate::specs::Picture::has_no_bars))]
+pub(crate) fn push_cut(svg: &mut Svg, text: &[u8], cells: usize) -> Result<(), AllocError>
+    ensures keeps { OnOk result (KeepsBars svg.old svg.new) }
+    ensures longer { OnOk result (IsLonger svg.old svg.new) }
+{
     let mut left = if fits(text, cells) {
         cells
     } else {
@@ -61,7 +72,8 @@ pub(crate) fn push_cut(svg: &mut String, text: &[u8], cells: usize) -> Result<()
     for character in text.chars() {
         let own = cells_of(character);
         if left < own {
-            return svg.push_str("…");
+            svg.push_str("…")?;
+            return Ok(());
         }
         left -= own;
         push_character(svg, character)?;
@@ -69,18 +81,35 @@ pub(crate) fn push_cut(svg: &mut String, text: &[u8], cells: usize) -> Result<()
     Ok(())
 }
 
+/// Adds a number below 100 in two digits.
+#[tactic(auto, using(crate::proofs::Plain::no_bars_append, crate::proofs::Plain::no_bars_decimal))]
+pub(crate) fn push_pair(svg: &mut Svg, number: u16) -> Result<(), AllocError>
+    ensures { OnOk result (KeepsBars svg.old svg.new) }
+{
+    let tens = number / 10;
+    let ones = number % 10;
+    write!(svg, "{tens}{ones}")
+}
+
 /// Adds `HH:MM` of a minute of a day, `24:00` at its end.
-pub(crate) fn push_clock(svg: &mut String, minute: u16) -> Result<(), AllocError> {
-    let hour = minute / 60;
-    let rest = minute % 60;
-    write!(svg, "{hour:02}:{rest:02}")
+#[tactic(auto, unfolding(crate::specs::Picture::has_no_bars))]
+pub(crate) fn push_clock(svg: &mut Svg, minute: u16) -> Result<(), AllocError>
+    ensures { OnOk result (KeepsBars svg.old svg.new) }
+{
+    push_pair(svg, minute / 60)?;
+    svg.push_str(":")?;
+    push_pair(svg, minute % 60)
 }
 
 /// Adds `YYYY-MM-DD Fri`.
-pub(crate) fn push_day(svg: &mut String, day: Day) -> Result<(), AllocError> {
+#[tactic(auto, unfolding(crate::specs::Picture::has_no_bars))]
+pub(crate) fn push_day(svg: &mut Svg, day: Day) -> Result<(), AllocError>
+    ensures { OnOk result (KeepsBars svg.old svg.new) }
+{
     for byte in day_text(day) {
-        svg.push(char::from(byte))?;
+        push_character(svg, char::from(byte))?;
     }
+    svg.push_str(" ")?;
     let weekday = weekday_name(kind_of(day).dow());
-    write!(svg, " {weekday}")
+    push_cut(svg, weekday.as_bytes(), 3)
 }

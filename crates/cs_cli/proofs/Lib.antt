@@ -1,2 +1,4 @@
 pub mod CheckLemmas
 pub mod Schedules
+pub mod TwoDays
+pub mod Midnight

@@ -1,5 +1,5 @@
 -- What the answers to calls say of the bytes of their files.
-use Rattle.std.proofs.Common.{◌≡◌, ◌≢◌, inl, inr, ℕ, List, Option, Some, None, Result, Ok, Err, refl, ap, subst, sym, ◌∙◌}
+use Rattle.std.proofs.Common.{◌≡◌, ◌≢◌, ◌⊎◌, inl, inr, ℕ, ◌<◌, ◌≤◌, arith, Bool, true, false, List, [], ◌∷◌, ◌++◌, Option, Some, None, Result, Ok, Err, refl, ap, subst, sym, ◌∙◌}
 use Rattle.std.specs.Prelude.{IfSome}
 use Rattle.clap.specs.Words.{Text}
 use Rattle.cs_crontab.specs.Crontab.{Table}
@@ -12,22 +12,33 @@ use Rattle.cs_decl.specs.Meaning.{declared_by}
 use Rattle.cs_decl.specs.Plan.{Declared}
 use Rattle.cs_decl.specs.declared.entries.Entries.{Entries}
 use Rattle.cs_cert.specs.Denoted.{certificate_by}
+use Rattle.cs_check.specs.Case.{fault_of}
 use Rattle.cs_check.specs.Checked.{certificate_in, plan_in}
 use Rattle.cs_check.specs.declared.checked.Checked.{Checked}
-use Rattle.cs_judge.proofs.Outcomes.{safe_stands, unsafe_stands}
+use Rattle.cs_judge.proofs.Outcomes.{unsafe_stands}
 use Rattle.cs_judge.specs.declared.answers.Outcome.{Outcome}
 use Rattle.cs_judge.specs.declared.answers.Outcome.TheVariants as outcome
+use Rattle.cs_judge.specs.declared.answers.Wanted.{Wanted}
 use Rattle.cs_judge.specs.declared.answers.Wanted.TheVariants.{Verdict}
-use Rattle.cs_args.specs.CommandLine.{AskedCheck, AskedJudge, AskedRun}
+use Rattle.cs_judge.specs.declared.judged.Judged.{Judged}
+use Rattle.cs_judge.specs.declared.judged.Judged.TheVariants as judged_as
+use Rattle.cs_judge.specs.Answer.{IsAnswer, IsMade, refusal_text, unknown_outcome, unknown_text, verdict_text as judged_text}
+use Rattle.cs_judge.specs.Judged.{IfRefused, IsJudgement, IsRefusal}
+use Rattle.cs_maker.specs.declared.reason.Reason.{Reason}
+use Rattle.cs_maker.specs.declared.reason.Reason.TheVariants.{LeafTooLong, NoMemory, NoReach, NoScript, NotChecked, TooDeep, TooManyClasses}
+use Rattle.cs_report.specs.Told.{told}
+use Rattle.cs_report.specs.declared.check_fault.CheckFault.{CheckFault}
+use Rattle.cs_args.specs.CommandLine.{AskedCheck, AskedJudge, AskedMake, AskedRun}
 use Rattle.cs_io.specs.Files.{Failed}
-use Rattle.cs_files.specs.Reads.{AndThen, Gives, GivesSome, ReadsAs, ReadsDeclared, ReadsEntries, ReadsJobs, ReadsTables, behind, planned}
+use Rattle.cs_files.specs.Reads.{AndThen, Gives, GivesSome, MeansTable, ReadsAs, ReadsDeclared, ReadsEntries, ReadsJobs, ReadsTables, behind, planned}
 use Rattle.cs_files.specs.Response.{Ending}
 use Rattle.cs_files.specs.Trouble.{InAnacrontab, InCertificate, InCrontab, InDeclarations, InGathered, InScript, InWords, Trouble, Unread, trouble_status}
-use Rattle.cs_cli.specs.Answer.{IsOrder}
-use Rattle.cs_cli.specs.Check.{IsProofOf}
-use Rattle.cs_cli.specs.Judge.{AnswersJudge, IsJudged, JudgesPlan, outcome_status}
-use Rattle.cs_cli.specs.Safe.{IsChecked}
-use Rattle.cs_cli.specs.Theorem.{DenoteJobs, DenotesPlan, Given, Hold, HoldsIt, IsCalmSchedule, IsJudgedSafe, IsJudgedUnsafe, IsSafePlan, IsSafeSchedule}
+use Rattle.cs_cli.specs.Answer.{IsOfOthers, IsOrder}
+use Rattle.cs_cli.specs.Check.{AnswersCheck, IsProofOf, verdict_text}
+use Rattle.cs_cli.specs.Judge.{AnswersJudge, AnswersMake, AnswersWanted, IsJudged, IsJudgedAt, JudgesPlan, outcome_status, wanted_of}
+use Rattle.cs_cli.specs.Safe.{IsChecked, IsSafe}
+use Rattle.cs_cli.specs.Theorem.{DenoteJobs, DenotesPlan, Given, Hold, HoldsIt, IsCalmPlan, IsCalmSchedule, IsGatheredSchedule, IsJudgedSafe, IsJudgedUnknown, IsJudgedUnsafe, IsOrdered, IsPrintedSchedule, IsRefused, IsSafePlan, IsSafeSchedule}
+use Rattle.cs_gather.specs.declared.places.Place.{Place}
 use Rattle.cs_cli.specs.declared.answer.Order.{Order}
 
 -- ---- what was read
@@ -67,11 +78,11 @@ tables_denoted : (files : List ℕ → Option (List ℕ)) (table : Text) (anacro
     → Hold files table anacrontab declarations given → ReadsTables files table anacrontab before after (Ok both)
     → Means given.crontab (Ok both.0) × DenoteJobs given.anacrontab both.1
 tables_denoted files table anacrontab declarations given before after both hold read =
-    let one = both_gave (ReadsAs files table Means InCrontab) (λ t. AndThen (ReadsJobs files anacrontab) (λ jobs. Gives (Ok (t, jobs)))) before after both read in
+    let one = both_gave (ReadsAs files table MeansTable InCrontab) (λ t. AndThen (ReadsJobs files anacrontab) (λ jobs. Gives (Ok (t, jobs)))) before after both read in
     let two = both_gave (ReadsJobs files anacrontab) (λ jobs. Gives (Ok (one.value, jobs))) before after both one.two in
     let same = same_value (Ok both) both (one.value, two.value) refl two.two.1 in
     subst (λ (b : Table × JobTable). Means given.crontab (Ok b.0) × DenoteJobs given.anacrontab b.1) (sym same) (
-      file_means files table Means InCrontab before before one.value given.crontab hold.crontab one.one,
+      file_means files table MeansTable InCrontab before before one.value given.crontab hold.crontab one.one,
       jobs_denoted files anacrontab given.anacrontab before before two.value hold.anacrontab two.one,
     )
 
@@ -114,30 +125,53 @@ schedule files a failed checked given certificate hold holds proof safe = record
   safe = safe;
 }
 
+calm_schedule : (files : List ℕ → Option (List ℕ)) (a : AskedCheck) (failed : Failed) (checked : Checked) (given : Given) (certificate : List ℕ)
+    → Hold files a.table a.anacrontab a.declarations given → files a.certificate ≡ Some certificate
+    → IsProofOf files a failed checked → IsSafe checked → IsCalmSchedule given certificate
+unfolding schedule
+calm_schedule files a failed checked given certificate hold holds proof safe = record {
+  schedule = schedule files a failed checked given certificate hold holds proof safe.headline;
+  calm = safe.calm;
+}
+
 pub checked_schedule : (files : List ℕ → Option (List ℕ)) (a : AskedCheck) (before after : Failed) (ending : Ending) (given : Given) (certificate : List ℕ)
     → Hold files a.table a.anacrontab a.declarations given → files a.certificate ≡ Some certificate
     → IsChecked a files before after ending → ending.status ≡ 0 → IsCalmSchedule given certificate
-unfolding schedule
 checked_schedule files a before after ending given certificate hold holds answered zero =
-    let s = answered.safe zero in
-    record {
-      schedule = schedule files a before s.checked given certificate hold holds s.proof s.safe.headline;
-      calm = s.safe.calm;
-    }
+    let s = answered.safe zero in calm_schedule files a before s.checked given certificate hold holds s.proof s.safe
 
 pub ordered_schedule : (files : List ℕ → Option (List ℕ)) (a : AskedRun) (before after : Failed) (order : Order) (given : Given) (certificate : List ℕ)
     → Hold files a.check.table a.check.anacrontab a.check.declarations given → files a.check.certificate ≡ Some certificate
-    → IsOrder a files before after order → IsSafeSchedule given certificate
-ordered_schedule files a before after order given certificate hold holds ordered =
-    schedule files a.check before order.checked given certificate hold holds ordered.proof ordered.headline
+    → IsOrder a files before after order → IsOrdered given certificate a order
+unfolding schedule
+ordered_schedule files a before after order given certificate hold holds ordered = record {
+  schedule = schedule files a.check before order.checked given certificate hold holds ordered.proof ordered.headline;
+  plan = refl;
+  content = refl;
+  own = ordered.own;
+  stamps = ordered.stamps;
+  minutes = ordered.minutes;
+}
 
--- ---- `judge`
+pub ordered_checked : (files : List ℕ → Option (List ℕ)) (a : AskedRun) (before after : Failed) (order : Order)
+    → IsOrder a files before after order → (answer : Ending) × AnswersCheck a.check files before after answer × (answer.status ≡ 0) × (answer.err ≡ order.warnings)
+ordered_checked files a before after order ordered = (_, ordered.safe, refl, refl)
 
-safe_found : (o : Outcome) → outcome_status o ≡ 0 → o ≡ outcome.Safe
-safe_found outcome.Safe e = refl
-safe_found outcome.Unsafe e = absurd (cc)
-safe_found outcome.Unknown e = absurd (cc)
-safe_found outcome.NoMemory e = absurd (cc)
+pub gathered_schedule : (files : List ℕ → Option (List ℕ)) (a : AskedRun) (before after : Failed) (ending : Ending) (given : Given) (certificate : List ℕ)
+    → Hold files a.check.table a.check.anacrontab a.check.declarations given → files a.check.certificate ≡ Some certificate
+    → IsOfOthers a files before after ending → IsGatheredSchedule given certificate ending
+unfolding calm_schedule schedule
+gathered_schedule files a before after ending given certificate hold holds of_others = record {
+  schedule = calm_schedule files a.check before of_others.checked given certificate hold holds of_others.accepted.proof of_others.accepted.safe;
+  gathered = of_others.gathered;
+  told = (ap (λ (e : Ending). e.status) of_others.told, ap (λ (e : Ending). e.out) of_others.told);
+}
+
+pub gathered_checked : (files : List ℕ → Option (List ℕ)) (a : AskedRun) (before after : Failed) (ending : Ending)
+    → IsOfOthers a files before after ending → (answer : Ending) × AnswersCheck a.check files before after answer × (answer.status ≡ 0)
+gathered_checked files a before after ending of_others = (_, of_others.safe, refl)
+
+-- ---- `judge` and `make`
 
 unsafe_found : (o : Outcome) → outcome_status o ≡ 1 → o ≡ outcome.Unsafe
 unsafe_found outcome.Safe e = absurd (cc)
@@ -145,12 +179,27 @@ unsafe_found outcome.Unsafe e = refl
 unsafe_found outcome.Unknown e = absurd (cc)
 unsafe_found outcome.NoMemory e = absurd (cc)
 
+-- what isn't known has status 2 or 5
+unknown_status : (reason : Reason) → 2 ≤ outcome_status (unknown_outcome reason)
+unknown_status TooManyClasses = omega arith
+unknown_status LeafTooLong = omega arith
+unknown_status TooDeep = omega arith
+unknown_status NoReach = omega arith
+unknown_status NoScript = omega arith
+unknown_status NotChecked = omega arith
+unknown_status NoMemory = omega arith
+
+-- a plan was found otherwise
+other_found : {A : Type 0} (found other : Outcome) (n : ℕ) → found ≡ other → outcome_status found ≡ n → outcome_status other ≢ n → A
+other_found found other n is status differs = absurd (differs (ap outcome_status (sym is) ∙ status))
+
 -- an answer was given of a plan that the files denote
-record IsAnswered (given : Given) (status : ℕ) (out : List ℕ) : Type 0 where
+record IsAnswered (wanted : Wanted) (given : Given) (status : ℕ) (out : List ℕ) : Type 0 where
   plan : Declared
   is_plan : DenotesPlan given plan
   answer : Ending
-  judged : IsJudged Verdict plan answer
+  places : List Place
+  judged : IsJudged wanted plan places answer
   same_status : answer.status ≡ status
   same_out : answer.out ≡ out
 
@@ -165,53 +214,73 @@ troubled (InDeclarations fault) three six = three refl
 troubled (InScript fault) three six = three refl
 troubled (InCertificate fault) three six = three refl
 
-answered_by : (files : List ℕ → Option (List ℕ)) (a : AskedJudge) (before after : Failed) (w : List ℕ) (both : Table × JobTable) (given : Given) (r : Result Ending Trouble)
+answered_by : (wanted : Wanted) (files : List ℕ → Option (List ℕ)) (a : AskedJudge) (before after : Failed) (w : List ℕ) (both : Table × JobTable) (given : Given) (r : Result Ending Trouble)
     → Hold files a.table a.anacrontab a.declarations given → ReadsTables files a.table a.anacrontab before before (Ok both)
-    → JudgesPlan Verdict files a both before after r → (behind w r).status ≢ 3 → (behind w r).status ≢ 6
-    → IsAnswered given (behind w r).status (behind w r).out
-answered_by files a before after w both given (Err t) hold read judged three six = absurd (troubled t three six)
-answered_by files a before after w both given (Ok answer) hold read judged three six =
-    let one = both_gave (ReadsDeclared files both a.declarations) (λ plan. GivesSome (IsJudged Verdict plan)) before after answer judged in
+    → JudgesPlan wanted files a both before after r → (behind w r).status ≢ 3 → (behind w r).status ≢ 6
+    → IsAnswered wanted given (behind w r).status (behind w r).out
+answered_by wanted files a before after w both given (Err t) hold read judged three six = absurd (troubled t three six)
+answered_by wanted files a before after w both given (Ok answer) hold read judged three six =
+    let one = both_gave (ReadsDeclared files both a.declarations) (λ plan. GivesSome (IsJudgedAt wanted files a.table both.0 plan)) before after answer judged in
+    let told = some_given (IsJudgedAt wanted files a.table both.0 one.value) before after answer one.two in
     record {
       plan = one.value;
       is_plan = plan_denoted files a.table a.anacrontab a.declarations given before before before before both one.value hold read one.one;
       answer = answer;
-      judged = some_given (IsJudged Verdict one.value) before after answer one.two;
+      places = told.0;
+      judged = told.2;
       same_status = refl;
       same_out = refl;
     }
 
-answered : (files : List ℕ → Option (List ℕ)) (a : AskedJudge) (before after : Failed) (ending : Ending) (given : Given)
-    → Hold files a.table a.anacrontab a.declarations given → AnswersJudge a files before after ending → ending.status ≢ 3 → ending.status ≢ 6
-    → IsAnswered given ending.status ending.out
-answered files a before after ending given hold (inl (t, read, is)) three six =
+answered : (wanted : Wanted) (files : List ℕ → Option (List ℕ)) (a : AskedJudge) (before after : Failed) (ending : Ending) (given : Given)
+    → Hold files a.table a.anacrontab a.declarations given → AnswersWanted wanted a files before after ending → ending.status ≢ 3 → ending.status ≢ 6
+    → IsAnswered wanted given ending.status ending.out
+answered wanted files a before after ending given hold (inl (t, read, is)) three six =
     let same = ap (λ (e : Ending). e.status) is in
     absurd (troubled t (λ h. three (same ∙ h)) (λ h. six (same ∙ h)))
-answered files a before after ending given hold (inr (both, read, (r, judged, is))) three six =
+answered wanted files a before after ending given hold (inr (both, read, (r, judged, is))) three six =
     let same = ap (λ (e : Ending). e.status) is in
-    subst (λ (e : Ending). IsAnswered given e.status e.out) (sym is)
-    (answered_by files a before after _ both given r hold read judged (λ h. three (same ∙ h)) (λ h. six (same ∙ h)))
+    subst (λ (e : Ending). IsAnswered wanted given e.status e.out) (sym is)
+    (answered_by wanted files a before after _ both given r hold read judged (λ h. three (same ∙ h)) (λ h. six (same ∙ h)))
+
+-- the same with its status as a number
+answered_with : (n : ℕ) → n < 3 → (wanted : Wanted) (files : List ℕ → Option (List ℕ)) (a : AskedJudge) (before after : Failed) (ending : Ending) (given : Given)
+    → Hold files a.table a.anacrontab a.declarations given → AnswersWanted wanted a files before after ending → ending.status ≡ n
+    → (k : IsAnswered wanted given ending.status ending.out) × (outcome_status k.judged.found ≡ n)
+answered_with n small wanted files a before after ending given hold is status =
+    let k = answered wanted files a before after ending given hold is (λ h. omega (arith, h, status, small)) (λ h. omega (arith, h, status, small)) in
+    (k, sym k.judged.status ∙ (k.same_status ∙ status))
+
+judged_well : (given : Given) (plan : Declared) (places : List Place) (judged : Judged) (found : Outcome) (text : List ℕ) → DenotesPlan given plan
+    → IsJudgement plan judged → IsAnswer Verdict plan places judged found text → outcome_status found ≡ 0 → IsJudgedSafe given
+judged_well given plan places (judged_as.Safe checked) found text denotes known is zero = record {
+  plan = plan;
+  is_plan = denotes;
+  content = certificate_in checked;
+  accepted = known.safe.accepted;
+  safe = known.headline;
+  calm = known.calm;
+}
+judged_well given plan places (judged_as.Unsafe script shown) found text denotes known is zero = other_found found outcome.Unsafe 0 is.0 zero (λ h. omega (arith, h))
+judged_well given plan places (judged_as.Unknown reason refusal) found text denotes known is zero =
+    other_found found (unknown_outcome reason) 0 is.0 zero (λ h. omega (arith, h, unknown_status reason))
 
 pub judged_safe : (files : List ℕ → Option (List ℕ)) (a : AskedJudge) (before after : Failed) (ending : Ending) (given : Given)
     → Hold files a.table a.anacrontab a.declarations given → AnswersJudge a files before after ending → ending.status ≡ 0 → IsJudgedSafe given
 judged_safe files a before after ending given hold is zero =
-    let k = answered files a before after ending given hold is (λ h. absurd (cc)) (λ h. absurd (cc)) in
-    let j = k.judged in
-    record {
-      plan = k.plan;
-      is_plan = k.is_plan;
-      safe = safe_stands Verdict k.plan j.judged j.found k.answer.out j.known j.printed (safe_found j.found (sym j.status ∙ (k.same_status ∙ zero)));
-    }
+    let (k, found) = answered_with 0 (omega arith) Verdict files a before after ending given hold is zero in
+    judged_well given k.plan k.places k.judged.judged k.judged.found k.answer.out k.is_plan k.judged.known k.judged.printed found
 
-pub judged_unsafe : (files : List ℕ → Option (List ℕ)) (a : AskedJudge) (before after : Failed) (ending : Ending) (given : Given)
-    → Hold files a.table a.anacrontab a.declarations given → AnswersJudge a files before after ending → ending.status ≡ 1 → IsJudgedUnsafe given ending.out
-judged_unsafe files a before after ending given hold is one =
-    let k = answered files a before after ending given hold is (λ h. absurd (cc)) (λ h. absurd (cc)) in
+wanted_unsafe : (wanted : Wanted) (files : List ℕ → Option (List ℕ)) (a : AskedJudge) (before after : Failed) (ending : Ending) (given : Given)
+    → Hold files a.table a.anacrontab a.declarations given → AnswersWanted wanted a files before after ending → ending.status ≡ 1 → IsJudgedUnsafe given ending.out
+wanted_unsafe wanted files a before after ending given hold is one =
+    let (k, found) = answered_with 1 (omega arith) wanted files a before after ending given hold is one in
     let j = k.judged in
-    let story = unsafe_stands Verdict k.plan j.judged j.found k.answer.out j.known j.printed (unsafe_found j.found (sym j.status ∙ (k.same_status ∙ one))) in
+    let story = unsafe_stands wanted k.plan k.places j.judged j.found k.answer.out j.known j.printed (unsafe_found j.found found) in
     record {
       plan = k.plan;
       is_plan = k.is_plan;
+      places = k.places;
       script = story.script;
       shown = story.shown;
       printed = sym k.same_out ∙ story.told;
@@ -219,3 +288,68 @@ judged_unsafe files a before after ending given hold is one =
       in_time = story.shows.breaks.unsafe.in_time;
       unsafe = story.shows.breaks.unsafe.unsafe;
     }
+
+pub judged_unsafe : (files : List ℕ → Option (List ℕ)) (a : AskedJudge) (before after : Failed) (ending : Ending) (given : Given)
+    → Hold files a.table a.anacrontab a.declarations given → AnswersJudge a files before after ending → ending.status ≡ 1 → IsJudgedUnsafe given ending.out
+judged_unsafe = wanted_unsafe Verdict
+
+refusal_behind : (plan : Declared) (places : List Place) (reason : Reason) (refusal : Option CheckFault) (text : List ℕ) → IfRefused (judged_as.Unknown reason refusal) (IsRefusal plan)
+    → text ≡ judged_text plan places (judged_as.Unknown reason refusal) → (text ≡ unknown_text reason) ⊎ IsRefused plan reason text
+unfolding refusal_text verdict_text
+refusal_behind plan places reason None text known is = inl is
+refusal_behind plan places reason (Some fault) text (content, compact, first) is = inr (record { content = content; compact = compact; fault = told fault; first = first; printed = is })
+
+not_known : (given : Given) (plan : Declared) (places : List Place) (judged : Judged) (found : Outcome) (text : List ℕ) → DenotesPlan given plan
+    → IsJudgement plan judged → IsAnswer Verdict plan places judged found text → outcome_status found ≡ 2 → IsJudgedUnknown given text
+not_known given plan places (judged_as.Safe checked) found text denotes known is two = other_found found outcome.Safe 2 is.0 two (λ h. omega (arith, h))
+not_known given plan places (judged_as.Unsafe script shown) found text denotes known is two = other_found found outcome.Unsafe 2 is.0 two (λ h. omega (arith, h))
+not_known given plan places (judged_as.Unknown reason refusal) found text denotes known is two = record {
+  plan = plan;
+  is_plan = denotes;
+  reason = reason;
+  printed = refusal_behind plan places reason refusal text known.refused is.1;
+}
+
+pub judged_unknown : (files : List ℕ → Option (List ℕ)) (a : AskedJudge) (before after : Failed) (ending : Ending) (given : Given)
+    → Hold files a.table a.anacrontab a.declarations given → AnswersJudge a files before after ending → ending.status ≡ 2 → IsJudgedUnknown given ending.out
+judged_unknown files a before after ending given hold is two =
+    let (k, found) = answered_with 2 (omega arith) Verdict files a before after ending given hold is two in
+    subst (IsJudgedUnknown given) k.same_out (not_known given k.plan k.places k.judged.judged k.judged.found k.answer.out k.is_plan k.judged.known k.judged.printed found)
+
+made_well : (given : Given) (plan : Declared) (places : List Place) (judged : Judged) (found : Outcome) (text : List ℕ) → DenotesPlan given plan
+    → IsJudgement plan judged → IsMade plan places judged found text → outcome_status found ≡ 0 → IsPrintedSchedule given text
+made_well given plan places (judged_as.Safe checked) found text denotes known (inl (safe, (written, is, reads, short, printed))) zero = record {
+  certificate = written;
+  printed = printed;
+  schedule = record {
+    schedule = record {
+      plan = plan;
+      is_plan = denotes;
+      content = certificate_in checked;
+      is_certificate = reads;
+      accepted = subst (λ (d : Declared). fault_of d (certificate_in checked) ≡ None) known.safe.same checked.kept;
+      safe = known.headline;
+    };
+    calm = known.calm;
+  };
+}
+made_well given plan places (judged_as.Safe checked) found text denotes known (inr (unknown, long)) zero = other_found found outcome.Unknown 0 unknown zero (λ h. omega (arith, h))
+made_well given plan places (judged_as.Unsafe script shown) found text denotes known is zero = other_found found outcome.Unsafe 0 is.0 zero (λ h. omega (arith, h))
+made_well given plan places (judged_as.Unknown reason refusal) found text denotes known is zero =
+    other_found found (unknown_outcome reason) 0 is.0 zero (λ h. omega (arith, h, unknown_status reason))
+
+-- a compact certificate is printed as another is
+is_made : (compact : Bool) (plan : Declared) (places : List Place) (judged : Judged) (found : Outcome) (text : List ℕ) → IsAnswer (wanted_of compact) plan places judged found text → IsMade plan places judged found text
+is_made true plan places judged found text is = is.1
+is_made false plan places judged found text is = is
+
+pub made_safe : (files : List ℕ → Option (List ℕ)) (a : AskedMake) (before after : Failed) (ending : Ending) (given : Given)
+    → Hold files a.judge.table a.judge.anacrontab a.judge.declarations given → AnswersMake a files before after ending → ending.status ≡ 0 → IsPrintedSchedule given ending.out
+made_safe files a before after ending given hold is zero =
+    let (k, found) = answered_with 0 (omega arith) (wanted_of a.compact) files a.judge before after ending given hold is zero in
+    subst (IsPrintedSchedule given) k.same_out
+    (made_well given k.plan k.places k.judged.judged k.judged.found k.answer.out k.is_plan k.judged.known (is_made a.compact k.plan k.places k.judged.judged k.judged.found k.answer.out k.judged.printed) found)
+
+pub made_unsafe : (files : List ℕ → Option (List ℕ)) (a : AskedMake) (before after : Failed) (ending : Ending) (given : Given)
+    → Hold files a.judge.table a.judge.anacrontab a.judge.declarations given → AnswersMake a files before after ending → ending.status ≡ 1 → IsJudgedUnsafe given ending.out
+made_unsafe files a before after ending given hold is one = wanted_unsafe (wanted_of a.compact) files a.judge before after ending given hold is one

@@ -1,6 +1,7 @@
 -- What a call comes to: an answer that ends it, or an order to run tables.
 use Rattle.std.specs.Prelude.{◌≡◌, ◌≢◌, ◌⊎◌, ℕ, Bool, true, false, List, [], ◌++◌, Option, codes, ⊤}
 use Rattle.cs_gather.specs.Gather.{is_gathered}
+use Rattle.cs_report.specs.Warning.{plan_notes}
 use Rattle.cs_check.specs.declared.checked.Checked.{Checked}
 use Rattle.cs_decl.specs.Plan.{as_plan}
 use Rattle.cs_check.specs.Checked.{IsHeadline, plan_in}
@@ -44,10 +45,12 @@ abbrev pub gathered_fault : List ℕ
 gathered_fault = codes "crontab: GatheredTable: run can't start commands as other users"
 
 -- `check` would answer `safe`, but the crontab was gathered, which is told behind the warnings
-pub record IsOfOthers (a : AskedRun) (files : List ℕ → Option (List ℕ)) (before : Failed)
+pub record IsOfOthers (a : AskedRun) (files : List ℕ → Option (List ℕ)) (before failed : Failed)
     (ending : Ending) : Type 0 where
   pub checked : Checked
   pub warnings : List ℕ
+  pub safe : AnswersCheck a.check files before failed
+      (done safe_text (warnings ++ plan_notes (plan_in checked)))
   pub accepted : IsAcceptance files a.check before checked warnings
   pub gathered : is_of_gathered checked ≡ true
   pub told : ending
@@ -58,5 +61,5 @@ pub record IsOfOthers (a : AskedRun) (files : List ℕ → Option (List ℕ)) (b
 abbrev pub AnswersRun : AskedRun → (List ℕ → Option (List ℕ)) → Failed → Failed → Answer → Type 0
 AnswersRun a files before failed (Ends ending) =
     (AnswersCheck a.check files before failed ending × (ending.status ≢ 0))
-    ⊎ IsOfOthers a files before ending
+    ⊎ IsOfOthers a files before failed ending
 AnswersRun a files before failed (Runs order) = IsOrder a files before failed order

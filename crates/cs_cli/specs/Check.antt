@@ -7,7 +7,9 @@ use Rattle.clap.specs.Words.{Text}
 use Rattle.cs_crontab.specs.Crontab.{Table}
 use Rattle.cs_anacrontab.specs.Anacrontab.{Table as JobTable}
 use Rattle.cs_decl.specs.Plan.{Declared}
-use Rattle.cs_theorem.specs.Faults.{Fault}
+use Rattle.cs_gather.specs.Places.{places_told}
+use Rattle.cs_gather.specs.declared.places.Place.{Place}
+use Rattle.cs_theorem.specs.Faults.{Fault, ClassNotDue, Missing, BacklogRises, ReachTooShort, WindowMissing, Collision, OverCapacity, SkipBlocked}
 use Rattle.cs_cert.specs.Certificate.{content}
 use Rattle.cs_cert.specs.Content.{Content}
 use Rattle.cs_cert.specs.Denoted.{certificate_by}
@@ -20,7 +22,7 @@ use Rattle.cs_report.specs.Warning.{plan_notes}
 use Rattle.cs_args.specs.CommandLine.{AskedCheck}
 use Rattle.cs_io.specs.Files.{Failed}
 use Rattle.cs_files.specs.Response.{Ending, done}
-use Rattle.cs_files.specs.Reads.{AndThen, Answered, Gives, ReadsAs, ReadsDeclared, ReadsTables}
+use Rattle.cs_files.specs.Reads.{AndThen, Answered, GivesSome, PlacesIn, ReadsAs, ReadsDeclared, ReadsTables}
 use Rattle.cs_files.specs.Trouble.{InCertificate, Trouble}
 use Rattle.cs_cli.specs.declared.check.Examined.{Examined}
 use Rattle.cs_cli.specs.declared.check.Examined.TheVariants.{Accepted, Ended}
@@ -38,24 +40,66 @@ unfoldable pub verdict_text : Declared → Option Fault → List ℕ
 verdict_text plan None = safe_text
 verdict_text plan (Some fault) = fault_text plan fault ++ 10 ∷ []
 
+-- the jobs that a fault names
+abbrev pub jobs_of : Fault → List ℕ
+jobs_of (ClassNotDue kind) = []
+jobs_of (Missing kinds) = []
+jobs_of (BacklogRises group at) = []
+jobs_of (ReachTooShort job) = job ∷ []
+jobs_of (WindowMissing window at) = window.job ∷ []
+jobs_of (Collision at one other) = one.job ∷ other.job ∷ []
+jobs_of (OverCapacity at load) = []
+jobs_of (SkipBlocked at skip other) = skip.job ∷ other.job ∷ []
+
+-- `note: line 14 is /etc/cron.d/munin:12 (munin): COMMAND` for each line that a fault names and
+-- that has a place
+unfoldable pub fault_places : Declared → List Place → Fault → List ℕ
+fault_places plan places fault =
+    places_told (codes "note: ") places (jobs_of fault) 0 plan.crontab.lines
+
+-- beside a fault that the certificate of other tables or declarations has
+unfoldable pub stale_text : List ℕ
+stale_text = codes "note: the tables or declarations may have changed since the certificate was made: "
+    ++ codes "cronsafe make TABLE DECLS makes a new one\n"
+
+abbrev pub stale_note : Fault → List ℕ
+stale_note (ClassNotDue kind) = stale_text
+stale_note (Missing kinds) = stale_text
+stale_note (BacklogRises group at) = []
+stale_note (ReachTooShort job) = []
+stale_note (WindowMissing window at) = stale_text
+stale_note (Collision at one other) = []
+stale_note (OverCapacity at load) = []
+stale_note (SkipBlocked at skip other) = []
+
 -- what is answered of a certificate by its first fault: 0 where it is safe, 1 where it is refused,
--- beside the notes on the plan
-abbrev pub verdict : Declared → Option Fault → Ending
-verdict plan None = done (verdict_text plan None) (plan_notes plan)
-verdict plan (Some fault) =
-    record { status = 1; out = verdict_text plan (Some fault); err = plan_notes plan }
+-- beside the notes on the plan, the places of the lines that the fault names, and a note where the
+-- certificate may be of other files
+abbrev pub verdict : Declared → List Place → Option Fault → Ending
+verdict plan places None = done (verdict_text plan None) (plan_notes plan)
+verdict plan places (Some fault) = record {
+  status = 1;
+  out = verdict_text plan (Some fault);
+  err = plan_notes plan ++ (fault_places plan places fault ++ stale_note fault);
+}
 
 -- the certificate at a path
 abbrev pub ReadsCertificate : (List ℕ → Option (List ℕ)) → Text → Failed → Failed
     → Result Content Trouble → Type 0
 ReadsCertificate files path = ReadsAs files path (λ bytes c. certificate_by bytes ≡ c) InCertificate
 
+-- what the checker says of a plan and a certificate, with the places of the table at a path
+abbrev pub IsVerdict : (List ℕ → Option (List ℕ)) → Text → Table → Declared → Content → Ending
+    → Type 0
+IsVerdict files path table plan c ending = (places : List Place)
+    × PlacesIn files path table places × (ending ≡ verdict plan places (fault_of plan c))
+
 -- the declarations and the certificate are read, and the checker says of the two
 abbrev pub Judges : (List ℕ → Option (List ℕ)) → AskedCheck → Table × JobTable → Failed → Failed
     → Result Ending Trouble → Type 0
 Judges files a tables = AndThen (ReadsDeclared files tables a.declarations) (λ plan.
     AndThen (ReadsCertificate files a.certificate) (λ c.
-    Gives (Ok (verdict plan (fault_of plan c)))))
+    GivesSome (IsVerdict files a.table tables.0 plan c)))
 
 -- `safe` where the checker has accepted the plan, beside the notes on it, else what it says of the
 -- first rule

@@ -1,43 +1,63 @@
 -- What is answered to `judge` and to `make`: how the tables stand as they are declared.
-use Rattle.std.specs.Prelude.{◌≡◌, ℕ, Bool, true, false, List, Option, Result}
+use Rattle.std.specs.Prelude.{◌≡◌, ℕ, Bool, true, false, List, [], ◌++◌, Option, Some, None, Result}
+use Rattle.clap.specs.Words.{Text}
 use Rattle.cs_crontab.specs.Crontab.{Table}
 use Rattle.cs_anacrontab.specs.Anacrontab.{Table as JobTable}
 use Rattle.cs_decl.specs.Plan.{Declared}
 use Rattle.cs_judge.specs.Answer.{IsAnswer}
 use Rattle.cs_judge.specs.Judged.{IsJudgement}
 use Rattle.cs_judge.specs.declared.judged.Judged.{Judged}
+use Rattle.cs_judge.specs.declared.judged.Judged.TheVariants.{Safe, Unknown, Unsafe}
 use Rattle.cs_judge.specs.declared.answers.Outcome.{Outcome}
-use Rattle.cs_judge.specs.declared.answers.Outcome.TheVariants.{NoMemory, Safe, Unknown, Unsafe}
+use Rattle.cs_judge.specs.declared.answers.Outcome.TheVariants as outcome
 use Rattle.cs_judge.specs.declared.answers.Wanted.{Wanted}
 use Rattle.cs_judge.specs.declared.answers.Wanted.TheVariants.{Certificate, Compact, Verdict}
+use Rattle.cs_report.specs.Told.{told}
 use Rattle.cs_report.specs.Warning.{plan_notes}
 use Rattle.cs_args.specs.CommandLine.{AskedJudge, AskedMake}
 use Rattle.cs_io.specs.Files.{Failed}
 use Rattle.cs_files.specs.Response.{Ending}
-use Rattle.cs_files.specs.Reads.{AndThen, Answered, GivesSome, ReadsDeclared, ReadsTables}
+use Rattle.cs_files.specs.Reads.{AndThen, Answered, GivesSome, PlacesIn, ReadsDeclared, ReadsTables}
 use Rattle.cs_files.specs.Trouble.{Trouble}
+use Rattle.cs_gather.specs.declared.places.Place.{Place}
+use Rattle.cs_cli.specs.Check.{fault_places}
 
 -- the status of a call by how the plan was found
 abbrev pub outcome_status : Outcome → ℕ
-outcome_status Safe = 0
-outcome_status Unsafe = 1
-outcome_status Unknown = 2
-outcome_status NoMemory = 5
+outcome_status outcome.Safe = 0
+outcome_status outcome.Unsafe = 1
+outcome_status outcome.Unknown = 2
+outcome_status outcome.NoMemory = 5
+
+-- the places of the lines that a refusal behind `unknown` names
+abbrev pub refusal_places : Declared → List Place → Judged → List ℕ
+refusal_places plan places (Safe checked) = []
+refusal_places plan places (Unsafe script shown) = []
+refusal_places plan places (Unknown reason None) = []
+refusal_places plan places (Unknown reason (Some fault)) = fault_places plan places (told fault)
 
 -- what is known of a plan is printed, beside the notes on it, and the status is by how it was found
-pub record IsJudged (wanted : Wanted) (plan : Declared) (ending : Ending) : Type 0 where
+pub record IsJudged (wanted : Wanted) (plan : Declared) (places : List Place) (ending : Ending)
+    : Type 0 where
   pub judged : Judged
   pub known : IsJudgement plan judged
   pub found : Outcome
-  pub printed : IsAnswer wanted plan judged found ending.out
+  pub printed : IsAnswer wanted plan places judged found ending.out
   pub status : ending.status ≡ outcome_status found
-  pub err : ending.err ≡ plan_notes plan
+  pub err : ending.err ≡ plan_notes plan ++ refusal_places plan places judged
+
+-- and so with the places of the table at a path
+abbrev pub IsJudgedAt : Wanted → (List ℕ → Option (List ℕ)) → Text → Table → Declared → Ending
+    → Type 0
+IsJudgedAt wanted files path table plan ending =
+    (places : List Place) × PlacesIn files path table places × IsJudged wanted plan places ending
 
 -- the declarations are read, and the plan is judged
 abbrev pub JudgesPlan : Wanted → (List ℕ → Option (List ℕ)) → AskedJudge → Table × JobTable → Failed
     → Failed → Result Ending Trouble → Type 0
 JudgesPlan wanted files a tables =
-    AndThen (ReadsDeclared files tables a.declarations) (λ plan. GivesSome (IsJudged wanted plan))
+    AndThen (ReadsDeclared files tables a.declarations)
+    (λ plan. GivesSome (IsJudgedAt wanted files a.table tables.0 plan))
 
 -- what is answered where this is wanted: how the plan was found, or the first fault of a file, and no
 -- file is read before its own turn

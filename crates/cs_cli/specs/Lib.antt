@@ -3,3 +3,4 @@ pub mod Safe
 pub mod Answer
 pub mod Judge
 pub mod Theorem
+pub mod Loads

@@ -1,10 +1,12 @@
--- What the words of `check`, `judge` and `run` say of the bytes of their files.
-use Rattle.std.specs.Prelude.{◌≡◌, ℕ, List, Option, Some, None, Ok, ⊤}
+-- What the words of `check`, `judge`, `make` and `run` say of the bytes of their files.
+use Rattle.std.specs.Prelude.{◌≡◌, ◌⊎◌, ℕ, true, false, List, [], ◌∷◌, ◌++◌, Option, Some, None, Ok, ⊤}
 use Rattle.clap.specs.Words.{Text}
 use Rattle.cs_crontab.specs.Crontab.{Table}
 use Rattle.cs_crontab.specs.Faults.{Means}
 use Rattle.cs_anacrontab.specs.Anacrontab.{Table as JobTable, no_lines as no_jobs}
 use Rattle.cs_anacrontab.specs.Faults.{Means as MeansJobs}
+use Rattle.cs_gather.specs.Gather.{is_gathered}
+use Rattle.cs_gather.specs.declared.places.Place.{Place}
 use Rattle.cs_history.specs.Plan.{IsReached}
 use Rattle.cs_history.specs.Calm.{IsCalm}
 use Rattle.cs_history.specs.History.{History, history, IsLegal, IsInTime, IsSafe}
@@ -15,9 +17,16 @@ use Rattle.cs_decl.specs.Plan.{Declared, as_plan}
 use Rattle.cs_decl.specs.declared.entries.Entries.{Entries}
 use Rattle.cs_cert.specs.Content.{Content}
 use Rattle.cs_cert.specs.Denoted.{certificate_by}
+use Rattle.cs_theorem.specs.Faults.{Fault}
 use Rattle.cs_check.specs.Case.{fault_of, reach_for}
+use Rattle.cs_check.specs.Checked.{certificate_in, plan_in}
 use Rattle.cs_counterexample.specs.declared.shown.Shown.{Shown}
-use Rattle.cs_judge.specs.Answer.{unsafe_text}
+use Rattle.cs_maker.specs.declared.reason.Reason.{Reason}
+use Rattle.cs_judge.specs.Answer.{unknown_text, unsafe_text}
+use Rattle.cs_args.specs.CommandLine.{AskedRun}
+use Rattle.cs_files.specs.Response.{Ending}
+use Rattle.cs_cli.specs.Check.{verdict_text}
+use Rattle.cs_cli.specs.declared.answer.Order.{Order}
 
 -- the bytes of a crontab, of an anacrontab if one is given, and of declarations
 pub record Given : Type 0 where
@@ -54,7 +63,9 @@ pub record DenotesPlan (given : Given) (plan : Declared) : Type 0 where
   pub are_entries : declared_by given.declarations ≡ Ok entries
   pub joins : joined crontab anacrontab entries ≡ Ok plan
 
--- every legal history of the plan in which each run ends within its declared time is safe
+-- Every legal history of the plan in which each run ends within its declared time is safe. This is
+-- said again in the words of histories, and not by `IsHeadline`, nor the next by
+-- `IsCalmThroughout`: where one of these is loosened, the laws over this file break.
 abbrev pub IsSafePlan : Declared → Type 0
 IsSafePlan plan = (h : History) → IsLegal (as_plan plan) h → IsInTime (as_plan plan) h
     → IsSafe (as_plan plan) h
@@ -77,20 +88,64 @@ pub record IsCalmSchedule (given : Given) (certificate : List ℕ) : Type 0 wher
   pub schedule : IsSafeSchedule given certificate
   pub calm : IsCalmPlan schedule.plan schedule.content
 
--- what is given denotes a plan, which is safe
+-- an order to run is of such a plan and certificate, of a crontab that wasn't gathered, with the
+-- folder and the minutes that were asked
+pub record IsOrdered (given : Given) (certificate : List ℕ) (a : AskedRun) (order : Order) : Type 0
+  where
+    pub schedule : IsSafeSchedule given certificate
+    pub plan : plan_in order.checked ≡ schedule.plan
+    pub content : certificate_in order.checked ≡ schedule.content
+    pub own : is_gathered schedule.plan.crontab.settings ≡ false
+    pub stamps : order.stamps.now ≡ a.stamps
+    pub minutes : order.minutes ≡ a.minutes
+
+-- the crontab of such a plan was gathered, which is told on standard error alone
+pub record IsGatheredSchedule (given : Given) (certificate : List ℕ) (ending : Ending) : Type 0
+  where
+    pub schedule : IsCalmSchedule given certificate
+    pub gathered : is_gathered schedule.schedule.plan.crontab.settings ≡ true
+    pub told : (ending.status ≡ 3) × (ending.out ≡ [])
+
+-- the text is a line, of a certificate with which what is given is such a schedule
+pub record IsPrintedSchedule (given : Given) (text : List ℕ) : Type 0 where
+  pub certificate : List ℕ
+  pub printed : text ≡ certificate ++ 10 ∷ []
+  pub schedule : IsCalmSchedule given certificate
+
+-- what is given denotes a plan for which the rules accept a certificate, and it is safe and calm
 pub record IsJudgedSafe (given : Given) : Type 0 where
   pub plan : Declared
   pub is_plan : DenotesPlan given plan
+  pub content : Content
+  pub accepted : fault_of plan content ≡ None
   pub safe : IsSafePlan plan
+  pub calm : IsCalmPlan plan content
 
--- what is given denotes a plan, and the text is a line and the script of a legal history of it, in
--- which each run ends within its declared time, and which isn't safe
+-- what is given denotes a plan, and the text is a line, the places of lines, and the script of a legal
+-- history of it, in which each run ends within its declared time, and which isn't safe
 pub record IsJudgedUnsafe (given : Given) (text : List ℕ) : Type 0 where
   pub plan : Declared
   pub is_plan : DenotesPlan given plan
+  pub places : List Place
   pub script : Script
   pub shown : Shown
-  pub printed : text ≡ unsafe_text plan script shown
+  pub printed : text ≡ unsafe_text plan places script shown
   pub legal : IsLegal (as_plan plan) (history script.start script.events)
   pub in_time : IsInTime (as_plan plan) (history script.start script.events)
   pub unsafe : IsSafe (as_plan plan) (history script.start script.events) → ⊥
+
+-- behind the reason stands what `check` would print of a certificate of version 3 of the plan: the
+-- first rule that it doesn't meet
+pub record IsRefused (plan : Declared) (reason : Reason) (text : List ℕ) : Type 0 where
+  pub content : Content
+  pub compact : content.version ≡ 3
+  pub fault : Fault
+  pub first : fault_of plan content ≡ Some fault
+  pub printed : text ≡ unknown_text reason ++ verdict_text plan (Some fault)
+
+-- what is given denotes a plan, and the text is a reason, alone or with such a refusal behind it
+pub record IsJudgedUnknown (given : Given) (text : List ℕ) : Type 0 where
+  pub plan : Declared
+  pub is_plan : DenotesPlan given plan
+  pub reason : Reason
+  pub printed : (text ≡ unknown_text reason) ⊎ IsRefused plan reason text

@@ -9,15 +9,17 @@ ghost use Rattle.cs_report.specs.Warning.{plan_notes};
 ghost use Rattle.cs_args.specs.Asked.{asked_check};
 ghost use Rattle.cs_io.specs.Files.{AreReadInTurn, IsFresh, IsReadAlone};
 ghost use Rattle.cs_cli.specs.Check.{AnswersCheck, AreRead, IfAccepted, IfEnded, Judges};
-ghost use Rattle.cs_cli.specs.Check.{ReadsCertificate, answer_of, ending_of, safe_text, said, verdict};
+ghost use Rattle.cs_cli.specs.Check.{ReadsCertificate, answer_of, ending_of, fault_places, safe_text};
+ghost use Rattle.cs_cli.specs.Check.{said, stale_note, verdict};
 ghost use Rattle.cs_files.specs.RanOut.{IsWarned};
 ghost use Rattle.cs_files.specs.Response.{done};
-ghost use Rattle.cs_files.specs.Reads.{MeansIt};
+ghost use Rattle.cs_files.specs.Reads.{MeansIt, PlacesIn};
 ghost use Rattle.cs_cli.specs.Safe.{AreSafe, IsAcceptance, IsSafe};
 ghost use Rattle.cs_files.specs.Trouble.{CameTo, InCertificate, IsHonest, IsHonestOf, IsOfContent};
 ghost use Rattle.cs_files.specs.Turn.{check_paths};
 ghost use Rattle.cs_cert.specs.Denoted.{certificate_by};
 
+use crate::places::{push_fault_places, push_stale_note};
 use cs_anacrontab::Anacrontab;
 use cs_args::CheckWords;
 use cs_cert::{Certificate, MAX_CERTIFICATE, read_certificate};
@@ -25,7 +27,10 @@ use cs_check::{CheckError, CheckFault, Checked, check_parallel};
 use cs_civil::Bytes;
 use cs_crontab::Crontab;
 use cs_decl::Plan;
-use cs_files::{Fault, RanOut, Response, bytes_at, declared_plan_from, read_tables, text_behind};
+use cs_files::{
+    Fault, RanOut, Response, bytes_at, declared_plan_from, read_placed_tables, text_behind,
+};
+use cs_gather::Place;
 use cs_io::Inputs;
 use cs_report::{fault_text, plan_notes, warnings};
 use std::alloc::{AllocError, Global};
@@ -60,14 +65,35 @@ fn certificate_from<'a, I: Inputs>(
     certificate_in(alloc, bytes.as_slice())
 }
 
-/// What is answered of a rule that is broken, beside the notes on the plan.
+/// The notes on the plan and on a rule that is broken.
+fn refusal_notes(
+    alloc: Global,
+    plan: &Plan,
+    places: &[Place],
+    fault: &CheckFault,
+) -> Result<Bytes, AllocError>
+    ensures { IfOk result (λ notes. notes ≡ plan_notes plan.now
+        ++ (fault_places plan.now places.now (told fault.now) ++ stale_note (told fault.now))) }
+{
+    let mut notes = plan_notes(alloc, plan)?.into_vec();
+    push_fault_places(alloc, &mut notes, plan, places, fault)?;
+    push_stale_note(&mut notes, fault)?;
+    Ok(Bytes::from_vec(notes))
+}
+
+/// What is answered of a rule that is broken, beside the notes.
 #[tactic(auto, unfolding(crate::specs::Check::verdict_text))]
-fn refusal(alloc: Global, plan: &Plan, fault: &CheckFault) -> Result<Response, AllocError>
-    ensures { IfOk result (λ answer. answer ≡ verdict plan.now (Some (told fault.now))) }
+fn refusal(
+    alloc: Global,
+    plan: &Plan,
+    places: &[Place],
+    fault: &CheckFault,
+) -> Result<Response, AllocError>
+    ensures { IfOk result (λ answer. answer ≡ verdict plan.now places.now (Some (told fault.now))) }
 {
     let mut text = Vec::from_slice(alloc, fault_text(alloc, plan, fault)?.as_slice())?;
     text.extend_from_slice(b"\n")?;
-    Ok(Response::refused(text, plan_notes(alloc, plan)?))
+    Ok(Response::refused(text, refusal_notes(alloc, plan, places, fault)?))
 }
 
 /// What the checker rules, by as many threads as the machine has processors: the plan and the
@@ -77,10 +103,11 @@ fn ruling<R: Threads + Sync>(
     rt: &R,
     alloc: Global,
     plan: Plan,
+    places: &[Place],
     certificate: Certificate,
 ) -> Result<Result<Checked, Response>, AllocError>
-    ensures answer { IfOk result
-        (λ found. answer_of found ≡ verdict plan (fault_of plan (content certificate))) }
+    ensures answer { IfOk result (λ found.
+        answer_of found ≡ verdict plan places.now (fault_of plan (content certificate))) }
     ensures same { IfOk result (λ found. IfOk found
         (λ checked. (plan_in checked ≡ plan) × (certificate_in checked ≡ content certificate))) }
     ensures safe { IfOk result (λ found. IfOk found IsSafe) }
@@ -91,7 +118,7 @@ fn ruling<R: Threads + Sync>(
             checked.is_safe();
             Ok(Ok(checked))
         }
-        Err(CheckError::Fault(fault)) => Ok(Err(refusal(alloc, &plan, &fault)?)),
+        Err(CheckError::Fault(fault)) => Ok(Err(refusal(alloc, &plan, places, &fault)?)),
         Err(CheckError::OutOfMemory) => Err(AllocError),
     }
 }
@@ -102,15 +129,16 @@ fn ruling_on_files<'a, R: Threads + Sync, I: Inputs>(
     alloc: Global,
     inputs: &mut I,
     request: &CheckWords<'a>,
-    table: Crontab,
-    jobs: Anacrontab,
+    tables: (Crontab, Anacrontab),
+    places: &[Place],
 ) -> Result<Result<Checked, Response>, Fault<'a>>
     ensures step { IsFresh (I.whole inputs.old) (I.left inputs.old)
-        → CameTo (Judges (I.whole inputs.old) (asked_check request.now) (table, jobs)
+        → PlacesIn (I.whole inputs.old) (asked_check request.now).table tables.0 places.now
+        → CameTo (Judges (I.whole inputs.old) (asked_check request.now) tables
         (I.failed inputs.old) (I.failed inputs.new)) (result_map_both answer_of (λ e. e) result) }
     ensures read { IsFresh (I.whole inputs.old) (I.left inputs.old)
         → IfOk result (λ found. IfOk found (AreRead (I.whole inputs.old) (asked_check request.now)
-        (table, jobs) (I.failed inputs.old))) }
+        tables (I.failed inputs.old))) }
     ensures safe { IfOk result (λ found. IfOk found IsSafe) }
     ensures refused { IfOk result (λ found. IfErr found (λ answer. answer.status ≡ 1)) }
     ensures status { IfErr result (IsHonestOf (I.failed inputs.new) (I.reads inputs.new)) }
@@ -118,9 +146,10 @@ fn ruling_on_files<'a, R: Threads + Sync, I: Inputs>(
         ∷ (asked_check request.now).certificate ∷ [])
         (I.reads inputs.old) (I.reads inputs.new) }
 {
+    let (table, jobs) = tables;
     let plan = declared_plan_from(alloc, inputs, request.declarations, table, jobs)?;
     let certificate = certificate_from(alloc, inputs, request.certificate)?;
-    Ok(ruling(rt, alloc, plan, certificate)?)
+    Ok(ruling(rt, alloc, plan, places, certificate)?)
 }
 
 /// What the files of a call come to.
@@ -155,12 +184,13 @@ pub(crate) fn examine<R: Threads + Sync, I: Inputs>(
     ensures turn { AreReadInTurn (check_paths (asked_check request.now))
         (I.reads inputs.old) (I.reads inputs.new) }
 {
-    let (table, jobs) = match read_tables(alloc, inputs, request.table, request.anacrontab) {
-        Ok(tables) => tables,
+    let read = read_placed_tables(alloc, inputs, request.table, request.anacrontab);
+    let (tables, places) = match read {
+        Ok(found) => found,
         Err(fault) => return Ok(Examined::Ended(fault.response(alloc, b"".as_slice())?)),
     };
-    let warnings = warnings(alloc, &table, &jobs)?;
-    let ruling = match ruling_on_files(rt, alloc, inputs, request, table, jobs) {
+    let warnings = warnings(alloc, &tables.0, &tables.1)?;
+    let ruling = match ruling_on_files(rt, alloc, inputs, request, tables, places.as_slice()) {
         Ok(ruling) => ruling,
         Err(fault) => return Ok(Examined::Ended(fault.response_behind(alloc, warnings)?)),
     };

@@ -1,21 +1,26 @@
 //! The subcommands `judge` and `make`.
-ghost use Rattle.std.specs.Prelude.{◌≡◌, ◌≢◌, IfErr, IfOk};
+ghost use Rattle.std.specs.Prelude.{◌≡◌, ◌≢◌, ◌++◌, IfErr, IfOk};
+ghost use Rattle.cs_report.specs.Warning.{plan_notes};
 ghost use Rattle.cs_args.specs.Asked.{asked_judge, asked_make};
 ghost use Rattle.cs_io.specs.Files.{AreReadInTurn, IsFresh, IsReadAlone};
 ghost use Rattle.cs_cli.specs.Judge.{AnswersJudge, AnswersMake, AnswersWanted, IsJudged};
-ghost use Rattle.cs_cli.specs.Judge.{JudgesPlan, outcome_status, wanted_of};
+ghost use Rattle.cs_cli.specs.Judge.{JudgesPlan, outcome_status, refusal_places, wanted_of};
+ghost use Rattle.cs_files.specs.Reads.{PlacesIn};
 ghost use Rattle.cs_files.specs.RanOut.{IsWarned};
 ghost use Rattle.cs_files.specs.Response.{status_of};
 ghost use Rattle.cs_files.specs.Trouble.{CameTo, IsHonest, IsHonestOf};
 ghost use Rattle.cs_files.specs.Turn.{judge_paths};
 
+use crate::places::push_fault_places;
 use cs_anacrontab::Anacrontab;
 use cs_args::{JudgeWords, MakeWords};
+use cs_civil::Bytes;
 use cs_crontab::Crontab;
 use cs_decl::Plan;
-use cs_files::{Fault, RanOut, Response, Status, declared_plan_from, read_tables};
+use cs_files::{Fault, RanOut, Response, Status, declared_plan_from, read_placed_tables};
+use cs_gather::Place;
 use cs_io::Inputs;
-use cs_judge::{Outcome, Wanted, answer, judge};
+use cs_judge::{Judged, Outcome, Wanted, answer, judge};
 use cs_report::{plan_notes, warnings};
 use std::alloc::{AllocError, Global};
 use std::thread::Threads;
@@ -32,18 +37,36 @@ fn status_for(outcome: Outcome) -> Status
     }
 }
 
+/// The notes on a plan, and the places of the lines that a refusal names.
+fn judged_notes(
+    alloc: Global,
+    plan: &Plan,
+    places: &[Place],
+    judged: &Judged,
+) -> Result<Bytes, AllocError>
+    ensures { IfOk result
+        (λ notes. notes ≡ plan_notes plan.now ++ refusal_places plan.now places.now judged.now) }
+{
+    let mut notes = plan_notes(alloc, plan)?.into_vec();
+    if let Judged::Unknown(_, Some(refusal)) = judged {
+        push_fault_places(alloc, &mut notes, plan, places, refusal)?;
+    }
+    Ok(Bytes::from_vec(notes))
+}
+
 /// What is answered of a plan, beside the notes on it.
 fn judged<R: Threads + Sync>(
     rt: &R,
     alloc: Global,
     plan: &Plan,
+    places: &[Place],
     wanted: Wanted,
 ) -> Result<Response, AllocError>
-    ensures { IfOk result (IsJudged wanted plan.now) }
+    ensures { IfOk result (IsJudged wanted plan.now places.now) }
 {
-    let notes = plan_notes(alloc, plan)?;
     let judged = judge(rt, alloc, plan, wanted);
-    let (outcome, text) = answer(alloc, plan, wanted, &judged)?;
+    let notes = judged_notes(alloc, plan, places, &judged)?;
+    let (outcome, text) = answer(alloc, plan, places, wanted, &judged)?;
     Ok(Response::told(status_for(outcome), text, notes))
 }
 
@@ -54,19 +77,21 @@ fn told<'a, R: Threads + Sync, I: Inputs>(
     inputs: &mut I,
     request: &JudgeWords<'a>,
     wanted: Wanted,
-    table: Crontab,
-    jobs: Anacrontab,
+    tables: (Crontab, Anacrontab),
+    places: &[Place],
 ) -> Result<Response, Fault<'a>>
     ensures step { IsFresh (I.whole inputs.old) (I.left inputs.old)
-        → CameTo (JudgesPlan wanted (I.whole inputs.old) (asked_judge request.now) (table, jobs)
+        → PlacesIn (I.whole inputs.old) (asked_judge request.now).table tables.0 places.now
+        → CameTo (JudgesPlan wanted (I.whole inputs.old) (asked_judge request.now) tables
         (I.failed inputs.old) (I.failed inputs.new)) result }
     ensures status { IfErr result (IsHonestOf (I.failed inputs.new) (I.reads inputs.new)) }
     ensures done { IfOk result (λ r. r.status ≢ 6) }
     ensures alone { IsReadAlone (asked_judge request.now).declarations
         (I.reads inputs.old) (I.reads inputs.new) }
 {
+    let (table, jobs) = tables;
     let plan = declared_plan_from(alloc, inputs, request.declarations, table, jobs)?;
-    Ok(judged(rt, alloc, &plan, wanted)?)
+    Ok(judged(rt, alloc, &plan, places, wanted)?)
 }
 
 /// Answers what is wanted of the plan in the files: a verdict or a certificate.
@@ -88,12 +113,21 @@ fn answer_wanted<R: Threads + Sync, I: Inputs>(
     ensures turn { AreReadInTurn (judge_paths (asked_judge request.now))
         (I.reads inputs.old) (I.reads inputs.new) }
 {
-    let (table, jobs) = match read_tables(alloc, inputs, request.table, request.anacrontab) {
-        Ok(tables) => tables,
+    let read = read_placed_tables(alloc, inputs, request.table, request.anacrontab);
+    let (tables, places) = match read {
+        Ok(found) => found,
         Err(fault) => return Ok(fault.response(alloc, b"".as_slice())?),
     };
-    let warnings = warnings(alloc, &table, &jobs)?;
-    match told(rt, alloc, inputs, request, wanted, table, jobs) {
+    let warnings = warnings(alloc, &tables.0, &tables.1)?;
+    match told(
+        rt,
+        alloc,
+        inputs,
+        request,
+        wanted,
+        tables,
+        places.as_slice(),
+    ) {
         Ok(answer) => answer.behind(warnings),
         Err(fault) => fault.response_behind(alloc, warnings),
     }

@@ -1,18 +1,30 @@
-//! What the words of `check`, `judge` and `run` say of the bytes of their files.
-ghost use Rattle.std.specs.Prelude.{◌≡◌, ℕ, List, Option, Some};
-ghost use Rattle.cs_args.specs.CommandLine.{AskedCheck, AskedJudge, AskedRun};
+//! What the words of `check`, `judge`, `make` and `run` say of the bytes of their files, and what
+//! is judged of a certificate of version 1.
+ghost use Rattle.std.specs.Prelude.{◌≡◌, ◌≢◌, ◌≤◌, ◌↔◌, ℕ, All, List, None, Ok, Option, Some};
+ghost use Rattle.cs_args.specs.CommandLine.{AskedCheck, AskedJudge, AskedMake, AskedRun};
+ghost use Rattle.cs_cert.specs.Content.{Content};
+ghost use Rattle.cs_cert.specs.Denoted.{certificate_by};
+ghost use Rattle.cs_check.specs.Case.{fault_of};
+ghost use Rattle.cs_check.specs.Checked.{IsLengthFor};
+ghost use Rattle.cs_classes.specs.Claim.{as_certificate};
+ghost use Rattle.cs_classes.specs.Planned.{due_on};
+ghost use Rattle.cs_classes.specs.StandsFor.{claimed};
+ghost use Rattle.cs_decl.specs.Plan.{Declared, IsWhole, as_plan};
 ghost use Rattle.cs_io.specs.Files.{Failed};
 ghost use Rattle.cs_files.specs.Response.{Ending};
-ghost use Rattle.cs_cli.specs.Answer.{IsOrder};
-ghost use Rattle.cs_cli.specs.Judge.{AnswersJudge};
+ghost use Rattle.cs_theorem.specs.Accepted.{IsAccepted};
+ghost use Rattle.cs_cli.specs.Answer.{IsOfOthers, IsOrder};
+ghost use Rattle.cs_cli.specs.Judge.{AnswersJudge, AnswersMake};
+ghost use Rattle.cs_cli.specs.Check.{AnswersCheck};
 ghost use Rattle.cs_cli.specs.Safe.{IsChecked};
-ghost use Rattle.cs_cli.specs.Theorem.{Given, Hold, IsCalmSchedule, IsJudgedSafe, IsJudgedUnsafe, IsSafeSchedule};
+ghost use Rattle.cs_cli.specs.Theorem.{Given, Hold, IsCalmSchedule, IsGatheredSchedule};
+ghost use Rattle.cs_cli.specs.Theorem.{IsJudgedSafe, IsJudgedUnknown, IsJudgedUnsafe};
+ghost use Rattle.cs_cli.specs.Theorem.{IsOrdered, IsPrintedSchedule};
 ghost use Rattle.cs_cli.specs.declared.answer.Order.{Order};
 
-/// Lemma. Where `check` ends with status 0, its files denote two tables, declarations that join with
-/// them to a plan, and a certificate that the rules accept. Every legal history of that plan in
-/// which each run ends within its declared time is safe, and each minute is calm.
-#[tactic(auto, using(crate::proofs::Schedules::checked_schedule))]
+/// Lemma. Where `check` ends with status 0, its files denote two tables, declarations that join
+/// with them to a plan, and a certificate that the rules accept. Every legal history of that plan
+/// in which each run ends within its declared time is safe, and each minute is calm.
 pub fn what_check_says()
     ensures { (files : List ℕ → Option (List ℕ)) (a : AskedCheck) (before after : Failed)
         (ending : Ending) (given : Given) (certificate : List ℕ)
@@ -22,19 +34,34 @@ pub fn what_check_says()
         → IsCalmSchedule given certificate }
 {}
 
-/// Lemma. An order to run is of such a plan, with such a certificate.
-#[tactic(auto, using(crate::proofs::Schedules::ordered_schedule))]
+/// Lemma. An order to run is of such a plan, with such a certificate, and `check` would end with
+/// status 0 and warn of the same. Where `run` refuses a crontab since it was gathered, the plan is
+/// such a one too, and `check` would end with status 0.
 pub fn what_an_order_says()
-    ensures { (files : List ℕ → Option (List ℕ)) (a : AskedRun) (before after : Failed)
+    ensures order { (files : List ℕ → Option (List ℕ)) (a : AskedRun) (before after : Failed)
         (order : Order) (given : Given) (certificate : List ℕ)
         → Hold files a.check.table a.check.anacrontab a.check.declarations given
         → files a.check.certificate ≡ Some certificate
-        → IsOrder a files before after order → IsSafeSchedule given certificate }
+        → IsOrder a files before after order → IsOrdered given certificate a order }
+    ensures order_checked { (files : List ℕ → Option (List ℕ)) (a : AskedRun)
+        (before after : Failed) (order : Order) → IsOrder a files before after order
+        → (answer : Ending) × AnswersCheck a.check files before after answer
+        × (answer.status ≡ 0) × (answer.err ≡ order.warnings) }
+    ensures gathered { (files : List ℕ → Option (List ℕ)) (a : AskedRun) (before after : Failed)
+        (ending : Ending) (given : Given) (certificate : List ℕ)
+        → Hold files a.check.table a.check.anacrontab a.check.declarations given
+        → files a.check.certificate ≡ Some certificate
+        → IsOfOthers a files before after ending → IsGatheredSchedule given certificate ending }
+    ensures gathered_checked { (files : List ℕ → Option (List ℕ)) (a : AskedRun)
+        (before after : Failed) (ending : Ending) → IsOfOthers a files before after ending
+        → (answer : Ending) × AnswersCheck a.check files before after answer
+        × (answer.status ≡ 0) }
 {}
 
-/// Lemma. Where `judge` ends with status 0, every legal history in time of the plan that its files
-/// denote is safe; where it ends with status 1, it prints the script of one that isn't.
-#[tactic(auto, using(crate::proofs::Schedules::judged_safe, crate::proofs::Schedules::judged_unsafe))]
+/// Lemma. Where `judge` ends with status 0, the rules accept a certificate for the plan that its
+/// files denote: every legal history in time is safe, and each minute is calm. Where it ends with
+/// status 1, it prints the script of a history that isn't safe; with 2, a reason, and perhaps the
+/// first rule that a certificate doesn't meet.
 pub fn what_judge_says()
     ensures safe { (files : List ℕ → Option (List ℕ)) (a : AskedJudge) (before after : Failed)
         (ending : Ending) (given : Given)
@@ -45,4 +72,39 @@ pub fn what_judge_says()
         → Hold files a.table a.anacrontab a.declarations given
         → AnswersJudge a files before after ending → ending.status ≡ 1
         → IsJudgedUnsafe given ending.out }
+    ensures unknown { (files : List ℕ → Option (List ℕ)) (a : AskedJudge) (before after : Failed)
+        (ending : Ending) (given : Given)
+        → Hold files a.table a.anacrontab a.declarations given
+        → AnswersJudge a files before after ending → ending.status ≡ 2
+        → IsJudgedUnknown given ending.out }
+{}
+
+/// Lemma. Where `make` ends with status 0, it prints a certificate that the rules accept for the
+/// plan that its files denote, which is safe and calm; where it ends with status 1, the script of
+/// a history that isn't safe.
+pub fn what_make_says()
+    ensures safe { (files : List ℕ → Option (List ℕ)) (a : AskedMake) (before after : Failed)
+        (ending : Ending) (given : Given)
+        → Hold files a.judge.table a.judge.anacrontab a.judge.declarations given
+        → AnswersMake a files before after ending → ending.status ≡ 0
+        → IsPrintedSchedule given ending.out }
+    ensures broken { (files : List ℕ → Option (List ℕ)) (a : AskedMake) (before after : Failed)
+        (ending : Ending) (given : Given)
+        → Hold files a.judge.table a.judge.anacrontab a.judge.declarations given
+        → AnswersMake a files before after ending → ending.status ≡ 1
+        → IsJudgedUnsafe given ending.out }
+{}
+
+/// Lemma. A certificate that lists its stretches is judged by what it says. Where no job's `max` is
+/// above 1,440, a stretch has two days; so one of version 1 is accepted exactly if the eight rules
+/// hold of it over pairs of successive days.
+pub fn what_version_1_says()
+    ensures itself { (plan : Declared) (c : Content) → c.version ≢ 3 → claimed plan c ≡ c }
+    ensures pairs { (plan : Declared) (bytes : List ℕ) (c : Content) → IsWhole plan
+        → All (λ job. job.max ≤ 1440) plan.jobs → certificate_by bytes ≡ Ok c → c.version ≡ 1
+        → IsLengthFor plan c 2 }
+    ensures accepted { (plan : Declared) (bytes : List ℕ) (c : Content) → IsWhole plan
+        → All (λ job. job.max ≤ 1440) plan.jobs → certificate_by bytes ≡ Ok c → c.version ≡ 1
+        → (fault_of plan c ≡ None)
+        ↔ IsAccepted (as_plan plan) (due_on plan) (as_certificate c) 2 }
 {}

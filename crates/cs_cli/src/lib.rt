@@ -5,10 +5,15 @@ mod answer;
 mod check;
 mod judge;
 mod laws;
+mod loads;
 mod order;
+mod places;
 
 pub use answer::{Answer, Order};
 pub use check::answer_check;
 pub use judge::{answer_judge, answer_make};
-pub use laws::{what_an_order_says, what_check_says, what_judge_says};
+pub use laws::{
+    what_an_order_says, what_check_says, what_judge_says, what_make_says, what_version_1_says,
+};
+pub use loads::what_a_minute_needs;
 pub use order::answer_run;

@@ -11,6 +11,7 @@ use Rattle.cs_decl.specs.Plan.{Declared, crons}
 use Rattle.cs_history.specs.declared.run.Run.{Run}
 use Rattle.cs_device.specs.Asked.{Asked, asked}
 use Rattle.cs_device.specs.declared.runner.Outcome.{Outcome}
+use Rattle.cs_daemon.proofs.Turning.{one_more}
 use Rattle.cs_daemon.specs.Commands.{AreSet, CarriesOut, CarriesOutAll, IsOfCommand, IsOfJob, RunsJob}
 
 -- an item that is lent stands at its index
@@ -71,11 +72,6 @@ module _ {W E : Type 0} (runs : W → Asked → Outcome → W → Type 0) (d : D
 -- ---- one after the other
 
 module _ {W : Type 0} (runs : W → Asked → Outcome → W → Type 0) (d : Declared) where
-  -- one more
-  pub one_more : (es : List (Run × Outcome)) (run : Run) (outcome : Outcome) (old mid new : W) → CarriesOutAll runs d es old mid → CarriesOut runs d run mid outcome new → CarriesOutAll runs d (es ++ (run, outcome) ∷ []) old new
-  one_more [] run outcome old mid new all one = (new, subst (λ (w : W). CarriesOut runs d run w outcome new) all one, refl)
-  one_more (e ∷ es) run outcome old mid new all one = (all.0, all.1, one_more es run outcome all.0 mid new all.2 one)
-
   -- runs that are carried out, at least as many as steps are made, and then one more of both
   pub carried_on : (share mid_share new_share : ℕ) (run : Run) (outcome : Outcome) (old mid new : W) → ((es : List (Run × Outcome)) × CarriesOutAll runs d es old mid × (mid_share ≤ share + length es))
       → CarriesOut runs d run mid outcome new → new_share ≤ mid_share + 1
@@ -83,4 +79,4 @@ module _ {W : Type 0} (runs : W → Asked → Outcome → W → Type 0) (d : Dec
   carried_on share mid_share new_share run outcome old mid new so one step =
       let last : List (Run × Outcome) = (run, outcome) ∷ [] in
       let longer = length-append so.0 last in
-      (so.0 ++ last, one_more so.0 run outcome old mid new so.1 one, omega (arith, so.2, step, longer))
+      (so.0 ++ last, one_more (λ (w : W) (e : Run × Outcome) (v : W). CarriesOut runs d e.0 w e.1 v) so.0 (run, outcome) old mid new so.1 one, omega (arith, so.2, step, longer))

@@ -2,7 +2,8 @@
 use Rattle.std.proofs.Common.{◌≡◌, ◌≤◌, List, [], ◌∷◌, ◌++◌, length, length-append, Some, None, sym, ap, ◌∙◌, subst, append_assoc, append-nil, arith, inl, inr}
 use Rattle.cs_history.specs.declared.run.Run.{Run}
 use Rattle.cs_daemon.specs.Starts.{Desk, IsCut, IsTaken, empty, starts_in, untaken, with_entries}
-use Rattle.cs_daemon.specs.Deeds.{AreHandedOut, Deed, DoesAll, Enters, Asks, Cuts, got, started}
+use Rattle.cs_daemon.specs.Deeds.{AreHandedOut, Deed, Does, Enters, Asks, Cuts, got, started}
+use Rattle.cs_daemon.specs.InTurn.{InTurn}
 use Rattle.cs_daemon.proofs.Taking.{untaken_more}
 
 -- the place is one of the journal
@@ -13,7 +14,7 @@ entered : (d n : Desk) (more : List _) → n ≡ with_entries more d → IsIn d 
 entered d n more e place = subst IsIn (sym e) (let l = length-append d.journal more in omega (arith, l, place))
 
 -- from any desk on
-from : (deeds : List Deed) (d last : Desk) → IsIn d → DoesAll deeds d last → untaken d ++ started deeds ≡ got deeds ++ untaken last
+from : (deeds : List Deed) (d last : Desk) → IsIn d → InTurn Does deeds d last → untaken d ++ started deeds ≡ got deeds ++ untaken last
 from [] d last place done = append-nil (untaken d) ∙ ap untaken (sym done)
 from (Enters more ∷ deeds) d last place done =
     let n = done.0 in

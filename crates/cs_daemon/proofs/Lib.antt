@@ -3,6 +3,8 @@ pub mod Causing
 pub mod Ending
 pub mod Handing
 pub mod Naming
+pub mod Shelving
 pub mod Storing
 pub mod Taking
 pub mod Ticking
+pub mod Turning

@@ -1,28 +1,24 @@
 -- Stamps that are read and written one after the other.
-use Rattle.std.proofs.Common.{◌≡◌, ◌<◌, ◌≤◌, ℕ, suc, ◌+◌, Bool, List, [], ◌∷◌, ◌++◌, length, map, take, get_or, fold, Option, Some, None, refl, sym, ap, ◌∙◌, subst, append-nil, arith}
+use Rattle.std.proofs.Common.{◌≡◌, ◌≢◌, ◌<◌, ◌≤◌, ℕ, suc, ◌+◌, Bool, List, [], ◌∷◌, ◌++◌, length, map, take, get_or, fold, Option, Some, None, refl, sym, ap, ◌∙◌, subst, append-nil, arith}
 use Rattle.std.proofs.lemmas.List.{get_or_default, map-append, take_all, take_more}
 use Rattle.std.proofs.lemmas.List.Concat.{flat_map-append}
 use Rattle.cs_anacrontab.specs.Anacrontab.{JobLine}
-use Rattle.std.specs.Prelude.{IfSome}
+use Rattle.std.proofs.lemmas.List.Sums.{fold_push}
+use Rattle.std.specs.Prelude.{IfSome, MatchOption}
 use Rattle.cs_core.specs.Standing.{Standing}
 use Rattle.cs_decl.specs.Plan.{Declared, no_line}
+use Rattle.cs_history.specs.Journal.{told}
 use Rattle.cs_history.specs.Lists.{below}
+use Rattle.cs_history.specs.Step.{State}
 use Rattle.cs_device.specs.declared.store.Stamp.{Stamp}
 use Rattle.cs_keep.specs.Closed.{keeping_in}
+use Rattle.cs_keep.specs.Keeping.{IsKept, Keeping}
 use Rattle.cs_keep.specs.declared.kept.Kept.{Kept}
-use Rattle.cs_daemon.specs.Stamps.{AreKept, AreRead, AreWritten, HaveBeenWritten, ReadsAll, WritesAll, Written, day_in, identifier_at, lacked, lacking, lacks, stamp_at, with_written}
-
--- a fold over one element more
-fold_push : {A B : Type 0} (f : A → B → A) (a : A) (xs : List B) (x : B) → fold f a (xs ++ x ∷ []) ≡ f (fold f a xs) x
-fold_push f a [] x = refl
-fold_push f a (y ∷ ys) x = fold_push f (f a y) ys x
+use Rattle.cs_daemon.specs.InTurn.{InTurn}
+use Rattle.cs_daemon.proofs.Turning.{one_more}
+use Rattle.cs_daemon.specs.Stamps.{AreKept, AreLeft, AreRead, AreWritten, HaveBeenWritten, IsOnlyRead, WritesNext, WritesOne, Written, day_in, identifier_at, lacked, lacking, lacks, stamp_at, with_written}
 
 -- ---- reading
-
-module _ {S : Type 0} (reads : S → List ℕ → Stamp → S → Type 0) where
-  reads_more : (rs : List (List ℕ × Stamp)) (r : List ℕ × Stamp) (old mid new : S) → ReadsAll reads rs old mid → reads mid r.0 r.1 new → ReadsAll reads (rs ++ r ∷ []) old new
-  reads_more [] r old mid new all one = (new, subst (λ (s : S). reads s r.0 r.1 new) all one, refl)
-  reads_more (x ∷ rs) r old mid new all one = (all.0, all.1, reads_more rs r all.0 mid new all.2 one)
 
 -- nothing is read yet
 pub read_none : {S : Type 0} (reads : S → List ℕ → Stamp → S → Type 0) (lines : List JobLine) (s : S) → AreRead reads (take 0 lines) s [] s
@@ -32,7 +28,7 @@ read_none reads lines s = record { answers = []; identifiers = refl; read = refl
 pub read_one : {S : Type 0} (reads : S → List ℕ → Stamp → S → Type 0) (lines : List JobLine) (job : ℕ) (d : JobLine) (old mid new : S) (known : List (Option ℕ)) (answer : Stamp)
     → job < length lines → AreRead reads (take job lines) old known mid → reads mid (get_or lines job d).identifier answer new
     → AreRead reads (take (job + 1) lines) old (known ++ day_in answer ∷ []) new
-read_one reads lines job d old mid new known answer less so one =
+read_one {S = S} reads lines job d old mid new known answer less so one =
     let id : List ℕ = (get_or lines job d).identifier in
     record {
       answers = so.answers ++ (id, answer) ∷ [];
@@ -41,7 +37,7 @@ read_one reads lines job d old mid new known answer less so one =
           ∙ ap (λ (ids : List (List ℕ)). ids ++ id ∷ []) so.identifiers
           ∙ sym (map-append (λ (l : JobLine). l.identifier) (take job lines) (get_or lines job d ∷ []))
           ∙ ap (λ (ls : List JobLine). map (λ l. l.identifier) ls) (sym (take_more lines job d less));
-      read = reads_more reads so.answers (id, answer) old mid new so.read one;
+      read = one_more (λ (s : S) (r : List ℕ × Stamp) (t : S). reads s r.0 r.1 t) so.answers (id, answer) old mid new so.read one;
       said =
           ap (λ (k : List (Option ℕ)). k ++ day_in answer ∷ []) so.said
           ∙ sym (map-append (λ (r : List ℕ × Stamp). day_in r.1) so.answers ((id, answer) ∷ []));
@@ -53,29 +49,26 @@ read_all reads lines job old new known whole so = subst (λ (ls : List JobLine).
 
 -- ---- writing
 
-module _ {S : Type 0} (writes : S → List ℕ → ℕ → Bool → S → Type 0) (lines : List JobLine) where
-  writes_more : (ws : List Written) (w : Written) (old mid new : S) → WritesAll writes lines ws old mid → writes mid (identifier_at lines w.job) w.day w.done new → WritesAll writes lines (ws ++ w ∷ []) old new
-  writes_more [] w old mid new all one = (new, subst (λ (s : S). writes s (identifier_at lines w.job) w.day w.done new) all one, refl)
-  writes_more (x ∷ ws) w old mid new all one = (all.0, all.1, writes_more ws w all.0 mid new all.2 one)
-
 -- what was written for the jobs below one
 pub record AreWrittenBelow {S : Type 0} (writes : S → List ℕ → ℕ → Bool → S → Type 0) (lines : List JobLine) (stamps known : List (Option ℕ)) (job : ℕ) (old : S) (then : List (Option ℕ)) (new : S) : Type 0 where
   pub log : List Written
   pub which : map (λ w. (w.job, w.day)) log ≡ lacking (below job) known stamps
-  pub written : WritesAll writes lines log old new
+  pub written : InTurn (WritesOne writes lines) log old new
   pub noted : then ≡ fold with_written known log
 
 pub write_none : {S : Type 0} (writes : S → List ℕ → ℕ → Bool → S → Type 0) (lines : List JobLine) (stamps known : List (Option ℕ)) (s : S) → AreWrittenBelow writes lines stamps known 0 s known s
 write_none writes lines stamps known s = record { log = []; which = refl; written = refl; noted = refl }
 
 -- the next job
+pub lacking_next : (job : ℕ) (known stamps : List (Option ℕ)) → lacking (below (suc job)) known stamps ≡ lacking (below job) known stamps ++ lacks job (lacked (stamp_at known job) (stamp_at stamps job))
+lacking_next job known stamps =
+    let f : ℕ → List (ℕ × ℕ) = λ j. lacks j (lacked (stamp_at known j) (stamp_at stamps j)) in
+    flat_map-append f (below job) (job ∷ []) ∙ ap (λ (l : List (ℕ × ℕ)). lacking (below job) known stamps ++ l) (append-nil (f job))
+
 lacking_more : (job : ℕ) (known stamps : List (Option ℕ)) → lacking (below (job + 1)) known stamps ≡ lacking (below job) known stamps ++ lacks job (lacked (stamp_at known job) (stamp_at stamps job))
 lacking_more job known stamps =
-    let f : ℕ → List (ℕ × ℕ) = λ j. lacks j (lacked (stamp_at known j) (stamp_at stamps j)) in
     let e : job + 1 ≡ suc job = omega arith in
-    ap (λ (n : ℕ). lacking (below n) known stamps) e
-    ∙ flat_map-append f (below job) (job ∷ [])
-    ∙ ap (λ (l : List (ℕ × ℕ)). lacking (below job) known stamps ++ l) (append-nil (f job))
+    ap (λ (n : ℕ). lacking (below n) known stamps) e ∙ lacking_next job known stamps
 
 pub write_not : {S : Type 0} (writes : S → List ℕ → ℕ → Bool → S → Type 0) (lines : List JobLine) (stamps known then : List (Option ℕ)) (job : ℕ) (old new : S)
     → AreWrittenBelow writes lines stamps known job old then new → lacked (stamp_at known job) (stamp_at stamps job) ≡ None
@@ -99,7 +92,7 @@ write_one writes lines stamps known then job day done old mid new so some one =
           map-append (λ (w : Written). (w.job, w.day)) so.log (w ∷ [])
           ∙ ap (λ (l : List (ℕ × ℕ)). l ++ (job, day) ∷ []) so.which
           ∙ sym (lacking_more job known stamps ∙ ap (λ (o : Option ℕ). lacking (below job) known stamps ++ lacks job o) some);
-      written = writes_more writes lines so.log w old mid new so.written one;
+      written = one_more (WritesOne writes lines) so.log w old mid new so.written one;
       noted = ap (λ (k : List (Option ℕ)). with_written k w) so.noted ∙ sym (fold_push with_written known so.log w);
     }
 
@@ -129,36 +122,33 @@ write_next writes lines stamps known then more job day done line id old mid new 
 
 -- ---- over several writes
 
-module _ {S : Type 0} (writes : S → List ℕ → ℕ → Bool → S → Type 0) (lines : List JobLine) where
-  writes_join : (xs ys : List Written) (old mid new : S) → WritesAll writes lines xs old mid → WritesAll writes lines ys mid new → WritesAll writes lines (xs ++ ys) old new
-  writes_join [] ys old mid new a b = subst (λ (s : S). WritesAll writes lines ys s new) a b
-  writes_join (x ∷ xs) ys old mid new a b = (a.0, a.1, writes_join xs ys a.0 mid new a.2 b)
+-- a kept journal of the plan leaves its stamps
+pub left_by : (k : Keeping) (d : Declared) (stamps : List (Option ℕ)) → IsKept k → k.core.plan ≡ d → stamps ≡ k.core.state.stamps → AreLeft d stamps
+left_by k d stamps kept plan is =
+    subst (λ (d : Declared). AreLeft d stamps) plan (record { by = told k.base k.journal; legal = kept.legal; same = is ∙ ap (λ (s : State). s.stamps) kept.leaves })
 
-  fold_join : (known : List (Option ℕ)) (xs ys : List Written) → fold with_written known (xs ++ ys) ≡ fold with_written (fold with_written known xs) ys
-  fold_join known [] ys = refl
-  fold_join known (x ∷ xs) ys = fold_join (with_written known x) xs ys
+pub none_written : {S : Type 0} (writes : S → List ℕ → ℕ → Bool → S → Type 0) (d : Declared) (known : List (Option ℕ)) (s : S) → HaveBeenWritten writes d known s known s
+none_written writes d known s = record { lists = []; written = refl }
 
-  pub none_written : (known : List (Option ℕ)) (s : S) → HaveBeenWritten writes lines known s known s
-  none_written known s = record { log = []; written = refl; noted = refl }
-
-  pub then_written : (known mid_known new_known stamps : List (Option ℕ)) (old mid new : S) → HaveBeenWritten writes lines known old mid_known mid → AreWritten writes lines stamps mid_known mid new_known new → HaveBeenWritten writes lines known old new_known new
-  then_written known mid_known new_known stamps old mid new a b =
-      record {
-        log = a.log ++ b.log;
-        written = writes_join a.log b.log old mid new a.written b.written;
-        noted = b.noted ∙ ap (λ (k : List (Option ℕ)). fold with_written k b.log) a.noted ∙ sym (fold_join known a.log b.log);
-      }
+pub then_written : {S : Type 0} (writes : S → List ℕ → ℕ → Bool → S → Type 0) (d : Declared) (known mid_known new_known stamps : List (Option ℕ)) (old mid new : S)
+    → HaveBeenWritten writes d known old mid_known mid → AreLeft d stamps → AreWritten writes d.anacrontab.lines stamps mid_known mid new_known new
+    → HaveBeenWritten writes d known old new_known new
+then_written writes d known mid_known new_known stamps old mid new so left one =
+    record {
+      lists = so.lists ++ stamps ∷ [];
+      written = one_more (WritesNext writes d) so.lists stamps (known, old) (mid_known, mid) (new_known, new) so.written (left, one);
+    }
 
 -- ---- over the life of a daemon
 
 -- stamps that are read, then written, and written at the end are all that is done for a keep
 pub all_kept : {S : Type 0} (reads : S → List ℕ → Stamp → S → Type 0) (writes : S → List ℕ → ℕ → Bool → S → Type 0) (d at_first at_work at_last : Declared) (core : Standing) (read known : List (Option ℕ)) (old begun late new : S) (keep : Option Kept)
-    → at_first ≡ d → at_work ≡ d → at_last ≡ d → IfSome keep (λ k. (keeping_in k).core ≡ core)
-    → AreRead reads at_first.anacrontab.lines old read begun → HaveBeenWritten writes at_work.anacrontab.lines read begun known late
+    → at_first ≡ d → at_work ≡ d → at_last ≡ d → keep ≢ None → IfSome keep (λ k. (keeping_in k).core ≡ core)
+    → AreRead reads at_first.anacrontab.lines old read begun → HaveBeenWritten writes at_work read begun known late
     → (known_then : List (Option ℕ)) × AreWritten writes at_last.anacrontab.lines core.state.stamps known late known_then new
-    → IfSome keep (λ k. AreKept reads writes d.anacrontab.lines (keeping_in k).core.state.stamps old new)
-all_kept reads writes d at_first at_work at_last core read known old begun late new None f w l is first between last = tt
-all_kept reads writes d at_first at_work at_last core read known old begun late new (Some k) f w l is first between last =
+    → MatchOption keep (IsOnlyRead reads d.anacrontab.lines old new) (λ k. AreKept reads writes d (keeping_in k).core.state.stamps old new)
+all_kept reads writes d at_first at_work at_last core read known old begun late new None f w l some is first between last = absurd (some refl)
+all_kept reads writes d at_first at_work at_last core read known old begun late new (Some k) f w l some is first between last =
     record {
       read = read;
       known = known;
@@ -166,7 +156,7 @@ all_kept reads writes d at_first at_work at_last core read known old begun late 
       begun = begun;
       late = late;
       first = subst (λ (x : Declared). AreRead reads x.anacrontab.lines old read begun) f first;
-      between = subst (λ (x : Declared). HaveBeenWritten writes x.anacrontab.lines read begun known late) w between;
+      between = subst (λ (x : Declared). HaveBeenWritten writes x read begun known late) w between;
       last =
           subst (λ (c : Standing). AreWritten writes d.anacrontab.lines c.state.stamps known late last.0 new) (sym is)
           (subst (λ (x : Declared). AreWritten writes x.anacrontab.lines core.state.stamps known late last.0 new) l last.1);

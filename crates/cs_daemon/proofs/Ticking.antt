@@ -1,6 +1,7 @@
 -- What a tick adds to a journal.
 use Rattle.std.proofs.Common.{◌≡◌, ◌≢◌, ◌⊎◌, ◌<◌, ◌≤◌, ℕ, zero, suc, ◌+◌, ◌==◌, Bool, true, false, cond, if◌then◌else◌, List, [], ◌∷◌, ◌++◌, Option, None, Some, filter, refl, sym, ap, ◌∙◌, subst, append_assoc, append-nil, length, length-append, arith, rules, inl, inr, true≢false, Result, Ok, Err}
-use Rattle.std.specs.Prelude.{IfErr, IfSome}
+use Rattle.std.proofs.lemmas.List.{map-append}
+use Rattle.std.specs.Prelude.{IfErr, IfSome, OnOk}
 use Rattle.std.specs.List.{AllByRecursion}
 use Rattle.cs_history.specs.Plan.{Plan}
 use Rattle.cs_history.specs.Step.{State, after}
@@ -9,12 +10,15 @@ use Rattle.cs_history.specs.declared.event.Event.{Event}
 use Rattle.cs_history.specs.declared.event.Event.TheVariants.{Minute, Begin, Got, Catch, End, Down, Up}
 use Rattle.cs_history.specs.declared.reply.Reply.{Reply}
 use Rattle.cs_core.specs.Choices.{choices}
-use Rattle.cs_keep.specs.Keeping.{Keeping, is_end, plan_of, reply_in}
+use Rattle.cs_core.specs.Standing.{Standing}
+use Rattle.cs_keep.specs.Keeping.{Keeping, cut_here, is_end, plan_of, refusal_in, reply_in}
 use Rattle.cs_keep.specs.Seat.{Place}
-use Rattle.cs_keep.specs.Tick.{is_of, first, next_of, chosen, choosing, most, after_all, then_from, settling_catching, coming, advancing, moving_on, skipping, tick_events, stepped, stepped_by, Ticks}
+use Rattle.cs_keep.specs.Tick.{is_of, first, next_of, chosen, choosing, most, after_all, then_from, settling_catching, coming, advancing, moving_on, skipping, tick_events, stepped, stepped_by, IsForward, IsFullAt, Ticks}
 use Rattle.cs_keep.specs.declared.tick.TickFault.{TickFault}
 use Rattle.cs_keep.specs.declared.tick.TickFault.TheVariants.{ClockBack, HistoryFull, OutOfMemory}
-use Rattle.cs_daemon.specs.Starts.{Adds, Desk, HaveNoEnd, IsCut, Rounds, desk}
+use Rattle.cs_keep.proofs.Ticks.{ticks_now}
+use Rattle.cs_daemon.specs.Starts.{Desk, HaveNoEnd, IsCut, IsRound, Rounds, desk, with_entries}
+use Rattle.cs_daemon.specs.Ticked.{IsFull, Wrote, events_of}
 
 -- none of these events is an end
 abbrev pub NoEnds : List Event → Type 0
@@ -128,15 +132,23 @@ grown t u last m (Err HistoryFull) h =
 grown t u last m (Err OutOfMemory) h =
     made t u h.1.made (front h.1.made h.1.rest (subst NoEnds h.1.whole (tick_ends (plan_of t.0) m t.0.core.state))) h.1.left
 
--- a tick adds entries that no end is among
-pub ticks_add : (t u : Keeping × Place) (last m : ℕ) (r : Result (Unit {0}) TickFault) → Ticks t last m r u → (next : ℕ) → Adds (desk t.0 next) (desk u.0 next)
-ticks_add t u last m r h next =
-    let g = grown t u last m r h in
-    (g.more, g.no_end, ap (λ (j : List (Event × Reply)). record { journal = j; next = next }) g.journal)
+-- a round adds entries that no end is among, and may cut the journal
+pub rounds : (old new : Keeping × Place) (from last m to : ℕ) (r : Result (Unit {0}) TickFault) → IsRound old from last m r new to → Rounds (desk old.0 from) (desk new.0 to)
+rounds old new from last m to r h =
+    let g = grown old (h.between, new.1) last m r h.ticks in
+    let added : desk h.between from ≡ with_entries g.more (desk old.0 from) = ap (λ (j : List (Event × Reply)). record { journal = j; next = from }) g.journal in
+    (g.more, g.no_end, subst (λ (d : Desk). IsCut d (desk new.0 to)) added h.cut)
 
--- and with a cut it is a round
-pub rounds : (old mid new : Desk) → Adds old mid → IsCut mid new → Rounds old new
-rounds old mid new add cut = (add.0, add.1, subst (λ (d : Desk). IsCut d new) add.2 cut)
+-- a cut leaves the core
+pub same_core : (k n : Keeping) → (n ≡ cut_here k) ⊎ (n ≡ k) → n.core ≡ k.core
+same_core k n (inl cut) = ap (λ (x : Keeping). x.core) cut
+same_core k n (inr same) = ap (λ (x : Keeping). x.core) same
+
+-- so a round that isn't refused leads to its minute
+pub arrives : (old new : Keeping × Place) (from last m to : ℕ) (r : Result (Unit {0}) TickFault) → IsRound old from last m r new to → OnOk r (new.0.core.state.now ≡ m)
+arrives old new from last m to (Ok v) h =
+    ap (λ (x : Standing). x.state.now) (same_core h.between new.0 h.keep) ∙ ticks_now old (h.between, new.1) last m (Ok v) h.ticks
+arrives old new from last m to (Err f) h = tt
 
 -- so the place in the journal stays one
 pub ticks_place : (t u : Keeping × Place) (last m : ℕ) (r : Result (Unit {0}) TickFault) → Ticks t last m r u → (next : ℕ) → next ≤ length t.0.journal → next ≤ length u.0.journal
@@ -163,3 +175,51 @@ ticks_back t u last m (Err f) h same = go f h
     go ClockBack back is = before back.0
     go HistoryFull full is = absurd (true≢false (sym (ap is_back is)))
     go OutOfMemory full is = absurd (true≢false (sym (ap is_back is)))
+
+-- ---- what a tick leaves
+
+-- what steps add to the events of a journal, and to a share
+record Written (t u : Keeping × Place) (es : List Event) : Type 0 where
+  pub journal : events_of u.0 ≡ events_of t.0 ++ es
+  pub counted : u.1.share ≡ t.1.share + length es
+
+written_by : (t : Keeping × Place) (es : List Event) → Written t (stepped_by t es) es
+written_by t [] = record { journal = sym (append-nil (events_of t.0)); counted = omega arith }
+written_by t (e ∷ es) =
+    let r = written_by (stepped t e) es in
+    let one : events_of (stepped t e).0 ≡ events_of t.0 ++ e ∷ [] = map-append (λ (x : Event × Reply). x.0) t.0.journal ((e, reply_in t.0 e) ∷ []) in
+    record {
+      journal = r.journal ∙ ap (λ (l : List Event). l ++ es) one ∙ append_assoc (events_of t.0) (e ∷ []) es;
+      counted = omega (arith, r.counted);
+    }
+
+wrote : (t u : Keeping × Place) (last m : ℕ) (came left : List Event) → IsForward t.0.core.state last m → tick_events m (plan_of t.0) t.0.core.state ≡ came ++ left → u ≡ stepped_by t came
+    → Wrote t last m u came left
+wrote t u last m came left forward whole is =
+    let w : Written t u came = subst (λ (x : Keeping × Place). Written t x came) (sym is) (written_by t came) in
+    record { present = forward.0; forward = forward.1; whole = whole; journal = w.journal; counted = w.counted }
+
+pub all_written : (t u : Keeping × Place) (last m : ℕ) (v : Unit {0}) → Ticks t last m (Ok v) u → Wrote t last m u (tick_events m (plan_of t.0) t.0.core.state) []
+all_written t u last m v h =
+    let es = tick_events m (plan_of t.0) t.0.core.state in
+    wrote t u last m es [] h.0 (sym (append-nil es)) h.1
+
+pub turned_back : (t u : Keeping × Place) (last m : ℕ) → Ticks t last m (Err ClockBack) u → (u ≡ t) × (t.0.core.state.now ≡ last → m < last)
+turned_back t u last m h = (h.1, λ same. ticks_back t u last m (Err ClockBack) h same refl)
+
+pub ran_full : (t u : Keeping × Place) (last m : ℕ) → Ticks t last m (Err HistoryFull) u → IsFull t last m u
+ran_full t u last m h = go h.1.rest h.1.whole h.1.why
+  where
+    go : (rest : List Event) → tick_events m (plan_of t.0) t.0.core.state ≡ h.1.made ++ rest → IsFullAt (stepped_by t h.1.made).0 rest → IsFull t last m u
+    go [] whole full = absurd full
+    go (e ∷ es) whole full =
+        record {
+          came = h.1.made;
+          next = e;
+          later = es;
+          wrote = wrote t u last m h.1.made (e ∷ es) h.0 whole h.1.left;
+          refused = ap (λ (x : Keeping × Place). refusal_in x.0 e) h.1.left ∙ full;
+        }
+
+pub ran_out : (t u : Keeping × Place) (last m : ℕ) → Ticks t last m (Err OutOfMemory) u → (came left : List Event) × Wrote t last m u came left
+ran_out t u last m h = (h.1.made, h.1.rest, wrote t u last m h.1.made h.1.rest h.0 h.1.whole h.1.left)

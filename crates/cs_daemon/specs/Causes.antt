@@ -1,10 +1,29 @@
 -- Why a daemon ends.
-use Rattle.std.specs.Prelude.{◌≡◌, ◌⊎◌, ◌<◌, ℕ, Option, Some}
+use Rattle.std.specs.Prelude.{◌≡◌, ◌⊎◌, ◌<◌, ◌==◌, ℕ, Option, Some, Result, Ok, Err, if◌then◌else◌}
+use Rattle.cs_civil.specs.Calendar.{last_minute}
 use Rattle.cs_device.specs.declared.clock.Tick.{Tick}
 use Rattle.cs_device.specs.declared.clock.Tick.TheVariants.{At}
 use Rattle.cs_history.specs.Plan.{first_start}
+use Rattle.cs_keep.specs.declared.tick.TickFault.{TickFault}
+use Rattle.cs_keep.specs.declared.tick.TickFault.TheVariants as fault
 use Rattle.cs_daemon.specs.declared.end.Cause.{Cause}
-use Rattle.cs_daemon.specs.declared.end.Cause.TheVariants.{LastMinute, ClockBack, HistoryFull, NoMemory}
+use Rattle.cs_daemon.specs.declared.end.Cause.TheVariants.{Stopped, LastMinute, ClockBack}
+use Rattle.cs_daemon.specs.declared.end.Cause.TheVariants.{ClockFailed, HistoryFull, NoMemory}
+
+-- a cause for which a daemon ends that has no first minute
+abbrev pub IsBeforeFirst : Cause → Type 0
+IsBeforeFirst c = (c ≡ Stopped) ⊎ ((c ≡ ClockBack) ⊎ (c ≡ ClockFailed))
+
+-- the cause that a tick's fault is
+abbrev pub cause_of : TickFault → Cause
+cause_of fault.ClockBack = ClockBack
+cause_of fault.HistoryFull = HistoryFull
+cause_of fault.OutOfMemory = NoMemory
+
+-- whether a daemon ends after a tick to the minute, and why: it is the last one, or for the fault
+abbrev pub ended_by : Result (Unit {0}) TickFault → ℕ → Result (Unit {0}) Cause
+ended_by (Ok v) minute = if minute == last_minute then Err LastMinute else Ok v
+ended_by (Err f) minute = Err (cause_of f)
 
 -- a cause that a tick gives
 abbrev pub IsFromTick : Cause → Type 0

@@ -1,5 +1,5 @@
 -- What a runner is asked for the run of a job.
-use Rattle.std.specs.Prelude.{◌≡◌, ◌≤◌, ◌⊎◌, ℕ, ◌+◌, ◌-◌, List, [], ◌∷◌, length, map, All, Some, None, slice_get}
+use Rattle.std.specs.Prelude.{◌≡◌, ◌≤◌, ◌⊎◌, ℕ, ◌+◌, ◌-◌, List, length, map, All, Some, None, slice_get}
 use Rattle.cs_table.specs.Environment.{Variable, IsLast, above, first_places, names_of}
 use Rattle.cs_table.specs.Setting.{SettingLine}
 use Rattle.cs_crontab.specs.Command.{AreParts}
@@ -10,6 +10,7 @@ use Rattle.cs_history.specs.declared.run.Run.{Run}
 use Rattle.cs_device.specs.Asked.{Asked}
 use Rattle.cs_device.specs.declared.runner.Outcome.{Outcome}
 use Rattle.cs_device.specs.declared.runner.Outcome.TheVariants.{NotStarted}
+use Rattle.cs_daemon.specs.InTurn.{InTurn}
 
 -- each name that is set, in order, with its last value (crontab(5))
 pub record AreSet (settings : List SettingLine) (variables : List Variable) : Type 0 where
@@ -53,6 +54,4 @@ module _ {W : Type 0} (runs : W → Asked → Outcome → W → Type 0) (d : Dec
 
   -- runs with their outcomes, one after the other
   abbrev pub CarriesOutAll : List (Run × Outcome) → W → W → Type 0
-  CarriesOutAll [] old new = new ≡ old
-  CarriesOutAll (e ∷ es) old new =
-      (next : W) × CarriesOut e.0 old e.1 next × CarriesOutAll es next new
+  CarriesOutAll = InTurn (λ (w : W) (e : Run × Outcome) (v : W). CarriesOut e.0 w e.1 v)

@@ -4,6 +4,7 @@ use Rattle.std.specs.List.{flat_map}
 use Rattle.cs_history.specs.declared.run.Run.{Run}
 use Rattle.cs_history.specs.declared.event.Event.{Event}
 use Rattle.cs_history.specs.declared.reply.Reply.{Reply}
+use Rattle.cs_daemon.specs.InTurn.{InTurn}
 use Rattle.cs_daemon.specs.Starts.{Desk, IsCut, IsTaken, empty, starts_in, untaken, with_entries}
 
 -- what is done to a journal under the lock: entries come to it, a worker asks for a start and gets
@@ -17,11 +18,6 @@ abbrev pub Does : Desk → Deed → Desk → Type 0
 Does old (Enters more) new = new ≡ with_entries more old
 Does old (Asks got) new = IsTaken old got new
 Does old Cuts new = IsCut old new
-
--- one after the other
-abbrev pub DoesAll : List Deed → Desk → Desk → Type 0
-DoesAll [] old new = new ≡ old
-DoesAll (d ∷ ds) old new = (next : Desk) × Does old d next × DoesAll ds next new
 
 abbrev pub got_by : Deed → List Run
 got_by (Enters more) = []
@@ -45,5 +41,5 @@ started deeds = flat_map started_by deeds
 -- what workers got, and then what is still to be taken, are the starts of all journals: each is
 -- handed out once at most, in order, and none is lost
 abbrev pub AreHandedOut : Type 0
-AreHandedOut = (deeds : List Deed) (last : Desk) → DoesAll deeds empty last
+AreHandedOut = (deeds : List Deed) (last : Desk) → InTurn Does deeds empty last
     → got deeds ++ untaken last ≡ started deeds

@@ -1,11 +1,13 @@
 -- What is read from a store of stamps and written to it.
-use Rattle.std.specs.Prelude.{◌≡◌, ℕ, ◌==◌, List, [], ◌∷◌, length, map, set, slice_index_or, Bool, if◌then◌else◌, Option, Some, None}
+use Rattle.std.specs.Prelude.{◌≡◌, ◌⊎◌, ℕ, ◌==◌, List, [], ◌∷◌, length, map, set, slice_index_or, Bool, if◌then◌else◌, Option, Some, None}
 use Rattle.std.specs.List.{fold, flat_map}
 use Rattle.cs_anacrontab.specs.Anacrontab.{JobLine}
-use Rattle.cs_decl.specs.Plan.{no_line}
+use Rattle.cs_decl.specs.Plan.{Declared, as_plan, no_line}
+use Rattle.cs_history.specs.History.{History, IsLegal, stamps as stamps_after}
 use Rattle.cs_history.specs.Lists.{below}
 use Rattle.cs_device.specs.declared.store.Stamp.{Stamp}
 use Rattle.cs_device.specs.declared.store.Stamp.TheVariants.{On, Absent, Failed}
+use Rattle.cs_daemon.specs.InTurn.{InTurn}
 
 -- the day of a job's stamp, none past the last one
 abbrev pub stamp_at : List (Option ℕ) → ℕ → Option ℕ
@@ -24,18 +26,17 @@ day_in Absent = None
 day_in Failed = None
 
 module _ {S : Type 0} (reads : S → List ℕ → Stamp → S → Type 0) where
-  -- a store is read under these identifiers, one after the other, with these answers
-  abbrev pub ReadsAll : List (List ℕ × Stamp) → S → S → Type 0
-  ReadsAll [] old new = new ≡ old
-  ReadsAll (r ∷ rs) old new = (next : S) × reads old r.0 r.1 next × ReadsAll rs next new
-
   -- each job's stamp is read once, under its identifier, and these are known
   pub record AreRead (lines : List JobLine) (old : S) (known : List (Option ℕ)) (new : S)
       : Type 0 where
     pub answers : List (List ℕ × Stamp)
     pub identifiers : map (λ r. r.0) answers ≡ map (λ line. line.identifier) lines
-    pub read : ReadsAll answers old new
+    pub read : InTurn (λ (s : S) (r : List ℕ × Stamp) (t : S). reads s r.0 r.1 t) answers old new
     pub said : known ≡ map (λ r. day_in r.1) answers
+
+  -- nothing is done to a store, or each job's stamp is read once
+  abbrev pub IsOnlyRead : List JobLine → S → S → Type 0
+  IsOnlyRead lines old new = (new ≡ old) ⊎ ((known : List (Option ℕ)) × AreRead lines old known new)
 
 -- ---- writing
 
@@ -60,17 +61,20 @@ abbrev pub lacking : List ℕ → List (Option ℕ) → List (Option ℕ) → Li
 lacking jobs known stamps =
     flat_map (λ job. lacks job (lacked (stamp_at known job) (stamp_at stamps job))) jobs
 
+-- the stamps that a legal history of the plan leaves
+pub record AreLeft (d : Declared) (stamps : List (Option ℕ)) : Type 0 where
+  pub by : History
+  pub legal : IsLegal (as_plan d) by
+  pub same : stamps ≡ stamps_after (as_plan d) by
+
 -- what is known behind a write
 abbrev pub with_written : List (Option ℕ) → Written → List (Option ℕ)
 with_written known w = if w.done then set known w.job (Some w.day) else known
 
 module _ {S : Type 0} (writes : S → List ℕ → ℕ → Bool → S → Type 0) where
-  -- a store is written to, each stamp under the identifier of its job
-  abbrev pub WritesAll : List JobLine → List Written → S → S → Type 0
-  WritesAll lines [] old new = new ≡ old
-  WritesAll lines (w ∷ ws) old new =
-      (next : S) × writes old (identifier_at lines w.job) w.day w.done next
-      × WritesAll lines ws next new
+  -- a stamp is written under the identifier of its job
+  abbrev pub WritesOne : List JobLine → S → Written → S → Type 0
+  WritesOne lines old w new = writes old (identifier_at lines w.job) w.day w.done new
 
   -- Of these stamps, those that aren't known are written, each once, in order, and no others. What
   -- is written is known then.
@@ -78,26 +82,32 @@ module _ {S : Type 0} (writes : S → List ℕ → ℕ → Bool → S → Type 0
       (known_then : List (Option ℕ)) (new : S) : Type 0 where
     pub log : List Written
     pub which : map (λ w. (w.job, w.day)) log ≡ lacking (below (length lines)) known stamps
-    pub written : WritesAll lines log old new
+    pub written : InTurn (WritesOne lines) log old new
     pub noted : known_then ≡ fold with_written known log
 
-  -- stamps were written, each under the identifier of its job, and are known then
-  pub record HaveBeenWritten (lines : List JobLine) (known : List (Option ℕ)) (old : S)
+  -- the same of stamps that a legal history of the plan leaves, with what is known and the store
+  abbrev pub WritesNext : Declared → List (Option ℕ) × S → List (Option ℕ) → List (Option ℕ) × S
+      → Type 0
+  WritesNext d old stamps new =
+      AreLeft d stamps × AreWritten d.anacrontab.lines stamps old.0 old.1 new.0 new.1
+
+  -- such lists of stamps came one after the other, and of each those not known by then were written
+  pub record HaveBeenWritten (d : Declared) (known : List (Option ℕ)) (old : S)
       (known_then : List (Option ℕ)) (new : S) : Type 0 where
-    pub log : List Written
-    pub written : WritesAll lines log old new
-    pub noted : known_then ≡ fold with_written known log
+    pub lists : List (List (Option ℕ))
+    pub written : InTurn (WritesNext d) lists (known, old) (known_then, new)
 
--- All that is done to a store for a keep that is left with these stamps: each is read once, then
--- stamps are written, and at the end, of the keep's, those that the store isn't known to have.
+-- All that is done to a store for a keep of the plan that is left with these stamps: each is read
+-- once, then stamps are written in turn, and at the end, of the keep's, those that the store isn't
+-- known to have.
 pub record AreKept {S : Type 0} (reads : S → List ℕ → Stamp → S → Type 0)
-    (writes : S → List ℕ → ℕ → Bool → S → Type 0) (lines : List JobLine)
+    (writes : S → List ℕ → ℕ → Bool → S → Type 0) (d : Declared)
     (stamps : List (Option ℕ)) (old new : S) : Type 0 where
   pub read : List (Option ℕ)
   pub known : List (Option ℕ)
   pub known_then : List (Option ℕ)
   pub begun : S
   pub late : S
-  pub first : AreRead reads lines old read begun
-  pub between : HaveBeenWritten writes lines read begun known late
-  pub last : AreWritten writes lines stamps known late known_then new
+  pub first : AreRead reads d.anacrontab.lines old read begun
+  pub between : HaveBeenWritten writes d read begun known late
+  pub last : AreWritten writes d.anacrontab.lines stamps known late known_then new

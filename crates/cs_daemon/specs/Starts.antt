@@ -1,5 +1,5 @@
 -- The starts of a journal, which workers take one after the other.
-use Rattle.std.specs.Prelude.{◌≡◌, ◌≤◌, ◌⊎◌, ℕ, List, [], ◌∷◌, ◌++◌, length, drop, false, if◌then◌else◌, Option, MatchOption}
+use Rattle.std.specs.Prelude.{◌≡◌, ◌≤◌, ◌⊎◌, ℕ, List, [], ◌∷◌, ◌++◌, length, drop, false, if◌then◌else◌, Option, MatchOption, Result}
 use Rattle.std.specs.List.{AllByRecursion, flat_map, list_any}
 use Rattle.cs_history.specs.History.{same_run}
 use Rattle.cs_history.specs.declared.run.Run.{Run}
@@ -7,7 +7,10 @@ use Rattle.cs_history.specs.declared.event.Event.{Event}
 use Rattle.cs_history.specs.declared.event.Event.TheVariants as event
 use Rattle.cs_history.specs.declared.reply.Reply.{Reply}
 use Rattle.cs_history.specs.declared.reply.Reply.TheVariants.{Clock, Started, Waiting, Skipped, Ended, Went, Came}
-use Rattle.cs_keep.specs.Keeping.{Keeping, is_end, with_event}
+use Rattle.cs_keep.specs.Keeping.{Keeping, cut_here, is_end, with_event}
+use Rattle.cs_keep.specs.Seat.{Place}
+use Rattle.cs_keep.specs.Tick.{Ticks}
+use Rattle.cs_keep.specs.declared.tick.TickFault.{TickFault}
 
 -- the run that a reply starts
 abbrev pub start_in : Reply → List Run
@@ -59,13 +62,18 @@ IsCut old new = ((untaken old ≡ []) × (new ≡ empty)) ⊎ (new ≡ old)
 abbrev pub HaveNoEnd : List (Event × Reply) → Type 0
 HaveNoEnd entries = AllByRecursion (λ e. is_end e.0 ≡ false) entries
 
--- entries come to the journal that no end is among
-abbrev pub Adds : Desk → Desk → Type 0
-Adds old new = (more : List (Event × Reply)) × HaveNoEnd more × (new ≡ with_entries more old)
-
--- what the clock's thread does in a round: it makes no end, and the journal may begin anew
+-- entries come to the journal that no end is among, and then it may begin anew
 abbrev pub Rounds : Desk → Desk → Type 0
 Rounds old new = (more : List (Event × Reply)) × HaveNoEnd more × IsCut (with_entries more old) new
+
+-- What the clock's thread does in a round, from one place in the journal to another: the keep
+-- ticks, and then its journal may begin anew at the state that it is in.
+pub record IsRound (old : Keeping × Place) (from last minute : ℕ)
+    (ticked : Result (Unit {0}) TickFault) (new : Keeping × Place) (to : ℕ) : Type 0 where
+  pub between : Keeping
+  pub ticks : Ticks old last minute ticked (between, new.1)
+  pub keep : (new.0 ≡ cut_here between) ⊎ (new.0 ≡ between)
+  pub cut : IsCut (desk between from) (desk new.0 to)
 
 -- the end of a run is made, if it goes on; else all stays
 abbrev pub with_end : Keeping → Run → Keeping

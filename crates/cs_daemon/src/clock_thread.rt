@@ -1,8 +1,8 @@
 //! The clock's thread, which makes all events except the ends of runs.
 ghost use Rattle.std.specs.Prelude.{◌≡◌, ◌+◌, ◌<◌, ◌≤◌, ◌^◌, Err, IfErr, IfSome, IsOk, List, OnOk, Option, Some, ℕ};
 ghost use Rattle.cs_civil.specs.Calendar.{last_minute};
-ghost use Rattle.cs_daemon.specs.Causes.{IsBack, IsFromTick};
-ghost use Rattle.cs_daemon.specs.Stamps.{AreWritten, HaveBeenWritten};
+ghost use Rattle.cs_daemon.specs.Causes.{IsBack, IsFromTick, ended_by};
+ghost use Rattle.cs_daemon.specs.Stamps.{AreLeft, AreWritten, HaveBeenWritten};
 ghost use Rattle.cs_daemon.specs.declared.end.Cause.TheVariants.{Stopped, LastMinute, ClockBack, ClockFailed};
 ghost use Rattle.cs_device.specs.declared.clock.Tick.TheVariants.{At, Stop};
 ghost use Rattle.cs_keep.specs.declared.tick.TickFault.TheVariants.{ClockBack as TickBack};
@@ -55,8 +55,8 @@ impl<'w, J: PlanLedger, T: Ledger, R: Wait, G, O: io::Write> Shared<'w, J, T, R,
         ensures failures { C.failures clock.old ≤ C.failures clock.new }
         ensures failed { result.cause ≡ ClockFailed → C.failures clock.old < C.failures clock.new }
         ensures parts { result.seat.parts ≡ seat.parts }
-        ensures written { HaveBeenWritten S.writes self.now.plan.now.anacrontab.lines
-            stored.old.stamps.items store.old stored.new.stamps.items store.new }
+        ensures written { HaveBeenWritten S.writes J.plan stored.old.stamps.items store.old
+            stored.new.stamps.items store.new }
         ensures faults { stored.new.faults + S.failures store.old
             ≤ stored.old.faults + S.failures store.new }
     {
@@ -95,8 +95,8 @@ impl<'w, J: PlanLedger, T: Ledger, R: Wait, G, O: io::Write> Shared<'w, J, T, R,
         ensures failed { result ≡ ClockFailed → C.failures clock.old < C.failures clock.new }
         ensures parts { seat.new.parts ≡ seat.old.parts }
         ensures grows { seat.old.share ≤ seat.new.share }
-        ensures written { HaveBeenWritten S.writes self.now.plan.now.anacrontab.lines
-            stored.old.stamps.items store.old stored.new.stamps.items store.new }
+        ensures written { HaveBeenWritten S.writes J.plan stored.old.stamps.items store.old
+            stored.new.stamps.items store.new }
         ensures faults { stored.new.faults + S.failures store.old
             ≤ stored.old.faults + S.failures store.new }
     {
@@ -139,8 +139,8 @@ impl<'w, J: PlanLedger, T: Ledger, R: Wait, G, O: io::Write> Shared<'w, J, T, R,
         ensures cause { IfErr result IsFromTick }
         ensures back { IfErr result (λ cause. cause ≡ ClockBack → minute < last) }
         ensures end { IfErr result (λ cause. cause ≡ LastMinute → minute ≡ last_minute) }
-        ensures written { (stamps : List (Option ℕ))
-            × AreWritten S.writes self.now.plan.now.anacrontab.lines stamps
+        ensures written { (stamps : List (Option ℕ)) × AreLeft J.plan stamps
+            × AreWritten S.writes J.plan.anacrontab.lines stamps
             stored.old.stamps.items store.old stored.new.stamps.items store.new }
         ensures faults { stored.new.faults + S.failures store.old
             ≤ stored.old.faults + S.failures store.new }
@@ -177,6 +177,7 @@ impl<'w, J: PlanLedger, T: Ledger, R: Wait, G, O: io::Write> Shared<'w, J, T, R,
 
 /// Whether the daemon ends after a tick to the minute, and why.
 fn cause_to_end(ticked: Result<(), TickFault>, minute: Minute) -> Result<(), Cause>
+    ensures value { result ≡ ended_by ticked minute }
     ensures ticked { OnOk result (IsOk ticked) }
     ensures cause { IfErr result IsFromTick }
     ensures back { IfErr result (λ cause. cause ≡ ClockBack → ticked ≡ Err TickBack) }

@@ -11,6 +11,7 @@ use cs_decl::Plan;
 use cs_device::{Outcome, Runner};
 use cs_history::Run;
 use std::alloc::{AllocError, Global};
+use std::marker::Model;
 
 /// A run whose command has returned, or couldn't be started. Only [`carry_out`] makes one, and it can
 /// neither be copied nor be let go.
@@ -18,10 +19,18 @@ pub(crate) struct Returned {
     run: Run,
 }
 
+impl Model for Returned {
+    ghost use Rattle.cs_history.specs.declared.run.Run.{Run};
+
+    ghost Value = { Run };
+
+    ghost view = { λ a. a.run };
+}
+
 impl Returned {
     /// The run, of which nothing is left to end.
     pub(crate) fn into_run(self) -> Run
-        ensures { result ≡ self.run }
+        ensures { result ≡ self }
     {
         let Returned { run } = self;
         run
@@ -36,8 +45,8 @@ pub(crate) fn carry_out<W: Runner>(
     runner: &mut W,
     taken: Taken,
 ) -> (Returned, Outcome)
-    ensures run { result.0.run ≡ taken.run }
-    ensures runs { CarriesOut W.runs plan.now taken.run runner.old result.1 runner.new }
+    ensures run { result.0 ≡ taken }
+    ensures runs { CarriesOut W.runs plan.now taken runner.old result.1 runner.new }
 {
     let run = taken.into_run();
     let outcome = match run_command(alloc, plan, runner, usize::from(run.job)) {

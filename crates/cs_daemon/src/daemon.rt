@@ -1,10 +1,10 @@
 //! The daemon whole.
-ghost use Rattle.std.specs.Prelude.{◌≡◌, ◌≢◌, ◌+◌, ◌<◌, ◌≤◌, IfErr, IfOk, IfSome, None, Some, slice_index_or, sum, vec_len};
+ghost use Rattle.std.specs.Prelude.{◌≡◌, ◌≢◌, ◌+◌, ◌<◌, ◌≤◌, IfErr, IfOk, IfSome, MatchOption, None, Some, slice_index_or, sum, vec_len};
 ghost use Rattle.arrayvec.specs.ArrayVec.{array_vec_len};
 ghost use Rattle.cs_check.specs.Checked.{plan_in};
 ghost use Rattle.cs_civil.specs.Calendar.{last_minute};
-ghost use Rattle.cs_daemon.specs.Causes.{IsBack};
-ghost use Rattle.cs_daemon.specs.Stamps.{AreKept};
+ghost use Rattle.cs_daemon.specs.Causes.{IsBack, IsBeforeFirst};
+ghost use Rattle.cs_daemon.specs.Stamps.{AreKept, IsOnlyRead};
 ghost use Rattle.cs_daemon.specs.declared.end.Cause.TheVariants.{Stopped, LastMinute, ClockBack, ClockFailed, HistoryFull};
 ghost use Rattle.cs_device.specs.declared.clock.Tick.TheVariants.{At, Stop};
 ghost use Rattle.cs_history.specs.Plan.{first_start};
@@ -41,8 +41,7 @@ fn first_minute<C: Clock>(clock: &mut C) -> Result<Minute, Cause>
     ensures last { IfOk result (λ m. C.last clock.new ≡ Some (At m)) }
     ensures stopped { IfErr result (λ c. c ≡ Stopped → C.last clock.new ≡ Some Stop) }
     ensures back { IfErr result (λ c. c ≡ ClockBack → IsBack (C.top clock.new) (C.last clock.new)) }
-    ensures full { IfErr result (λ c. c ≢ HistoryFull) }
-    ensures end { IfErr result (λ c. c ≢ LastMinute) }
+    ensures cause { IfErr result IsBeforeFirst }
     ensures risen { C.risen clock.new ≤ C.risen clock.old + 1 }
     ensures failures { C.failures clock.old ≤ C.failures clock.new }
     ensures failed { IfErr result (λ c. c ≡ ClockFailed
@@ -112,8 +111,9 @@ fn run_on<
     ensures rises { result.cause ≡ Stopped
         → C.risen clock.new ≤ C.risen clock.old + slice_index_or result.shares.items 0 0 + 1 }
     ensures failed { result.cause ≡ ClockFailed → C.failures clock.old < C.failures clock.new }
-    ensures stamps { IfSome result.keep (λ kept.
-        AreKept S.reads S.writes (plan_in checked).anacrontab.lines
+    ensures stamps { MatchOption result.keep
+        (IsOnlyRead S.reads (plan_in checked).anacrontab.lines store.old store.new)
+        (λ kept. AreKept S.reads S.writes (plan_in checked)
         (keeping_in kept).core.state.stamps store.old store.new) }
     ensures faults { result.stamp_faults + S.failures store.old ≤ S.failures store.new }
 {
@@ -189,8 +189,9 @@ pub fn run_daemon<
     ensures rises { result.cause ≡ Stopped
         → C.risen clock.new ≤ C.risen clock.old + slice_index_or result.shares.items 0 0 + 1 }
     ensures failed { result.cause ≡ ClockFailed → C.failures clock.old < C.failures clock.new }
-    ensures stamps { IfSome result.keep (λ kept.
-        AreKept S.reads S.writes (plan_in checked).anacrontab.lines
+    ensures stamps { MatchOption result.keep
+        (IsOnlyRead S.reads (plan_in checked).anacrontab.lines store.old store.new)
+        (λ kept. AreKept S.reads S.writes (plan_in checked)
         (keeping_in kept).core.state.stamps store.old store.new) }
     ensures faults { result.stamp_faults + S.failures store.old ≤ S.failures store.new }
 {

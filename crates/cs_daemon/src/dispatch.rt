@@ -1,8 +1,10 @@
 //! What the lock guards: the keep, and the starts in its journal that workers take.
-ghost use Rattle.std.specs.Prelude.{◌≡◌, ◌⊎◌, ◌+◌, ◌<◌, ◌≤◌, ◌^◌, ◌∷◌, [], IfErr, IfNone, IfSome, OnOk, drop, length, option_map};
-ghost use Rattle.cs_daemon.specs.Starts.{Adds, IsCut, IsTaken, Rounds, desk, starts_in, with_end};
+ghost use Rattle.std.specs.Prelude.{◌≡◌, ◌⊎◌, ◌+◌, ◌<◌, ◌≤◌, ◌^◌, ◌∷◌, [], IfErr, IfNone, IfSome, OnOk, drop, length};
+ghost use Rattle.cs_daemon.specs.Stamps.{AreLeft};
+ghost use Rattle.cs_daemon.specs.Starts.{IsCut, IsRound, IsTaken, desk, starts_in, with_end};
 ghost use Rattle.cs_history.specs.declared.event.Event.TheVariants.{Down as GoesDown};
-ghost use Rattle.cs_keep.specs.Keeping.{with_event};
+ghost use Rattle.cs_keep.specs.Keeping.{cut_here, with_event};
+ghost use Rattle.cs_keep.specs.Tick.{Ticks};
 ghost use Rattle.cs_keep.specs.declared.tick.TickFault.TheVariants.{ClockBack};
 
 use crate::commands::Returned;
@@ -15,6 +17,7 @@ use cs_core::Core;
 use cs_history::{Event, Reply, Run};
 use cs_keep::{Entry, Keep, Seat, TickFault};
 use std::alloc::Global;
+use std::marker::Model;
 use std::sync::ledger::{Book, Ledger, Share};
 
 /// A start that was taken from the journal, to be run. Only [`Dispatch::take`] makes one, and it can
@@ -23,17 +26,25 @@ pub(crate) struct Taken {
     run: Run,
 }
 
+impl Model for Taken {
+    ghost use Rattle.cs_history.specs.declared.run.Run.{Run};
+
+    ghost Value = { Run };
+
+    ghost view = { λ a. a.run };
+}
+
 impl Taken {
     /// The run.
     pub(crate) fn run(&self) -> Run
-        ensures { result ≡ self.now.run }
+        ensures { result ≡ self.now }
     {
         self.run
     }
 
     /// The run, of which nothing is left to take.
     pub(crate) fn into_run(self) -> Run
-        ensures { result ≡ self.run }
+        ensures { result ≡ self }
     {
         let Taken { run } = self;
         run
@@ -92,7 +103,7 @@ impl<J: PlanLedger, T: Ledger> Dispatch<J, T> {
     pub(crate) fn take(&mut self) -> Option<Taken>
         ensures taken { IsTaken
             (desk self.old.keep self.old.next)
-            (option_map (λ taken. taken.run) result)
+            result
             (desk self.new.keep self.new.next) }
         ensures keep { self.new.keep ≡ self.old.keep }
     {
@@ -112,7 +123,7 @@ impl<J: PlanLedger, T: Ledger> Dispatch<J, T> {
     /// where the run doesn't go on.
     #[tactic(auto, using(crate::proofs::Ending::ends))]
     pub(crate) fn end(&mut self, seat: &mut Seat<J>, returned: Returned)
-        ensures keep { self.new.keep ≡ with_end self.old.keep returned.run }
+        ensures keep { self.new.keep ≡ with_end self.old.keep returned }
         ensures next { self.new.next ≡ self.old.next }
         ensures grows { seat.old.share ≤ seat.new.share }
         ensures one { seat.new.share ≤ seat.old.share + 1 }
@@ -133,7 +144,6 @@ impl<J: PlanLedger, T: Ledger> Dispatch<J, T> {
     }
 
     /// Goes on to the minute, notes what to log, and starts a new journal if it may.
-    #[tactic(auto, using(crate::proofs::Ticking::rounds))]
     pub(crate) fn round(
         &mut self,
         alloc: Global,
@@ -147,10 +157,10 @@ impl<J: PlanLedger, T: Ledger> Dispatch<J, T> {
         ensures whole { time.new.parts ≡ T.parts }
         ensures now { OnOk result.ticked (time.new.amount ≡ minute) }
         ensures back { IfErr result.ticked (λ fault. fault ≡ ClockBack → minute < last) }
-        ensures desk { Rounds
-            (desk self.old.keep self.old.next)
-            (desk self.new.keep self.new.next) }
-        ensures stamps { result.stamps.stamps.items ≡ self.new.keep.core.state.stamps }
+        ensures round { IsRound (self.old.keep, seat.old) self.old.next last minute result.ticked
+            (self.new.keep, seat.new) self.new.next }
+        ensures stamps { result.stamps ≡ self.new.keep.core.state.stamps }
+        ensures left { AreLeft J.plan result.stamps }
         ensures rises { OnOk result.ticked (last < minute → seat.old.share < seat.new.share) }
         ensures grows { seat.old.share ≤ seat.new.share }
         ensures parts { seat.new.parts ≡ seat.old.parts }
@@ -186,9 +196,9 @@ impl<J: PlanLedger, T: Ledger> Dispatch<J, T> {
         ensures whole { time.new.parts ≡ T.parts }
         ensures now { OnOk result (time.new.amount ≡ minute) }
         ensures back { IfErr result (λ fault. fault ≡ ClockBack → minute < last) }
-        ensures desk { Adds
-            (desk self.old.keep self.old.next)
-            (desk self.new.keep self.new.next) }
+        ensures ticks { Ticks (self.old.keep, seat.old) last minute result
+            (self.new.keep, seat.new) }
+        ensures next { self.new.next ≡ self.old.next }
         ensures rises { OnOk result (last < minute → seat.old.share < seat.new.share) }
         ensures grows { seat.old.share ≤ seat.new.share }
         ensures parts { seat.new.parts ≡ seat.old.parts }
@@ -231,7 +241,8 @@ impl<J: PlanLedger, T: Ledger> Dispatch<J, T> {
         ensures desk { IsCut
             (desk self.old.keep self.old.next)
             (desk self.new.keep self.new.next) }
-        ensures core { self.new.keep.core ≡ self.old.keep.core }
+        ensures keep { (self.new.keep ≡ cut_here self.old.keep)
+            ⊎ (self.new.keep ≡ self.old.keep) }
     {
         if next_start(self.keep.journal(), self.next).is_some() {
             return;

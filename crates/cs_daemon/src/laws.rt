@@ -1,7 +1,12 @@
-//! Laws of the starts that workers take.
-ghost use Rattle.std.specs.Prelude.{◌≡◌, ℕ, List, Some, false};
+//! Laws of ticks and rounds, of the starts that workers take, and of stamps.
+ghost use Rattle.std.specs.Prelude.{◌≡◌, ◌<◌, ℕ, [], Err, List, Ok, OnOk, Option, Result, Some, false};
+ghost use Rattle.cs_anacrontab.specs.Anacrontab.{JobLine};
 ghost use Rattle.cs_daemon.specs.Deeds.{AreHandedOut};
-ghost use Rattle.cs_daemon.specs.Starts.{starts_in};
+ghost use Rattle.cs_daemon.specs.Shelf.{HaveNames, Holds, Reads, Shelf, Writes};
+ghost use Rattle.cs_daemon.specs.Stamps.{AreKept, IsOnlyRead};
+ghost use Rattle.cs_daemon.specs.Starts.{IsRound, Rounds, desk, starts_in};
+ghost use Rattle.cs_daemon.specs.Ticked.{IsFull, Wrote};
+ghost use Rattle.cs_decl.specs.Plan.{Declared};
 ghost use Rattle.cs_history.specs.History.{Start, same_run};
 ghost use Rattle.cs_history.specs.Journal.{IsJournal};
 ghost use Rattle.cs_history.specs.Lists.{EachPair};
@@ -9,6 +14,11 @@ ghost use Rattle.cs_history.specs.Plan.{Plan};
 ghost use Rattle.cs_history.specs.Step.{State};
 ghost use Rattle.cs_history.specs.declared.event.Event.{Event};
 ghost use Rattle.cs_history.specs.declared.reply.Reply.{Reply};
+ghost use Rattle.cs_keep.specs.Keeping.{Keeping, plan_of};
+ghost use Rattle.cs_keep.specs.Seat.{Place};
+ghost use Rattle.cs_keep.specs.Tick.{Ticks, tick_events};
+ghost use Rattle.cs_keep.specs.declared.tick.TickFault.{TickFault};
+ghost use Rattle.cs_keep.specs.declared.tick.TickFault.TheVariants.{ClockBack, HistoryFull, OutOfMemory};
 
 use cs_history::names_differ;
 
@@ -21,7 +31,7 @@ pub fn starts_are_handed_out()
 {}
 
 /// Lemma. No two starts of a journal are of one run, if no anacron job is due on the day of its
-/// stamp. So no run is handed out twice.
+/// stamp. So none of it is handed out twice; of the journals after a cut nothing is said.
 pub fn starts_differ()
     ensures { (p : Plan) (base : Start) (es : List (Event × Reply)) (s : State)
         → ((j day : ℕ) → p.owed j (Some day) day ≡ false) → IsJournal p base es s
@@ -29,3 +39,40 @@ pub fn starts_differ()
 {
     names_differ();
 }
+
+/// Lemma. A tick writes the events of its minute into the journal, or ends early. Where the clock
+/// went back, all stays as it was. Where the journal is full, it has the events before the next one,
+/// which finds no room. Where memory runs out, it has the first ones. Only where the clock went back
+/// isn't it a tick from the present minute to that one or a later one.
+pub fn what_a_tick_says()
+    ensures done { (t u : Keeping × Place) (last m : ℕ) (v : Unit {0})
+        → Ticks t last m (Ok v) u
+        → Wrote t last m u (tick_events m (plan_of t.0) t.0.core.state) [] }
+    ensures back { (t u : Keeping × Place) (last m : ℕ) → Ticks t last m (Err ClockBack) u
+        → (u ≡ t) × (t.0.core.state.now ≡ last → m < last) }
+    ensures full { (t u : Keeping × Place) (last m : ℕ) → Ticks t last m (Err HistoryFull) u
+        → IsFull t last m u }
+    ensures memory { (t u : Keeping × Place) (last m : ℕ) → Ticks t last m (Err OutOfMemory) u
+        → (came left : List Event) × Wrote t last m u came left }
+{}
+
+/// Lemma. A round of the clock's thread makes no end, and leads to its minute if its tick isn't
+/// refused.
+pub fn what_a_round_says()
+    ensures ends { (old new : Keeping × Place) (from last m to : ℕ)
+        (r : Result (Unit {0}) TickFault) → IsRound old from last m r new to
+        → Rounds (desk old.0 from) (desk new.0 to) }
+    ensures now { (old new : Keeping × Place) (from last m to : ℕ)
+        (r : Result (Unit {0}) TickFault) → IsRound old from last m r new to
+        → OnOk r (new.0.core.state.now ≡ m) }
+{}
+
+/// Lemma. A store that does what it is asked holds each stamp of the keep in the end, under the
+/// identifier of its job, if no two jobs have one. With no keep it holds what it held.
+pub fn what_a_store_holds()
+    ensures held { (d : Declared) (stamps : List (Option ℕ)) (old new : Shelf)
+        → HaveNames d.anacrontab.lines → AreKept Reads Writes d stamps old new
+        → Holds d.anacrontab.lines stamps new }
+    ensures untouched { (lines : List JobLine) (old new : Shelf)
+        → IsOnlyRead Reads lines old new → new ≡ old }
+{}

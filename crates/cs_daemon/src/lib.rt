@@ -19,4 +19,6 @@ mod worker;
 
 pub use daemon::run_daemon;
 pub use end::{Cause, DaemonEnd};
-pub use laws::{starts_are_handed_out, starts_differ};
+pub use laws::{
+    starts_are_handed_out, starts_differ, what_a_round_says, what_a_store_holds, what_a_tick_says,
+};

@@ -22,6 +22,7 @@ pub(crate) struct Shared<'w, J: PlanLedger, T: Ledger, R, G, O> {
     pub(crate) dispatch: Mutex<Dispatch<J, T>>,
     pub(crate) bell: Condvar,
     pub(crate) log: Mutex<Log<'w, O>>,
+    ghost same: { plan.now ≡ J.plan },
 }
 
 impl<'w, J: PlanLedger, T: Ledger, R: Wait, G, O: io::Write> Shared<'w, J, T, R, G, O> {

@@ -2,6 +2,7 @@
 ghost use Rattle.std.specs.Prelude.{◌≡◌, ◌+◌, ◌<◌, ◌≤◌, [], ◌∷◌, ◌++◌, true};
 ghost use Rattle.arrayvec.specs.ArrayVec.{array_vec_len};
 ghost use Rattle.cs_daemon.specs.Stamps.{AreRead, AreWritten, day_in, lacked, stamp_at, with_written};
+ghost use Rattle.cs_keep.specs.Keeping.{IsKept};
 
 use arrayvec::ArrayVec;
 use cs_civil::Day;
@@ -9,6 +10,7 @@ use cs_decl::Plan;
 use cs_device::{Stamp, StampStore};
 use cs_history::copy_stamps;
 use cs_keep::Keep;
+use std::marker::Model;
 use std::sync::ledger::Ledger;
 
 /// A stamp for each anacron job, in the order of the plan.
@@ -23,9 +25,18 @@ pub(crate) struct CoreStamps {
     stamps: Stamps,
 }
 
+impl Model for CoreStamps {
+    ghost use Rattle.std.specs.Prelude.{ℕ, List, Option};
+
+    ghost Value = { List (Option ℕ) };
+
+    ghost view = { λ a. a.stamps.items };
+}
+
 /// The stamps of the keep's core.
 pub(crate) fn stamps_of<L: Ledger>(keep: &Keep<L>) -> CoreStamps
-    ensures { result.stamps.items ≡ keep.now.core.state.stamps }
+    ensures stamps { result ≡ keep.now.core.state.stamps }
+    ensures kept { IsKept keep.now }
 {
     let core = keep.core();
     let _jobs = core.plan().jobs();
@@ -37,7 +48,7 @@ pub(crate) fn stamps_of<L: Ledger>(keep: &Keep<L>) -> CoreStamps
 /// The stamps that the store holds, as far as is known, and how often it failed.
 #[derive(Drop)]
 pub(crate) struct Stored {
-    stamps: Stamps,
+    pub(crate) stamps: Stamps,
     pub(crate) faults: u64,
 }
 
@@ -79,7 +90,7 @@ impl Stored {
         store: &mut S,
         stamps: &CoreStamps,
     ) -> Failed
-        ensures written { AreWritten S.writes plan.now.anacrontab.lines stamps.now.stamps.items
+        ensures written { AreWritten S.writes plan.now.anacrontab.lines stamps.now
             self.old.stamps.items store.old self.new.stamps.items store.new }
         ensures faults { self.new.faults + S.failures store.old
             ≤ self.old.faults + S.failures store.new }

@@ -103,8 +103,8 @@ fn with_workers<
     ensures failed { result.cause ≡ ClockFailed → C.failures clock.old < C.failures clock.new }
     ensures parts { result.seat.parts ≡ vec_len runners + 1 }
     ensures shares { array_vec_len result.shares ≡ vec_len runners + 1 }
-    ensures written { HaveBeenWritten S.writes shared.now.plan.now.anacrontab.lines
-        stored.old.stamps.items store.old stored.new.stamps.items store.new }
+    ensures written { HaveBeenWritten S.writes J.plan stored.old.stamps.items store.old
+        stored.new.stamps.items store.new }
     ensures faults { stored.new.faults + S.failures store.old
         ≤ stored.old.faults + S.failures store.new }
 {
@@ -183,8 +183,8 @@ pub(crate) fn run_threads<
     ensures failed { result.1.cause ≡ ClockFailed → C.failures clock.old < C.failures clock.new }
     ensures parts { result.1.seat.parts ≡ vec_len runners + 1 }
     ensures shares { array_vec_len result.1.shares ≡ vec_len runners + 1 }
-    ensures written { HaveBeenWritten S.writes shared.now.plan.now.anacrontab.lines
-        stored.stamps.items store.old result.0.stamps.items store.new }
+    ensures written { HaveBeenWritten S.writes J.plan stored.stamps.items store.old
+        result.0.stamps.items store.new }
     ensures faults { result.0.faults + S.failures store.old
         ≤ stored.faults + S.failures store.new }
 {
@@ -211,8 +211,8 @@ pub(crate) fn run_threads<
                 → C.failures clock.entry.now < C.failures result.0.now }
             ensures parts { result.3.seat.parts ≡ vec_len runners + 1 }
             ensures shares { array_vec_len result.3.shares ≡ vec_len runners + 1 }
-            ensures written { HaveBeenWritten S.writes shared.entry.now.plan.now.anacrontab.lines
-                stored.stamps.items store.entry.now result.2.stamps.items result.1.now }
+            ensures written { HaveBeenWritten S.writes J.plan stored.stamps.items
+                store.entry.now result.2.stamps.items result.1.now }
             ensures faults { result.2.faults + S.failures store.entry.now
                 ≤ stored.faults + S.failures result.1.now }
         {

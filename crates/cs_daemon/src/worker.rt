@@ -26,7 +26,6 @@ pub(crate) struct WorkerEnd<J: PlanLedger> {
 
 impl<'w, J: PlanLedger, T: Ledger, R: Wait, G: Gate, O: io::Write> Shared<'w, J, T, R, G, O> {
     /// Runs jobs until no start will come. It makes no more ends than commands that have returned.
-    #[tactic(auto, using(crate::proofs::Carrying::one_more))]
     pub(crate) fn work<W: Runner>(&self, runner: &mut W, seat: Seat<J>) -> WorkerEnd<J>
         requires { seat.parts ≡ 1 }
         ensures { (runs : List (run.Run × outcome.Outcome))
@@ -49,7 +48,7 @@ impl<'w, J: PlanLedger, T: Ledger, R: Wait, G: Gate, O: io::Write> Shared<'w, J,
 
     /// Runs the job between the gate's two points, outside the locks, and then makes its end.
     fn run_job<W: Runner>(&self, runner: &mut W, seat: &mut Seat<J>, taken: Taken) -> Outcome
-        ensures runs { CarriesOut W.runs self.now.plan.now taken.run runner.old result runner.new }
+        ensures runs { CarriesOut W.runs self.now.plan.now taken runner.old result runner.new }
         ensures one { seat.new.share ≤ seat.old.share + 1 }
         ensures parts { seat.new.parts ≡ seat.old.parts }
     {

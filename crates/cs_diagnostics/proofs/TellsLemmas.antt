@@ -1,19 +1,18 @@
 -- What is told of a fault.
-use Rattle.std.proofs.Common.{◌≡◌, ◌⊎◌, ◌≤◌, ◌<◌, ◌+◌, ◌-◌, ℕ, zero, suc, Bool, true, false, not, ◌&&◌, ◌||◌, nat_eq, nat_le, max, List, [], ◌∷◌, ◌++◌, ◌∙◌, sym, drop, drop-cons, get_or, length, refl, ap, append_assoc, subst, arith, inl, inr}
-use Rattle.std.specs.Prelude.{codes}
+use Rattle.std.proofs.Common.{◌≡◌, ◌⊎◌, ◌≤◌, ◌<◌, ◌+◌, ◌-◌, ℕ, zero, suc, Bool, true, false, ◌&&◌, ◌||◌, nat_eq, nat_le, max, List, [], ◌∷◌, ◌++◌, ◌∙◌, sym, take, drop, drop-cons, get_or, length, refl, ap, append_assoc, subst, arith, inl, inr}
+use Rattle.std.proofs.lemmas.List.{append-nil, length-append, take-append-drop}
+use Rattle.std.proofs.lemmas.List.Folds.{concat-append, list_any-append}
+use Rattle.std.proofs.lemmas.List.Elements.{All-append, All-cons, All-nil}
+use Rattle.std.specs.Prelude.{codes, All}
 use Rattle.std.specs.String.{string_bytes}
-use Rattle.std.specs.List.{list_any, starts_with}
+use Rattle.std.specs.List.{concat, insert, list_any, starts_with}
 use Rattle.std.proofs.lemmas.Bool.{and_parts, and_from, eqb-true, eq-eqb, leb-true, le-leb}
 use Rattle.std.proofs.Math.ListN.{drop_of_length-le}
 use Rattle.std.proofs.lemmas.Bool.Decides.{Decides-eqb}
 use Rattle.std.proofs.lemmas.Slice.Eq.{starts_is}
-use Rattle.cs_diagnostics.specs.Told.{IsPart, IsToldIn, head, stands_at, tells}
+use Rattle.cs_diagnostics.specs.Told.{IsCalled, IsPart, IsPiece, IsToldIn, TellsPiece, TellsPieces, head, stands_at, tells}
 use Rattle.cs_diagnostics.specs.declared.findings.Finding.{Finding}
 use Rattle.cs_diagnostics.specs.declared.findings.FirstFault.{FirstFault}
-
-not_odd : (b : Bool) → not b ≡ true → b ≡ false
-not_odd true h = absurd (cc)
-not_odd false h = refl
 
 stands : (fault : FirstFault) (found : Finding) → stands_at fault found ≡ true
     → (fault.line ≡ 0) ⊎ ((found.line ≡ fault.line) × (fault.from ≤ found.place.from) × (found.place.from - fault.from ≤ fault.more))
@@ -40,26 +39,88 @@ part_is old name marks line column said words rest top mid new all whole says fi
 
 -- A finding that tells a fault is told with it.
 pub told : (fault : FirstFault) (found : Finding) (old name marks top mid new : List ℕ)
-    → (found.is_odd ≡ false → top ≡ name ++ head found.line (found.place.from + 1) (string_bytes found.words ++ (10 ∷ [])))
+    → top ≡ name ++ head found.line (found.place.from + 1) (string_bytes found.words ++ (10 ∷ []))
     → mid ≡ old ++ top → new ≡ mid ++ marks → tells fault found ≡ true → IsToldIn new fault
 told fault found old name marks top mid new says first second is =
     let p = and_parts _ _ is in
-    let q = and_parts _ _ p.1 in
-    let prefix = (starts_is Decides-eqb (string_bytes found.words) fault.name.now _ refl).0 q.0 in
+    let prefix = (starts_is Decides-eqb (string_bytes found.words) fault.name.now _ refl).0 p.0 in
     record {
       line = found.line;
       from = found.place.from;
-      part = (_, _, part_is old name marks _ _ (codes ": fault: ") fault.name.now _ top mid new _ prefix (says (not_odd _ p.0)) first second);
-      place = stands fault found q.1;
+      part = (_, _, part_is old name marks _ _ (codes ": fault: ") fault.name.now _ top mid new _ prefix says first second);
+      place = stands fault found p.1;
     }
 
-or_right : (a : Bool) {b : Bool} → b ≡ true → (a || b) ≡ true
-or_right true h = refl
-or_right false h = h
+piece_is : (old name marks line column said words top mid new : List ℕ)
+    → top ≡ name ++ (58 ∷ (line ++ (58 ∷ (column ++ (said ++ words)))))
+    → mid ≡ old ++ top → new ≡ mid ++ marks
+    → new ≡ old ++ (name ++ (58 ∷ (line ++ (58 ∷ (column ++ (said ++ (words ++ marks)))))))
+piece_is old name marks line column said words top mid new says first second =
+    rw second (rw first (rw says (simp append_assoc refl)))
+
+-- and it is a piece of its own
+pub piece_of : (path old name marks top mid new words : List ℕ) (line column : ℕ) → IsCalled path name
+    → top ≡ name ++ head line column words → mid ≡ old ++ top → new ≡ mid ++ marks → TellsPiece path old new
+piece_of path old name marks top mid new words line column called says first second = (
+  name ++ head line column (words ++ marks),
+  (name, words ++ marks, line, column, called, refl),
+  piece_is old name marks _ _ (codes ": fault: ") words top mid new says first second,
+)
 
 -- A part of a part is a part.
 pub part_of : (a b c : List ℕ) → IsPart a b → IsPart b c → IsPart a c
 part_of a b c (x, y, is) (u, v, so) = (u ++ x, y ++ v, rw so (rw is (simp append_assoc refl)))
+
+-- so many pieces were added to a text
+abbrev pub AddsPieces : List ℕ → ℕ → List ℕ → List ℕ → Type 0
+AddsPieces path number old new = (pieces : List (List ℕ)) × All (IsPiece path) pieces
+    × (length pieces ≡ number) × (new ≡ old ++ concat pieces)
+
+pub no_pieces : (path text : List ℕ) → AddsPieces path 0 text text
+no_pieces path text = ([], All-nil _, refl, sym (append-nil text))
+
+one_more : (old text new piece : List ℕ) (pieces : List (List ℕ)) → text ≡ old ++ concat pieces
+    → new ≡ text ++ piece → new ≡ old ++ concat (pieces ++ (piece ∷ []))
+one_more old text new piece pieces is more =
+    rw more (rw is (rw (concat-append pieces (piece ∷ [])) (simp (append_assoc, append-nil) refl)))
+
+pub one_piece : (path old text new : List ℕ) (number : ℕ) → AddsPieces path number old text
+    → TellsPiece path text new → AddsPieces path (number + 1) old new
+one_piece path old text new number (pieces, are, long, is) (piece, one, more) = (
+  pieces ++ (piece ∷ []),
+  All-append (IsPiece path) pieces (piece ∷ []) are (All-cons (IsPiece path) piece [] one (All-nil _)),
+  length-append pieces (piece ∷ []) ∙ ap (λ (n : ℕ). n + 1) long,
+  one_more old text new piece pieces is more,
+)
+
+pub all_pieces : (path old new : List ℕ) (number least : ℕ) → least ≤ number → AddsPieces path number old new
+    → TellsPieces path least new
+all_pieces path old new number least le (pieces, are, long, is) =
+    record { pieces = pieces; are_pieces = are; many = omega (arith, le, long); part = (old, [], is ∙ ap (λ (t : List ℕ). old ++ t) (sym (append-nil _))) }
+
+-- The pieces of a text are pieces of a longer one.
+pub pieces_more : (path text more : List ℕ) (number least : ℕ) → least ≤ number → IsPart text more → TellsPieces path number text
+    → TellsPieces path least more
+pieces_more path text more number least le longer t =
+    record { pieces = t.pieces; are_pieces = t.are_pieces; many = omega (arith, le, t.many); part = part_of (concat t.pieces) text more t.part longer }
+
+-- What was found is found still where one more stands among it.
+pub kept_in : (fault : FirstFault) (xs : List Finding) (i : ℕ) (x : Finding) → list_any (tells fault) xs ≡ true
+    → list_any (tells fault) (insert xs i x) ≡ true
+kept_in fault xs i x is =
+    let p = tells fault in
+    let whole : (list_any p (take i xs) || list_any p (drop i xs)) ≡ true =
+    sym (list_any-append p (take i xs) (drop i xs)) ∙ ap (list_any p) (take-append-drop i xs) ∙ is in
+    list_any-append p (take i xs) (x ∷ drop i xs) ∙ among (list_any p (take i xs)) (p x) (list_any p (drop i xs)) whole
+  where
+    among : (a b c : Bool) → (a || c) ≡ true → (a || (b || c)) ≡ true
+    among true b c h = refl
+    among false true c h = refl
+    among false false c h = h
+
+or_right : (a : Bool) {b : Bool} → b ≡ true → (a || b) ≡ true
+or_right true h = refl
+or_right false h = h
 
 -- What is told in a text is told in a longer one.
 pub told_more : (fault : FirstFault) (text more : List ℕ) → IsPart text more → IsToldIn text fault → IsToldIn more fault

@@ -1,6 +1,7 @@
-ghost use Rattle.std.specs.Prelude.{◌≡◌, true, OnOk};
+ghost use Rattle.std.specs.Prelude.{◌≡◌, ◌<◌, length, true, false, OnOk};
 ghost use Rattle.std.specs.List.{list_any};
-ghost use Rattle.cs_diagnostics.specs.Told.{is_told, tells};
+ghost use Rattle.cs_diagnostics.specs.Told.{is_full, is_told, tells, Keeps};
+ghost use Rattle.cs_diagnostics.specs.declared.findings.TheConstants.{MAX_TOLD};
 
 use cs_outline::Span;
 use std::alloc::{AllocError, Global};
@@ -18,7 +19,6 @@ pub type Words = Result<String, AllocError>;
 /// Something in a file that is wrong or odd.
 #[derive(Drop)]
 pub(crate) struct Finding {
-    pub(crate) is_odd: bool,
     /// Its line, from 1.
     pub(crate) line: u64,
     /// The byte of the file at which that line begins.
@@ -43,15 +43,39 @@ pub struct FirstFault<'a> {
 }
 
 impl Finding {
-    /// Whether it tells that fault: as one, by its name, and where it is.
+    /// Whether it tells that fault: by its name, and where it is.
     fn tells(&self, fault: &FirstFault<'_>) -> bool
         ensures { result ≡ tells fault.now self.now }
     {
         let from = self.place.from;
         let is_there = fault.from <= from && from.saturating_sub(fault.from) <= fault.more;
         let is_named = self.words.as_bytes().starts_with(fault.name.as_bytes());
-        !self.is_odd && is_named && (fault.line == 0 || self.line == fault.line && is_there)
+        is_named && (fault.line == 0 || self.line == fault.line && is_there)
     }
+}
+
+/// How many of some findings stand no later in the file than that byte.
+fn rank(findings: &[Finding], from: usize) -> usize {
+    let comes_later = |found: &&Finding| from < found.start.saturating_add(found.place.from);
+    let behind = findings.iter().rev().take_while(comes_later).count();
+    findings.len().saturating_sub(behind)
+}
+
+/// Puts a finding at its rank; where as many are kept as are told, the last goes.
+fn put(findings: &mut Vec<Finding>, finding: Finding) -> Done
+    ensures told { OnOk result ((fault : FirstFault) → tells fault finding ≡ true
+        → list_any (tells fault) findings.new.items ≡ true) }
+    ensures kept { OnOk result (length findings.old.items < MAX_TOLD
+        → (fault : FirstFault) → list_any (tells fault) findings.old.items ≡ true
+        → list_any (tells fault) findings.new.items ≡ true) }
+{
+    if findings.len() >= MAX_TOLD {
+        let _last = findings.pop();
+    }
+    let from = finding.start.saturating_add(finding.place.from);
+    let rank = rank(findings.as_slice(), from).min(findings.len());
+    findings.insert(rank, finding)?;
+    Ok(())
 }
 
 /// What is found in one file. Of it the first [`MAX_TOLD`] are kept, what is wrong before what is
@@ -62,7 +86,10 @@ pub struct Findings {
     pub alloc: Global,
     /// The bytes of the file at which its lines begin.
     starts: Vec<usize>,
-    pub(crate) first: Vec<Finding>,
+    /// What is wrong, by place.
+    pub(crate) faults: Vec<Finding>,
+    /// What is odd, by place.
+    pub(crate) oddities: Vec<Finding>,
     pub(crate) more: u64,
     /// Whether anything odd was found.
     pub has_oddities: bool,
@@ -81,7 +108,8 @@ impl Findings {
         Ok(Findings {
             alloc,
             starts,
-            first: Vec::new(alloc),
+            faults: Vec::new(alloc),
+            oddities: Vec::new(alloc),
             more: 0,
             has_oddities: false,
         })
@@ -95,30 +123,17 @@ impl Findings {
     }
 
     fn rank(&self, is_odd: bool, from: usize) -> usize {
-        let comes_later = |found: &&Finding| {
-            found.is_odd && !is_odd
-                || found.is_odd == is_odd && from < found.start.saturating_add(found.place.from)
-        };
-        let behind = self.first.iter().rev().take_while(comes_later).count();
-        self.first.len().saturating_sub(behind)
-    }
-
-    /// Puts a finding at its rank; where as many are kept as are told, the last goes.
-    fn push(&mut self, finding: Finding) -> Done
-        ensures { OnOk result ((fault : FirstFault) → tells fault finding ≡ true
-            → is_told fault self.new ≡ true) }
-    {
-        if self.first.len() >= MAX_TOLD {
-            let _last = self.first.pop();
+        if is_odd {
+            return self
+                .faults
+                .len()
+                .saturating_add(rank(self.oddities.as_slice(), from));
         }
-        let from = finding.start.saturating_add(finding.place.from);
-        let rank = self.rank(finding.is_odd, from).min(self.first.len());
-        self.first.insert(rank, finding)?;
-        Ok(())
+        rank(self.faults.as_slice(), from)
     }
 
     fn add(&mut self, is_odd: bool, place: Span, words: impl Display + Drop) -> Done {
-        if self.first.len() >= MAX_TOLD {
+        if self.faults.len().saturating_add(self.oddities.len()) >= MAX_TOLD {
             self.more = self.more.saturating_add(1);
         }
         if self.rank(is_odd, place.from) >= MAX_TOLD {
@@ -126,13 +141,16 @@ impl Findings {
         }
         let line = self.starts.partition_point(|start| *start <= place.from) as u64;
         let start = self.line_start(line);
-        self.push(Finding {
-            is_odd,
+        let finding = Finding {
             line,
             start,
             place: Span::of(place.from.saturating_sub(start), place.len()),
             words: format!(in self.alloc; "{words}")?,
-        })
+        };
+        if is_odd {
+            return put(&mut self.oddities, finding);
+        }
+        put(&mut self.faults, finding)
     }
 
     /// Adds something that is wrong.
@@ -150,25 +168,34 @@ impl Findings {
     pub fn tells(&self, fault: &FirstFault<'_>) -> bool
         ensures { result ≡ is_told fault.now self.now }
     {
-        self.first.iter().any(|found| found.tells(fault))
+        self.faults.iter().any(|found| found.tells(fault))
+    }
+
+    /// Whether as many faults are kept as are told.
+    pub fn is_full(&self) -> bool
+        ensures { result ≡ is_full self.now }
+    {
+        self.faults.len() >= MAX_TOLD
     }
 
     /// Adds a fault at the start of its line, where none was added that tells it.
     pub fn keep(&mut self, fault: &FirstFault<'_>) -> Done
-        ensures { OnOk result (is_told fault.now self.new ≡ true) }
+        ensures told { OnOk result (is_told fault.now self.new ≡ true) }
+        // Each fault that was told is told still, unless a hundred were.
+        ensures kept { OnOk result (is_full self.old ≡ false → Keeps self.old self.new) }
     {
         if self.tells(fault) {
             return Ok(());
         }
         let name = fault.name;
         let words = format!(in self.alloc; "{name}: see 'cronsafe explain'")?;
-        self.push(Finding {
-            is_odd: false,
+        let finding = Finding {
             line: fault.line.max(1),
             start: self.line_start(fault.line),
             place: Span::of(fault.from, 1),
             words,
-        })?;
+        };
+        put(&mut self.faults, finding)?;
         Ok(())
     }
 

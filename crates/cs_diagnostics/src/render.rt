@@ -1,10 +1,11 @@
 //! How findings are told: the place and the words, the line, and a mark under the place.
-ghost use Rattle.std.specs.Prelude.{◌≡◌, ◌+◌, ◌++◌, ◌∷◌, [], true, false, OnOk, IfOk};
+ghost use Rattle.std.specs.Prelude.{◌≡◌, ◌+◌, ◌++◌, ◌∷◌, [], length, true, false, OnOk, IfOk};
+ghost use Rattle.std.specs.List.{list_any};
 ghost use Rattle.std.specs.String.{string_bytes};
-ghost use Rattle.cs_diagnostics.specs.Told.{IsPart, IsToldIn, head, is_told, tells};
+ghost use Rattle.cs_diagnostics.specs.Told.{IsCalled, IsFull, IsPart, IsToldIn, TellsPiece, TellsPieces, head, is_full, is_told, tells};
 ghost use Rattle.cs_diagnostics.specs.declared.findings.FirstFault.{FirstFault};
 
-use crate::findings::{Done, Finding, Findings, Words};
+use crate::findings::{Done, Finding, Findings, MAX_TOLD, Words};
 use crate::names::is_control;
 use cs_outline::Span;
 use std::alloc::{AllocError, Global};
@@ -26,7 +27,9 @@ pub struct File<'a> {
 
 impl<'a> File<'a> {
     /// What it is called where it is spoken of.
-    fn name(&self) -> &'a str {
+    fn name(&self) -> &'a str
+        ensures { IsCalled self.now.path.now result.now }
+    {
         if self.path == "-" {
             "standard input"
         } else {
@@ -87,29 +90,57 @@ fn marked(alloc: Global, bytes: &[u8], finding: &Finding) -> Result<Vec<u8>, All
 }
 
 /// What is told of a finding in one line.
-fn heading(alloc: Global, name: &str, finding: &Finding) -> Words
-    ensures { IfOk result (λ text. finding.now.is_odd ≡ false → string_bytes text
+fn heading(alloc: Global, name: &str, is_odd: bool, finding: &Finding) -> Words
+    ensures { IfOk result (λ text. is_odd ≡ false → string_bytes text
         ≡ name.now ++ head finding.now.line (finding.now.place.from + 1)
         (string_bytes finding.now.words ++ (10 ∷ []))) }
 {
     let (line, column) = (finding.line, finding.place.from as u128 + 1);
     let words = finding.words.as_str();
-    if finding.is_odd {
+    if is_odd {
         return format!(in alloc; "{name}:{line}:{column}: odd: {words}\n");
     }
     format!(in alloc; "{name}:{line}:{column}: fault: {words}\n")
 }
 
 /// Adds what is told of a finding.
-fn add_finding(alloc: Global, text: &mut Vec<u8>, file: &File<'_>, finding: &Finding) -> Done
-    ensures told { OnOk result ((fault : FirstFault) → tells fault finding.now ≡ true
-        → IsToldIn text.new.items fault) }
+fn add_finding(
+    alloc: Global,
+    text: &mut Vec<u8>,
+    file: &File<'_>,
+    is_odd: bool,
+    finding: &Finding,
+) -> Done
+    ensures told { OnOk result (is_odd ≡ false → (fault : FirstFault)
+        → tells fault finding.now ≡ true → IsToldIn text.new.items fault) }
     ensures kept { OnOk result (IsPart text.old.items text.new.items) }
+    ensures piece { OnOk result (is_odd ≡ false
+        → TellsPiece file.now.path.now text.old.items text.new.items) }
 {
-    let heading = heading(alloc, file.name(), finding)?;
+    let heading = heading(alloc, file.name(), is_odd, finding)?;
     let marked = marked(alloc, file.bytes, finding)?;
     text.extend_from_slice(heading.as_bytes())?;
     text.extend_from_slice(marked.as_slice())?;
+    Ok(())
+}
+
+/// Adds what is told of each of some findings.
+fn add_findings(
+    alloc: Global,
+    text: &mut Vec<u8>,
+    file: &File<'_>,
+    is_odd: bool,
+    findings: &[Finding],
+) -> Done
+    ensures told { OnOk result (is_odd ≡ false → (fault : FirstFault)
+        → list_any (tells fault) findings.now ≡ true → IsToldIn text.new.items fault) }
+    ensures kept { OnOk result (IsPart text.old.items text.new.items) }
+    ensures pieces { OnOk result (is_odd ≡ false
+        → TellsPieces file.now.path.now (length findings.now) text.new.items) }
+{
+    for finding in findings.iter() {
+        add_finding(alloc, text, file, is_odd, finding)?;
+    }
     Ok(())
 }
 
@@ -127,10 +158,14 @@ impl Findings {
         ensures told { OnOk result ((fault : FirstFault) → is_told fault self.now ≡ true
             → IsToldIn text.new.items fault) }
         ensures kept { OnOk result (IsPart text.old.items text.new.items) }
+        ensures full { OnOk result (is_full self.now ≡ true
+            → IsFull file.now.path.now text.new.items) }
     {
-        for finding in self.first.iter() {
-            add_finding(self.alloc, text, file, finding)?;
-        }
+        add_findings(self.alloc, text, file, false, self.faults.as_slice())?;
+        let left = MAX_TOLD
+            .saturating_sub(self.faults.len())
+            .min(self.oddities.len());
+        add_findings(self.alloc, text, file, true, &self.oddities[..left])?;
         if self.more > 0 {
             let (name, more) = (file.name(), self.more);
             let last = format!(in self.alloc; "{name}: and {more} more\n")?;

@@ -1,27 +1,31 @@
 -- The words of a text, one after the other.
-use Rattle.std.proofs.Common.{◌≡◌, ◌≢◌, ◌∙◌, ◌<◌, ℕ, Bool, true, false, not, cond, List, [], ◌∷◌, ◌==◌, length, nat_lt, position, take, Some, None, refl, sym, ap, arith}
+use Rattle.std.proofs.Common.{◌≡◌, ◌≢◌, ◌⊎◌, ◌∙◌, ◌<◌, ℕ, Bool, true, false, not, cond, List, [], ◌∷◌, ◌==◌, length, nat_lt, position, take, Option, Some, None, Ok, inl, inr, refl, sym, ap, arith}
 use Rattle.std.specs.List.{filter, onto_first, position_or_len, slice_split}
 use Rattle.std.proofs.lemmas.List.{take_all}
 use Rattle.std.proofs.lemmas.Bool.{ltb-false}
+use Rattle.cs_crontab.specs.Command.{AreParts, parts_from, pieces_of}
+use Rattle.cs_crontab.proofs.Pieces.{read_all}
 use Rattle.cs_table.specs.Text.{after, front, is_blank, is_solid, StopsAt}
 use Rattle.cs_table.proofs.Fronts.{length-parts}
 use Rattle.cs_table.proofs.Spans.{after_stops, front_some, some_to}
-use Rattle.cs_draft.specs.Locks.{call_lock, is_filled, is_flock, is_under_flock, lock_of, shell_text, words_lock, words_of}
+use Rattle.cs_history.specs.declared.mode.Mode.{Mode}
+use Rattle.cs_draft.specs.Locks.{before_percent, call_lock, is_filled, is_flock, is_path, is_under_flock, lock_of, words_lock, words_of}
+use Rattle.cs_draft.specs.Shell.{is_one_program, shell_text}
 
 -- ---- up to the first `%`
 
 module _ (xs : List ℕ) where
-  pub shell_to : (at : ℕ) → position (λ b. b == 37) xs ≡ Some at → take at xs ≡ shell_text xs
-  shell_to at is = by_test (nat_lt (position_or_len (λ b. b == 37) xs) (length xs)) is
+  pub percent_at : (at : ℕ) → position (λ b. b == 37) xs ≡ Some at → take at xs ≡ before_percent xs
+  percent_at at is = by_test (nat_lt (position_or_len (λ b. b == 37) xs) (length xs)) is
     where
-      by_test : (t : Bool) → cond t (Some (position_or_len (λ b. b == 37) xs)) None ≡ Some at → take at xs ≡ shell_text xs
+      by_test : (t : Bool) → cond t (Some (position_or_len (λ b. b == 37) xs)) None ≡ Some at → take at xs ≡ before_percent xs
       by_test true e = let same : position_or_len (λ b. b == 37) xs ≡ at = cc in ap (λ n. take n xs) (sym same)
       by_test false e = absurd cc
 
-  pub shell_all : position (λ b. b == 37) xs ≡ None → xs ≡ shell_text xs
-  shell_all is = by_test (nat_lt (position_or_len (λ b. b == 37) xs) (length xs)) refl is
+  pub no_percent : position (λ b. b == 37) xs ≡ None → xs ≡ before_percent xs
+  no_percent is = by_test (nat_lt (position_or_len (λ b. b == 37) xs) (length xs)) refl is
     where
-      by_test : (t : Bool) → nat_lt (position_or_len (λ b. b == 37) xs) (length xs) ≡ t → cond t (Some (position_or_len (λ b. b == 37) xs)) None ≡ None → xs ≡ shell_text xs
+      by_test : (t : Bool) → nat_lt (position_or_len (λ b. b == 37) xs) (length xs) ≡ t → cond t (Some (position_or_len (λ b. b == 37) xs)) None ≡ None → xs ≡ before_percent xs
       by_test true lt e = absurd cc
       by_test false lt e = sym (take_all (position_or_len (λ b. b == 37) xs) xs (ltb-false (position_or_len (λ b. b == 37) xs) (length xs) lt))
 
@@ -78,26 +82,55 @@ shorter xs some stop =
 
 -- ---- the first word of a command
 
-module _ (command text : List ℕ) (is : text ≡ after is_blank (shell_text command)) where
-  words_are : words_of (shell_text command) ≡ words_of text
-  words_are = sym (ap words_of is ∙ words_skip (shell_text command))
+-- the lock of a call, if the shell runs nothing besides it, and takes its first word as a path
+abbrev lock_if : Bool → Bool → Option (List ℕ × Mode) → Option (List ℕ × Mode)
+lock_if alone path lock = cond alone (cond path lock None) None
+
+pub refused : (alone path : Bool) (lock : Option (List ℕ × Mode)) → (path ≡ false) ⊎ (lock ≡ None) → lock_if alone path lock ≡ None
+refused false path lock other = refl
+refused true false lock other = refl
+refused true true lock (inl e) = absurd cc
+refused true true lock (inr e) = e
+
+pub not_alone : (alone path : Bool) (lock : Option (List ℕ × Mode)) → alone ≡ false → lock_if alone path lock ≡ None
+not_alone alone path lock other = rw other refl
+
+pub taken : (alone path : Bool) (lock : Option (List ℕ × Mode)) (l : List ℕ × Mode) → alone ≡ true → path ≡ true → lock ≡ Some l → lock_if alone path lock ≡ Some l
+taken alone path lock l one is some = rw (one, is) some
+
+module _ (command text : List ℕ) (is : text ≡ after is_blank (before_percent command)) where
+  words_are : words_of (before_percent command) ≡ words_of text
+  words_are = sym (ap words_of is ∙ words_skip (before_percent command))
 
   stops : StopsAt is_blank text
-  stops = rw is (after_stops is_blank (shell_text command))
+  stops = rw is (after_stops is_blank (before_percent command))
 
   absent_words : (xs : List ℕ) → StopsAt is_blank xs → is_flock (front is_solid xs) ≡ false → (is_under_flock (words_of xs) ≡ false) × (words_lock (words_of xs) ≡ None)
   absent_words [] stop other = (refl, refl)
   absent_words (x ∷ xs) stop other = rw (words_solid (x ∷ xs) (λ e. cc) stop) (other, rw other refl)
 
-  under_words : (xs : List ℕ) → StopsAt is_blank xs → is_flock (front is_solid xs) ≡ true → (is_under_flock (words_of xs) ≡ true) × (words_lock (words_of xs) ≡ call_lock (words_of (after is_solid xs)))
+  under_words : (xs : List ℕ) → StopsAt is_blank xs → is_flock (front is_solid xs) ≡ true
+      → (is_under_flock (words_of xs) ≡ true) × (words_lock (words_of xs) ≡ cond (is_path (front is_solid xs)) (call_lock (words_of (after is_solid xs))) None)
   unfolding front is_flock
   under_words [] stop flock = absurd cc
   under_words (x ∷ xs) stop flock = rw (words_solid (x ∷ xs) (λ e. cc) stop) (flock, rw flock refl)
 
-  pub not_under : is_flock (front is_solid text) ≡ false → (is_under_flock (words_of (shell_text command)) ≡ false) × (lock_of command ≡ None)
-  unfolding lock_of
-  not_under other = rw words_are (absent_words text stops other)
+  none_still : (t : Bool) (lock : Option (List ℕ × Mode)) → lock ≡ None → cond t lock None ≡ None
+  none_still true lock none = none
+  none_still false lock none = refl
 
-  pub under : is_flock (front is_solid text) ≡ true → (is_under_flock (words_of (shell_text command)) ≡ true) × (lock_of command ≡ call_lock (words_of (after is_solid text)))
+  pub not_under : is_flock (front is_solid text) ≡ false → (is_under_flock (words_of (before_percent command)) ≡ false) × (lock_of command ≡ None)
   unfolding lock_of
-  under flock = rw words_are (under_words text stops flock)
+  not_under other = rw words_are (let none = absent_words text stops other in (none.0, none_still (is_one_program (shell_text command)) (words_lock (words_of text)) none.1))
+
+  -- by the words of the code
+  module _ (first : List ℕ) (words : List (List ℕ)) (first-is : first ≡ front is_solid text) (words-are : words ≡ words_of (after is_solid text)) where
+    pub under : is_flock first ≡ true → (is_under_flock (words_of (before_percent command)) ≡ true) × (lock_of command ≡ lock_if (is_one_program (shell_text command)) (is_path first) (call_lock words))
+    unfolding lock_of
+    under flock = rw (words_are, first-is, words-are) (let found = under_words text stops (sym (ap is_flock first-is) ∙ flock) in (found.0, ap (λ l. cond (is_one_program (shell_text command)) l None) found.1))
+
+-- ---- the text of the shell
+
+-- the parts that are defined are parts
+pub given : (command : List ℕ) → AreParts command (parts_from (pieces_of command))
+given command = read_all {E = Unit {0}} command (Ok (parts_from (pieces_of command))) refl

@@ -2,11 +2,10 @@
 use Rattle.std.proofs.Common.{◌≡◌, ◌∙◌, ℕ, suc, ◌+◌, ◌<◌, ◌≤◌, Bool, true, false, not, ◌&&◌, List, [], ◌∷◌, ◌++◌, length, get_or, drop, Bor, refl, sym, ap, arith}
 use Rattle.std.proofs.Math.Seq.{drop-cons}
 use Rattle.std.proofs.Math.ListN.{drop_of_length-le}
-use Rattle.std.specs.List.{list_all}
 use Rattle.std.specs.Str.{is_utf8, IsUtf8}
 use Rattle.std.proofs.lemmas.Str.{is_utf8-from_IsUtf8, IsUtf8-from_is_utf8}
 use Rattle.std.proofs.lemmas.Bool.{false_from_ne_true}
-use Rattle.cs_table.specs.Text.{is_digit}
+use Rattle.cs_table.specs.Text.{begins_with}
 use Rattle.cs_draft.specs.Locks.{after_options, is_file, is_option, is_shell_word, options_in, options_of}
 use Rattle.cs_draft.specs.Locking.{texts_of}
 
@@ -66,15 +65,15 @@ module _ (words : List (Bor (List ℕ))) (i : ℕ) where
 -- ---- the file
 
 module _ (word : List ℕ) where
-  pub good_file : list_all is_digit word ≡ false → is_shell_word word ≡ false → IsUtf8 word → is_file word ≡ true
+  pub good_file : begins_with 47 word ≡ true → is_shell_word word ≡ false → IsUtf8 word → is_file word ≡ true
   unfolding is_file
-  good_file digits shell utf8 = rw (digits, shell) (is_utf8-from_IsUtf8 word utf8)
+  good_file root shell utf8 = rw (root, shell) (is_utf8-from_IsUtf8 word utf8)
 
   pub file_not_utf8 : ¬ (IsUtf8 word) → is_file word ≡ false
   unfolding is_file
-  file_not_utf8 other = let e : is_utf8 word ≡ false = false_from_ne_true (is_utf8 word) (λ u. other (IsUtf8-from_is_utf8 word u)) in rw e (by_tests (list_all is_digit word) (is_shell_word word))
+  file_not_utf8 other = let e : is_utf8 word ≡ false = false_from_ne_true (is_utf8 word) (λ u. other (IsUtf8-from_is_utf8 word u)) in rw e (by_tests (begins_with 47 word) (is_shell_word word))
     where
-      by_tests : (a b : Bool) → (not a && (not b && false)) ≡ false
-      by_tests true b = refl
-      by_tests false true = refl
-      by_tests false false = refl
+      by_tests : (a b : Bool) → (a && (not b && false)) ≡ false
+      by_tests false b = refl
+      by_tests true true = refl
+      by_tests true false = refl

@@ -1,5 +1,5 @@
 -- What is drawn up: declarations that join with the tables, and that keep what older ones declare.
-use Rattle.std.specs.Prelude.{◌≡◌, ◌≢◌, ◌⊎◌, ◌≤ℤ◌, ℕ, ℤ, pos, unsigned_abs, List, All, length, take, Bool, true, false, not, ◌==◌, ◌&&◌, bytes_eq, Option, None, Some, IfSome, IsSomeAnd, Ok}
+use Rattle.std.specs.Prelude.{◌≡◌, ◌≢◌, ◌⊎◌, ◌≤ℤ◌, ℕ, ℤ, pos, unsigned_abs, List, All, length, take, drop, Bool, true, false, not, ◌==◌, ◌&&◌, bytes_eq, Option, None, Some, IfNone, IfSome, IsSomeAnd, Ok}
 use Rattle.std.specs.List.{count_by, find, list_any}
 use Rattle.std.specs.Str.{IsUtf8}
 use Rattle.cs_crontab.specs.Crontab.{Table as Crontab, CommandLine}
@@ -7,13 +7,14 @@ use Rattle.cs_crontab.specs.declared.table.When.{When}
 use Rattle.cs_crontab.specs.declared.table.When.TheVariants.{At, Reboot}
 use Rattle.cs_anacrontab.specs.Anacrontab.{Table as Anacrontab, JobLine}
 use Rattle.cs_schedule.specs.Times.{Times}
-use Rattle.cs_gap.specs.Gap.{AreApart}
+use Rattle.cs_gap.specs.Gap.{AreApart, can_be_apart}
 use Rattle.cs_civil.specs.declared.minute.TheConstants.{MINUTES_OF_DAY}
 use Rattle.cs_history.specs.declared.mode.Mode.{Mode}
 use Rattle.cs_history.specs.declared.mode.Mode.TheVariants.{Plain}
 use Rattle.cs_decl.specs.declared.limits.TheConstants.{MAX_CAPACITY, MAX_GROUPS}
 use Rattle.cs_decl.specs.declared.entries.LineName.{LineName}
 use Rattle.cs_decl.specs.declared.entries.CronEntry.{CronEntry}
+use Rattle.cs_decl.specs.declared.entries.DefaultEntry.{DefaultEntry}
 use Rattle.cs_decl.specs.declared.entries.GroupEntry.{GroupEntry}
 use Rattle.cs_decl.specs.declared.entries.AnacronEntry.{AnacronEntry}
 use Rattle.cs_decl.specs.declared.entries.Entries.{Entries}
@@ -33,24 +34,28 @@ TellsCommand name line = is_named name line ≡ true → name.command ≡ Some l
 abbrev pub IsBound : Entries → CommandLine → Type 0
 IsBound d line = IsUtf8 line.command → All (λ name. TellsCommand name line) (names_of d)
 
--- The bytes declare something with which no fault of the tables is left, and its entries are bound to
--- the commands of their lines.
+-- The bytes declare something with which no fault of the tables is left, no object has a member
+-- twice, and the entries are bound to the commands of their lines.
 pub record IsSound (crontab : Crontab) (anacrontab : Anacrontab) (bytes : List ℕ) (d : Entries)
     : Type 0 where
   pub declared : declared_by bytes ≡ Ok d
+  pub once : d.doubled ≡ None
   pub fits : first_fault (join_faults crontab anacrontab d) ≡ None
   pub bound : All (IsBound d) crontab.lines
 
 -- ---- drafts
 
--- the longest time is at most the asked one, and at most the time from a due minute to the next one
+-- The longest time is the asked one, or one that can be from a due minute to the next; it isn't
+-- more than the asked one, nor than any from a due minute to the next.
 abbrev pub IsBrief : ℕ → Times → CronEntry → Type 0
 IsBrief max schedule e = (e.max ≤ℤ pos max) × AreApart schedule (unsigned_abs e.max)
+    × ((e.max ≡ pos max) ⊎ (can_be_apart schedule (unsigned_abs e.max) ≡ true))
 
--- a command that is started at startup is left out, and each other one has an entry that is brief
+-- A command that is started at startup is left out, and each other one has an entry that is brief
+-- and has the least weight.
 abbrev pub IsDraftedAs : ℕ → Option CronEntry → Bool → When → Type 0
 IsDraftedAs max entry is_out (At schedule) =
-    (is_out ≡ false) × IsSomeAnd entry (IsBrief max schedule)
+    (is_out ≡ false) × IsSomeAnd entry (λ e. IsBrief max schedule e × (e.weight ≡ pos 1))
 IsDraftedAs max entry is_out Reboot = is_out ≡ true
 
 abbrev pub IsDrafted : ℕ → Entries → CommandLine → Type 0
@@ -66,14 +71,9 @@ is_text text (Some told) = bytes_eq told text
 abbrev pub TakesNone : CronEntry → Type 0
 TakesNone e = (e.group ≡ None) × (e.mode ≡ Plain)
 
--- an exclusive group of that name is declared
-abbrev pub has_exclusive : List GroupEntry → List ℕ → Bool
-has_exclusive groups name = list_any (λ g. g.exclusive && bytes_eq g.name name) groups
-
--- the entry takes the lock of the file in that mode, by an exclusive group of the file's name
-abbrev pub TakesLock : List GroupEntry → List ℕ → Mode → CronEntry → Type 0
-TakesLock groups file mode e =
-    (e.group ≡ Some file) × (e.mode ≡ mode) × (has_exclusive groups file ≡ true)
+-- the entry takes the lock of the file in that mode: its group has the file's name
+abbrev pub TakesLock : List ℕ → Mode → CronEntry → Type 0
+TakesLock file mode e = (e.group ≡ Some file) × (e.mode ≡ mode)
 
 -- there are as many groups as there may be, and none of that name
 abbrev pub IsFull : List GroupEntry → List ℕ → Type 0
@@ -84,16 +84,17 @@ IsFull groups file = (length groups ≡ MAX_GROUPS) × All (λ g. g.name ≢ fil
 abbrev pub IsLocked : List GroupEntry → Option (List ℕ × Mode) → CronEntry → Type 0
 IsLocked groups None e = TakesNone e
 IsLocked groups (Some lock) e =
-    TakesLock groups lock.0 lock.1 e ⊎ (IsFull groups lock.0 × TakesNone e)
+    TakesLock lock.0 lock.1 e ⊎ (IsFull groups lock.0 × TakesNone e)
 
 -- the line's entry, if it has one, is locked as its command is
 abbrev pub HasLock : Entries → CommandLine → Type 0
 HasLock d line =
     IfSome (find (λ e. is_named e.name line) d.cron) (IsLocked d.groups (lock_of line.command))
 
--- the group is that of an entry
-abbrev pub IsUsed : Entries → GroupEntry → Type 0
-IsUsed d g = list_any (λ e. is_text g.name e.group) d.cron ≡ true
+-- the group is exclusive, and that of an entry
+abbrev pub IsDraftedGroup : Entries → GroupEntry → Type 0
+IsDraftedGroup d g =
+    (g.exclusive ≡ true) × (list_any (λ e. is_text g.name e.group) d.cron ≡ true)
 
 -- the anacron job has an entry with the asked time, the least weight and no group
 abbrev pub IsDraftedJob : ℕ → Entries → JobLine → Type 0
@@ -101,17 +102,16 @@ IsDraftedJob max d line = IsSomeAnd (find (is_of_job line.identifier) d.anacron)
     (λ e. (e.max ≡ pos max) × (e.weight ≡ pos 1) × (e.group ≡ None))
 
 -- The capacity is the greatest, clocks are ahead of UTC by so many minutes, catch-up is at all hours
--- and has no pass minute, no job has a default, and each command weighs 1.
+-- and has no pass minute, and no job has a default.
 pub record AreFresh (east : ℤ) (d : Entries) : Type 0 where
   pub capacity : d.capacity ≡ pos MAX_CAPACITY
   pub offset : d.offset ≡ east
   pub hours : d.hours ≡ (pos 0, pos MINUTES_OF_DAY)
   pub pass : d.pass ≡ None
   pub default : d.default ≡ None
-  pub weights : All (λ e. e.weight ≡ pos 1) d.cron
 
 -- Each job has an entry of its own, which has the lock of its command; `@reboot` lines alone are left
--- out; and each group is that of an entry.
+-- out; and each group is exclusive, and that of an entry.
 pub record IsDraft (crontab : Crontab) (anacrontab : Anacrontab) (max : ℕ) (east : ℤ)
     (bytes : List ℕ) : Type 0 where
   pub entries : Entries
@@ -119,7 +119,7 @@ pub record IsDraft (crontab : Crontab) (anacrontab : Anacrontab) (max : ℕ) (ea
   pub terms : AreFresh east entries
   pub lines : All (IsDrafted max entries) crontab.lines
   pub locks : All (HasLock entries) crontab.lines
-  pub groups : All (IsUsed entries) entries.groups
+  pub groups : All (IsDraftedGroup entries) entries.groups
   pub jobs : All (IsDraftedJob max entries) anacrontab.lines
 
 -- ---- updates
@@ -128,11 +128,19 @@ pub record IsDraft (crontab : Crontab) (anacrontab : Anacrontab) (max : ℕ) (ea
 abbrev pub tells : List ℕ → LineName → Bool
 tells command name = is_text command name.command
 
+-- how many entries tell this command
+abbrev pub times_told : List ℕ → Entries → ℕ
+times_told command old = count_by (tells command) (names_of old)
+
 -- one line alone has the line's command, it isn't an `@reboot`, and one entry alone tells its command
 abbrev pub is_lone : List CommandLine → Entries → CommandLine → Bool
 is_lone lines old line = not (is_reboot line.when)
     && (count_by (λ l. bytes_eq l.command line.command) lines == 1
-    && count_by (tells line.command) (names_of old) == 1)
+    && times_told line.command old == 1)
+
+-- the line isn't an `@reboot`, and no entry tells its command
+abbrev pub is_new : Entries → CommandLine → Bool
+is_new old line = not (is_reboot line.when) && times_told line.command old == 0
 
 -- the same is declared by two entries
 abbrev pub AreAlike : CronEntry → CronEntry → Type 0
@@ -165,13 +173,33 @@ pub record AreTerms (old new : Entries) : Type 0 where
   pub default : new.default ≡ old.default
   pub groups : take (length old.groups) new.groups ≡ old.groups
 
+-- what is new is declared as in a draft; but it has no entry where there is a default
+abbrev pub IsAsNew : {E : Type 0} → Option DefaultEntry → Option E → Type 0 → Type 0
+IsAsNew None entry Drafted = Drafted
+IsAsNew (Some default) entry Drafted = entry ≡ None
+
+-- A new command's line is declared so, and isn't left out. Its entry has the lock of its command.
+abbrev pub IsNewLine : ℕ → Entries → Entries → CommandLine → Type 0
+IsNewLine max old new line = is_new old line ≡ true
+    → IsAsNew old.default (find (λ e. is_named e.name line) new.cron) (IsDrafted max new line)
+    × (is_left_out new line ≡ false) × HasLock new line
+
+-- an anacron job that has no old entry is declared so
+abbrev pub IsNewJob : ℕ → Entries → Entries → JobLine → Type 0
+IsNewJob max old new line = IfNone (find (is_of_job line.identifier) old.anacron)
+    (IsAsNew old.default (find (is_of_job line.identifier) new.anacron) (IsDraftedJob max new line))
+
 -- What is declared of a command that one line has and one old entry tells is declared of that line,
--- and what is declared of an anacron job is.
-pub record IsUpdate (crontab : Crontab) (anacrontab : Anacrontab) (old : Entries) (bytes : List ℕ)
-    : Type 0 where
+-- and what is declared of an anacron job is. What no old entry tells is declared as in a draft with
+-- that longest time, or has the default where there is one; each new group is that of an entry.
+pub record IsUpdate (crontab : Crontab) (anacrontab : Anacrontab) (old : Entries) (max : ℕ)
+    (bytes : List ℕ) : Type 0 where
   pub entries : Entries
   pub sound : IsSound crontab anacrontab bytes entries
   pub lines : All (λ line. is_lone crontab.lines old line ≡ true → IsKeptLine old entries line)
       crontab.lines
   pub jobs : All (IsKeptJob old entries) anacrontab.lines
   pub terms : AreTerms old entries
+  pub new_lines : All (IsNewLine max old entries) crontab.lines
+  pub new_jobs : All (IsNewJob max old entries) anacrontab.lines
+  pub new_groups : All (IsDraftedGroup entries) (drop (length old.groups) entries.groups)

@@ -20,4 +20,4 @@ abbrev pub IsUpdating : Crontab → Anacrontab → Entries → ℕ → Drawing �
 IsUpdating crontab anacrontab old max BadMax = is_possible_max max ≡ false
 IsUpdating crontab anacrontab old max NotConfirmed = is_possible_max max ≡ true
 IsUpdating crontab anacrontab old max (Drawn draft) =
-    (is_possible_max max ≡ true) × IsUpdate crontab anacrontab old draft.text
+    (is_possible_max max ≡ true) × IsUpdate crontab anacrontab old max draft.text

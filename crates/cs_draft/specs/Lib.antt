@@ -1,4 +1,5 @@
 pub mod Texts
+pub mod Shell
 pub mod Locks
 pub mod Locking
 pub mod Draft

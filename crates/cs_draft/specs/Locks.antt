@@ -2,9 +2,11 @@
 use Rattle.std.specs.Prelude.{ℕ, List, [], ◌∷◌, ◌++◌, length, map, codes, bytes_eq, Option, None, Some, is_some, option_map, Bool, true, false, not, ◌&&◌, ◌||◌, ◌==◌, if◌then◌else◌}
 use Rattle.std.specs.List.{before_first, ends_with, filter, filter_map, fold, list_all, list_any, slice_split}
 use Rattle.std.specs.Str.{is_utf8}
-use Rattle.cs_table.specs.Text.{begins_with, is_blank, is_digit}
+use Rattle.cs_table.specs.Text.{begins_with, is_blank}
 use Rattle.cs_history.specs.declared.mode.Mode.{Mode}
 use Rattle.cs_history.specs.declared.mode.Mode.TheVariants as modes
+use Rattle.cs_json.specs.Shape.{is_among}
+use Rattle.cs_draft.specs.Shell.{is_of, is_one_program, shell_text}
 use Rattle.cs_draft.specs.declared.flock.Flag.{Flag}
 use Rattle.cs_draft.specs.declared.flock.Flag.TheVariants.{Shared, Exclusive, AtOnce, Unseen}
 
@@ -17,13 +19,10 @@ is_filled word = not (length word == 0)
 abbrev pub words_of : List ℕ → List (List ℕ)
 words_of text = filter is_filled (slice_split is_blank text)
 
--- the shell is given what stands before the first `%` (crontab(5))
-abbrev pub shell_text : List ℕ → List ℕ
-shell_text command = before_first (λ b. b == 37) command
-
--- the word is one of these
-abbrev pub is_one_of : List (List ℕ) → List ℕ → Bool
-is_one_of texts word = list_any (bytes_eq word) texts
+-- The words of a call are in front of the first `%`. It ends the text of the shell, or a backslash
+-- escapes it: then the last of these words ends with that, and is no option and no lock file.
+abbrev pub before_percent : List ℕ → List ℕ
+before_percent command = before_first (λ b. b == 37) command
 
 -- its first byte is one of these
 abbrev pub begins_among : List ℕ → List ℕ → Bool
@@ -34,13 +33,13 @@ begins_among bytes word = list_any (λ b. begins_with b word) bytes
 -- what an option asks for; nothing of the others can be declared
 unfoldable pub flag_of : List ℕ → Option Flag
 flag_of option =
-    if is_one_of (codes "-s" ∷ codes "--shared" ∷ []) option then Some Shared
-    else if is_one_of (codes "-e" ∷ codes "-x" ∷ codes "--exclusive" ∷ []) option
+    if is_among (codes "-s" ∷ codes "--shared" ∷ []) option then Some Shared
+    else if is_among (codes "-e" ∷ codes "-x" ∷ codes "--exclusive" ∷ []) option
     then Some Exclusive
-    else if is_one_of (codes "-n" ∷ codes "--nb" ∷ codes "--nonblock" ∷ codes "--nonblocking" ∷ [])
+    else if is_among (codes "-n" ∷ codes "--nb" ∷ codes "--nonblock" ∷ codes "--nonblocking" ∷ [])
     option
     then Some AtOnce
-    else if is_one_of
+    else if is_among
     (codes "-o" ∷ codes "--close" ∷ codes "-F" ∷ codes "--no-fork" ∷ codes "--verbose" ∷ [])
     option
     then Some Unseen
@@ -48,7 +47,7 @@ flag_of option =
 
 -- a word of options begins with `-`, but `-` alone is none, and `--` ends them
 unfoldable pub is_option : List ℕ → Bool
-is_option word = begins_with 45 word && not (is_one_of (codes "-" ∷ codes "--" ∷ []) word)
+is_option word = begins_with 45 word && not (is_among (codes "-" ∷ codes "--" ∷ []) word)
 
 -- short options may be joined: `-sn` is `-s -n`
 abbrev pub short_options : List ℕ → List (List ℕ)
@@ -114,14 +113,14 @@ mode_of true true = None
 
 -- A shell reads these bytes in its own way (sh(1)), and `~` and `#` at the front of a word.
 unfoldable pub is_shell_byte : ℕ → Bool
-is_shell_byte byte = list_any (λ b. b == byte) (codes "\"'\\$`*?[{|&;<>()")
+is_shell_byte byte = is_of (codes "\"'\\$`*?[{|&;<>()") byte
 
 unfoldable pub is_shell_word : List ℕ → Bool
 is_shell_word word = begins_among (codes "~#") word || list_any is_shell_byte word
 
--- the word is the name of a file, and no number of a descriptor
+-- The word is the path of a file from the root: another one is of a file in the folder of the run.
 unfoldable pub is_file : List ℕ → Bool
-is_file word = not (list_all is_digit word) && (not (is_shell_word word) && is_utf8 word)
+is_file word = begins_with 47 word && (not (is_shell_word word) && is_utf8 word)
 
 -- a word of a command is at the front, and nothing that ends a command or redirects its output
 unfoldable pub has_word : List (List ℕ) → Bool
@@ -132,13 +131,17 @@ has_word (word ∷ words) = not (begins_among (codes "|&;<>()#") word)
 unfoldable pub is_command : List (List ℕ) → Bool
 is_command [] = false
 is_command (word ∷ words) =
-    if is_one_of (codes "-c" ∷ codes "--command" ∷ []) word then has_word words
+    if is_among (codes "-c" ∷ codes "--command" ∷ []) word then has_word words
     else has_word (word ∷ words)
 
 -- ---- the lock
 
 unfoldable pub is_flock : List ℕ → Bool
 is_flock word = bytes_eq word (codes "flock") || ends_with (λ a b. a == b) word (codes "/flock")
+
+-- A shell takes the word as the path of a program: it stands for itself, and is no assignment.
+unfoldable pub is_path : List ℕ → Bool
+is_path word = not (is_shell_word word) && not (list_any (λ b. b == 61) word)
 
 -- the file and the mode, where options and the words behind them are like a mode's
 abbrev pub called : List (List ℕ) → List (List ℕ) → Option (List ℕ × Mode)
@@ -160,9 +163,11 @@ is_under_flock (word ∷ words) = is_flock word
 
 abbrev pub words_lock : List (List ℕ) → Option (List ℕ × Mode)
 words_lock [] = None
-words_lock (word ∷ words) = if is_flock word then call_lock words else None
+words_lock (word ∷ words) = if is_flock word && is_path word then call_lock words else None
 
 -- The file whose lock the command takes, and the mode; none where it takes no lock, or one that no
--- mode is like.
+-- mode is like, or where the shell does more than to run flock(1).
 unfoldable pub lock_of : List ℕ → Option (List ℕ × Mode)
-lock_of command = words_lock (words_of (shell_text command))
+lock_of command =
+    if is_one_program (shell_text command) then words_lock (words_of (before_percent command))
+    else None

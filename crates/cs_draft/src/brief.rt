@@ -1,6 +1,7 @@
 //! Whether each line of a crontab is declared as a draft has it.
-ghost use Rattle.std.specs.Prelude.{◌≤◌, All, IsTrue};
-ghost use Rattle.cs_gap.specs.Gap.{AreApart};
+ghost use Rattle.std.specs.Prelude.{◌≡◌, ◌⊎◌, ◌≤◌, All, IsTrue, pos, true};
+ghost use Rattle.cs_gap.specs.Gap.{AreApart, can_be_apart};
+ghost use Rattle.cs_gap.specs.declared.gap.TheConstants.{MAX_GAP};
 ghost use Rattle.cs_draft.specs.Draft.{IsBrief, IsDrafted};
 
 use crate::names::{entry_of, is_left_out};
@@ -13,24 +14,28 @@ use cs_schedule::Schedule;
 /// that is shorter.
 #[tactic(auto, using(crate::proofs::Apart::still_apart))]
 pub(crate) fn brief_max(schedule: &Schedule, asked: u64) -> u64
-    ensures asked { result ≤ asked }
-    ensures apart { AreApart schedule.now result }
+    ensures most { result ≤ asked }
+    ensures apart { asked ≤ MAX_GAP → AreApart schedule.now result }
+    ensures met { (result ≡ asked) ⊎ (can_be_apart schedule.now result ≡ true) }
 {
-    let gap = least_gap(schedule).unwrap_or(MAX_GAP + 1);
-    asked.min(u64::from(gap))
+    match least_gap(schedule) {
+        Some(gap) if u64::from(gap) < asked => u64::from(gap),
+        _ => asked,
+    }
 }
 
-/// Whether the longest time is at most the asked one and the time to the next due minute.
-#[tactic(auto, using(crate::proofs::Apart::still_apart))]
+/// Whether the weight is 1, and the longest time that of a new command, where that is looked for.
 fn is_brief(asked: u64, schedule: &Schedule, entry: &CronEntry) -> bool
-    ensures { IsTrue result → IsBrief asked schedule.now entry.now }
+    ensures { IsTrue result → IsBrief asked schedule.now entry.now × (entry.now.weight ≡ pos 1) }
 {
-    let most = i128::from(brief_max(schedule, asked));
-    0 <= entry.max && entry.max <= most
+    if asked > u64::from(MAX_GAP) || entry.weight != 1 {
+        return false;
+    }
+    entry.max == i128::from(brief_max(schedule, asked))
 }
 
 /// Whether the line is left out if it is started at startup, and else has an entry that is brief.
-fn is_drafted(asked: u64, entries: &Entries, line: &Line) -> bool
+pub(crate) fn is_drafted(asked: u64, entries: &Entries, line: &Line) -> bool
     ensures { IsTrue result → IsDrafted asked entries.now line.now }
 {
     match line.when() {

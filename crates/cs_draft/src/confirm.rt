@@ -1,13 +1,14 @@
 //! Whether what was drawn up is what it is to be: it is read back.
-ghost use Rattle.std.specs.Prelude.{◌≡◌, All, IfOk, IsTrue, None, true};
+ghost use Rattle.std.specs.Prelude.{◌≡◌, All, IfOk, IsTrue, None, drop, length, true};
 ghost use Rattle.cs_decl.specs.Faults.{first_fault};
 ghost use Rattle.cs_decl.specs.Join.{join_faults};
-ghost use Rattle.cs_draft.specs.Draft.{AreFresh, AreTerms, IsBound, IsDraft, IsDrafted, IsDraftedJob, IsKeptJob, IsKeptLine, IsUpdate, IsUsed, is_lone};
+ghost use Rattle.cs_draft.specs.Draft.{AreFresh, AreTerms, IsBound, IsDraft, IsDrafted, IsDraftedGroup, IsDraftedJob, IsKeptJob, IsKeptLine, IsNewJob, IsUpdate, is_lone};
 
+use crate::added::{are_new_jobs, are_new_lines};
 use crate::bound::are_bound;
 use crate::brief::are_drafted;
 use crate::kept::{are_kept_jobs, are_kept_lines, are_terms};
-use crate::locked::{are_used, have_locks};
+use crate::locked::{are_drafted_groups, have_locks};
 use crate::terms::{are_drafted_jobs, are_fresh};
 use cs_anacrontab::{Anacrontab, Job};
 use cs_crontab::{Crontab, Line};
@@ -32,33 +33,47 @@ fn is_fitting(
     }
 }
 
-/// Whether the entries are those of a draft, but for their locks.
+/// Whether no object has a member twice, and the entries are bound to the commands of the lines.
+fn are_sound(entries: &Entries, lines: &[Line]) -> bool
+    ensures once { IsTrue result → entries.now.doubled ≡ None }
+    ensures bound { IsTrue result → All (IsBound entries.now) lines.now }
+{
+    entries.doubled.is_none() && are_bound(entries, lines)
+}
+
+/// Whether the entries are those of a draft, but for the locks of commands.
 fn are_drafts(max: u64, offset: i16, entries: &Entries, lines: &[Line], jobs: &[Job]) -> bool
+    ensures once { IsTrue result → entries.now.doubled ≡ None }
     ensures bound { IsTrue result → All (IsBound entries.now) lines.now }
     ensures terms { IsTrue result → AreFresh offset entries.now }
     ensures lines { IsTrue result → All (IsDrafted max entries.now) lines.now }
-    ensures groups { IsTrue result → All (IsUsed entries.now) entries.now.groups }
+    ensures groups { IsTrue result → All (IsDraftedGroup entries.now) entries.now.groups }
     ensures jobs { IsTrue result → All (IsDraftedJob max entries.now) jobs.now }
 {
-    are_bound(entries, lines)
+    are_sound(entries, lines)
         && are_fresh(offset, entries)
         && are_drafted(max, entries, lines)
-        && are_used(entries, entries.groups.as_slice())
+        && are_drafted_groups(entries, entries.groups.as_slice())
         && are_drafted_jobs(max, entries, jobs)
 }
 
-/// Whether the entries are those of an update.
-fn are_updates(old: &Entries, new: &Entries, lines: &[Line], jobs: &[Job]) -> bool
-    ensures bound { IsTrue result → All (IsBound new.now) lines.now }
+/// Whether the entries keep what the old ones declare.
+fn are_kept(old: &Entries, new: &Entries, lines: &[Line], jobs: &[Job]) -> bool
     ensures lines { IsTrue result → All (λ line. is_lone lines.now old.now line ≡ true
         → IsKeptLine old.now new.now line) lines.now }
     ensures jobs { IsTrue result → All (IsKeptJob old.now new.now) jobs.now }
     ensures terms { IsTrue result → AreTerms old.now new.now }
 {
-    are_bound(new, lines)
-        && are_kept_lines(old, new, lines)
-        && are_kept_jobs(old, new, jobs)
-        && are_terms(old, new)
+    are_kept_lines(old, new, lines) && are_kept_jobs(old, new, jobs) && are_terms(old, new)
+}
+
+/// Whether each further group is exclusive, and that of an entry.
+fn are_new_groups(old: &Entries, new: &Entries) -> bool
+    ensures { IsTrue result
+        → All (IsDraftedGroup new.now) (drop (length old.now.groups) new.now.groups) }
+{
+    let (count, groups) = (old.groups.len(), new.groups.as_slice());
+    count <= groups.len() && are_drafted_groups(new, &groups[count..])
 }
 
 /// Whether the text is a draft of the tables. The only error is want of memory.
@@ -93,16 +108,25 @@ pub(crate) fn is_update(
     table: &Crontab,
     jobs: &Anacrontab,
     old: &Entries,
+    max: u64,
     text: &[u8],
 ) -> Result<bool, AllocError>
-    ensures { IfOk result (λ b. IsTrue b → IsUpdate table.now jobs.now old.now text.now) }
+    ensures { IfOk result (λ b. IsTrue b → IsUpdate table.now jobs.now old.now max text.now) }
 {
     let declarations = match read_declarations(alloc, text) {
         Ok(declarations) => declarations,
         Err(DeclError::OutOfMemory) => return Err(AllocError),
         Err(DeclError::At { .. }) => return Ok(false),
     };
-    if !are_updates(old, declarations.entries(), table.lines(), jobs.lines()) {
+    let new = declarations.entries();
+    let (lines, job_lines) = (table.lines(), jobs.lines());
+    if !are_sound(new, lines) || !are_kept(old, new, lines, job_lines) {
+        return Ok(false);
+    }
+    if !are_new_jobs(max, old, new, job_lines) || !are_new_groups(old, new) {
+        return Ok(false);
+    }
+    if !are_new_lines(alloc, max, old, new, lines)? {
         return Ok(false);
     }
     is_fitting(alloc, table, jobs, declarations)

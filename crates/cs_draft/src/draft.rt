@@ -79,7 +79,8 @@ fn is_possible_max(max: u64) -> bool
 /// the lock file, which is exclusive and has the file's name, and the mode that the options ask for:
 /// `try` for `-n`, `shared` for `-s`, else `wait`. Where no mode or no group is like it, it has no
 /// lock, and a warning tells why. `@reboot` lines are left out, each with a warning. What is drawn up
-/// was read back and joined with the tables. The only error is want of memory.
+/// was read back, compared with the commands and joined with the tables. The only error is want of
+/// memory.
 pub fn draw_up(
     alloc: Global,
     table: &Crontab,
@@ -123,8 +124,8 @@ fn texts_of(
 /// entries and lines of one command, if there are as many of both, the first is that of the first,
 /// and so on. An anacron job keeps what is declared of its identifier, and all else is as before.
 /// Where there is no default, what is new is declared as by [`draw_up`]. What is new or gone is told.
-/// What is drawn up was read back, compared with the old declarations and joined with the tables. The
-/// only error is want of memory.
+/// What is drawn up was read back, compared with the old declarations and the commands, and joined
+/// with the tables. The only error is want of memory.
 pub fn update(
     alloc: Global,
     table: &Crontab,
@@ -141,7 +142,7 @@ pub fn update(
     let Some((text, warnings)) = texts_of(alloc, table, jobs, bytes, max)? else {
         return Ok(Drawing::NotConfirmed);
     };
-    if !is_update(alloc, table, jobs, old.entries(), text.as_slice())? {
+    if !is_update(alloc, table, jobs, old.entries(), max, text.as_slice())? {
         return Ok(Drawing::NotConfirmed);
     }
     Ok(Drawing::Drawn(Draft {

@@ -1,8 +1,9 @@
 //! The words of a call of flock(1), as util-linux has it: options, a lock file, and a command.
-ghost use Rattle.std.specs.Prelude.{◌≡◌, ◌∷◌, [], ◌&&◌, ◌⊎◌, MatchResult, None, Some, codes, false, is_none, true};
-ghost use Rattle.std.specs.List.{list_all, list_any};
-ghost use Rattle.cs_table.specs.Text.{is_digit};
-ghost use Rattle.cs_draft.specs.Locks.{and_at_once, and_shared, are_known, at_once_by, begins_among, behind_options, call_lock, flag_of, has_word, is_command, is_file, is_one_of, is_option, is_shell_byte, is_shell_word, mode_of, options_in, options_of, shared_by, short_options, unmarked};
+ghost use Rattle.std.specs.Prelude.{◌≡◌, ◌∷◌, [], ◌&&◌, ◌==◌, ◌⊎◌, MatchResult, None, Some, codes, false, is_none, true};
+ghost use Rattle.std.specs.List.{list_any};
+ghost use Rattle.cs_json.specs.Shape.{is_among};
+ghost use Rattle.cs_table.specs.Text.{begins_with};
+ghost use Rattle.cs_draft.specs.Locks.{and_at_once, and_shared, are_known, at_once_by, begins_among, behind_options, call_lock, flag_of, has_word, is_command, is_file, is_option, is_path, is_shell_byte, is_shell_word, mode_of, options_in, options_of, shared_by, short_options, unmarked};
 ghost use Rattle.cs_draft.specs.Locking.{texts_of};
 
 use crate::unlocked::Unlocked;
@@ -40,30 +41,32 @@ fn reason_of(option: &[u8]) -> Unlocked {
 }
 
 fn is_exclusive(option: &[u8]) -> bool
-    ensures { result ≡ is_one_of (codes "-e" ∷ codes "-x" ∷ codes "--exclusive" ∷ []) option.now }
+    ensures { result ≡ is_among (codes "-e" ∷ codes "-x" ∷ codes "--exclusive" ∷ []) option.now }
 {
-    option == b"-e".as_slice() || option == b"-x".as_slice() || option == b"--exclusive".as_slice()
+    match option {
+        b"-e" | b"-x" | b"--exclusive" => true,
+        _ => false,
+    }
 }
 
 fn is_at_once(option: &[u8]) -> bool
-    ensures { result ≡ is_one_of (codes "-n" ∷ codes "--nb" ∷ codes "--nonblock"
+    ensures { result ≡ is_among (codes "-n" ∷ codes "--nb" ∷ codes "--nonblock"
         ∷ codes "--nonblocking" ∷ []) option.now }
 {
-    option == b"-n".as_slice()
-        || option == b"--nb".as_slice()
-        || option == b"--nonblock".as_slice()
-        || option == b"--nonblocking".as_slice()
+    match option {
+        b"-n" | b"--nb" | b"--nonblock" | b"--nonblocking" => true,
+        _ => false,
+    }
 }
 
 fn is_unseen(option: &[u8]) -> bool
-    ensures { result ≡ is_one_of (codes "-o" ∷ codes "--close" ∷ codes "-F" ∷ codes "--no-fork"
+    ensures { result ≡ is_among (codes "-o" ∷ codes "--close" ∷ codes "-F" ∷ codes "--no-fork"
         ∷ codes "--verbose" ∷ []) option.now }
 {
-    option == b"-o".as_slice()
-        || option == b"--close".as_slice()
-        || option == b"-F".as_slice()
-        || option == b"--no-fork".as_slice()
-        || option == b"--verbose".as_slice()
+    match option {
+        b"-o" | b"--close" | b"-F" | b"--no-fork" | b"--verbose" => true,
+        _ => false,
+    }
 }
 
 /// What the option asks for: a short one with its dash, or a long one.
@@ -274,23 +277,49 @@ fn is_shell_word(word: &[u8]) -> bool
     begins_shell_word(word) || has_shell_byte(word)
 }
 
-fn is_number(word: &[u8]) -> bool
-    ensures { result ≡ list_all is_digit word.now }
+fn has_equals_sign(word: &[u8]) -> bool
+    ensures { result ≡ list_any (λ b. b == 61) word.now }
 {
-    word.iter().all(|byte| *byte >= b'0' && *byte <= b'9')
+    word.iter().any(|byte| *byte == b'=')
 }
 
-/// The name of the file that the word stands for.
+/// Whether a shell takes the word as the path of a program: it stands for itself, and is no
+/// assignment.
+#[tactic(auto, unfolding(crate::specs::Locks::is_path))]
+fn is_path(word: &[u8]) -> bool
+    ensures { result ≡ is_path word.now }
+{
+    !is_shell_word(word) && !has_equals_sign(word)
+}
+
+fn is_from_root(word: &[u8]) -> bool
+    ensures { result ≡ begins_with 47 word.now }
+{
+    match word {
+        [b'/', ..] => true,
+        _ => false,
+    }
+}
+
+/// Why a word that isn't the path of a file from the root is no lock file.
+fn reason_of_word(word: &[u8]) -> Unlocked {
+    if is_shell_word(word) {
+        return Unlocked::ShellWord;
+    }
+    if word.iter().all(|byte| byte.is_ascii_digit()) {
+        return Unlocked::Descriptor;
+    }
+    Unlocked::Relative
+}
+
+/// The path of the file that the word stands for.
 #[tactic(auto, unfolding(crate::specs::Locks::is_file))]
-fn file_name(word: &[u8]) -> Result<&str, Unlocked>
+fn file_path(word: &[u8]) -> Result<&str, Unlocked>
     ensures { MatchResult result (λ file. (file.now ≡ word.now) × (is_file word.now ≡ true))
         (λ e. is_file word.now ≡ false) }
 {
-    if is_number(word) {
-        return Err(Unlocked::Descriptor);
-    }
-    if is_shell_word(word) {
-        return Err(Unlocked::ShellWord);
+    if is_shell_word(word) || !is_from_root(word) {
+        return Err(reason_of_word(word));
     }
     match str::from_utf8(word) {
         Ok(file) => Ok(file),
@@ -316,7 +345,7 @@ fn has_word(words: &[&[u8]]) -> bool
 
 /// Whether a command stands in the word behind this one.
 fn is_command_option(word: &[u8]) -> bool
-    ensures { result ≡ is_one_of (codes "-c" ∷ codes "--command" ∷ []) word.now }
+    ensures { result ≡ is_among (codes "-c" ∷ codes "--command" ∷ []) word.now }
 {
     word == b"-c".as_slice() || word == b"--command".as_slice()
 }
@@ -333,7 +362,7 @@ fn is_command(words: &[&[u8]]) -> bool
 }
 
 /// The lock file of the words behind `flock`, and the mode that the options ask for.
-pub(crate) fn file_and_mode<'a>(words: &[&'a [u8]]) -> Result<(&'a str, Mode), Unlocked>
+fn file_and_mode<'a>(words: &[&'a [u8]]) -> Result<(&'a str, Mode), Unlocked>
     ensures { MatchResult result
         (λ lock. call_lock (texts_of words.now) ≡ Some (lock.0.now, lock.1))
         (λ e. call_lock (texts_of words.now) ≡ None) }
@@ -343,9 +372,23 @@ pub(crate) fn file_and_mode<'a>(words: &[&'a [u8]]) -> Result<(&'a str, Mode), U
     let [file, command @ ..] = behind else {
         return Err(Unlocked::NoFile);
     };
-    let file = file_name(*file)?;
+    let file = file_path(*file)?;
     if !is_command(command) {
         return Err(Unlocked::NoCommand);
     }
     Ok((file, mode))
+}
+
+/// The same of the words behind this one, if a shell takes it as the path of a program.
+pub(crate) fn call_of<'a>(first: &[u8], words: &[&'a [u8]]) -> Result<(&'a str, Mode), Unlocked>
+    ensures { MatchResult result
+        (λ lock. (is_path first.now ≡ true)
+        × (call_lock (texts_of words.now) ≡ Some (lock.0.now, lock.1)))
+        (λ e. (is_path first.now ≡ false) ⊎ (call_lock (texts_of words.now) ≡ None)) }
+{
+    let lock = file_and_mode(words)?;
+    if !is_path(first) {
+        return Err(Unlocked::OtherProgram);
+    }
+    Ok(lock)
 }

@@ -1,8 +1,7 @@
 //! Whether new declarations keep what old ones declare.
 ghost use Rattle.std.specs.Prelude.{◌≡◌, ◌==◌, All, IsTrue, bytes_eq, length, option_map, take, true};
 ghost use Rattle.std.specs.List.{count_by, find, list_any};
-ghost use Rattle.cs_decl.specs.Lines.{names_of};
-ghost use Rattle.cs_draft.specs.Draft.{AreAlike, AreAlikeJobs, AreTerms, IsKept, IsKeptJob, IsKeptLine, is_lone, tells};
+ghost use Rattle.cs_draft.specs.Draft.{AreAlike, AreAlikeJobs, AreTerms, IsKept, IsKeptJob, IsKeptLine, is_lone, is_new, tells, times_told};
 
 use crate::names::{entry_of, is_left_out, is_reboot, job_entry, tells};
 use cs_anacrontab::Job;
@@ -61,14 +60,14 @@ fn count_names(names: &[LineName], command: &[u8]) -> usize
     names.iter().filter(|name| tells(command, name)).count()
 }
 
-/// Whether one entry alone tells the command.
-#[tactic(auto, using(crate::proofs::Counts::told_once))]
-fn is_told_once(entries: &Entries, command: &[u8]) -> bool
-    ensures { result ≡ (count_by (tells command.now) (names_of entries.now) == 1) }
+/// How many entries tell the command.
+#[tactic(auto, using(crate::proofs::Counts::counted))]
+fn times_told(entries: &Entries, command: &[u8]) -> usize
+    ensures { result ≡ times_told command.now entries.now }
 {
     let cron = count_entries(entries.cron.as_slice(), command);
     let left_out = count_names(entries.left_out.as_slice(), command);
-    (cron == 1 && left_out == 0) || (cron == 0 && left_out == 1)
+    cron + left_out
 }
 
 /// Whether one line alone has its command, not at startup, and one entry alone tells it.
@@ -77,7 +76,14 @@ fn is_lone(lines: &[Line], old: &Entries, line: &Line) -> bool
 {
     !is_reboot(line)
         && count_commands(lines, line.command()) == 1
-        && is_told_once(old, line.command())
+        && times_told(old, line.command()) == 1
+}
+
+/// Whether the command isn't started at startup, and no entry tells it.
+pub(crate) fn is_new(old: &Entries, line: &Line) -> bool
+    ensures { result ≡ is_new old.now line.now }
+{
+    !is_reboot(line) && times_told(old, line.command()) == 0
 }
 
 /// The first entry that tells the command.

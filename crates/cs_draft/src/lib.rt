@@ -2,6 +2,7 @@
 //! flock(1), and their update for tables that have changed.
 #![tactic(auto)]
 
+mod added;
 mod bound;
 mod brief;
 mod confirm;
@@ -15,6 +16,7 @@ mod locked;
 mod names;
 mod old;
 mod sheet;
+mod shell;
 mod terms;
 mod told;
 mod unlocked;

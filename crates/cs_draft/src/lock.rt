@@ -1,10 +1,14 @@
 //! The lock that a command of a crontab takes.
 ghost use Rattle.std.specs.Prelude.{◌≡◌, ◌==◌, IfOk, position};
-ghost use Rattle.cs_draft.specs.Locks.{is_flock, shell_text, words_of};
+ghost use Rattle.cs_draft.specs.Locks.{before_percent, is_flock, words_of};
 ghost use Rattle.cs_draft.specs.Locking.{IsLock, texts_of};
+ghost use Rattle.cs_draft.specs.Shell.{shell_text};
 
-use crate::flock::file_and_mode;
+use crate::flock::call_of;
+use crate::shell::one_program;
 use crate::unlocked::Unlocked;
+use cs_civil::Bytes;
+use cs_crontab::command_parts;
 use cs_history::Mode;
 use cs_table::text::{is_blank, skip_blanks, word};
 use std::alloc::{AllocError, Global};
@@ -25,11 +29,11 @@ fn first_percent(command: &[u8]) -> Option<usize>
     command.iter().position(|byte| *byte == b'%')
 }
 
-/// The text that the shell is given: it ends at the first `%` that no backslash escapes
-/// (crontab(5)). One that is escaped ends it here too, which leaves a backslash at its end.
-#[tactic(auto, using(crate::proofs::Parted::shell_to, crate::proofs::Parted::shell_all))]
-fn shell_text(command: &[u8]) -> &[u8]
-    ensures { result.now ≡ shell_text command.now }
+/// The command up to its first `%`. One that a backslash escapes ends it too: the last word then
+/// ends with that.
+#[tactic(auto, using(crate::proofs::Parted::percent_at, crate::proofs::Parted::no_percent))]
+fn before_percent(command: &[u8]) -> &[u8]
+    ensures { result.now ≡ before_percent command.now }
 {
     match first_percent(command) {
         Some(at) => &command[..at],
@@ -59,17 +63,30 @@ fn is_flock(word: &[u8]) -> bool
     word == b"flock".as_slice() || word.ends_with(b"/flock".as_slice())
 }
 
+/// The text that the shell is given for the command. The only error is want of memory.
+fn shell_text(alloc: Global, command: &[u8]) -> Result<Bytes, AllocError>
+    ensures { IfOk result (λ text. text ≡ shell_text command.now) }
+{
+    let (text, _) = command_parts(alloc, command)?;
+    Ok(text)
+}
+
 /// The lock that the command takes. The only error is want of memory.
 pub(crate) fn lock_of(alloc: Global, command: &[u8]) -> Result<Lock<'_>, AllocError>
     ensures { IfOk result (IsLock command.now) }
 {
-    let (first, rest) = word(skip_blanks(shell_text(command)));
+    let (first, rest) = word(skip_blanks(before_percent(command)));
     if !is_flock(first) {
         return Ok(Lock::Absent);
     }
     let words = words_of(alloc, rest)?;
-    match file_and_mode(words.as_slice()) {
-        Ok((file, mode)) => Ok(Lock::Of(file, mode)),
+    let (file, mode) = match call_of(first, words.as_slice()) {
+        Ok(lock) => lock,
+        Err(reason) => return Ok(Lock::Unlike(reason)),
+    };
+    let text = shell_text(alloc, command)?;
+    match one_program(text.as_slice()) {
+        Ok(()) => Ok(Lock::Of(file, mode)),
         Err(reason) => Ok(Lock::Unlike(reason)),
     }
 }

@@ -1,6 +1,6 @@
 //! Whether entries take the locks that their commands take.
 ghost use Rattle.std.specs.Prelude.{◌≡◌, All, IfOk, IsTrue, Some};
-ghost use Rattle.cs_draft.specs.Draft.{HasLock, IsFull, IsLocked, IsUsed, TakesLock, TakesNone, has_exclusive, is_text};
+ghost use Rattle.cs_draft.specs.Draft.{HasLock, IsDraftedGroup, IsFull, IsLocked, TakesLock, TakesNone, is_text};
 ghost use Rattle.cs_draft.specs.Locks.{lock_of};
 
 use crate::lock::{Lock, lock_of};
@@ -27,20 +27,11 @@ fn takes_none(entry: &CronEntry) -> bool
     entry.group.is_none() && entry.mode == Mode::Plain
 }
 
-/// Whether an exclusive group of that name is declared.
-fn has_exclusive(groups: &[GroupEntry], name: &[u8]) -> bool
-    ensures { result ≡ has_exclusive groups.now name.now }
-{
-    groups
-        .iter()
-        .any(|group| group.exclusive && group.name.as_slice() == name)
-}
-
 /// Whether the entry takes the lock of the file in that mode.
-fn takes_lock(groups: &[GroupEntry], file: &[u8], mode: Mode, entry: &CronEntry) -> bool
-    ensures { IsTrue result → TakesLock groups.now file.now mode entry.now }
+fn takes_lock(file: &[u8], mode: Mode, entry: &CronEntry) -> bool
+    ensures { IsTrue result → TakesLock file.now mode entry.now }
 {
-    is_in_group(file, entry) && entry.mode == mode && has_exclusive(groups, file)
+    is_in_group(file, entry) && entry.mode == mode
 }
 
 /// Whether there are as many groups as there may be, and none of that name.
@@ -54,7 +45,7 @@ fn are_full(groups: &[GroupEntry], file: &[u8]) -> bool
 fn takes_lock_if_any(groups: &[GroupEntry], file: &[u8], mode: Mode, entry: &CronEntry) -> bool
     ensures { IsTrue result → IsLocked groups.now (Some (file.now, mode)) entry.now }
 {
-    if takes_lock(groups, file, mode, entry) {
+    if takes_lock(file, mode, entry) {
         return true;
     }
     are_full(groups, file) && takes_none(entry)
@@ -78,7 +69,7 @@ fn is_locked(
 
 /// Whether the entry of the line, if it has one, takes the lock that the line's command takes. The
 /// only error is want of memory.
-fn has_lock(alloc: Global, entries: &Entries, line: &Line) -> Result<bool, AllocError>
+pub(crate) fn has_lock(alloc: Global, entries: &Entries, line: &Line) -> Result<bool, AllocError>
     ensures { IfOk result (λ b. IsTrue b → HasLock entries.now line.now) }
 {
     match entry_of(entries, line) {
@@ -103,21 +94,21 @@ pub(crate) fn have_locks(
     Ok(true)
 }
 
-/// Whether the group is that of an entry.
-fn is_used(entries: &Entries, group: &GroupEntry) -> bool
-    ensures { IsTrue result → IsUsed entries.now group.now }
+/// Whether the group is exclusive, and that of an entry.
+fn is_drafted_group(entries: &Entries, group: &GroupEntry) -> bool
+    ensures { IsTrue result → IsDraftedGroup entries.now group.now }
 {
     let name = group.name.as_slice();
     let cron = entries.cron.as_slice();
-    cron.iter().any(|entry| is_in_group(name, entry))
+    group.exclusive && cron.iter().any(|entry| is_in_group(name, entry))
 }
 
 /// And so of all groups.
-pub(crate) fn are_used(entries: &Entries, groups: &[GroupEntry]) -> bool
-    ensures { IsTrue result → All (IsUsed entries.now) groups.now }
+pub(crate) fn are_drafted_groups(entries: &Entries, groups: &[GroupEntry]) -> bool
+    ensures { IsTrue result → All (IsDraftedGroup entries.now) groups.now }
 {
     for group in groups {
-        if !is_used(entries, group) {
+        if !is_drafted_group(entries, group) {
             return false;
         }
     }

@@ -7,19 +7,7 @@ ghost use Rattle.cs_draft.specs.Draft.{AreFresh, IsDraftedJob};
 use crate::names::job_entry;
 use cs_anacrontab::Job;
 use cs_civil::MINUTES_OF_DAY;
-use cs_decl::{AnacronEntry, CronEntry, Entries, MAX_CAPACITY};
-
-/// Whether each command weighs 1.
-fn are_light(entries: &[CronEntry]) -> bool
-    ensures { IsTrue result → All (λ e. e.weight ≡ pos 1) entries.now }
-{
-    for entry in entries {
-        if entry.weight != 1 {
-            return false;
-        }
-    }
-    true
-}
+use cs_decl::{AnacronEntry, Entries, MAX_CAPACITY};
 
 /// Whether catch-up is at all hours, and has no pass minute.
 fn is_at_all_hours(entries: &Entries) -> bool
@@ -45,10 +33,7 @@ fn is_at_offset(offset: i16, entries: &Entries) -> bool
 pub(crate) fn are_fresh(offset: i16, entries: &Entries) -> bool
     ensures { IsTrue result → AreFresh offset entries.now }
 {
-    is_at_offset(offset, entries)
-        && is_at_all_hours(entries)
-        && entries.default.is_none()
-        && are_light(entries.cron.as_slice())
+    is_at_offset(offset, entries) && is_at_all_hours(entries) && entries.default.is_none()
 }
 
 /// Whether the entry of an anacron job has the asked time, the least weight and no group.
@@ -60,7 +45,7 @@ fn is_plain(asked: u64, entry: &AnacronEntry) -> bool
 }
 
 /// Whether the anacron job has such an entry.
-fn is_drafted_job(asked: u64, entries: &Entries, job: &Job) -> bool
+pub(crate) fn is_drafted_job(asked: u64, entries: &Entries, job: &Job) -> bool
     ensures { IsTrue result → IsDraftedJob asked entries.now job.now }
 {
     match job_entry(entries, job.identifier()) {

@@ -19,10 +19,20 @@ pub(crate) enum Unlocked {
     Descriptor,
     /// The word of the file isn't the file's name: a shell reads some of its bytes in its own way.
     ShellWord,
+    /// The file's path doesn't begin with `/`: which file it is depends on the folder of the run.
+    Relative,
     /// The file's name isn't UTF-8, so no declarations can name it.
     NotUtf8,
     /// No command stands behind the file.
     NoCommand,
+    /// A shell doesn't take the first word as a path to flock(1).
+    OtherProgram,
+    /// A shell may run a part of the command without flock(1), or not wait for its end.
+    Further,
+    /// A backslash stands outside single quotes: what the next byte stands for isn't read.
+    Backslash,
+    /// A quote is open at the end.
+    OpenQuote,
     /// The file would be one group more than [`MAX_GROUPS`](cs_decl::MAX_GROUPS).
     TooManyGroups,
 }
@@ -41,8 +51,13 @@ impl Unlocked {
             Unlocked::NoFile => "its flock has no lock file",
             Unlocked::Descriptor => "its flock has a number in place of a lock file",
             Unlocked::ShellWord => "the shell expands the name of its lock file",
+            Unlocked::Relative => "the path of its lock file doesn't begin with /",
             Unlocked::NotUtf8 => "the name of its lock file isn't UTF-8",
             Unlocked::NoCommand => "its flock runs no command",
+            Unlocked::OtherProgram => "the shell doesn't take its first word as a path to flock",
+            Unlocked::Further => "its flock may run only a part of it, or in the background",
+            Unlocked::Backslash => "a backslash is outside its single quotes",
+            Unlocked::OpenQuote => "a quote in it is not closed",
             Unlocked::TooManyGroups => "its lock file would be group 65 of at most 64",
         }
     }

@@ -1,8 +1,14 @@
 -- What is answered of a fault.
-use Rattle.std.proofs.Common.{◌≡◌, ◌≢◌, ◌≤◌, ◌⊎◌, ◌∙◌, ℕ, true, List, [], ◌++◌, Option, Some, None, IfSome, Result, Ok, Err, length, nat_lt, option_map, inl, inr, refl, sym, ap, subst, arith}
+use Rattle.std.proofs.Common.{◌≡◌, ◌≢◌, ◌≤◌, ◌⊎◌, ◌∙◌, ℕ, Bool, true, false, List, [], ◌++◌, Option, Some, None, IfSome, Result, Ok, Err, length, nat_lt, option_map, inl, inr, refl, sym, ap, subst, arith}
 use Rattle.std.proofs.lemmas.Bool.{lt-ltb}
 use Rattle.clap.specs.Words.{Text}
+use Rattle.cs_table.specs.declared.limits.TheConstants.{MAX_TABLE}
 use Rattle.cs_crontab.specs.Crontab.{Table}
+use Rattle.cs_crontab.specs.Faults.{IsCrontab}
+use Rattle.cs_crontab.specs.declared.fault.LineFault.{LineFault}
+use Rattle.cs_table.specs.Table.{Found as FoundIn}
+use Rattle.cs_gather.specs.Places.{places_of}
+use Rattle.cs_gather.specs.declared.places.Place.{Place}
 use Rattle.cs_anacrontab.specs.Anacrontab.{Table as JobTable}
 use Rattle.cs_decl.specs.Join.{joined}
 use Rattle.cs_decl.specs.Meaning.{declared_by}
@@ -19,7 +25,7 @@ use Rattle.cs_cert.specs.declared.limits.TheConstants.{MAX_CERTIFICATE}
 use Rattle.cs_report.specs.Warning.{warnings as warnings_text}
 use Rattle.cs_io.specs.Files.{Failed, IsFresh, IsReadOut, IsTooLong, IsUpTo, Reads}
 use Rattle.cs_io.specs.declared.inputs.TheConstants.{MOST_READS}
-use Rattle.cs_files.specs.Reads.{AndThen, Answered, IsRead, IsUnreadWhole, MeansIt, ReadsAs, ReadsDeclared}
+use Rattle.cs_files.specs.Reads.{AndThen, Answered, IsRead, IsUnreadWhole, MeansIt, MeansTable, PlacesIn, ReadsAs, ReadsDeclared}
 use Rattle.cs_files.specs.Response.{Ending, complaint}
 use Rattle.cs_files.specs.Trouble.{CameTo, IsHonest, IsHonestOf, IsUnread, TellsPath, Trouble, ends, trouble, trouble_status, trouble_text}
 use Rattle.cs_files.specs.declared.fault.Fault.{Fault}
@@ -27,6 +33,12 @@ use Rattle.cs_files.specs.declared.fault.Fault.{Fault}
 -- what is there is the same
 pub some_is : {X : Type 0} (x y : X) → Some x ≡ Some y → x ≡ y
 some_is x y e = cc
+
+pub ok_is : {X E : Type 0} (r : Result X E) (x y : X) → r ≡ Ok x → r ≡ Ok y → x ≡ y
+ok_is r x y one other = cc
+
+pub ok_no_err : {X E A : Type 0} (r : Result X E) (x : X) (e : E) → r ≡ Ok x → r ≡ Err e → A
+ok_no_err r x e one other = absurd (cc)
 
 -- its text and its status make the ending
 pub is_ending : (w t : List ℕ) (s : ℕ) (o : Option Trouble) → option_map trouble_text o ≡ Some t → IfSome o (λ x. s ≡ trouble_status x)
@@ -48,6 +60,19 @@ meant_whole means m bytes None left fresh read is = fresh
 meant_whole means m bytes (Some text) left fresh read is =
     let e : bytes ≡ text = subst (λ o. IfSome o (λ t. bytes ≡ t)) fresh read in
     subst (λ b. means b m) e is
+
+-- places that were read are those of the file
+pub placed : (files left : List ℕ → Option (List ℕ)) (path : Text) (bytes : List ℕ) (table : Table) (places : List Place) → IsFresh files left → IsRead MAX_TABLE path left bytes
+    → IsCrontab bytes table → places ≡ places_of bytes table → PlacesIn files path table places
+placed files left path bytes table places fresh read is listed = by_file (files path) (left path) (fresh path) read
+  where
+    same : (text : List ℕ) → IsUpTo MAX_TABLE text bytes → places ≡ places_of text table
+    same text (inl e) = subst (λ (b : List ℕ). places ≡ places_of b table) e listed
+    same text (inr long) = absurd (let l = long.0 in omega (arith, is.short, l))
+
+    by_file : (whole rest : Option (List ℕ)) → IfSome whole (λ text. rest ≡ Some text) → IfSome rest (λ text. IsUpTo MAX_TABLE text bytes) → IfSome whole (λ text. places ≡ places_of text table)
+    by_file None rest same_rest up = same_rest
+    by_file (Some text) rest same_rest up = same text (subst (λ (o : Option (List ℕ)). IfSome o (λ t. IsUpTo MAX_TABLE t bytes)) same_rest up)
 
 -- declarations, and the plan that they make
 pub plan_read : (files left : List ℕ → Option (List ℕ)) (path : Text) (bytes : List ℕ) (tables : Table × JobTable) (d : Entries) (plan : Declared) (before after : Failed)
@@ -82,6 +107,14 @@ came_read limit means told files left path bytes before after (Err e) same works
     by_trouble : (o : Option Trouble) → IfSome o (λ t. (fault : _) × (t ≡ told fault) × means bytes (Err fault)) → IfSome o (λ t. ReadsAs files path means told before after (Err t))
     by_trouble None h = h
     by_trouble (Some t) (fault, is, stands) = inr (works, (fault, is, meant limit means (Err fault) bytes (same (Err fault)) (files path) (left path) (fresh path) read stands))
+
+-- crontabs that are too long have one fault, and are no anacrontabs
+pub same_table : (bytes : List ℕ) (m : Result Table (FoundIn LineFault × Bool)) (text : List ℕ) → IsUpTo MAX_TABLE text bytes → MeansTable bytes m → MeansTable text m
+same_table bytes m text (inl e) means = subst (λ (b : List ℕ). MeansTable b m) e means
+same_table bytes (Ok table) text (inr long) means = absurd (let l = long.0 in omega (arith, means.short, l))
+same_table bytes (Err (fault, true)) text (inr long) (first, (jobs, means, some)) = absurd (let l = long.0 in omega (arith, means.short, l))
+same_table bytes (Err (fault, false)) text (inr long) (inl (past, is), none) = (inl (long.1, is), λ jobs means. absurd (let l = long.1 in omega (arith, means.short, l)))
+same_table bytes (Err (fault, false)) text (inr long) (inr first, none) = absurd (let l = long.0 in omega (arith, first.short, l))
 
 -- scripts that are too long have one fault
 pub same_script : (d : Declared) (bytes : List ℕ) (m : Result Numbered ScriptFault) (text : List ℕ) → IsUpTo MAX_SCRIPT text bytes → MeansScript d bytes m → MeansScript d text m

@@ -1,12 +1,17 @@
 -- What is read file after file, until a fault ends the call.
-use Rattle.std.specs.Prelude.{◌≡◌, ◌⊎◌, ℕ, true, List, [], ◌++◌, Option, Some, None, IfSome, Result}
+use Rattle.std.specs.Prelude.{◌≡◌, ◌⊎◌, ℕ, nat_le, not, ◌&&◌, ◌||◌, ◌==◌, length, Bool, true, false, List, [], ◌++◌, Option, Some, None, IfSome, Result}
 use Rattle.std.specs.Prelude.{Ok, Err}
+use Rattle.std.specs.List.{list_all, list_any}
 use Rattle.std.specs.Result.{result_map_both}
 use Rattle.clap.specs.Words.{Text}
+use Rattle.cs_table.specs.Table.{Found as FoundIn}
 use Rattle.cs_crontab.specs.Crontab.{Table}
+use Rattle.cs_crontab.specs.declared.fault.LineFault.{LineFault}
 use Rattle.cs_crontab.specs.Faults.{Means}
-use Rattle.cs_anacrontab.specs.Anacrontab.{Table as JobTable, no_lines as no_jobs}
+use Rattle.cs_anacrontab.specs.Anacrontab.{JobLine, Table as JobTable, no_lines as no_jobs}
 use Rattle.cs_anacrontab.specs.Faults.{Means as MeansJobs}
+use Rattle.cs_gather.specs.Places.{places_of}
+use Rattle.cs_gather.specs.declared.places.Place.{Place}
 use Rattle.cs_decl.specs.Faults.{Fault as DeclaredFault}
 use Rattle.cs_decl.specs.Join.{joined}
 use Rattle.cs_decl.specs.Meaning.{declared_by}
@@ -55,11 +60,40 @@ abbrev pub ReadsJobs : (List ℕ → Option (List ℕ)) → Option Text → Fail
 ReadsJobs files None = Gives (Ok no_jobs)
 ReadsJobs files (Some path) = ReadsAs files path MeansJobs InAnacrontab
 
+-- an identifier of a job has a letter, as no day of a crontab's line does
+abbrev pub is_letter : ℕ → Bool
+is_letter b = (nat_le 65 b && nat_le b 90) || (nat_le 97 b && nat_le b 122)
+
+-- there are jobs, each with such an identifier
+abbrev pub are_named : List JobLine → Bool
+are_named lines = not (length lines == 0)
+    && list_all (λ line. list_any is_letter line.identifier) lines
+
+-- the text is, or isn't, that of an anacrontab with such jobs
+abbrev pub HoldsJobs : List ℕ → Bool → Type 0
+HoldsJobs text true =
+    (jobs : JobTable) × MeansJobs text (Ok jobs) × (are_named jobs.lines ≡ true)
+HoldsJobs text false =
+    (jobs : JobTable) → MeansJobs text (Ok jobs) → are_named jobs.lines ≡ false
+
+-- a text denotes a crontab; or it has a first fault, and may be that of an anacrontab
+abbrev pub MeansTable : List ℕ → Result Table (FoundIn LineFault × Bool) → Type 0
+MeansTable text (Ok table) = Means text (Ok table)
+MeansTable text (Err found) = Means text (Err found.0) × HoldsJobs text found.1
+
 -- both tables
 abbrev pub ReadsTables : (List ℕ → Option (List ℕ)) → Text → Option Text → Failed → Failed
     → Result (Table × JobTable) Trouble → Type 0
-ReadsTables files table anacrontab = AndThen (ReadsAs files table Means InCrontab)
+ReadsTables files table anacrontab = AndThen (ReadsAs files table MeansTable InCrontab)
     (λ t. AndThen (ReadsJobs files anacrontab) (λ jobs. Gives (Ok (t, jobs))))
+
+-- what was read, without the places of its lines
+abbrev pub without_places : {X P E : Type 0} → Result (X × P) E → Result X E
+without_places found = result_map_both (λ x. x.0) (λ e. e) found
+
+-- these are the places of the table that the file at a path holds
+abbrev pub PlacesIn : (List ℕ → Option (List ℕ)) → Text → Table → List Place → Type 0
+PlacesIn files path table places = IfSome (files path) (λ bytes. places ≡ places_of bytes table)
 
 -- a plan, or the fault of declarations for which there is none
 abbrev pub planned : Result Declared DeclaredFault → Result Declared Trouble

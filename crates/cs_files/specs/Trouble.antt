@@ -1,5 +1,5 @@
 -- Why a call ends before all of it was done, and what is answered of it.
-use Rattle.std.specs.Prelude.{◌≡◌, ◌≢◌, ◌⊎◌, ℕ, true, List, [], ◌++◌, Option, Some, None, IfSome}
+use Rattle.std.specs.Prelude.{◌≡◌, ◌≢◌, ◌⊎◌, ℕ, Bool, true, false, List, [], ◌++◌, Option, Some, None, IfSome}
 use Rattle.std.specs.Prelude.{Result, Ok, Err, codes, decimal, option_map}
 use Rattle.clap.specs.Words.{Text}
 use Rattle.cs_table.specs.Table.{Found}
@@ -34,11 +34,12 @@ use Rattle.cs_files.specs.declared.fault.Fault.TheVariants.{Anacrontab, CannotRe
 use Rattle.cs_files.specs.declared.fault.Fault.TheVariants.{Crontab, Declarations, OutOfMemory}
 use Rattle.cs_files.specs.declared.fault.Fault.TheVariants.{Gathered, Script, Words}
 
--- why a call ends: its words hold a fault, this path can't be read, or what was read holds a fault
+-- why a call ends: its words hold a fault, this path can't be read, or what was read holds a fault;
+-- of a crontab it is said too whether it reads as an anacrontab
 pub data Trouble : Type 0 where
   InWords : WordFault → Trouble
   Unread : Text → Reason → Trouble
-  InCrontab : Found LineFault → Trouble
+  InCrontab : Found LineFault × Bool → Trouble
   InAnacrontab : Found JobFault → Trouble
   InGathered : Text → Found SystemFault → Trouble
   InDeclarations : DeclaredFault → Trouble
@@ -49,6 +50,11 @@ pub data Trouble : Type 0 where
 abbrev pub crontab_line : Found LineFault → List ℕ
 crontab_line fault =
     codes "crontab line " ++ (decimal fault.line ++ (codes ": " ++ crontab_fault_text fault.fault))
+
+-- behind it, where the table reads as an anacrontab
+abbrev pub jobs_hint : Bool → List ℕ
+jobs_hint true = codes "\ncronsafe: the table reads as an anacrontab: give it with --anacrontab"
+jobs_hint false = []
 
 -- and of an anacrontab
 abbrev pub anacrontab_line : Found JobFault → List ℕ
@@ -77,7 +83,7 @@ script_line fault =
 abbrev pub trouble_text : Trouble → List ℕ
 trouble_text (InWords fault) = word_fault fault
 trouble_text (Unread path reason) = codes "can't read " ++ (path ++ reason_text reason)
-trouble_text (InCrontab fault) = crontab_line fault
+trouble_text (InCrontab found) = crontab_line found.0 ++ jobs_hint found.1
 trouble_text (InAnacrontab fault) = anacrontab_line fault
 trouble_text (InGathered path fault) = gathered_line path fault
 trouble_text (InDeclarations fault) = declared_line fault
@@ -101,10 +107,10 @@ ends warnings t =
     record { status = trouble_status t; out = []; err = warnings ++ complaint (trouble_text t) }
 
 -- what a fault says, unless it is want of memory
-abbrev pub table_trouble : TableFault LineFault → Option Trouble
-table_trouble (table_fault.At line column size fault) =
-    Some (InCrontab (record { line = line; column = column; size = size; fault = fault }))
-table_trouble table_fault.OutOfMemory = None
+abbrev pub table_trouble : TableFault LineFault → Bool → Option Trouble
+table_trouble (table_fault.At line column size fault) are_jobs = Some
+    (InCrontab (record { line = line; column = column; size = size; fault = fault }, are_jobs))
+table_trouble table_fault.OutOfMemory are_jobs = None
 
 abbrev pub jobs_trouble : TableFault JobFault → Option Trouble
 jobs_trouble (table_fault.At line column size fault) =
@@ -131,7 +137,7 @@ certificate_trouble cert_error.OutOfMemory = None
 abbrev pub trouble : Fault → Option Trouble
 trouble (Words fault) = Some (InWords fault)
 trouble (CannotRead path reason) = Some (Unread path.now reason)
-trouble (Crontab fault) = table_trouble fault
+trouble (Crontab fault are_jobs) = table_trouble fault are_jobs
 trouble (Anacrontab fault) = jobs_trouble fault
 trouble (Gathered path fault) = gathered_trouble path.now fault
 trouble (Declarations fault) = declared_trouble fault

@@ -1,10 +1,11 @@
 //! Why a call ends before all of it was done, and what is answered of it.
-ghost use Rattle.std.specs.Prelude.{◌≡◌, ◌++◌, IfErr, IfOk, IfSome, Some, codes, decimal, option_map};
+ghost use Rattle.std.specs.Prelude.{◌≡◌, ◌++◌, IfErr, IfOk, IfSome, OnOk, Some, codes, decimal};
+ghost use Rattle.std.specs.Prelude.{option_map};
 ghost use Rattle.cs_args.specs.Words.{word_fault};
 ghost use Rattle.cs_io.specs.Reasons.{reason_text};
 ghost use Rattle.cs_files.specs.Response.{status_of};
 ghost use Rattle.cs_files.specs.Trouble.{Says, certificate_trouble, declared_trouble, ends};
-ghost use Rattle.cs_files.specs.Trouble.{gathered_trouble};
+ghost use Rattle.cs_files.specs.Trouble.{gathered_trouble, jobs_hint};
 ghost use Rattle.cs_files.specs.Trouble.{jobs_trouble, script_trouble, table_trouble, trouble};
 ghost use Rattle.cs_files.specs.Trouble.{trouble_status};
 ghost use Rattle.cs_files.specs.declared.fault.Fault.TheVariants.{Anacrontab, Crontab, Declarations};
@@ -31,8 +32,8 @@ pub enum Fault<'a> {
     Words(WordFault),
     /// This path can't be read, for this reason.
     CannotRead(&'a str, Reason),
-    /// The crontab holds a fault.
-    Crontab(CrontabFault),
+    /// The crontab holds a fault, and whether it reads as an anacrontab.
+    Crontab(CrontabFault, bool),
     /// The anacrontab holds a fault.
     Anacrontab(AnacronFault),
     /// The table at this path, one of those that are gathered, holds a fault.
@@ -68,14 +69,6 @@ impl<'a> From<WordFault> for Fault<'a> {
 
     fn from(error: WordFault) -> Fault<'a> {
         Fault::Words(error)
-    }
-}
-
-impl<'a> From<CrontabFault> for Fault<'a> {
-    ghost from_gives = { λ error fault. fault ≡ Crontab error };
-
-    fn from(error: CrontabFault) -> Fault<'a> {
-        Fault::Crontab(error)
     }
 }
 
@@ -127,13 +120,27 @@ fn unread_text(alloc: Global, path: &str, reason: Reason) -> Result<Vec<u8>, All
     Ok(text)
 }
 
+/// Adds that the crontab reads as an anacrontab, if it does.
+fn push_jobs_hint(text: &mut Vec<u8>, are_jobs: bool) -> Result<(), AllocError>
+    ensures { OnOk result (text.new.items ≡ text.old.items ++ jobs_hint are_jobs) }
+{
+    if !are_jobs {
+        return Ok(());
+    }
+    text.extend_from_slice(
+        b"\ncronsafe: the table reads as an anacrontab: give it with --anacrontab",
+    )
+}
+
 /// What is told of a fault of a crontab.
-fn crontab_text(alloc: Global, fault: CrontabFault) -> Result<Vec<u8>, AllocError>
-    ensures { IfOk result (λ text. Says (table_trouble fault) text.items) }
+fn crontab_text(alloc: Global, fault: CrontabFault, are_jobs: bool) -> Result<Vec<u8>, AllocError>
+    ensures { IfOk result (λ text. Says (table_trouble fault are_jobs) text.items) }
 {
     match fault {
         CrontabFault::At { line, fault, .. } => {
-            line_text(alloc, b"crontab line ".as_slice(), line, fault.text())
+            let mut text = line_text(alloc, b"crontab line ".as_slice(), line, fault.text())?;
+            push_jobs_hint(&mut text, are_jobs)?;
+            Ok(text)
         }
         CrontabFault::OutOfMemory => Err(AllocError),
     }
@@ -224,7 +231,7 @@ impl Fault<'_> {
         match self {
             Fault::Words(fault) => word_text(alloc, *fault),
             Fault::CannotRead(path, reason) => unread_text(alloc, path, *reason),
-            Fault::Crontab(fault) => crontab_text(alloc, *fault),
+            Fault::Crontab(fault, are_jobs) => crontab_text(alloc, *fault, *are_jobs),
             Fault::Anacrontab(fault) => anacrontab_text(alloc, *fault),
             Fault::Gathered(path, fault) => gathered_text(alloc, path, *fault),
             Fault::Declarations(fault) => declared_text(alloc, fault),
@@ -242,7 +249,7 @@ impl Fault<'_> {
             Fault::CannotRead(_, _) => Status::DeviceFailed,
             Fault::OutOfMemory => Status::NoMemory,
             Fault::Words(_) => Status::BadInput,
-            Fault::Crontab(_) => Status::BadInput,
+            Fault::Crontab(_, _) => Status::BadInput,
             Fault::Anacrontab(_) => Status::BadInput,
             Fault::Gathered(_, _) => Status::BadInput,
             Fault::Declarations(_) => Status::BadInput,

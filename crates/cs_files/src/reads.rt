@@ -1,22 +1,26 @@
 //! The files of a call, read one after the other.
 ghost use Rattle.std.specs.Prelude.{◌≡◌, ◌≤◌, IfErr, IfOk, IfSome, OnOk, length, option_map};
+ghost use Rattle.std.specs.List.{list_all, list_any};
 ghost use Rattle.cs_table.specs.declared.limits.TheConstants.{MAX_TABLE};
-ghost use Rattle.cs_crontab.specs.Faults.{Means};
 ghost use Rattle.cs_anacrontab.specs.Faults.{Means as MeansJobs};
 ghost use Rattle.cs_decl.specs.Meaning.{declared_by};
 ghost use Rattle.cs_io.specs.Files.{AreReadInTurn, IsFresh, IsReadAlone};
-ghost use Rattle.cs_files.specs.Reads.{IsRead, IsUnreadAt, IsUnreadWhole, MeansIt, ReadsAs};
-ghost use Rattle.cs_files.specs.Reads.{ReadsDeclared, ReadsEntries, ReadsJobs, ReadsTables};
+ghost use Rattle.cs_files.specs.Reads.{HoldsJobs, IsRead, IsUnreadAt, IsUnreadWhole, MeansIt};
+ghost use Rattle.cs_files.specs.Reads.{MeansTable, PlacesIn, ReadsAs, are_named, is_letter};
+ghost use Rattle.cs_files.specs.Reads.{ReadsDeclared, ReadsEntries, ReadsJobs, ReadsTables, without_places};
 ghost use Rattle.cs_files.specs.Turn.{some_path, table_paths};
 ghost use Rattle.cs_files.specs.Trouble.{CameTo, InAnacrontab, InCrontab, InDeclarations, IsHonestOf};
+ghost use Rattle.cs_files.specs.Trouble.{IsOfContent};
 
 use crate::fault::Fault;
-use cs_anacrontab::{Anacrontab, read_anacrontab};
+use cs_anacrontab::{AnacronFault, Anacrontab, Job, read_anacrontab};
+use cs_civil::Sequence;
 use cs_crontab::{Crontab, read_crontab};
 use cs_decl::{Plan, join, read_declarations};
+use cs_gather::{Place, read_places};
 use cs_io::{Inputs, ReadFault, read_up_to, read_whole};
 use cs_table::MAX_TABLE;
-use std::alloc::Global;
+use std::alloc::{AllocError, Global};
 
 /// The bytes of a file, or more than `limit` of them where it is longer.
 pub fn bytes_at<'a, I: Inputs>(
@@ -64,15 +68,71 @@ pub fn all_bytes_at<'a, I: Inputs>(
     }
 }
 
-/// The crontab at a path.
+fn is_letter(byte: u8) -> bool
+    ensures { result ≡ is_letter byte }
+{
+    (b'A' <= byte && byte <= b'Z') || (b'a' <= byte && byte <= b'z')
+}
+
+fn has_letter(text: &[u8]) -> bool
+    ensures { result ≡ list_any is_letter text.now }
+{
+    text.iter().any(|byte| is_letter(*byte))
+}
+
+fn is_named(job: &Job) -> bool
+    ensures { result ≡ list_any is_letter job.now.identifier }
+{
+    has_letter(job.identifier())
+}
+
+fn all_are_named(jobs: &[Job]) -> bool
+    ensures { result ≡ list_all (λ line. list_any is_letter line.identifier) jobs.now }
+{
+    jobs.iter().all(|job| is_named(job))
+}
+
+/// Whether there are jobs, and each identifier has a letter.
+fn are_named(jobs: &[Job]) -> bool
+    ensures { result ≡ are_named jobs.now }
+{
+    !jobs.is_empty() && all_are_named(jobs)
+}
+
+/// Whether the bytes are those of an anacrontab with such jobs.
+fn are_jobs(alloc: Global, bytes: &[u8]) -> Result<bool, AllocError>
+    ensures { IfOk result (HoldsJobs bytes.now) }
+{
+    match read_anacrontab(alloc, bytes) {
+        Ok(jobs) if are_named(jobs.lines()) => Ok(true),
+        Ok(_) => Ok(false),
+        Err(AnacronFault::OutOfMemory) => Err(AllocError),
+        Err(AnacronFault::At { .. }) => Ok(false),
+    }
+}
+
+/// The crontab that the bytes denote.
+fn table_in<'a>(alloc: Global, bytes: &[u8]) -> Result<Crontab, Fault<'a>>
+    ensures value { MeansIt MeansTable InCrontab bytes.now result }
+    ensures status { IfErr result IsOfContent }
+{
+    match read_crontab(alloc, bytes) {
+        Ok(table) => Ok(table),
+        Err(fault) => Err(Fault::Crontab(fault, are_jobs(alloc, bytes)?)),
+    }
+}
+
+/// The crontab at a path, and the places of its lines.
 fn table_from<'a, I: Inputs>(
     alloc: Global,
     inputs: &mut I,
     path: &'a str,
-) -> Result<Crontab, Fault<'a>>
+) -> Result<(Crontab, Sequence<Place>), Fault<'a>>
     ensures step { IsFresh (I.whole inputs.old) (I.left inputs.old)
-        → CameTo (ReadsAs (I.whole inputs.old) path.now Means InCrontab
-        (I.failed inputs.old) (I.failed inputs.new)) result }
+        → CameTo (ReadsAs (I.whole inputs.old) path.now MeansTable InCrontab
+        (I.failed inputs.old) (I.failed inputs.new)) (without_places result) }
+    ensures places { IsFresh (I.whole inputs.old) (I.left inputs.old)
+        → IfOk result (λ found. PlacesIn (I.whole inputs.old) path.now found.0 found.1) }
     ensures works { OnOk result (I.failed inputs.new ≡ I.failed inputs.old) }
     ensures whole { I.whole inputs.new ≡ I.whole inputs.old }
     ensures fresh { OnOk result (IsFresh (I.whole inputs.old) (I.left inputs.old)
@@ -81,7 +141,9 @@ fn table_from<'a, I: Inputs>(
     ensures alone { IsReadAlone path.now (I.reads inputs.old) (I.reads inputs.new) }
 {
     let bytes = bytes_at(alloc, inputs, path, MAX_TABLE as u32)?;
-    Ok(read_crontab(alloc, bytes.as_slice())?)
+    let table = table_in(alloc, bytes.as_slice())?;
+    let places = read_places(alloc, bytes.as_slice(), &table)?;
+    Ok((table, places))
 }
 
 /// The anacrontab at a path.
@@ -127,6 +189,33 @@ fn some_jobs_from<'a, I: Inputs>(
     }
 }
 
+/// Both tables, and the places of the crontab's lines, which a gathered table has.
+pub fn read_placed_tables<'a, I: Inputs>(
+    alloc: Global,
+    inputs: &mut I,
+    table: &'a str,
+    anacrontab: Option<&'a str>,
+) -> Result<((Crontab, Anacrontab), Sequence<Place>), Fault<'a>>
+    ensures step { IsFresh (I.whole inputs.old) (I.left inputs.old)
+        → CameTo (ReadsTables (I.whole inputs.old) table.now
+        (option_map (λ path. path.now) anacrontab.entry)
+        (I.failed inputs.old) (I.failed inputs.new)) (without_places result) }
+    ensures places { IsFresh (I.whole inputs.old) (I.left inputs.old)
+        → IfOk result (λ found. PlacesIn (I.whole inputs.old) table.now found.0.0 found.1) }
+    ensures works { OnOk result (I.failed inputs.new ≡ I.failed inputs.old) }
+    ensures whole { I.whole inputs.new ≡ I.whole inputs.old }
+    ensures fresh { OnOk result (IsFresh (I.whole inputs.old) (I.left inputs.old)
+        → IsFresh (I.whole inputs.new) (I.left inputs.new)) }
+    ensures status { IfErr result (IsHonestOf (I.failed inputs.new) (I.reads inputs.new)) }
+    ensures turn { AreReadInTurn
+        (table_paths table.now (option_map (λ path. path.now) anacrontab.entry))
+        (I.reads inputs.old) (I.reads inputs.new) }
+{
+    let (table, places) = table_from(alloc, inputs, table)?;
+    let jobs = some_jobs_from(alloc, inputs, anacrontab)?;
+    Ok(((table, jobs), places))
+}
+
 /// Both tables.
 pub fn read_tables<'a, I: Inputs>(
     alloc: Global,
@@ -147,9 +236,8 @@ pub fn read_tables<'a, I: Inputs>(
         (table_paths table.now (option_map (λ path. path.now) anacrontab.entry))
         (I.reads inputs.old) (I.reads inputs.new) }
 {
-    let table = table_from(alloc, inputs, table)?;
-    let jobs = some_jobs_from(alloc, inputs, anacrontab)?;
-    Ok((table, jobs))
+    let (tables, _) = read_placed_tables(alloc, inputs, table, anacrontab)?;
+    Ok(tables)
 }
 
 /// The plan of both tables as the declarations at a path have it.

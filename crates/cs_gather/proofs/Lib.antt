@@ -1,3 +1,4 @@
 pub mod Normal
 pub mod Parts
 pub mod Walk
+pub mod Words

@@ -1,3 +1,4 @@
 pub mod Normal
 pub mod Gathered
 pub mod Gather
+pub mod Places

@@ -1,6 +1,11 @@
 -- What is printed of a plan that was judged.
-use Rattle.std.specs.Prelude.{◌≡◌, ◌⊎◌, ◌<◌, ℕ, List, ◌∷◌, ◌++◌, [], Ok, None, Some, codes, length}
+use Rattle.std.specs.Prelude.{◌≡◌, ◌⊎◌, ◌<◌, ℕ, List, ◌∷◌, ◌++◌, [], Ok, Option, None, Some, codes, length}
+use Rattle.std.specs.List.{filter_map}
 use Rattle.serde_json.specs.Written.{compact_text}
+use Rattle.cs_gather.specs.Places.{places_told}
+use Rattle.cs_gather.specs.declared.places.Place.{Place}
+use Rattle.cs_history.specs.declared.event.Event.{Event}
+use Rattle.cs_history.specs.declared.event.Event.TheVariants.{Minute, Begin, Got, Catch, End, Down, Up}
 use Rattle.cs_history.specs.declared.script.Script.{Script}
 use Rattle.cs_decl.specs.Plan.{Declared}
 use Rattle.cs_theorem.specs.Faults.{Fault}
@@ -26,9 +31,27 @@ use Rattle.cs_judge.specs.declared.answers.Outcome.TheVariants as outcome
 use Rattle.cs_judge.specs.declared.answers.Wanted.{Wanted}
 use Rattle.cs_judge.specs.declared.answers.Wanted.TheVariants.{Certificate, Compact, Verdict}
 
--- `unsafe: ` and what is broken first, a line, and then the script
-unfoldable pub unsafe_text : Declared → Script → Shown → List ℕ
-unsafe_text plan script shown = shown_text plan shown ++ 10 ∷ script_text plan script
+-- the job that an event names
+abbrev pub job_of : Event → Option ℕ
+job_of (Minute t) = None
+job_of (Begin j) = Some j
+job_of (Got j t) = Some j
+job_of (Catch j) = Some j
+job_of (End r) = Some r.job
+job_of Down = None
+job_of (Up t) = None
+
+-- for each line of the crontab that the script names and that has a place, the comment
+-- `# line 14 is /etc/cron.d/munin:12 (munin): COMMAND`
+unfoldable pub story_places : Declared → List Place → Script → List ℕ
+story_places plan places script =
+    places_told (codes "# ") places (filter_map job_of script.events) 0 plan.crontab.lines
+
+-- `unsafe: ` and what is broken first, a line, the places of the lines that the script names, and
+-- then the script
+unfoldable pub unsafe_text : Declared → List Place → Script → Shown → List ℕ
+unsafe_text plan places script shown =
+    shown_text plan shown ++ 10 ∷ (story_places plan places script ++ script_text plan script)
 
 -- `unknown: REASON`, a line
 unfoldable pub unknown_text : Reason → List ℕ
@@ -55,11 +78,11 @@ outcome_of (Unsafe script shown) = outcome.Unsafe
 outcome_of (Unknown reason refusal) = unknown_outcome reason
 
 -- what `judge` prints
-abbrev pub verdict_text : Declared → Judged → List ℕ
-verdict_text plan (Safe checked) = codes "safe\n"
-verdict_text plan (Unsafe script shown) = unsafe_text plan script shown
-verdict_text plan (Unknown reason None) = unknown_text reason
-verdict_text plan (Unknown reason (Some fault)) =
+abbrev pub verdict_text : Declared → List Place → Judged → List ℕ
+verdict_text plan places (Safe checked) = codes "safe\n"
+verdict_text plan places (Unsafe script shown) = unsafe_text plan places script shown
+verdict_text plan places (Unknown reason None) = unknown_text reason
+verdict_text plan places (Unknown reason (Some fault)) =
     unknown_text reason ++ refusal_text plan (told fault)
 
 -- the text of a certificate, a line of a file that may be read again
@@ -74,24 +97,25 @@ IsSafeMade c found text = ((found ≡ outcome.Safe) × IsCertificate c text)
     ⊎ ((found ≡ outcome.Unknown) × (text ≡ unknown_text LeafTooLong))
 
 -- what `make` prints
-abbrev pub IsMade : Declared → Judged → Outcome → List ℕ → Type 0
-IsMade plan (Safe checked) found text = IsSafeMade (certificate_in checked) found text
-IsMade plan (Unsafe script shown) found text =
-    (found ≡ outcome.Unsafe) × (text ≡ unsafe_text plan script shown)
-IsMade plan (Unknown reason refusal) found text =
+abbrev pub IsMade : Declared → List Place → Judged → Outcome → List ℕ → Type 0
+IsMade plan places (Safe checked) found text = IsSafeMade (certificate_in checked) found text
+IsMade plan places (Unsafe script shown) found text =
+    (found ≡ outcome.Unsafe) × (text ≡ unsafe_text plan places script shown)
+IsMade plan places (Unknown reason refusal) found text =
     (found ≡ unknown_outcome reason) × (text ≡ unknown_text reason)
 
 -- what is printed of a plan that was judged, by what is wanted of it
-abbrev pub IsAnswer : Wanted → Declared → Judged → Outcome → List ℕ → Type 0
-IsAnswer Verdict plan judged found text =
-    (found ≡ outcome_of judged) × (text ≡ verdict_text plan judged)
-IsAnswer Certificate plan judged found text = IsMade plan judged found text
-IsAnswer Compact plan judged found text =
-    IsJudgedBy Compact judged × IsMade plan judged found text
+abbrev pub IsAnswer : Wanted → Declared → List Place → Judged → Outcome → List ℕ → Type 0
+IsAnswer Verdict plan places judged found text =
+    (found ≡ outcome_of judged) × (text ≡ verdict_text plan places judged)
+IsAnswer Certificate plan places judged found text = IsMade plan places judged found text
+IsAnswer Compact plan places judged found text =
+    IsJudgedBy Compact judged × IsMade plan places judged found text
 
--- the text says what a script breaks first, and then has the script, which shows the plan unsafe
-pub record IsStory (plan : Declared) (text : List ℕ) : Type 0 where
+-- the text says what a script breaks first, where its lines come from, and then has the script,
+-- which shows the plan unsafe
+pub record IsStory (plan : Declared) (places : List Place) (text : List ℕ) : Type 0 where
   pub script : Script
   pub shown : Shown
   pub shows : Shows plan script shown
-  pub told : text ≡ unsafe_text plan script shown
+  pub told : text ≡ unsafe_text plan places script shown

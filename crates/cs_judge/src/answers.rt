@@ -1,9 +1,10 @@
 //! The texts printed for a judged plan.
-ghost use Rattle.std.specs.Prelude.{◌≡◌, ◌++◌, IfOk, IfSome};
+ghost use Rattle.std.specs.Prelude.{◌≡◌, ◌++◌, IfOk, IfSome, OnOk};
+ghost use Rattle.std.specs.List.{filter_map};
 ghost use Rattle.cs_cert.specs.Certificate.{content};
 ghost use Rattle.cs_check.specs.Checked.{certificate_in};
 ghost use Rattle.cs_judge.specs.Answer.{IsAnswer, IsCertificate, IsMade, IsSafeMade};
-ghost use Rattle.cs_judge.specs.Answer.{outcome_of, refusal_text, unknown_outcome};
+ghost use Rattle.cs_judge.specs.Answer.{job_of, outcome_of, refusal_text, story_places, unknown_outcome};
 ghost use Rattle.cs_judge.specs.Answer.{unknown_text, unsafe_text, verdict_text};
 ghost use Rattle.cs_judge.specs.Form.{IsJudgedBy};
 ghost use Rattle.cs_judge.specs.Judged.{IfUnsafe, Shows};
@@ -14,7 +15,8 @@ use cs_cert::{Certificate, MAX_CERTIFICATE, least_text, write_certificate};
 use cs_check::Checked;
 use cs_counterexample::{Shown, shown_text};
 use cs_decl::Plan;
-use cs_history::Script;
+use cs_gather::{Place, push_places_told};
+use cs_history::{Event, Script};
 use cs_maker::Reason;
 use cs_report::{CheckFault, fault_text, script_text};
 use std::alloc::{AllocError, Global};
@@ -63,19 +65,69 @@ fn unknown_text(alloc: Global, reason: Reason) -> Result<Vec<u8>, AllocError>
     Ok(text)
 }
 
-/// A line for what the script breaks first, and the script.
+fn job_of(event: Event) -> Option<u16>
+    ensures { result ≡ job_of event }
+{
+    match event {
+        Event::Begin(job) | Event::Got(job, _) | Event::Catch(job) => Some(job),
+        Event::End(run) => Some(run.job),
+        Event::Minute(_) | Event::Down | Event::Up(_) => None,
+    }
+}
+
+/// The jobs that events name.
+fn jobs_in(alloc: Global, events: &[Event]) -> Result<Vec<usize>, AllocError>
+    ensures { IfOk result (λ jobs. jobs.items ≡ filter_map job_of events.now) }
+{
+    let mut jobs = Vec::new(alloc);
+    for event in events {
+        if let Some(job) = job_of(*event) {
+            jobs.push(usize::from(job))?;
+        }
+    }
+    Ok(jobs)
+}
+
+/// Adds a comment for each line that the script names and that has a place.
+#[tactic(auto, unfolding(crate::specs::Answer::story_places))]
+fn push_story_places(
+    alloc: Global,
+    text: &mut Vec<u8>,
+    plan: &Plan,
+    places: &[Place],
+    script: &Script,
+) -> Result<(), AllocError>
+    ensures { OnOk result
+        (text.new.items ≡ text.old.items ++ story_places plan.now places.now script.now) }
+{
+    let jobs = jobs_in(alloc, script.events.as_slice())?;
+    let lines = plan.crontab().lines();
+    push_places_told(
+        alloc,
+        text,
+        b"# ".as_slice(),
+        places,
+        jobs.as_slice(),
+        lines,
+    )
+}
+
+/// A line for what the script breaks first, the places of its lines, and the script.
 #[tactic(auto, unfolding(crate::specs::Answer::unsafe_text))]
 fn unsafe_text(
     alloc: Global,
     plan: &Plan,
+    places: &[Place],
     script: &Script,
     shown: &Shown,
 ) -> Result<Vec<u8>, AllocError>
     requires { Shows plan.now script.now shown.now }
-    ensures { IfOk result (λ text. text.items ≡ unsafe_text plan.now script.now shown.now) }
+    ensures { IfOk result
+        (λ text. text.items ≡ unsafe_text plan.now places.now script.now shown.now) }
 {
     let mut text = Vec::from_slice(alloc, shown_text(alloc, plan, shown)?.as_slice())?;
     text.extend_from_slice(b"\n")?;
+    push_story_places(alloc, &mut text, plan, places, script)?;
     text.extend_from_slice(script_text(alloc, plan, script)?.as_slice())?;
     Ok(text)
 }
@@ -108,13 +160,18 @@ fn refused_text(
 }
 
 /// What is printed if the verdict is asked for.
-fn verdict_text(alloc: Global, plan: &Plan, judged: &Judged) -> Result<Vec<u8>, AllocError>
+fn verdict_text(
+    alloc: Global,
+    plan: &Plan,
+    places: &[Place],
+    judged: &Judged,
+) -> Result<Vec<u8>, AllocError>
     requires { IfUnsafe judged.now (Shows plan.now) }
-    ensures { IfOk result (λ text. text.items ≡ verdict_text plan.now judged.now) }
+    ensures { IfOk result (λ text. text.items ≡ verdict_text plan.now places.now judged.now) }
 {
     match judged {
         Judged::Safe(_) => Vec::from_slice(alloc, b"safe\n".as_slice()),
-        Judged::Unsafe(script, shown) => unsafe_text(alloc, plan, script, shown),
+        Judged::Unsafe(script, shown) => unsafe_text(alloc, plan, places, script, shown),
         Judged::Unknown(reason, None) => unknown_text(alloc, *reason),
         Judged::Unknown(reason, Some(refusal)) => refused_text(alloc, plan, *reason, refusal),
     }
@@ -148,14 +205,22 @@ fn safe_made(alloc: Global, checked: &Checked) -> Result<(Outcome, Vec<u8>), All
 }
 
 /// What is printed if a certificate is asked for.
-fn made(alloc: Global, plan: &Plan, judged: &Judged) -> Result<(Outcome, Vec<u8>), AllocError>
+fn made(
+    alloc: Global,
+    plan: &Plan,
+    places: &[Place],
+    judged: &Judged,
+) -> Result<(Outcome, Vec<u8>), AllocError>
     requires { IfUnsafe judged.now (Shows plan.now) }
-    ensures { IfOk result (λ told. IsMade plan.now judged.now told.0 told.1.items) }
+    ensures { IfOk result (λ told. IsMade plan.now places.now judged.now told.0 told.1.items) }
 {
     match judged {
         Judged::Safe(checked) => safe_made(alloc, checked),
         Judged::Unsafe(script, shown) => {
-            Ok((Outcome::Unsafe, unsafe_text(alloc, plan, script, shown)?))
+            Ok((
+                Outcome::Unsafe,
+                unsafe_text(alloc, plan, places, script, shown)?,
+            ))
         }
         Judged::Unknown(reason, _) => {
             Ok((unknown_outcome(*reason), unknown_text(alloc, *reason)?))
@@ -166,21 +231,28 @@ fn made(alloc: Global, plan: &Plan, judged: &Judged) -> Result<(Outcome, Vec<u8>
 /// Returns the outcome of a judged plan, and what is printed for it.
 ///
 /// A verdict is `safe`, a line; or what a history breaks first and its script, lines; or `unknown:
-/// REASON` and, if the checker refused a certificate, a line for that refusal. If a certificate is
+/// REASON` and, if the checker refused a certificate, a line for that refusal. Between the first
+/// line and the script stands a comment for each line of the crontab that the script names and that
+/// has a place. If a certificate is
 /// asked for, the accepted one replaces `safe`, and no refusal follows `unknown`; a certificate
 /// above 16 MiB is `unknown: LeafTooLong`. The only error is out of memory.
 pub fn answer(
     alloc: Global,
     plan: &Plan,
+    places: &[Place],
     wanted: Wanted,
     judged: &Judged,
 ) -> Result<(Outcome, Vec<u8>), AllocError>
     requires shown { IfUnsafe judged.now (Shows plan.now) }
     requires form { IsJudgedBy wanted judged.now }
-    ensures { IfOk result (λ told. IsAnswer wanted plan.now judged.now told.0 told.1.items) }
+    ensures { IfOk result
+        (λ told. IsAnswer wanted plan.now places.now judged.now told.0 told.1.items) }
 {
     match wanted {
-        Wanted::Verdict => Ok((outcome_of(judged), verdict_text(alloc, plan, judged)?)),
-        Wanted::Certificate | Wanted::Compact => made(alloc, plan, judged),
+        Wanted::Verdict => Ok((
+            outcome_of(judged),
+            verdict_text(alloc, plan, places, judged)?,
+        )),
+        Wanted::Certificate | Wanted::Compact => made(alloc, plan, places, judged),
     }
 }

@@ -1,6 +1,7 @@
 ghost use Rattle.std.specs.Prelude.{◌≡◌, ℕ, List};
 ghost use Rattle.cs_check.specs.Checked.{IsHeadline};
 ghost use Rattle.cs_decl.specs.Plan.{Declared, as_plan};
+ghost use Rattle.cs_gather.specs.declared.places.Place.{Place};
 ghost use Rattle.cs_judge.specs.Answer.{IsAnswer, IsStory};
 ghost use Rattle.cs_judge.specs.Judged.{IsJudgement};
 ghost use Rattle.cs_judge.specs.declared.answers.Outcome.{Outcome};
@@ -13,12 +14,13 @@ ghost use Rattle.cs_judge.specs.declared.judged.Judged.{Judged};
 pub fn outcomes_hold()
 
     // a `Safe` plan: every legal history in time is safe
-    ensures safe { (wanted : Wanted) (plan : Declared) (judged : Judged) (found : Outcome)
-        (text : List ℕ) → IsJudgement plan judged → IsAnswer wanted plan judged found text
-        → found ≡ Safe → IsHeadline (as_plan plan) }
+    ensures safe { (wanted : Wanted) (plan : Declared) (places : List Place) (judged : Judged)
+        (found : Outcome) (text : List ℕ) → IsJudgement plan judged
+        → IsAnswer wanted plan places judged found text → found ≡ Safe → IsHeadline (as_plan plan) }
 
     // an `Unsafe` plan: the text is a counterexample
-    ensures story { (wanted : Wanted) (plan : Declared) (judged : Judged) (found : Outcome)
-        (text : List ℕ) → IsJudgement plan judged → IsAnswer wanted plan judged found text
-        → found ≡ Unsafe → IsStory plan text }
+    ensures story { (wanted : Wanted) (plan : Declared) (places : List Place) (judged : Judged)
+        (found : Outcome) (text : List ℕ) → IsJudgement plan judged
+        → IsAnswer wanted plan places judged found text → found ≡ Unsafe
+        → IsStory plan places text }
 {}

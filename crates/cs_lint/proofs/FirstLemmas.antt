@@ -1,6 +1,6 @@
 -- The first fault is told.
 use Rattle.std.proofs.Common.{◌≡◌, ◌||◌, ℕ, List, Option, Some, None, Bool, true, false, inl, inr, refl, subst}
-use Rattle.cs_diagnostics.specs.Told.{IsToldIn, is_told}
+use Rattle.cs_diagnostics.specs.Told.{IsToldIn, Keeps as KeepsAll, is_told}
 use Rattle.cs_diagnostics.specs.declared.findings.FirstFault.{FirstFault}
 use Rattle.cs_lint.specs.Kept.{KeepsSome, is_found}
 use Rattle.cs_lint.specs.Refused.{AreRefused, Finds, Judges, TellsFirst}
@@ -15,11 +15,11 @@ one_of true b c h x y z = x refl
 one_of false true c h x y z = y refl
 one_of false false c h x y z = z h
 
-or_left : (a b : Bool) → a ≡ true → (a || b) ≡ true
+pub or_left : (a b : Bool) → a ≡ true → (a || b) ≡ true
 or_left true b h = refl
 or_left false b h = absurd (cc)
 
-or_right : (a b : Bool) → b ≡ true → (a || b) ≡ true
+pub or_right : (a b : Bool) → b ≡ true → (a || b) ≡ true
 or_right true b h = refl
 or_right false b h = h
 
@@ -47,3 +47,15 @@ pub refused : (refusal : Refusal) (table : List ℕ) (jobs declarations : Option
 refused (Table first) table jobs declarations (found, means, is) = inl (found, means)
 refused (Jobs first) table jobs declarations (t, m, (found, means, is)) = inr (inl (found, means))
 refused (Plan first) table jobs declarations (t, j, a, b, (fault, is, line, name)) = inr (inr (t, j, a, b, (fault, is)))
+
+-- A refusal that was kept is kept where what was told of each file is told still.
+pub keeps_more : (refusal : Option Refusal) (old new : Found) → KeepsAll old.table new.table → KeepsAll old.jobs new.jobs
+    → KeepsAll old.declared new.declared → KeepsSome refusal old → KeepsSome refusal new
+keeps_more None old new table jobs declared kept = kept
+keeps_more (Some (Table first)) old new table jobs declared kept = table first kept
+keeps_more (Some (Jobs first)) old new table jobs declared kept = jobs first kept
+keeps_more (Some (Plan first)) old new table jobs declared kept =
+    one_of (is_told first old.table) (is_told first old.jobs) (is_told first old.declared) kept
+    (λ here. or_left (is_told first new.table) _ (table first here))
+    (λ here. or_right (is_told first new.table) _ (or_left (is_told first new.jobs) _ (jobs first here)))
+    (λ here. or_right (is_told first new.table) _ (or_right (is_told first new.jobs) _ (declared first here)))

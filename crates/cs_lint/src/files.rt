@@ -1,12 +1,17 @@
 //! What is found in the files of a call.
-ghost use Rattle.std.specs.Prelude.{◌≡◌, ℕ, List, Option, true, IfOk, OnOk};
+ghost use Rattle.std.specs.Prelude.{◌≡◌, ℕ, List, Option, Some, true, IfOk, OnOk};
 ghost use Rattle.std.specs.Option.{option_map};
-ghost use Rattle.cs_diagnostics.specs.Told.{IsToldIn};
+ghost use Rattle.cs_diagnostics.specs.Told.{IsFull, IsToldIn, is_full};
 ghost use Rattle.cs_diagnostics.specs.declared.findings.FirstFault.{FirstFault};
+ghost use Rattle.cs_diagnostics.specs.declared.render.File.{File};
+ghost use Rattle.cs_lint.specs.Each.{KeepsJobLines, KeepsLines, TellsEachLine};
+ghost use Rattle.cs_lint.specs.declared.refusal.Refusal.{Refusal};
+ghost use Rattle.cs_lint.specs.declared.table.Kind.TheVariants.{Crontab};
 ghost use Rattle.cs_lint.specs.Kept.{Keeps, KeepsSome, is_found};
 ghost use Rattle.cs_lint.specs.Refused.{Finds, Judges, TellsFirst};
 
 use crate::declared::Declared;
+use crate::each::keep_lines;
 use crate::refusal::{Refusal, first_refusal};
 use crate::report::{Report, Verdict};
 use crate::table::{Kind, Table};
@@ -82,6 +87,23 @@ impl Found {
         Ok(found)
     }
 
+    /// The same with what is wrong with each line of both tables, where nothing tells it yet.
+    fn with_lines(self, table: &[u8], jobs: Option<&[u8]>) -> Result<Found, AllocError>
+        ensures table { IfOk result (λ found. KeepsLines Crontab table.now found.table) }
+        ensures jobs { IfOk result (λ found.
+            KeepsJobLines (option_map (λ t. t.now) jobs.entry) found.jobs) }
+        ensures kept { IfOk result (λ found. (refusal : Option Refusal)
+            → KeepsSome refusal self → KeepsSome refusal found) }
+    {
+        let mut found = self;
+        keep_lines(&mut found.table, Kind::Crontab, table)?;
+        let Some(jobs) = jobs else {
+            return Ok(found);
+        };
+        keep_lines(&mut found.jobs, Kind::Anacrontab, jobs)?;
+        Ok(found)
+    }
+
     /// Adds why the files are refused, where nothing tells it yet.
     fn keep(&mut self, refusal: &Refusal<'_>) -> Done
         ensures { OnOk result (Keeps refusal.now self.new) }
@@ -106,8 +128,12 @@ impl Found {
         jobs: &File<'_>,
         declarations: &File<'_>,
     ) -> Result<Bytes, AllocError>
-        ensures { IfOk result (λ text. (first : FirstFault)
+        ensures told { IfOk result (λ text. (first : FirstFault)
             → is_found first self.now ≡ true → IsToldIn text first) }
+        ensures table { IfOk result (λ text. is_full self.now.table ≡ true
+            → IsFull table.now.path.now text) }
+        ensures jobs { IfOk result (λ text. is_full self.now.jobs ≡ true
+            → IsFull jobs.now.path.now text) }
     {
         let mut text = Vec::new(alloc);
         self.table.tell(table, &mut text)?;
@@ -130,7 +156,9 @@ fn verdict_of(refusal: &Option<Refusal<'_>>, is_odd: bool) -> Verdict
 }
 
 /// A file, or one that holds nothing.
-fn some_file<'a>(file: Option<&File<'a>>) -> File<'a> {
+fn some_file<'a>(file: Option<&File<'a>>) -> File<'a>
+    ensures { (f : File) → option_map (λ f. f.now) file.entry ≡ Some f → result ≡ f }
+{
     match file {
         Some(file) => *file,
         None => File {
@@ -163,10 +191,14 @@ pub fn lint(
     ensures told { IfOk result (λ report. TellsFirst report.text table.now.bytes.now
         (option_map (λ file. file.now.bytes.now) jobs.entry)
         (option_map (λ file. file.now.bytes.now) declarations.entry)) }
+    // Each line of a table that has a fault of its own is told at its column, up to 100 faults.
+    ensures each { IfOk result (λ report. TellsEachLine report.text table.now
+        (option_map (λ file. file.now) jobs.entry)) }
 {
     let (job_bytes, terms) = (bytes_of(jobs), bytes_of(declarations));
     let refusal = first_refusal(alloc, table.bytes, job_bytes, terms)?;
-    let found = Found::at(alloc, table.bytes, job_bytes, terms)?.with(&refusal)?;
+    let kept = Found::at(alloc, table.bytes, job_bytes, terms)?.with(&refusal)?;
+    let found = kept.with_lines(table.bytes, job_bytes)?;
     let (jobs, declarations) = (some_file(jobs), some_file(declarations));
     let text = found.text(alloc, table, &jobs, &declarations)?;
     let verdict = verdict_of(&refusal, found.is_odd());

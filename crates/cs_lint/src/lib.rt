@@ -2,6 +2,7 @@
 #![tactic(auto)]
 
 mod declared;
+mod each;
 mod files;
 mod front;
 mod line;

@@ -23,7 +23,13 @@ pub(crate) enum Refusal<'a> {
 
 /// The fault of a table: one of a setting may be told at what is wrong in it, others at their
 /// column alone.
-fn first(line: u32, column: usize, length: usize, is_setting: bool, name: &str) -> FirstFault<'_>
+pub(crate) fn first(
+    line: u32,
+    column: usize,
+    length: usize,
+    is_setting: bool,
+    name: &str,
+) -> FirstFault<'_>
     ensures { (result.line ≡ line) × (result.from ≡ column - 1) × (result.more ≤ length)
         × (is_setting ≡ false → result.more ≡ 0) × (result.name.now ≡ name.now) }
 {

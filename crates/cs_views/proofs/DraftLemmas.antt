@@ -23,7 +23,7 @@ declared d bytes (Some text) left fresh read is =
 
 -- an update of declarations that were read
 pub updated : (files left : List ℕ → Option (List ℕ)) (path : Text) (bytes : List ℕ) (max : ℕ) (offset : ℤ) (tables : Table × JobTable) (old : Entries) (r : Ending) (before after : Failed)
-    → after ≡ before → IsFresh files left → IfSome (left path) (λ text. bytes ≡ text) → declared_by bytes ≡ Ok old → IsPrinted (IsUpdate tables.0 tables.1 old) r
+    → after ≡ before → IsFresh files left → IfSome (left path) (λ text. bytes ≡ text) → declared_by bytes ≡ Ok old → IsPrinted (IsUpdate tables.0 tables.1 old max) r
     → Drafts files max offset (Some path) tables before after (Ok r)
 updated files left path bytes max offset tables old r before after works fresh read is printed =
     inr (old, inl (refl, declared old bytes (files path) (left path) (fresh path) read is), (works, (r, printed, refl)))

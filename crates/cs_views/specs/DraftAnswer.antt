@@ -25,7 +25,7 @@ Drafts files max offset None tables =
     GivesSome (IsPrinted (IsDraft tables.0 tables.1 max offset))
 Drafts files max offset (Some path) tables =
     AndThen (ReadsEntries files path)
-    (λ old. GivesSome (IsPrinted (IsUpdate tables.0 tables.1 old)))
+    (λ old. GivesSome (IsPrinted (IsUpdate tables.0 tables.1 old max)))
 
 -- both tables are read first
 abbrev pub DraftsTables : AskedDraft → ℤ → (List ℕ → Option (List ℕ)) → Failed → Failed → Ending

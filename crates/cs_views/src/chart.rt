@@ -5,7 +5,8 @@ ghost use Rattle.cs_io.specs.Files.{AreReadInTurn, IsFresh};
 ghost use Rattle.cs_files.specs.RanOut.{IsWarned};
 ghost use Rattle.cs_files.specs.Trouble.{CameTo, IsHonest, IsHonestOf};
 ghost use Rattle.cs_files.specs.Turn.{chart_paths, some_path};
-ghost use Rattle.cs_views.specs.ChartAnswer.{AnswersChart, Charts, ChartsTables, IsPicture};
+ghost use Rattle.cs_chart.specs.Chart.{jobs_of_plan, jobs_of_tables};
+ghost use Rattle.cs_views.specs.ChartAnswer.{AnswersChart, Charts, ChartsTables, IsPicture, terms_of};
 
 use cs_anacrontab::Anacrontab;
 use cs_args::{ChartWords, Question};
@@ -35,7 +36,8 @@ fn show_tables(
     table: &Crontab,
     jobs: &Anacrontab,
 ) -> Result<Response, AllocError>
-    ensures { IfOk result IsPicture }
+    ensures { IfOk result (IsPicture question request.now.days
+        (jobs_of_tables (terms_of question) table.now jobs.now)) }
 {
     let hours = question.hours();
     let terms = Terms {
@@ -56,7 +58,7 @@ fn show_plan(
     question: Question,
     plan: &Plan,
 ) -> Result<Response, AllocError>
-    ensures { IfOk result IsPicture }
+    ensures { IfOk result (IsPicture question request.now.days (jobs_of_plan plan.now)) }
 {
     let picture = plan_chart(alloc, subject(request), plan, question.day(), request.days)?;
     Ok(Response::done(picture.into_bytes(), Bytes::new(alloc)))
@@ -72,7 +74,8 @@ fn drawn<'a, I: Inputs>(
     jobs: Anacrontab,
 ) -> Result<Response, Fault<'a>>
     ensures step { IsFresh (I.whole inputs.old) (I.left inputs.old)
-        → CameTo (Charts (I.whole inputs.old) (asked_chart request.now).declarations (table, jobs)
+        → CameTo (Charts question (asked_chart request.now).days (I.whole inputs.old)
+        (asked_chart request.now).declarations (table, jobs)
         (I.failed inputs.old) (I.failed inputs.new)) result }
     ensures status { IfErr result (IsHonestOf (I.failed inputs.new) (I.reads inputs.new)) }
     ensures turn { AreReadInTurn (some_path (asked_chart request.now).declarations)
@@ -96,7 +99,7 @@ fn chart_tables<I: Inputs>(
     inputs: &mut I,
 ) -> Result<Response, RanOut>
     ensures value { IsFresh (I.whole inputs.old) (I.left inputs.old)
-        → IfOk result (ChartsTables (asked_chart request.now) (I.whole inputs.old)
+        → IfOk result (ChartsTables question (asked_chart request.now) (I.whole inputs.old)
         (I.failed inputs.old) (I.failed inputs.new)) }
     ensures status { IfOk result (IsHonest (I.failed inputs.new) (I.reads inputs.new)) }
     ensures warned { IsFresh (I.whole inputs.old) (I.left inputs.old)

@@ -69,7 +69,7 @@ fn show_update(
     max: u64,
 ) -> Result<Response, AllocError>
     requires { is_possible_max max ≡ true }
-    ensures { IfOk result (IsPrinted (IsUpdate table.now jobs.now old.now)) }
+    ensures { IfOk result (IsPrinted (IsUpdate table.now jobs.now old.now max)) }
 {
     match update(alloc, table, jobs, old, bytes, max)? {
         Drawing::Drawn(draft) => Ok(printed(draft)),

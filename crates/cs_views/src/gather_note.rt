@@ -1,10 +1,11 @@
 //! What is told of tables beside what is gathered of them.
 use crate::gather_given::Given;
 use cs_civil::push_number;
-use cs_crontab::read_crontab;
+use cs_crontab::{Crontab, Line, read_crontab};
 use cs_gather::push_shown;
-use cs_report::is_unheeded;
+use cs_report::{first_behind_user, is_unheeded};
 use cs_system::read_system_crontab;
+use cs_table::text::word;
 use cs_table::{Setting, TableFault};
 use std::alloc::{AllocError, Global};
 
@@ -61,6 +62,37 @@ fn push_all_unheeded(
     Ok(())
 }
 
+/// Writes behind the text the warning of the first command that seems to stand behind a user.
+fn push_behind_user(
+    alloc: Global,
+    text: &mut Vec<u8>,
+    path: &str,
+    lines: &[Line],
+) -> Result<(), AllocError> {
+    let Some(line) = first_behind_user(lines) else {
+        return Ok(());
+    };
+    let (name, _) = word(line.command());
+    text.extend_from_slice(b"warning: the command on line ")?;
+    push_number(alloc, text, u128::from(line.number()))?;
+    text.extend_from_slice(b" of ")?;
+    push_shown(text, path.as_bytes())?;
+    text.extend_from_slice(b" begins with ")?;
+    push_shown(text, name)?;
+    text.extend_from_slice(b", as in a system table: see --system\n")
+}
+
+/// Writes behind the text what is to be warned of in a user's table.
+fn push_user_warnings(
+    alloc: Global,
+    text: &mut Vec<u8>,
+    path: &str,
+    table: &Crontab,
+) -> Result<(), AllocError> {
+    push_all_unheeded(alloc, text, path, table.settings())?;
+    push_behind_user(alloc, text, path, table.lines())
+}
+
 /// Writes behind the text what is to be warned of in a table without a fault.
 pub(crate) fn push_warnings(
     alloc: Global,
@@ -77,7 +109,7 @@ pub(crate) fn push_warnings(
         };
     }
     match read_crontab(alloc, bytes) {
-        Ok(table) => push_all_unheeded(alloc, text, path, table.settings()),
+        Ok(table) => push_user_warnings(alloc, text, path, &table),
         Err(TableFault::OutOfMemory) => Err(AllocError),
         Err(TableFault::At { .. }) => Ok(()),
     }

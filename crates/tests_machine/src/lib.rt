@@ -1,4 +1,4 @@
-//! Rows of the machine's devices.
+//! Rows of the machine's devices, and of files that are read.
 #![tactic(auto)]
 
 #[cfg(test)]
@@ -7,6 +7,8 @@ mod clocks;
 mod crashes;
 #[cfg(test)]
 mod folders;
+#[cfg(test)]
+mod reads;
 #[cfg(test)]
 mod scratch;
 #[cfg(test)]

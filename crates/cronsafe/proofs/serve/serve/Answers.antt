@@ -38,7 +38,7 @@ returns-in_default-runners_by g c =
 
 -- what a clock has told, and how often a store of stamps has failed
 abbrev tellings : Telling → ℕ → Tellings
-tellings t failures = record { last = t.last; risen = t.risen; clock_failures = t.failures; stamp_failures = failures }
+tellings t failures = record { last = t.last; top = t.top; risen = t.risen; clock_failures = t.failures; stamp_failures = failures }
 
 pub returns : goal.returns
 returns g c =

@@ -1,12 +1,11 @@
-use Rattle.std.proofs.Common.{◌≡◌, ◌∙◌, [], ◌∷◌, Ok, Err, ap, inr, subst}
+use Rattle.std.proofs.Common.{◌≡◌, ◌∙◌, [], ◌∷◌, Ok, Err, inr, refl, subst}
 use Rattle.std.proofs.lemmas.Result.{err_from_is_err_and}
 use Rattle.cs_cert.specs.Certificate.{content}
 use Rattle.cs_cert.specs.Content.{Content}
-use Rattle.cs_check.specs.Case.{fault_of}
-use Rattle.cs_cli.specs.Check.{ReadsCertificate, verdict}
+use Rattle.cs_cli.specs.Check.{IsVerdict, ReadsCertificate}
 use Rattle.cs_files.specs.Reads.{ReadsDeclared}
 use Rattle.cs_args.specs.Asked.{asked_check}
-use Rattle.cs_files.specs.Reads.{AndThen, Gives}
+use Rattle.cs_files.specs.Reads.{AndThen, GivesSome}
 use Rattle.cs_files.specs.Trouble.{CameTo}
 use Rattle.cs_cli.proofs.CheckLemmas.{are_read}
 use Rattle.cs_files.proofs.TroubleLemmas.{goes_on, moved, stops}
@@ -15,31 +14,31 @@ use Rattle.cs_files.proofs.TurnLemmas.{first_read}
 use Rattle.cs_cli.proofs.check.ruling_on_files.Goals as goal
 
 pub returns-in_err-certificate-clause-step : goal.returns-in_err-certificate-clause-step
-returns-in_err-certificate-clause-step g c = λ fresh.
+returns-in_err-certificate-clause-step g c = λ fresh placed.
     let files = g.I.Inputs.whole c.args.inputs.now in
     let before = g.I.Inputs.failed c.args.inputs.now in
     let after = g.I.Inputs.failed c.certificate_from.new.inputs in
     let a = asked_check c.args.request.now in
     let plan = c.in_ok-plan.plan in
     let fault = c.in_err-certificate.field-0.0 in
-    let one = subst (λ (f : Failed). ReadsDeclared files (c.args.table, c.args.jobs) a.declarations before f (Ok plan)) c.in_ok-plan.ensures.works (c.in_ok-plan.ensures.step fresh) in
+    let one = subst (λ (f : Failed). ReadsDeclared files c.args.tables a.declarations before f (Ok plan)) c.in_ok-plan.ensures.works (c.in_ok-plan.ensures.step fresh) in
     let two = moved (λ w f. CameTo {X = Content} (ReadsCertificate w a.certificate f after) (Err fault)) (g.I.Inputs.whole c.declared_plan_from.new.inputs) files (g.I.Inputs.failed c.declared_plan_from.new.inputs) before c.declared_plan_from.ensures.whole c.in_ok-plan.ensures.works (c.in_err-certificate.ensures.step (c.in_ok-plan.ensures.fresh fresh)) in
-    let next = stops (ReadsCertificate files a.certificate) (λ x. Gives (Ok (verdict plan (fault_of plan x)))) before after fault two in
+    let next = stops (ReadsCertificate files a.certificate) (λ x. GivesSome (IsVerdict files a.table c.args.tables.0 plan x)) before after fault two in
     let p = err_from_is_err_and c.from_residual-in_err-certificate.result c.from_residual-in_err-certificate.ensures.1 in
-    rw (p.1, p.2) (goes_on (ReadsDeclared files (c.args.table, c.args.jobs) a.declarations) (λ plan. AndThen (ReadsCertificate files a.certificate) (λ x. Gives (Ok (verdict plan (fault_of plan x))))) before after plan (Err fault) one next)
+    rw (p.1, p.2) (goes_on (ReadsDeclared files c.args.tables a.declarations) (λ plan. AndThen (ReadsCertificate files a.certificate) (λ x. GivesSome (IsVerdict files a.table c.args.tables.0 plan x))) before after plan (Err fault) one next)
 
 pub returns-clause-step : goal.returns-clause-step
-returns-clause-step g c = λ fresh.
+returns-clause-step g c = λ fresh placed.
     let files = g.I.Inputs.whole c.args.inputs.now in
     let before = g.I.Inputs.failed c.args.inputs.now in
     let after = g.I.Inputs.failed c.certificate_from.new.inputs in
     let a = asked_check c.args.request.now in
     let plan = c.in_ok-plan.plan in
     let x = content c.in_ok-certificate.certificate in
-    let one = subst (λ (f : Failed). ReadsDeclared files (c.args.table, c.args.jobs) a.declarations before f (Ok plan)) c.in_ok-plan.ensures.works (c.in_ok-plan.ensures.step fresh) in
+    let one = subst (λ (f : Failed). ReadsDeclared files c.args.tables a.declarations before f (Ok plan)) c.in_ok-plan.ensures.works (c.in_ok-plan.ensures.step fresh) in
     let two = moved (λ w f. ReadsCertificate w a.certificate f after (Ok x)) (g.I.Inputs.whole c.declared_plan_from.new.inputs) files (g.I.Inputs.failed c.declared_plan_from.new.inputs) before c.declared_plan_from.ensures.whole c.in_ok-plan.ensures.works (c.in_ok-certificate.ensures.step (c.in_ok-plan.ensures.fresh fresh)) in
     let same : after ≡ before = c.in_ok-certificate.ensures.works ∙ c.in_ok-plan.ensures.works in
-    inr (plan, one, inr (x, subst (λ (f : Failed). ReadsCertificate files a.certificate before f (Ok x)) same two, (same, ap Ok c.in_ok-ruling.ensures.answer)))
+    inr (plan, one, inr (x, subst (λ (f : Failed). ReadsCertificate files a.certificate before f (Ok x)) same two, (same, (_, (c.args.places.now, placed, c.in_ok-ruling.ensures.answer), refl))))
 
 pub returns-clause-read : goal.returns-clause-read
 returns-clause-read g c = λ fresh.
@@ -49,10 +48,10 @@ returns-clause-read g c = λ fresh.
     let a = asked_check c.args.request.now in
     let plan = c.in_ok-plan.plan in
     let x = content c.in_ok-certificate.certificate in
-    let one = subst (λ (f : Failed). ReadsDeclared files (c.args.table, c.args.jobs) a.declarations before f (Ok plan)) c.in_ok-plan.ensures.works (c.in_ok-plan.ensures.step fresh) in
+    let one = subst (λ (f : Failed). ReadsDeclared files c.args.tables a.declarations before f (Ok plan)) c.in_ok-plan.ensures.works (c.in_ok-plan.ensures.step fresh) in
     let two = moved (λ w f. ReadsCertificate w a.certificate f after (Ok x)) (g.I.Inputs.whole c.declared_plan_from.new.inputs) files (g.I.Inputs.failed c.declared_plan_from.new.inputs) before c.declared_plan_from.ensures.whole c.in_ok-plan.ensures.works (c.in_ok-certificate.ensures.step (c.in_ok-plan.ensures.fresh fresh)) in
     let same : after ≡ before = c.in_ok-certificate.ensures.works ∙ c.in_ok-plan.ensures.works in
-    are_read files a (c.args.table, c.args.jobs) before plan x c.in_ok-ruling.field-0 one
+    are_read files a c.args.tables before plan x c.in_ok-ruling.field-0 one
     (subst (λ (f : Failed). ReadsCertificate files a.certificate before f (Ok x)) same two) c.in_ok-ruling.ensures.same
 
 pub returns-in_err-plan-clause-turn : goal.returns-in_err-plan-clause-turn

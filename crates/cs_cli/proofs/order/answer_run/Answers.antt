@@ -34,13 +34,18 @@ returns-in_err-warnings-in-Accepted-clause-warned g c = λ fresh.
 
 pub returns-then-is_gathered-clause-value : goal.returns-then-is_gathered-clause-value
 returns-then-is_gathered-clause-value g c = λ fresh.
+    let files = g.I.Inputs.whole c.args.inputs.now in
+    let before = g.I.Inputs.failed c.args.inputs.now in
+    let failed = g.I.Inputs.failed c.examine.new.inputs in
     let a = asked_check c.args.request.now.check in
-    let accepted = subst (λ (found : Examined). IfAccepted found (IsAcceptance (g.I.Inputs.whole c.args.inputs.now) a (g.I.Inputs.failed c.args.inputs.now))) c.in-Accepted.is (c.in_ok-checked.ensures.accepted fresh) in
+    let value = subst (λ (found : Examined). AnswersCheck a files before failed (ending_of found)) c.in-Accepted.is (c.in_ok-checked.ensures.value fresh) in
+    let accepted = subst (λ (found : Examined). IfAccepted found (IsAcceptance files a before)) c.in-Accepted.is (c.in_ok-checked.ensures.accepted fresh) in
     let same : c.settings.result.now ≡ (plan_in c.in-Accepted.checked).crontab.settings =
     c.settings.ensures.value ∙ ap (λ (t : Table). t.settings) (c.crontab.ensures.value ∙ ap (λ (d : Declared). d.crontab) c.plan.ensures) in
     inr (record {
       checked = c.in-Accepted.checked;
       warnings = c.in-Accepted.warnings;
+      safe = value;
       accepted = accepted;
       gathered = ap is_gathered (sym same) ∙ (sym c.is_gathered.ensures ∙ c.if-is_gathered.true);
       told = c.in_ok-refuse_gathered-in-Accepted.ensures.told;

@@ -4,8 +4,8 @@ use Rattle.cs_decl.specs.Plan.{IsWhole}
 use Rattle.cs_keep.proofs.Cutting.{few_stamps}
 use Rattle.cs_daemon.proofs.stamps.stamps_of.Goals as goal
 
-pub returns : goal.returns
-returns g c =
+pub returns-clause-stamps : goal.returns-clause-stamps
+returns-clause-stamps g c =
     let k = c.args.keep.now in
     let whole : IsWhole k.core.plan = subst IsWhole (c.plan.ensures ∙ ap (λ (x : Standing). x.plan) c.core-core.ensures.value) c.jobs-jobs.ensures.whole in
     let few : length k.core.state.stamps ≤ 64 = few_stamps k.core.plan k.base k.journal k.core.state whole c.core-core.ensures.kept in

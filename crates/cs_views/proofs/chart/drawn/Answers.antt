@@ -1,4 +1,5 @@
 use Rattle.std.proofs.Common.{ℕ, List, Option, Ok, Bor, inr, option_map, refl, subst, sym}
+use Rattle.cs_args.specs.Asked.{asked_chart}
 use Rattle.cs_files.specs.Reads.{ReadsDeclared}
 use Rattle.cs_io.specs.Files.{Failed}
 use Rattle.cs_views.specs.ChartAnswer.{Charts}
@@ -12,5 +13,5 @@ returns-in-Some-clause-step g c = λ fresh.
     let plan = c.in_ok-plan-in-Some.plan in
     let r = c.in_ok-show_plan-in-Some.field-0 in
     let one = subst (λ (f : Failed). ReadsDeclared files (c.args.table, c.args.jobs) c.in-Some.path.now before f (Ok plan)) c.in_ok-plan-in-Some.ensures.works (c.in_ok-plan-in-Some.ensures.step fresh) in
-    subst (λ (o : Option (Bor (List ℕ))). Charts files (option_map (λ p. p.now) o) (c.args.table, c.args.jobs) before after (Ok r)) (sym c.in-Some.is)
+    subst (λ (o : Option (Bor (List ℕ))). Charts c.args.question (asked_chart c.args.request.now).days files (option_map (λ p. p.now) o) (c.args.table, c.args.jobs) before after (Ok r)) (sym c.in-Some.is)
     (inr (plan, one, (c.in_ok-plan-in-Some.ensures.works, (r, c.in_ok-show_plan-in-Some.ensures, refl))))

@@ -14,7 +14,7 @@ invariant-loop g l = record {
   failures : g.C.Clock.failures l.fn.clock ≤ g.C.Clock.failures l.clock;
   parts : l.seat.parts ≡ l.fn.seat.parts;
   grows : l.fn.seat.share ≤ l.seat.share;
-  written : HaveBeenWritten g.S.StampStore.writes l.fn.self.plan.now.anacrontab.lines l.fn.stored.stamps.items l.fn.store l.stored.stamps.items l.store;
+  written : HaveBeenWritten g.S.StampStore.writes g.J.PlanLedger.plan l.fn.stored.stamps.items l.fn.store l.stored.stamps.items l.store;
   faults : l.stored.faults + g.S.StampStore.failures l.fn.store
       ≤ l.fn.stored.faults + g.S.StampStore.failures l.store;
 }

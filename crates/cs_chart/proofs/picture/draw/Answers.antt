@@ -1,0 +1,9 @@
+use Rattle.std.proofs.Common.{map, string_bytes}
+use Rattle.cs_chart.specs.Rows.{shown_of}
+use Rattle.cs_chart.proofs.Rows.{framed}
+use Rattle.cs_chart.proofs.picture.draw.Goals as goal
+
+pub returns : goal.returns
+returns c = framed c.args.scene.now.span (map shown_of c.args.scene.now.rows.now) c.in_ok-sheet.sheet.svg c.new-svg.result c.push_file.new.svg
+    c.push_drawn.new.self c.push_str.new.self (string_bytes c.into_string.result) c.in_ok-sheet.ensures c.new-svg.ensures c.in_ok-push_file.ensures
+    c.in_ok-push_drawn.ensures c.in_ok-push_str.ensures.keeps c.into_string.ensures

@@ -1,0 +1,16 @@
+use Rattle.std.proofs.Common.{◌≡◌, ◌+◌, ◌++◌}
+use Rattle.std.specs.Prelude.{map}
+use Rattle.cs_history.specs.Lists.{below}
+use Rattle.cs_decl.specs.Plan.{command_of, crons, job_at}
+use Rattle.cs_chart.specs.Chart.{shown_anacron, shown_command, terms_at}
+use Rattle.cs_chart.specs.Rows.{shown_of}
+use Rattle.cs_chart.proofs.row.plan_rows.Given as goal
+
+abbrev pub invariant-loop-place : goal.invariant-loop-place
+invariant-loop-place l = map shown_of l.rows.items
+    ≡ map (λ j. shown_command (job_at l.plan j).max (job_at l.plan j).group (command_of l.plan j)) (below l.place)
+
+abbrev pub invariant-loop-place-2 : goal.invariant-loop-place-2
+invariant-loop-place-2 l = map shown_of l.rows.items
+    ≡ map (λ j. shown_command (job_at l.plan j).max (job_at l.plan j).group (command_of l.plan j)) (below (crons l.plan))
+    ++ map (λ j. shown_anacron (terms_at l.plan (crons l.plan + j)) (job_at l.plan (crons l.plan + j)).group) (below l.place)

@@ -1,0 +1,90 @@
+-- The text of a picture, and the rows that stand in it.
+use Rattle.std.specs.Prelude.{◌≡◌, ℕ, ◌+◌, ◌-◌, ◌==◌, Bool, true, not, ◌&&◌, nat_lt, if◌then◌else◌, List, [], ◌∷◌, ◌++◌, codes, decimal, flat_map, Option, None, Some}
+use Rattle.cs_chart.specs.declared.bar.Bar.{Bar}
+
+-- ---- a row
+
+-- bars in a colour, and how many minutes the picture shows
+pub record Plot : Type 0 where
+  pub minutes : ℕ
+  pub colour : List ℕ
+  pub bars : List Bar
+
+-- what is drawn of a job: a name, how far from the top, and its bars, if it has any
+pub record Row : Type 0 where
+  pub name : List ℕ
+  pub top : ℕ
+  pub plot : Option Plot
+
+-- the name, at the left of the row
+unfoldable pub name_text : List ℕ → ℕ → List ℕ
+name_text name top = codes "<text x=\"10\" y=\"" ++ (decimal (top + 13)
+    ++ (codes "\">" ++ (name ++ codes "</text>\n")))
+
+-- the area of the row: 18 high, and a place from its left is a minute
+unfoldable pub area_text : ℕ → ℕ → List ℕ
+area_text top minutes = codes "<svg x=\"256\" y=\"" ++ (decimal top
+    ++ (codes "\" width=\"840\" height=\"18\" viewBox=\"0 0 " ++ (decimal minutes
+    ++ codes " 18\" preserveAspectRatio=\"none\">")))
+
+-- `M60 9h30`, a line along the middle of the area: from minute 60 on, over 30 minutes
+abbrev pub bar_text : Bar → List ℕ
+bar_text bar =
+    if nat_lt bar.from bar.to
+    then 77 ∷ (decimal bar.from ++ (codes " 9h" ++ decimal (bar.to - bar.from)))
+    else []
+
+-- how bars begin
+abbrev pub bars_tag : List ℕ
+bars_tag = codes "<path class=\"bars\""
+
+-- the bars, 10 high
+unfoldable pub bars_text : List ℕ → List Bar → List ℕ
+bars_text colour bars = bars_tag ++ (codes " stroke=\"" ++ (colour
+    ++ (codes "\" stroke-width=\"10\" d=\"" ++ (flat_map bar_text bars ++ codes "\"/>"))))
+
+abbrev pub plot_text : ℕ → Option Plot → List ℕ
+plot_text top None = []
+plot_text top (Some plot) = area_text top plot.minutes ++ bars_text plot.colour plot.bars
+
+-- the name, and behind it the bars in their area
+unfoldable pub row_text : Row → List ℕ
+row_text row = name_text row.name row.top ++ plot_text row.top row.plot
+
+-- ---- the whole text
+
+-- the texts are the same as far as both go
+abbrev pub agree : List ℕ → List ℕ → Bool
+agree [] tag = true
+agree (b ∷ text) [] = true
+agree (b ∷ text) (t ∷ tag) = b == t && agree text tag
+
+-- bars begin nowhere in the text, and it doesn't end with a part of how they begin
+unfoldable pub has_no_bars : List ℕ → Bool
+has_no_bars [] = true
+has_no_bars (b ∷ text) = not (agree (b ∷ text) bars_tag) && has_no_bars text
+
+-- the rows stand in the text in this order, and it has no other bars
+unfoldable pub Draws : List ℕ → List Row → Type 0
+Draws text [] = has_no_bars text ≡ true
+Draws text (row ∷ rows) = (before behind : List ℕ) × (text ≡ before ++ (row_text row ++ behind))
+    × (has_no_bars before ≡ true) × Draws behind rows
+
+-- ---- what is added to a text
+
+-- what is written has no bars
+abbrev pub IsPlain : Option (List ℕ) → Type 0
+IsPlain None = ⊥
+IsPlain (Some text) = has_no_bars text ≡ true
+
+-- the rows of the old text, and no other bars, stand in the new one
+abbrev pub KeepsBars : List ℕ → List ℕ → Type 0
+KeepsBars old new = (rows : List Row) → Draws old rows → Draws new rows
+
+-- .. and behind them these rows
+abbrev pub AddsRows : List Row → List ℕ → List ℕ → Type 0
+AddsRows more old new = (rows : List Row) → Draws old rows → Draws new (rows ++ more)
+
+-- text without bars is added
+abbrev pub IsLonger : List ℕ → List ℕ → Type 0
+IsLonger old new = (more : List ℕ) × (new ≡ old ++ more) × (has_no_bars more ≡ true)

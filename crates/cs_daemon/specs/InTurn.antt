@@ -1,0 +1,8 @@
+-- Steps of one kind, one after the other.
+use Rattle.std.specs.Prelude.{◌≡◌, List, [], ◌∷◌}
+
+module _ {X S : Type 0} (step : S → X → S → Type 0) where
+  -- the first step begins at the one end, each other where the one before it has led
+  abbrev pub InTurn : List X → S → S → Type 0
+  InTurn [] old new = new ≡ old
+  InTurn (x ∷ xs) old new = (next : S) × step old x next × InTurn xs next new

@@ -4,7 +4,7 @@ import resource
 from collections import namedtuple
 
 from harness import Fault, called, folder_with
-from model.call import Answer, agrees, answer_of
+from model.call import STALE_NOTE, Answer, agrees, answer_of
 from model.declarations import GREATEST_MAX
 from model.draft import is_draft, is_update
 
@@ -78,7 +78,8 @@ def run(program, call):
 def is_met(wanted, got):
     """Returns whether an answer is the wanted one, in what of it the second reading tells."""
     if wanted.status is None:
-        return got.status in (0, 1) and got.err == wanted.err
+        notes = [wanted.err] if got.status == 0 else [wanted.err, wanted.err + STALE_NOTE]
+        return got.status in (0, 1) and got.err in notes
     return agrees(wanted, got)
 
 

@@ -15,6 +15,7 @@ is wrong, or the words are unclear.
   script        the bytes of a script and a plan to a start, stamps and events, and back
   day           what `cronsafe day` prints
   draft         what a draft declares
+  run_parts     the folder whose programs a command runs by run-parts(8)
   gather        what `cronsafe gather` prints of tables
   replay        the rules of histories, and what `cronsafe replay` prints
   certificate   the bytes of a certificate to what it says

@@ -6,9 +6,9 @@ whether there is a fault, of `draft` whether there is one of the words or of a f
 """
 import re
 from collections import namedtuple
-from itertools import chain
+from itertools import chain, takewhile
 
-from model import calendar, certificate, crontab, rules, script
+from model import calendar, certificate, crontab, rules, run_parts, script
 from model.anacrontab import NONE, read_anacrontab
 from model.calendar import DAY
 from model.day import day_answer
@@ -16,7 +16,7 @@ from model.declarations import GREATEST_MAX, plain_plan, read_declared, read_pla
 from model.faults import Fault
 from model.gather import gathered, shown, system_source, table_of, user_source
 from model.replay import replay_answer
-from model.users import users_in
+from model.users import no_users_in, users_in, words_of
 
 # The words of each subcommand and its options; those in capitals are the paths of inputs.
 CALLS = {
@@ -138,8 +138,10 @@ def asked(words):
     return {**found, **{it: number_of(found[it]) for it in NUMBERS if it in found}}
 
 
-# The comment above a line of a gathered table, and how a refusal names a line.
+# The comments above a line of a gathered table, its place and then its parts; how a refusal names
+# a line.
 PLACE = re.compile(rb"#@ ([^\x00-\x1f\x7f]*?:[^\x00-\x1f\x7f]*?) +([^\x00-\x20\x7f]+)")
+PART = re.compile(rb"#@ part [A-Za-z0-9_-]+")
 NAMED = re.compile(rb"\bline (\d+)\b")
 # What a certificate of other tables or declarations is refused with, and what is told of that.
 STALE = (b"refused 1 ", b"refused 2 ", b"refused 5 ")
@@ -156,11 +158,15 @@ def warnings_of_settings(table, of):
 
 
 def warnings_of(table, jobs):
-    """Returns what is told of two tables that were read well: settings, and a user column."""
+    """Returns what is told of two tables that were read well: settings, and a crontab that isn't one."""
     told = b"warning: the command on line %d of the crontab begins with %s, as in a table with a "
     told += b"user column: see cronsafe gather\n"
     users = b"".join(told % it for it in users_in(table)[:1])
-    of_settings = warnings_of_settings(table, b"the crontab") + users
+    told = b"warning: the command on line %d of the crontab begins with %s, as in an anacrontab: see "
+    told += b"--anacrontab\n"
+    delays = [(it.line, words_of(it.text)[0]) for it in table.commands]
+    delay = b"".join(told % it for it in [it for it in delays if it[1].isdigit()][:1])
+    of_settings = warnings_of_settings(table, b"the crontab") + users + delay
     return of_settings + warnings_of_settings(jobs, b"the anacrontab")
 
 
@@ -188,8 +194,12 @@ def places_of(text, table):
     """Returns the place and the user of each line of a gathered table, by its number."""
     if all(it.name != b"CRONSAFE_TABLE" for it in table.settings):
         return {}
-    lines = enumerate(text.split(b"\n"), 2)
-    return {number: found.groups() for number, it in lines if (found := PLACE.fullmatch(it))}
+    places, lines = {}, text.split(b"\n")
+    for at, line in enumerate(lines, 1):
+        if found := PLACE.fullmatch(line):
+            parts = takewhile(PART.fullmatch, lines[at:])
+            places[at + 1 + len(list(parts))] = found.groups()
+    return places
 
 
 def notes_of_lines(named, text, table, head):
@@ -204,6 +214,20 @@ def notes_of_refusal(verdict, text):
     """Returns the places of the lines that a refusal names, and if its certificate seems old."""
     places = notes_of_lines(verdict, text, crontab.read_crontab(text), b"note: ")
     return places + (STALE_NOTE if verdict.startswith(STALE) else b"")
+
+
+def told_of_parts(table, path, root):
+    """Yields what is told of the parts of a table's commands where no folder is below a root."""
+    for it in table.commands:
+        of = b"the command on line %d of %s" % (it.line, path)
+        try:
+            found = run_parts.run_parts(it.text)
+        except run_parts.Unread as why:
+            yield b"warning: the parts of %s aren't known: %s\n" % (of, why.args[0])
+            continue
+        if found is not None:
+            folder = root + shown(found[0])
+            yield b"note: there are no parts of %s: there is no folder %s\n" % (of, folder)
 
 
 class Call:
@@ -282,20 +306,34 @@ class Call:
             self.look_at_root(found["root"])
         system = (system_source(it, self.bytes_of(it)) for it in found.get("SYSTEM", []))
         users = (user_source(it, self.bytes_of(it)) for it in found.get("USER", []))
-        return 0, gathered(self.warned_of(chain(system, users)))
+        return 0, gathered(self.warned_of(chain(system, users), found.get("root")))
 
-    def warned_of(self, sources):
-        """Yields the sources, and warns of each once it has been gathered: settings, and users
-        where there are none.
+    def warned_of(self, sources, root):
+        """Yields the sources, and warns of each: of the parts of its commands, and once it has been
+        gathered, of settings, and of users where there are none.
         """
         told = b"warning: the command on line %d of %s begins with %s, as in a system table: "
+        none = b"warning: the user on line %d of %s is %s, as a command in a user's table: "
         for it in sources:
+            path = shown(it.path)
+            if root is not None:
+                self.warned += b"".join(self.told_of_source(it, root))
             yield it
-            table, path = table_of(it), shown(it.path)
+            table = table_of(it)
             self.warned += warnings_of_settings(table, path)
-            users = [] if it.user is None else users_in(table)[:1]
-            for line, user in users:
-                self.warned += told % (line, path, shown(user)) + b"see --system\n"
+            if it.user is None:
+                for line, user in no_users_in(table)[:1]:
+                    self.warned += none % (line, path, shown(user)) + b"see --user\n"
+            else:
+                for line, user in users_in(table)[:1]:
+                    self.warned += told % (line, path, shown(user)) + b"see --system\n"
+
+    def told_of_source(self, source, root):
+        """Returns what is told of the parts of a table's commands; of one with a fault nothing."""
+        try:
+            return told_of_parts(table_of(source), shown(source.path), root)
+        except Fault:
+            return []
 
     def draft(self, found):
         look_at_max(found.get("max", 60))

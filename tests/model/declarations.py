@@ -25,7 +25,9 @@ Default = namedtuple("Default", "max weight")
 # How a line of the crontab is named: by its number, by its command, or by both.
 LineName = namedtuple("LineName", "number command")
 # `job` is the name of a line; of an anacron entry an identifier, and `mode` is whether it has one.
-Entry = namedtuple("Entry", "job max weight group mode")
+# `parts` are what a command runs, if that is known; no anacron entry has any.
+Entry = namedtuple("Entry", "job max weight group mode parts", defaults=[()])
+Part = namedtuple("Part", "name max")
 # Tables without the lines that are left out, whose numbers rise; the jobs of a plan, of which so
 # many have the default, are those of the crontab first; a member that an object has twice.
 Plan = namedtuple(
@@ -85,7 +87,7 @@ GROUP = {"name": (text, REQUIRED), "exclusive": (boolean, REQUIRED)}
 DEFAULT = {"max": (whole, REQUIRED), "weight": (whole, 1)}
 LINE = {"line": (whole, None), "command": (text, None)}
 COMMON = {**DEFAULT, "group": (text, None)}
-CRON = {**LINE, "mode": (mode, "none"), **COMMON}
+PART = {"name": (text, REQUIRED), "max": (whole, REQUIRED)}
 ANACRON = {"id": (text, REQUIRED), "mode": (lambda _: True, False), **COMMON}
 
 
@@ -100,6 +102,13 @@ def members(value, shape):
             raise OtherShape
         found[name] = read(value[name]) if name in value else default
     return found
+
+
+def part(value):
+    return Part(**members(value, PART))
+
+
+CRON = {**LINE, "mode": (mode, "none"), "parts": (list_of(part), []), **COMMON}
 
 
 def group(value):
@@ -194,6 +203,14 @@ def faults_alone(declared):
     yield "ModeOnAnacron", places(b"anacron", [it.mode for it in declared.anacron])
     minute = declared.pass_minute
     yield "BadPassMinute", [] if minute is None or 0 <= minute < DAY else [b""]
+    yield "BadParts", places(b"cron", [it.parts and are_bad(it.parts, it.max) for it in declared.cron])
+
+
+def are_bad(parts, longest):
+    """Returns whether parts don't make up a longest time."""
+    times, names = [it.max for it in parts], {it.name for it in parts}
+    has_bad_time = any(not 1 <= time <= GREATEST_MAX for time in times)
+    return has_bad_time or len(names) < len(parts) or sum(times) != longest
 
 
 def lines_named(name, crontab):

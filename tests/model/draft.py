@@ -1,13 +1,20 @@
 """What a draft declares of two tables, but for groups and modes, which are read off commands; and
 what an update keeps of older declarations."""
-from itertools import pairwise
+import re
+from itertools import pairwise, takewhile
 
 from model.calendar import DAY, is_day_due, minutes_of
 from model.claims import chains
-from model.crontab import read_crontab
-from model.declarations import GREATEST_CAPACITY, identifier_text, lines_named
-from model.declarations import plan_of, read_declared
+from model.crontab import lines_of, read_crontab
+from model.declarations import GREATEST_CAPACITY, GREATEST_MAX, Part, identifier_text
+from model.declarations import lines_named, plan_of, read_declared
 from model.faults import Fault
+
+# By a setting of this name it is seen that a table was gathered.
+MARK_NAME = b"CRONSAFE_TABLE"
+# The comment with the place of a line, `#@ NAME:LINE USER`, and one with a part of it.
+PLACE = re.compile(rb"#@ [^\x00-\x1f\x7f]*:[^\x00-\x1f\x7f]* [^\x00-\x20\x7f]+")
+PART = re.compile(rb"#@ part ([A-Za-z0-9_-]+)")
 
 # A longest time is three days at most, so that only due minutes of so many days matter.
 DAYS_LOOKED_AT = 4
@@ -24,10 +31,33 @@ def least_gap(schedule):
     return min(gaps, default=None)
 
 
-def longest_time(of, asked):
-    """Returns the longest time of a command or an anacron job where that one is asked for."""
+def longest_time(of, asked, names=()):
+    """Returns the longest time of a command or an anacron job where that one is asked for.
+
+    Where a command has parts it is the sum of equal shares of a time that is asked for them all.
+    """
     gap = least_gap(of.schedule) if hasattr(of, "schedule") else None
-    return asked if gap is None else min(asked, gap)
+    whole = min(len(names) * asked, GREATEST_MAX) if names else asked
+    most = whole if gap is None else min(whole, gap)
+    return len(names) * max(most // len(names), 1) if names else most
+
+
+def parts_told(files):
+    """Returns the names of the parts of each line that a gathered table gives some.
+
+    They stand in comments between the comment with its place and the line; they count where no name
+    stands twice, and each of them can have a minute.
+    """
+    lines, found = lines_of(files[b"crontab"]), {}
+    if not any(it.name == MARK_NAME for it in read_crontab(files[b"crontab"]).settings):
+        return {}
+    for number, line in enumerate(lines, 1):
+        if PLACE.fullmatch(line):
+            parts = [it[1].decode() for it in takewhile(bool, map(PART.fullmatch, lines[number:]))]
+            found.setdefault(number + len(parts) + 1, parts)
+    return {
+        line: it for line, it in found.items() if it and len(set(it)) == len(it) <= GREATEST_MAX
+    }
 
 
 def names_in(declared):
@@ -65,18 +95,53 @@ def sound_plan(text, files):
 def is_draft(text, files, asked):
     """Returns whether a text is a draft of tables with that longest time.
 
-    It has an entry for each job, and leaves out the `@reboot` lines alone.
+    It has an entry for each job, with the parts that the table tells, and leaves out the `@reboot`
+    lines alone.
     """
     plan = sound_plan(text, files)
     if plan is None:
         return False
-    commands = read_crontab(files[b"crontab"]).commands
+    commands, told = read_crontab(files[b"crontab"]).commands, parts_told(files)
+    entries = entries_by_line(read_declared(text), read_crontab(files[b"crontab"]))
     return (
         plan.capacity == GREATEST_CAPACITY
         and plan.left_out == [it.line for it in commands if it.schedule is None]
         and plan.defaulted == 0
-        and all(it.max == longest_time(it.of, asked) for it in plan.jobs)
+        and all(it.max == longest_time(it.of, asked, names_of(it, told)) for it in plan.jobs)
+        and all(has_shares(it, told.get(line, [])) for line, it in entries.items())
     )
+
+
+def names_of(job, told):
+    """Returns the names of the parts that a table tells of a job."""
+    return told.get(job.of.line, []) if job.is_cron else []
+
+
+def entries_by_line(declared, crontab):
+    """Returns the entries of the crontab's lines by the number of the line."""
+    return {line: it for it in declared.cron for line in lines_named(it.job, crontab)}
+
+
+def has_shares(entry, names):
+    """Returns whether an entry has parts of these names, each with the same longest time."""
+    return [it.name for it in entry.parts] == names and len({it.max for it in entry.parts}) < 2
+
+
+def renewed(entry, names, asked):
+    """Returns the parts of an entry and their names where the table has these, and the longest time.
+
+    Of new parts each has the asked longest time, or the most that leaves the sum possible. Nothing is
+    renewed where names are the same, where either has none, or where there is no room.
+    """
+    old = {it.name: it.max for it in entry.parts}
+    sums = {
+        share: sum(old.get(it, share) for it in names)
+        for share in ([] if not names or not old or set(names) == set(old) else range(1, asked + 1))
+    }
+    share = max((it for it, minutes in sums.items() if minutes <= GREATEST_MAX), default=None)
+    if share is None:
+        return list(entry.parts), entry.max
+    return [Part(it, old.get(it, share)) for it in names], sums[share]
 
 
 def lone_lines(declared, commands):
@@ -86,32 +151,36 @@ def lone_lines(declared, commands):
     return {it: line for it, line in lines.items() if texts.count(it) == told.count(it) == 1}
 
 
-def is_kept(plan, entry, job):
-    """Returns whether a job has what an entry declares."""
+def is_kept(plan, entry, job, longest):
+    """Returns whether a job has what an entry declares, with that longest time."""
     if job is None:
         return False
     group = None if job.group is None else plan.groups[job.group].name
-    terms = entry.max, entry.weight, entry.group, entry.mode or "none"
+    terms = longest, entry.weight, entry.group, entry.mode or "none"
     return terms == (job.max, job.weight, group, job.mode)
 
 
-def is_update(text, files, old):
-    """Returns whether a text is an update of older declarations for tables.
+def is_update(text, files, old, asked):
+    """Returns whether a text is an update of older declarations for tables, with that longest time.
 
-    It keeps what they say of a command that one line has and one name tells, and of anacron jobs;
-    and their terms and groups.
+    It keeps what they say of a command that one line has and one name tells, but for parts that came
+    or went, and of anacron jobs; and their terms and groups.
     """
     plan, declared = sound_plan(text, files), read_declared(old)
     if plan is None:
         return False
-    lone = lone_lines(declared, read_crontab(files[b"crontab"]).commands)
+    crontab, told = read_crontab(files[b"crontab"]), parts_told(files)
+    entries = entries_by_line(read_declared(text), crontab)
+    lone = lone_lines(declared, crontab.commands)
     jobs = {it.of.line if it.is_cron else identifier_text(it.of): it for it in plan.jobs}
     kept = [(it, lone.get(command_of(it.job))) for it in declared.cron]
     kept += [(it, it.job) for it in declared.anacron if it.job in jobs]
     out = {lone.get(command_of(it)) for it in declared.left_out} - {None}
     terms = "capacity", "offset", "hours", "pass_minute"
+    new = [(*it, *renewed(it[0], told.get(it[1], []), asked)) for it in kept if it[1] is not None]
     return (
-        all(is_kept(plan, entry, jobs.get(job)) for entry, job in kept if job is not None)
+        all(is_kept(plan, entry, jobs.get(job), most) for entry, job, _, most in new)
+        and all(list(entries[job].parts) == it for _, job, it, _ in new if job in entries)
         and out <= set(plan.left_out)
         and all(getattr(plan, it) == getattr(declared, it) for it in terms)
         and plan.groups[: len(declared.groups)] == declared.groups

@@ -12,17 +12,19 @@ MARK = b"CRONSAFE_TABLE=gathered\n"
 # What a comment shows otherwise than it is.
 HIDDEN = re.compile(rb"[\x00-\x1f\x7f\\]")
 
-# A table with the path by which it is called; a system table is of no one user.
-Source = namedtuple("Source", "path user text")
+# A table with the path by which it is called; a system table is of no one user. The parts of its
+# commands are lists of names by the numbers of lines.
+Source = namedtuple("Source", "path user text parts")
+NO_PARTS = {}
 
 
-def system_source(path, text):
-    return Source(path, None, text)
+def system_source(path, text, parts=NO_PARTS):
+    return Source(path, None, text, parts)
 
 
-def user_source(path, text):
+def user_source(path, text, parts=NO_PARTS):
     """Returns a user's table as a source; the user is the last part of its path."""
-    return Source(path, path.rpartition(b"/")[2], text)
+    return Source(path, path.rpartition(b"/")[2], text, parts)
 
 
 def shown(text):
@@ -42,10 +44,11 @@ def setting_lines(place, line):
     return [whole if len(whole) <= MOST_BYTES_OF_A_LINE else comment]
 
 
-def command_lines(place, line, user, command):
-    """Returns the comment of a command, and its line, in which no user stands."""
+def command_lines(place, parts, line, user, command):
+    """Returns the comments of a command, and its line, in which no user stands."""
     time = line.removesuffix(schedule_of(line)[1])
-    return [b"#@ " + place + b" " + shown(user), time + command]
+    parts = [b"#@ part " + it for it in parts]
+    return [b"#@ " + place + b" " + shown(user), *parts, time + command]
 
 
 def lines_said(source):
@@ -63,13 +66,15 @@ def lines_said(source):
         if number in settings:
             yield number, setting_lines(place, line), False
         elif number in commands:
-            yield number, command_lines(place, line, *commands[number]), True
+            parts = source.parts.get(number, [])
+            yield number, command_lines(place, parts, line, *commands[number]), True
 
 
 def is_too_long(length, lines):
-    """Returns whether a text of that length is too long with these lines, or their comment is."""
+    """Returns whether a text of that length is too long with these lines, or a comment is."""
     whole = length + sum(len(it) + 1 for it in lines)
-    return whole > MOST_BYTES or len(lines[0]) > MOST_BYTES_OF_A_LINE
+    comments = [it for it in lines if it.startswith(b"#")]
+    return whole > MOST_BYTES or max(map(len, comments)) > MOST_BYTES_OF_A_LINE
 
 
 def gathered(sources):

@@ -19,6 +19,7 @@ su sudo systemd-run tar test time timeout touch umask umount unison until wget w
 """.split()
 
 NAME = re.compile(rb"[a-z][a-z0-9._-]*")
+PACKAGE_USER = re.compile(rb"_[a-z][a-z0-9._-]*")
 # With these a command begins, besides usual words: a sign of the shell, a path, an assignment.
 BEGINNING = re.compile(rb"[$(/\[{~]|[A-Z].*=", re.DOTALL)
 
@@ -27,6 +28,12 @@ def words_of(command):
     """Returns the first two words of a command; a word that isn't there is empty."""
     first, _, rest = re.sub(rb"[ \t]+", b" ", command).partition(b" ")
     return first, rest.partition(b" ")[0]
+
+
+def no_users_in(table):
+    """Returns the number of the line and the user of each command whose user is probably a command."""
+    no_users = set(USUAL_WORDS) - set(SYSTEM_USERS) - {b"mail"}
+    return [(it.line, it.user) for it in table.commands if it.user in no_users]
 
 
 def users_in(table):
@@ -40,6 +47,8 @@ def users_in(table):
             return True
         if line not in begins:
             return False
+        if PACKAGE_USER.fullmatch(first):
+            return True
         is_other = NAME.fullmatch(first) and first not in USUAL_WORDS
         return first in SYSTEM_USERS or bool(is_other) and times[first] > 1
 

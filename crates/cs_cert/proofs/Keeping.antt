@@ -11,7 +11,6 @@ use Rattle.cs_cert.specs.declared.fault.CertFault.{CertFault}
 use Rattle.cs_cert.specs.Content.{Content, StretchTree}
 use Rattle.cs_cert.specs.Rules.{carries_fit, class_fits, classes_shaped, classes_there, fault_of, first_fault, has_days, has_entries, is_of_classes, is_split_well, is_version, leaves_short, lengths_fit, lists_fit, most_classes, most_days, most_reach, reach_fits, shapes_fit, trees_shallow, trees_split_well, unless}
 use Rattle.cs_cert.specs.Kept.{IsSound, Keeps}
-use Rattle.cs_cert.specs.Judged.{IsClaim}
 use Rattle.cs_cert.proofs.Splits.{inside_so}
 use Rattle.cs_cert.proofs.Both.{and_both}
 
@@ -104,15 +103,3 @@ by_rules c r =
 
 pub keeps : (c : Content) → fault_of c ≡ None → Keeps c
 keeps c h = by_rules c (rules_hold c h)
-
--- what a certificate says may be judged
-pub claims : (c : Content) → fault_of c ≡ None → IsClaim c
-claims c h =
-    let r = rules_hold c h in
-    let k = by_rules c r in
-    record {
-      count = (k.count.0, omega (arith, k.count.1, few_classes c.version));
-      class_of_kind = k.class_of_kind;
-      splits = (and_both (splits_fit all_numbers c.kinds) (list_all is_split_well c.stretches) r.splits).1;
-      reach = k.reach;
-    }

@@ -1,9 +1,7 @@
 pub mod Answers
 pub mod Certificate
-pub mod Claim
 pub mod Content
 pub mod Denoted
-pub mod Judged
 pub mod Kept
 pub mod Printed
 pub mod Rules

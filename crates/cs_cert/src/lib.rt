@@ -3,8 +3,6 @@
 
 mod carry_form;
 mod certificate;
-mod claim;
-mod claiming;
 mod class;
 mod day_tree_form;
 mod fault;
@@ -22,7 +20,6 @@ mod size;
 mod stretch;
 
 pub use certificate::Certificate;
-pub use claim::Claim;
 pub use class::{Class, DueList, GroupBacklog};
 pub use cs_windows::{JobReach, reach_of};
 pub use fault::{CertError, CertFault};

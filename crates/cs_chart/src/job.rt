@@ -15,6 +15,7 @@ use crate::span::DaySpan;
 use crate::svg::Svg;
 use crate::text::push_cut;
 use cs_decl::Group;
+use cs_gather::Place as Source;
 use cs_history::Mode;
 use cs_windows::Occupied;
 use std::alloc::{AllocError, Global};
@@ -84,6 +85,21 @@ fn group_of<'a>(row: &Row<'_>, groups: &'a [Group]) -> Option<&'a Group> {
     groups.get(usize::from(group))
 }
 
+/// Adds where a line comes from, if it is one of a gathered table: ` from /etc/cron.d/munin:12 (munin)`.
+#[tactic(auto, unfolding(crate::specs::Picture::has_no_bars))]
+fn push_origin(svg: &mut Svg, origin: Option<&Source>) -> Result<(), AllocError>
+    ensures { OnOk result (KeepsBars svg.old svg.new) }
+{
+    let Some(origin) = origin else {
+        return Ok(());
+    };
+    svg.push_str(" from ")?;
+    push_cut(svg, origin.origin.as_slice(), TOLD_CELLS)?;
+    svg.push_str(" (")?;
+    push_cut(svg, origin.user.as_slice(), TOLD_CELLS)?;
+    svg.push_str(")")
+}
+
 /// Adds what a reader is told who points at the row.
 #[tactic(auto, using(crate::proofs::Plain::no_bars_append, crate::proofs::Plain::no_bars_decimal), unfolding(crate::specs::Picture::has_no_bars))]
 fn push_told(svg: &mut Svg, row: &Row<'_>, name: &str, groups: &[Group]) -> Result<(), AllocError>
@@ -91,7 +107,9 @@ fn push_told(svg: &mut Svg, row: &Row<'_>, name: &str, groups: &[Group]) -> Resu
     ensures { OnOk result (KeepsBars svg.old svg.new) }
 {
     let max = row.max;
-    write!(svg, "<title>{name}: at most {max} min")?;
+    write!(svg, "<title>{name}")?;
+    push_origin(svg, row.origin)?;
+    write!(svg, ": at most {max} min")?;
     if let Some(job) = row.declared {
         let weight = job.weight;
         write!(svg, ", weight {weight}")?;

@@ -18,5 +18,5 @@ mod svg;
 mod text;
 
 pub use laws::rows_have_bars;
-pub use picture::{chart, plan_chart};
+pub use picture::{Subject, chart, plan_chart};
 pub use row::Terms;

@@ -17,6 +17,7 @@ use cs_anacrontab::Anacrontab;
 use cs_civil::Day;
 use cs_crontab::Crontab;
 use cs_decl::{Group, Plan};
+use cs_gather::Place;
 use std::alloc::{AllocError, Global};
 
 /// From how many rows on the hours come once more below them.
@@ -232,19 +233,29 @@ fn draw(alloc: Global, scene: &Scene<'_>) -> Result<String, AllocError>
     svg.push_str("</svg>\n")?;
     Ok(svg.into_string())
 }
+
+/// Of which tables a picture is.
+#[derive(Clone, Copy, Debug)]
+pub struct Subject<'a> {
+    /// What the title calls them, such as the crontab's path.
+    pub name: &'a [u8],
+    /// Where the lines of the crontab come from, if it is a gathered table.
+    pub places: &'a [Place],
+}
+
 /// The picture of two tables of which nothing is declared, over so many days from one on, as an SVG
 /// document (SVG 1.1): a row for each command line and each anacron job, with bars over the minutes in
 /// which its runs may go on and marks at its due minutes.
 ///
-/// `subject` is what the title calls the tables, such as the crontab's path. A row is named by the number
-/// of its line and the beginning of its command, or by the identifier of its anacron job; what is no
+/// A row is named by the number of its line and the beginning of its command, or by the identifier of
+/// its anacron job, and tells who points at it where a line of a gathered table comes from; what is no
 /// UTF-8 and what may not stand in XML shows as U+FFFD. `days` is from 1 to 7: another number counts
 /// as the nearest of those. Days before 1970-01-04 and past 9999-12-31 are left out. Where due minutes or
 /// bars are nearer than the picture can show, they are drawn as one, and a line at the foot says so.
 /// The only error is want of memory.
 pub fn chart(
     alloc: Global,
-    subject: &[u8],
+    subject: &Subject<'_>,
     table: &Crontab,
     jobs: &Anacrontab,
     terms: Terms,
@@ -255,8 +266,8 @@ pub fn chart(
         (jobs_of_tables terms table.now jobs.now) (string_bytes svg)) }
 {
     let span = DaySpan::new(from, days);
-    let rows = table_rows(alloc, table, jobs, terms)?;
-    let title = title(alloc, subject, span)?;
+    let rows = table_rows(alloc, table, jobs, subject.places, terms)?;
+    let title = title(alloc, subject.name, span)?;
     let words = terms_text(alloc, terms)?;
     let scene = Scene {
         title: title.as_str(),
@@ -279,7 +290,7 @@ pub fn chart(
 /// only error is want of memory.
 pub fn plan_chart(
     alloc: Global,
-    subject: &[u8],
+    subject: &Subject<'_>,
     plan: &Plan,
     from: Day,
     days: u8,
@@ -288,8 +299,8 @@ pub fn plan_chart(
         (string_bytes svg)) }
 {
     let span = DaySpan::new(from, days);
-    let rows = plan_rows(alloc, plan)?;
-    let title = title(alloc, subject, span)?;
+    let rows = plan_rows(alloc, plan, subject.places)?;
+    let title = title(alloc, subject.name, span)?;
     let terms = plan_text(alloc, plan)?;
     let scene = Scene {
         title: title.as_str(),

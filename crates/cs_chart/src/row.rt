@@ -8,6 +8,7 @@ ghost use Rattle.cs_chart.specs.Rows.{group_of, shown_of};
 use cs_anacrontab::{Anacrontab, Job};
 use cs_crontab::{Crontab, Line, When};
 use cs_decl::{Job as PlanJob, Plan};
+use cs_gather::{Place, place_of};
 use cs_history::Mode;
 use cs_windows::Occupied;
 use std::alloc::{AllocError, Global};
@@ -51,6 +52,8 @@ pub(crate) struct Row<'a> {
     pub(crate) max: u16,
     /// What is declared of it, if anything is.
     pub(crate) declared: Option<Declared>,
+    /// Where its line comes from, if it is one of a gathered table.
+    pub(crate) origin: Option<&'a Place>,
 }
 
 impl Row<'_> {
@@ -77,7 +80,12 @@ fn declared_of(job: PlanJob) -> Declared
 }
 
 /// The row of a command line.
-fn line_row(line: &Line, max: u16, declared: Option<Declared>) -> Row<'_>
+fn line_row<'a>(
+    line: &'a Line,
+    places: &'a [Place],
+    max: u16,
+    declared: Option<Declared>,
+) -> Row<'a>
     ensures { shown_of result ≡ shown_command max (group_of declared) line.now }
 {
     let occupied = match line.when() {
@@ -92,6 +100,7 @@ fn line_row(line: &Line, max: u16, declared: Option<Declared>) -> Row<'_>
         occupied,
         max,
         declared,
+        origin: place_of(places, line.number()),
     }
 }
 
@@ -109,6 +118,7 @@ fn job_row(job: &Job, terms: Terms, declared: Option<Declared>) -> Row<'_>
         }),
         max: terms.max,
         declared,
+        origin: None,
     }
 }
 
@@ -117,6 +127,7 @@ pub(crate) fn table_rows<'a>(
     alloc: Global,
     table: &'a Crontab,
     jobs: &'a Anacrontab,
+    places: &'a [Place],
     terms: Terms,
 ) -> Result<Vec<Row<'a>>, AllocError>
     ensures shown { IfOk result (λ rows. map shown_of rows.items
@@ -125,7 +136,7 @@ pub(crate) fn table_rows<'a>(
 {
     let mut rows = Vec::new(alloc);
     for line in table.lines() {
-        rows.push(line_row(line, terms.max, None))?;
+        rows.push(line_row(line, places, terms.max, None))?;
     }
     for job in jobs.lines() {
         rows.push(job_row(job, terms, None))?;
@@ -149,7 +160,11 @@ fn plan_row<'a>(plan: &Plan, job: &'a Job, number: u16) -> Row<'a>
 }
 
 /// The rows of the jobs of a plan.
-pub(crate) fn plan_rows(alloc: Global, plan: &Plan) -> Result<Vec<Row<'_>>, AllocError>
+pub(crate) fn plan_rows<'a>(
+    alloc: Global,
+    plan: &'a Plan,
+    places: &'a [Place],
+) -> Result<Vec<Row<'a>>, AllocError>
     ensures shown { IfOk result (λ rows. map shown_of rows.items ≡ jobs_of_plan plan.now) }
     ensures few { IfOk result (λ rows. length rows.items ≤ 320) }
 {
@@ -157,7 +172,8 @@ pub(crate) fn plan_rows(alloc: Global, plan: &Plan) -> Result<Vec<Row<'_>>, Allo
     let mut rows = Vec::new(alloc);
     for place in 0..lines.len() {
         let job = plan.job_at(place as u16);
-        rows.push(line_row(&lines[place], job.max(), Some(declared_of(job))))?;
+        let declared = Some(declared_of(job));
+        rows.push(line_row(&lines[place], places, job.max(), declared))?;
     }
     let crons = plan.crons();
     let jobs = plan.anacrontab().lines();

@@ -17,7 +17,7 @@ use Rattle.cs_theorem.proofs.Points.{says_all, says_one, says_two, waiter_to}
 use Rattle.cs_check.proofs.Clearing.{tells_on}
 use Rattle.cs_check.specs.Stretches.{AreGood, AreStretches, HaveReaches, IsCase, IsGood}
 use Rattle.std.proofs.lemmas.List.Elements.{All-head, All-tail}
-use Rattle.cs_cert.specs.Claim.{said}
+use Rattle.cs_classes.specs.Said.{said}
 use Rattle.cs_classes.specs.Used.{seen}
 use Rattle.cs_classes.specs.declared.used.UsedStretch.{UsedStretch}
 use Rattle.cs_classes.specs.Claim.{as_certificate}

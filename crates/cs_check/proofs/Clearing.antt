@@ -5,8 +5,7 @@ use Rattle.std.proofs.lemmas.Bool.{lt-ltb}
 use Rattle.cs_history.specs.Plan.{Plan, IsPlan}
 use Rattle.cs_cert.specs.declared.class.Class.{Class}
 use Rattle.cs_cert.specs.Certificate.{bound_in, is_due_in}
-use Rattle.cs_cert.specs.Content.{Content}
-use Rattle.cs_classes.specs.Claim.{as_certificate, class_at}
+use Rattle.cs_classes.specs.Claim.{Claimed, as_certificate, class_at}
 use Rattle.cs_classes.specs.Reaches.{Clears, bounds_of}
 use Rattle.cs_wait.specs.Bounds.{ClearsBy, at_days}
 use Rattle.cs_theorem.specs.Accepted.{nth}
@@ -40,7 +39,7 @@ first_is : (classes : List Class) (of : List ℕ) → 0 < length of → class_at
 first_is classes [] lt = absurd (omega (arith, lt))
 first_is classes (x ∷ of) lt = refl
 
-module _ (p : Plan) (plan : IsPlan p) (c : Content) (s : Stretch) (j r : ℕ) (some : 0 < length s.of) where
+module _ (p : Plan) (plan : IsPlan p) (c : Claimed) (s : Stretch) (j r : ℕ) (some : 0 < length s.of) where
   bounds_are : bounds_of p j (map (class_at c.classes) s.of) ≡ map (λ class. (as_certificate c).bound class (unwrap_or (p.group j) 0)) s.of
   bounds_are = map_twice (λ (class : Class). bound_in class (unwrap_or (p.group j) 0)) (class_at c.classes) s.of
 
@@ -66,7 +65,7 @@ more_days b bs m r h =
     first_day b xs ys m lt e = let is = lt-ltb m 1440 lt in ap (λ (t : Bool). if t then b m else at_days ys (m - 1440)) is ∙ sym (ap (λ (t : Bool). if t then b m else at_days xs (m - 1440)) is) ∙ e
 
 -- so a job that has had its lock on the first day itself has had it
-pub clears_alone : (p : Plan) → IsPlan p → (c : Content) (s : Stretch) (j r : ℕ) → 0 < length s.of → Clears p (class_at c.classes (nth s.of 0) ∷ []) j r → clears_on p (as_certificate c) j r s ≡ true
+pub clears_alone : (p : Plan) → IsPlan p → (c : Claimed) (s : Stretch) (j r : ℕ) → 0 < length s.of → Clears p (class_at c.classes (nth s.of 0) ∷ []) j r → clears_on p (as_certificate c) j r s ≡ true
 clears_alone p plan c s j r some h = (tells_on p plan (as_certificate c) j r s).1 (on s.of some h)
   where
     on : (of : List ℕ) → 0 < length of → Clears p (class_at c.classes (nth of 0) ∷ []) j r → (m : ℕ) → m < 1440 → (as_certificate c).due (nth of 0) j m ≡ true → ClearsBy (map (λ class. (as_certificate c).bound class (unwrap_or (p.group j) 0)) of) m r

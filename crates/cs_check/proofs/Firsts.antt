@@ -1,15 +1,15 @@
 -- The first fault of all, by where it is found.
 use Rattle.std.proofs.Common.{◌≡◌, ℕ, Bool, not, ◌||◌, Option, None, Some, refl, ap, sym, ◌∙◌}
 use Rattle.cs_decl.specs.Plan.{Declared, as_plan}
-use Rattle.cs_cert.specs.Content.{Content}
-use Rattle.cs_classes.specs.Claim.{as_certificate}
+use Rattle.cs_classes.specs.Claim.{Claimed, as_certificate}
 use Rattle.cs_civil.specs.Calendar.{Kind}
 use Rattle.cs_history.specs.Lists.{below}
 use Rattle.cs_history.specs.Plan.{Plan, waits}
 use Rattle.cs_classes.specs.Planned.{due_on}
 use Rattle.cs_theorem.specs.Certificate.{Certificate}
 use Rattle.cs_theorem.specs.Faults.{Fault, ReachTooShort, due_fault, first_fault, first_of, leaf_fault, or_else, reach_fault, reaches_far, step_fault, stretch_fault, unless, used_stretches, collision_fault, capacity_fault, skip_fault}
-use Rattle.cs_check.specs.Case.{claim_fault, length_for}
+use Rattle.cs_classes.specs.StandsFor.{days_by}
+use Rattle.cs_check.specs.Case.{claim_fault}
 use Rattle.cs_check.specs.Stretches as ours
 use Rattle.cs_check.specs.Stretches.{later_fault, windows_fault}
 
@@ -42,16 +42,16 @@ module _ (p : Plan) (on : ℕ → Kind → ℕ → Bool) (a : Certificate) (n : 
   later_last none complete = first_is ∙ (ap (λ (o : Option Fault). or_else o (or_else (stretch_fault a n) rest)) none ∙ (ap (λ (o : Option Fault). or_else o rest) complete ∙ rest_is))
 
 -- the same of a plan and a certificate
-pub unlike_first : (d : Declared) (c : Content) (f : Fault) → due_fault (as_plan d) (due_on d) (as_certificate c) ≡ Some f → claim_fault d c ≡ Some f
+pub unlike_first : (d : Declared) (c : Claimed) (f : Fault) → due_fault (as_plan d) (due_on d) (as_certificate c) ≡ Some f → claim_fault d c ≡ Some f
 unfolding claim_fault
-unlike_first d c f e = one_first (as_plan d) (due_on d) (as_certificate c) (length_for d c) f e
+unlike_first d c f e = one_first (as_plan d) (due_on d) (as_certificate c) (days_by d c.reach) f e
 
-pub missing_next : (d : Declared) (c : Content) (n : ℕ) (f : Fault) → n ≡ length_for d c → due_fault (as_plan d) (due_on d) (as_certificate c) ≡ None → stretch_fault (as_certificate c) n ≡ Some f → claim_fault d c ≡ Some f
+pub missing_next : (d : Declared) (c : Claimed) (n : ℕ) (f : Fault) → n ≡ days_by d c.reach → due_fault (as_plan d) (due_on d) (as_certificate c) ≡ None → stretch_fault (as_certificate c) n ≡ Some f → claim_fault d c ≡ Some f
 unfolding claim_fault
-missing_next d c n f long none e = two_next (as_plan d) (due_on d) (as_certificate c) (length_for d c) f none (ap (stretch_fault (as_certificate c)) (sym long) ∙ e)
+missing_next d c n f long none e = two_next (as_plan d) (due_on d) (as_certificate c) (days_by d c.reach) f none (ap (stretch_fault (as_certificate c)) (sym long) ∙ e)
 
-pub others_last : (d : Declared) (c : Content) (n : ℕ) → n ≡ length_for d c → due_fault (as_plan d) (due_on d) (as_certificate c) ≡ None → stretch_fault (as_certificate c) n ≡ None → claim_fault d c ≡ later_fault (as_plan d) (as_certificate c) n (used_stretches (as_certificate c) n)
+pub others_last : (d : Declared) (c : Claimed) (n : ℕ) → n ≡ days_by d c.reach → due_fault (as_plan d) (due_on d) (as_certificate c) ≡ None → stretch_fault (as_certificate c) n ≡ None → claim_fault d c ≡ later_fault (as_plan d) (as_certificate c) n (used_stretches (as_certificate c) n)
 unfolding claim_fault
 others_last d c n long none complete =
-    later_last (as_plan d) (due_on d) (as_certificate c) (length_for d c) none (ap (stretch_fault (as_certificate c)) (sym long) ∙ complete)
+    later_last (as_plan d) (due_on d) (as_certificate c) (days_by d c.reach) none (ap (stretch_fault (as_certificate c)) (sym long) ∙ complete)
     ∙ ap (λ (k : ℕ). later_fault (as_plan d) (as_certificate c) k (used_stretches (as_certificate c) k)) (sym long)

@@ -6,7 +6,7 @@ use Rattle.std.proofs.lemmas.Bool.{and_parts, leb-true}
 use Rattle.cs_daytree.specs.Rising.{each_next}
 use Rattle.cs_decl.specs.Plan.{Declared, as_plan}
 use Rattle.cs_cert.specs.Content.{Content}
-use Rattle.cs_cert.specs.Judged.{IsClaim}
+use Rattle.cs_cert.specs.Kept.{Keeps}
 use Rattle.cs_cert.specs.Rules.{most_reach}
 use Rattle.cs_windows.specs.Reach.{reach_of}
 use Rattle.cs_windows.specs.declared.reach.JobReach.{JobReach}
@@ -39,7 +39,7 @@ reach_step true true x y z e s t = s
 reach_step true false x y z e s t = t
 reach_step false c x y z e s t = absurd (cc)
 
-pub fits : (d : Declared) (c : Content) → IsPlan (as_plan d) → ((j : ℕ) → (as_plan d).limit j ≤ 4320) → IsClaim c → IsFit d c
+pub fits : (d : Declared) (c : Content) → IsPlan (as_plan d) → ((j : ℕ) → (as_plan d).limit j ≤ 4320) → Keeps c → IsFit d c.reach
 fits d c plan limits keeps = record {
   plan = plan;
   modest = record {

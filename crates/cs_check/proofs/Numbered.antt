@@ -5,7 +5,7 @@ use Rattle.std.specs.List.{AllZip, range_with_len}
 use Rattle.std.specs.declared.alloc.AllocError.{AllocError}
 use Rattle.std.proofs.lemmas.Option.{slice_get_within}
 use Rattle.cs_decl.specs.Plan.{Declared}
-use Rattle.cs_cert.specs.Content.{Content}
+use Rattle.cs_classes.specs.Claim.{Claimed}
 use Rattle.cs_check.specs.ClassDays.{AreClassDays, IsClassDay}
 use Rattle.cs_check.specs.declared.class_day.ClassDay.{ClassDay}
 use Rattle.cs_classes.proofs.Collected.{of_answers}
@@ -31,7 +31,7 @@ at_number P a (suc n) (z ∷ ys) h zero y e = let same : a ≡ a + 0 = omega ari
 at_number P a (suc n) (z ∷ ys) h (suc i) y e = let same : (a + 1) + i ≡ a + suc i = omega arith in subst (λ (k : ℕ). P k y) same (at_number P (a + 1) n ys h.1 i y e)
 
 -- the days of the classes, from what was answered for each number
-pub days_of_numbers : (d : Declared) (c : Content) (n : ℕ) (numbers : List ℕ) (answers : List (Result ClassDay AllocError)) (r : Result (Vec ClassDay Global) AllocError) → n ≡ length c.classes → numbers ≡ range_with_len 0 n
+pub days_of_numbers : (d : Declared) (c : Claimed) (n : ℕ) (numbers : List ℕ) (answers : List (Result ClassDay AllocError)) (r : Result (Vec ClassDay Global) AllocError) → n ≡ length c.classes → numbers ≡ range_with_len 0 n
     → AllZip (λ number (answer : Result ClassDay AllocError). IfOk answer (IsClassDay d c number)) numbers answers
     → MatchResult r (λ v. (ys : List ClassDay) × (answers ≡ map Ok ys) × (v.items ≡ ys)) (λ e. Contains answers (Err e))
     → IfOk r (λ days. AreClassDays d c days.items)

@@ -1,29 +1,30 @@
 -- A plan and a certificate, as the rules of acceptance see them.
-use Rattle.std.specs.Prelude.{ℕ, Option}
+use Rattle.std.specs.Prelude.{ℕ, List, Option}
 use Rattle.cs_decl.specs.Plan.{Declared, as_plan}
-use Rattle.cs_classes.specs.Planned.{due_on}
+use Rattle.cs_windows.specs.declared.reach.JobReach.{JobReach}
+use Rattle.cs_classes.specs.Planned.{due_on, reach_by}
 use Rattle.cs_cert.specs.Content.{Content}
-use Rattle.cs_classes.specs.Claim.{as_certificate}
-use Rattle.cs_classes.specs.StandsFor.{claimed}
+use Rattle.cs_classes.specs.Claim.{Claimed, as_certificate}
+use Rattle.cs_classes.specs.StandsFor.{claimed, days_by}
 use Rattle.cs_history.specs.Plan.{IsPlan}
-use Rattle.cs_theorem.specs.Accepted.{IsAccepted, IsModest, reach_in}
-use Rattle.cs_theorem.specs.Faults.{Fault, first_fault, stretch_length}
+use Rattle.cs_theorem.specs.Accepted.{IsAccepted, IsModest}
+use Rattle.cs_theorem.specs.Faults.{Fault, first_fault}
 
 -- the reach of a job
 abbrev pub reach_for : Declared → Content → ℕ → ℕ
-reach_for d c = reach_in (as_plan d) (as_certificate c)
+reach_for d c = reach_by d c.reach
 
 -- how many days a stretch has
 abbrev pub length_for : Declared → Content → ℕ
-length_for d c = stretch_length (as_plan d) (due_on d) (reach_for d c)
+length_for d c = days_by d c.reach
 
 -- the first fault of what is claimed, if there is one
-unfoldable pub claim_fault : Declared → Content → Option Fault
-claim_fault d c = first_fault (as_plan d) (due_on d) (as_certificate c) (length_for d c)
+unfoldable pub claim_fault : Declared → Claimed → Option Fault
+claim_fault d c = first_fault (as_plan d) (due_on d) (as_certificate c) (days_by d c.reach)
 
 -- the eight rules hold of what is claimed
-abbrev pub IsAcceptedClaim : Declared → Content → Type 0
-IsAcceptedClaim d c = IsAccepted (as_plan d) (due_on d) (as_certificate c) (length_for d c)
+abbrev pub IsAcceptedClaim : Declared → Claimed → Type 0
+IsAcceptedClaim d c = IsAccepted (as_plan d) (due_on d) (as_certificate c) (days_by d c.reach)
 
 -- the first fault of a certificate, if there is one: of what it stands for
 unfoldable pub fault_of : Declared → Content → Option Fault
@@ -34,6 +35,6 @@ abbrev pub IsAcceptedWith : Declared → Content → Type 0
 IsAcceptedWith d c = IsAcceptedClaim d (claimed d c)
 
 -- numbers in range and names resolved
-pub record IsFit (d : Declared) (c : Content) : Type 0 where
+pub record IsFit (d : Declared) (reach : List JobReach) : Type 0 where
   pub plan : IsPlan (as_plan d)
-  pub modest : IsModest (as_plan d) (reach_for d c)
+  pub modest : IsModest (as_plan d) (reach_by d reach)

@@ -1,14 +1,12 @@
 -- What is known of the days of each class.
 use Rattle.std.specs.Prelude.{◌≡◌, ℕ, ◌<◌, ◌≤◌, ◌∷◌, [], IsTrue, true, List, length, map, None, Some, slice_get}
 use Rattle.cs_decl.specs.Plan.{Declared, as_plan, crons}
-use Rattle.cs_cert.specs.Content.{Content}
-use Rattle.cs_cert.specs.Claim.{said}
 use Rattle.cs_cert.specs.declared.class.Class.{Class}
-use Rattle.cs_cert.specs.Judged.{IsClaim}
 use Rattle.cs_theorem.specs.Faults.{due_fault}
-use Rattle.cs_classes.specs.Claim.{as_certificate, class_at}
+use Rattle.cs_classes.specs.Claim.{Claimed, as_certificate, class_at}
 use Rattle.cs_classes.specs.GroupDays.{AreGroupDays}
 use Rattle.cs_classes.specs.Reaches.{Clears}
+use Rattle.cs_classes.specs.Said.{said}
 use Rattle.cs_history.specs.Plan.{waits}
 use Rattle.cs_windows.specs.Occupied.{job_of}
 use Rattle.cs_classes.specs.Planned.{due_on, planned}
@@ -18,8 +16,7 @@ use Rattle.cs_check.specs.declared.class_day.ClassDay.{ClassDay}
 
 -- the classes have the due minutes of their kinds, and the rest is the plan's and the certificate's
 pub record IsBasis (b : Basis) : Type 0 where
-  pub fit : IsFit b.plan.now (said b.claim.now)
-  pub keeps : IsClaim (said b.claim.now)
+  pub fit : IsFit b.plan.now (said b.claim.now).reach
   pub due : due_fault (as_plan b.plan.now) (due_on b.plan.now) (as_certificate (said b.claim.now))
       ≡ None
   pub jobs : map job_of b.occupied.items ≡ planned b.plan.now (said b.claim.now).reach
@@ -27,27 +24,27 @@ pub record IsBasis (b : Basis) : Type 0 where
   pub nothing : b.none.now ≡ []
 
 -- on a day of the class the job, if it waits and has a reach, has had its lock within it
-abbrev pub Settles : Declared → Content → Class → ℕ → Type 0
+abbrev pub Settles : Declared → Claimed → Class → ℕ → Type 0
 Settles d c class j = waits (as_plan d) j ≡ true → (r : ℕ) → (as_certificate c).reach j ≡ Some r
     → Clears (as_plan d) (class ∷ []) j r
 
 -- each job
-abbrev pub Settle : Declared → Content → Class → Type 0
+abbrev pub Settle : Declared → Claimed → Class → Type 0
 Settle d c class = (j : ℕ) → j < crons d → Settles d c class j
 
 -- the locks on a day of the class, and whether all jobs that wait settle
-pub record IsClassDay (d : Declared) (c : Content) (class : ℕ) (day : ClassDay) : Type 0 where
+pub record IsClassDay (d : Declared) (c : Claimed) (class : ℕ) (day : ClassDay) : Type 0 where
   pub groups : AreGroupDays (as_plan d) (class_at c.classes class) day.groups.items
   pub settles : IsTrue day.settles → Settle d c (class_at c.classes class)
 
 -- of each class, by number
-pub record AreClassDays (d : Declared) (c : Content) (days : List ClassDay) : Type 0 where
+pub record AreClassDays (d : Declared) (c : Claimed) (days : List ClassDay) : Type 0 where
   pub long : length days ≡ length c.classes
   pub each : (class : ℕ) (day : ClassDay) → slice_get days class ≡ Some day
       → IsClassDay d c class day
 
 -- a basis is of this plan and this certificate
-pub record IsBasisOf (d : Declared) (c : Content) (b : Basis) : Type 0 where
+pub record IsBasisOf (d : Declared) (c : Claimed) (b : Basis) : Type 0 where
   pub basis : IsBasis b
   pub plan : b.plan.now ≡ d
   pub certificate : said b.claim.now ≡ c

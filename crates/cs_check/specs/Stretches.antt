@@ -1,5 +1,5 @@
 -- What is asked of one stretch.
-use Rattle.std.specs.Prelude.{◌≡◌, ℕ, ◌-◌, ◌<◌, ◌≤◌, length, true, false, Bool, not, ◌||◌, List, [], map, Option, None, Some, option_map, unwrap_or, All, ⊤}
+use Rattle.std.specs.Prelude.{◌≡◌, ℕ, ◌-◌, ◌<◌, ◌≤◌, length, true, false, Bool, not, ◌||◌, List, [], map, Option, None, Some, option_map, unwrap_or, All}
 use Rattle.std.specs.List.{list_all}
 use Rattle.cs_windows.specs.Occupied.{job_of}
 use Rattle.cs_windows.specs.Windows.{day_minutes}
@@ -9,20 +9,18 @@ use Rattle.cs_theorem.specs.Certificate.{Certificate, Stretch}
 use Rattle.cs_theorem.specs.Accepted.{AreWithin, AreApart, ListsAll, AreFree, arrivals, nth, windows_of}
 use Rattle.cs_theorem.specs.Faults.{Fault, BacklogRises, ReachTooShort, WindowMissing, Collision, OverCapacity, SkipBlocked, blocked_in, clears_by, collision_in, due_fault, first_of, has_waiter, minute_of, missing_in, or_else, overload_in, rise_in, stretch_fault, unless, used_stretches}
 use Rattle.cs_wait.specs.Bounds as bounds
-use Rattle.cs_cert.specs.Content.{Content}
-use Rattle.cs_cert.specs.Claim.{said}
-use Rattle.cs_cert.specs.Judged.{IsClaim}
 use Rattle.cs_cert.specs.declared.class.Class.{Class}
-use Rattle.cs_classes.specs.Claim.{as_certificate, class_at}
+use Rattle.cs_classes.specs.Claim.{Claimed, as_certificate, class_at}
 use Rattle.cs_decl.specs.Plan.{Declared, as_plan}
 use Rattle.cs_overlap.specs.Roles.{IsOf}
 use Rattle.cs_classes.specs.Planned.{due_on, planned}
-use Rattle.cs_check.specs.Case.{IsFit, length_for}
+use Rattle.cs_check.specs.Case.{IsFit}
 use Rattle.cs_check.specs.ClassDays.{AreClassDays}
 use Rattle.cs_check.specs.declared.case.Case.{Case}
-use Rattle.cs_windows.specs.Tree.{SplitsInside, Tree}
 use Rattle.cs_windows.specs.declared.window.Window.{Window}
-use Rattle.cs_classes.specs.Used.{HaveClasses, seen}
+use Rattle.cs_classes.specs.Said.{said}
+use Rattle.cs_classes.specs.StandsFor.{days_by}
+use Rattle.cs_classes.specs.Used.{IsInUse, seen}
 use Rattle.cs_classes.specs.declared.used.UsedStretch.{UsedStretch}
 use Rattle.cs_check.specs.declared.order.Rule.{Rule}
 use Rattle.cs_check.specs.declared.order.Rule.TheVariants as rules
@@ -103,23 +101,12 @@ pub record IsGood (p : Plan) (a : Certificate) (n : ℕ) (s : Stretch) : Type 0 
 abbrev pub IsGoodIn : Case → UsedStretch → Type 0
 IsGoodIn k u = IsGood (plan_of k) (claim_of k) k.days (seen u)
 
--- the splits of a tree, where there is one, are inside their ranges
-abbrev pub AreInside : Option Tree → Type 0
-AreInside None = ⊤
-AreInside (Some tree) = SplitsInside tree 0 1440
-
--- the kinds are of days of the stretch's classes, and its tree's splits are inside their ranges
-pub record IsInUse (c : Content) (n : ℕ) (u : UsedStretch) : Type 0 where
-  pub kinds : HaveClasses c n u.of.now u.kinds.items
-  pub splits : AreInside (seen u).tree
-
 -- the classes have the due minutes of their kinds, and the rest is the plan's and the certificate's
 pub record IsCase (k : Case) : Type 0 where
-  pub fit : IsFit k.plan.now (said k.claim.now)
-  pub keeps : IsClaim (said k.claim.now)
+  pub fit : IsFit k.plan.now (said k.claim.now).reach
   pub due : due_fault (as_plan k.plan.now) (due_on k.plan.now) (as_certificate (said k.claim.now))
       ≡ None
-  pub long : k.days ≡ length_for k.plan.now (said k.claim.now)
+  pub long : k.days ≡ days_by k.plan.now (said k.claim.now).reach
   pub jobs : map job_of k.occupied.items ≡ planned k.plan.now (said k.claim.now).reach
   pub few : length k.occupied.items ≤ 320
   pub roles : IsOf (as_plan k.plan.now) k.roles
@@ -170,7 +157,7 @@ abbrev pub HaveReaches : Plan → Certificate → Type 0
 HaveReaches p a = (j : ℕ) → j < p.crons → waits p j ≡ true → (r : ℕ) × (a.reach j ≡ Some r)
 
 -- a case is of this plan and this certificate
-pub record IsCaseOf (d : Declared) (c : Content) (k : Case) : Type 0 where
+pub record IsCaseOf (d : Declared) (c : Claimed) (k : Case) : Type 0 where
   pub case : IsCase k
   pub plan : k.plan.now ≡ d
   pub certificate : said k.claim.now ≡ c

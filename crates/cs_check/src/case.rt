@@ -1,9 +1,9 @@
 //! What is known of a plan and a certificate before the stretches are looked at.
 ghost use Rattle.std.specs.Prelude.{◌≡◌, ◌<◌, ◌≤◌, IfOk, length, map, take};
-ghost use Rattle.cs_cert.specs.Claim.{said};
+ghost use Rattle.cs_classes.specs.Said.{said};
 ghost use Rattle.cs_check.specs.ClassDays.{AreClassDays, IsBasis, IsClassDay};
-ghost use Rattle.cs_check.specs.Stretches.{IsCase, IsCaseOf, IsInUse, claim_of, classes_in, windows_in};
-ghost use Rattle.cs_classes.specs.Used.{seen};
+ghost use Rattle.cs_check.specs.Stretches.{IsCase, IsCaseOf, claim_of, classes_in, windows_in};
+ghost use Rattle.cs_classes.specs.Used.{IsInUse, seen};
 ghost use Rattle.cs_civil.specs.Calendar.{first_minute, last_minute};
 ghost use Rattle.cs_classes.specs.Claim.{class_at};
 ghost use Rattle.cs_theorem.specs.Accepted.{nth};
@@ -12,9 +12,9 @@ ghost use Rattle.cs_windows.specs.Window.{IsRising};
 
 use crate::class_day::ClassDay;
 use crate::due::Basis;
-use cs_cert::{Claim, Class, reach_of};
+use cs_cert::{Class, reach_of};
 use cs_civil::Minute;
-use cs_classes::{UsedStretch, last_day, stretch_length};
+use cs_classes::{Claim, UsedStretch, last_day, stretch_length};
 use cs_decl::Plan;
 use cs_overlap::Roles;
 use cs_wait::Backlog;
@@ -56,7 +56,7 @@ impl<'a> Case<'a> {
     }
 
     /// The class of the day at this place of a stretch in use.
-    #[tactic(auto, using(crate::proofs::Using::classes_there, crate::proofs::Using::long_as_kinds))]
+    #[tactic(auto, using(crate::proofs::Using::long_as_kinds))]
     pub(crate) fn class_on(&self, used: &UsedStretch<'_>, place: usize) -> &'a Class
         requires case { IsCase self.now }
         requires in_use { IsInUse (said self.now.claim.now) self.now.days used.now }

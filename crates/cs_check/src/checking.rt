@@ -1,7 +1,7 @@
 //! The checker, with one thread and with several.
 ghost use Rattle.std.specs.Prelude.{◌≡◌, [], IfErr, IfOk, IsTrue, None, OnOk};
 ghost use Rattle.cs_cert.specs.Certificate.{content};
-ghost use Rattle.cs_cert.specs.Claim.{said};
+ghost use Rattle.cs_classes.specs.Said.{said};
 ghost use Rattle.cs_check.specs.Case.{IsAcceptedWith, IsFit, claim_fault, fault_of, length_for, reach_for};
 ghost use Rattle.cs_check.specs.Checked.{IsBroken, IsCalmThroughout, IsHeadline, IsLengthFor};
 ghost use Rattle.cs_check.specs.Checked.{StayInWindows, Tells, certificate_in, plan_in};
@@ -16,20 +16,19 @@ use crate::order::later_fault;
 use crate::reaches::have_reaches;
 use crate::stretches::in_use;
 use crate::workers::CheckWorkers;
-use cs_cert::{Certificate, Claim};
-use cs_classes::{OneThread, SeveralThreads, UsedStretch, claim_by, work_out};
+use cs_cert::Certificate;
+use cs_classes::{Claim, OneThread, SeveralThreads, UsedStretch, claim_by, work_out};
 use cs_decl::Plan;
 use cs_wait::Backlog;
 use std::alloc::Global;
 use std::thread::Threads;
 
 /// Lemma. All numbers of a plan and a certificate are in range.
-fn look_at(plan: &Plan, certificate: &Certificate)
-    ensures { IsFit plan.now (content certificate.now) }
+pub(crate) fn look_at(plan: &Plan, certificate: &Certificate)
+    ensures { IsFit plan.now (content certificate.now).reach }
 {
     let _jobs = plan.jobs();
-    let claim = certificate.claim();
-    let _reach = claim.reach();
+    let _reach = certificate.reach();
 }
 
 /// Nothing if each stretch is good, else the first fault.
@@ -65,6 +64,7 @@ fn judge_claim<W: CheckWorkers>(
     none: &Backlog,
 ) -> Result<(), CheckError>
     requires ready { W.can_work workers.now }
+    requires fit { IsFit plan.now (said claim.now).reach }
     requires none { none.now ≡ [] }
     ensures ok { OnOk result (claim_fault plan.now (said claim.now) ≡ None) }
     ensures fault { IfErr result (Tells (claim_fault plan.now (said claim.now))) }
@@ -86,6 +86,7 @@ fn judge<W: CheckWorkers>(
     none: &Backlog,
 ) -> Result<(), CheckError>
     requires ready { W.can_work workers.now }
+    requires fit { IsFit plan.now (content certificate.now).reach }
     requires none { none.now ≡ [] }
     ensures ok { OnOk result (fault_of plan.now (content certificate.now) ≡ None) }
     ensures fault { IfErr result (Tells (fault_of plan.now (content certificate.now))) }
@@ -109,7 +110,7 @@ fn judge<W: CheckWorkers>(
 /// An accepted plan is safe: no legal history in which each run ends within its declared time has
 /// two runs of an exclusive group at once (unless both hold its lock shared), exceeds the declared
 /// capacity, or skips a due minute of a skip job. Who made the certificate doesn't matter.
-#[tactic(auto, using(crate::proofs::Headline::headline, crate::proofs::Headline::calm_throughout, crate::proofs::Headline::stays, crate::proofs::Headline::accepted, crate::proofs::Headline::broken, crate::proofs::Headline::length_of))]
+#[tactic(auto, using(crate::proofs::Headline::broken))]
 pub fn check(alloc: Global, plan: &Plan, certificate: Certificate) -> Result<Checked, CheckError>
     ensures value { IfOk result (λ checked.
         (plan_in checked ≡ plan.now) × (certificate_in checked ≡ content certificate)) }
@@ -133,7 +134,7 @@ pub fn check(alloc: Global, plan: &Plan, certificate: Certificate) -> Result<Che
 }
 
 /// Like [`check`], with as many threads as the machine has processors. The answer is the same.
-#[tactic(auto, using(crate::proofs::Headline::headline, crate::proofs::Headline::calm_throughout, crate::proofs::Headline::stays, crate::proofs::Headline::accepted, crate::proofs::Headline::broken, crate::proofs::Headline::length_of))]
+#[tactic(auto, using(crate::proofs::Headline::broken))]
 pub fn check_parallel<R: Threads + Sync>(
     rt: &R,
     alloc: Global,

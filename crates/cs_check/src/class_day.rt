@@ -1,13 +1,13 @@
 //! The days of each class, worked out once for all stretches.
 ghost use Rattle.std.specs.Prelude.{◌≡◌, ◌<◌, IfOk, length};
-ghost use Rattle.cs_cert.specs.Claim.{said};
+ghost use Rattle.cs_classes.specs.Said.{said};
 ghost use Rattle.cs_check.specs.ClassDays.{IsBasis, IsClassDay};
 ghost use Rattle.cs_classes.specs.Claim.{class_at};
 
 use crate::due::Basis;
 use crate::reaches::all_settle;
-use cs_cert::{Claim, Class};
-use cs_classes::{GroupDay, group_days};
+use cs_cert::Class;
+use cs_classes::{Claim, GroupDay, group_days};
 use std::alloc::{AllocError, Global};
 
 /// A day of a class.

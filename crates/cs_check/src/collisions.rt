@@ -1,8 +1,8 @@
 //! Collisions: at no minute of the last day do two windows of an exclusive group clash.
 ghost use Rattle.std.specs.Prelude.{◌≡◌, IfOk, option_map};
-ghost use Rattle.cs_cert.specs.Claim.{said};
-ghost use Rattle.cs_check.specs.Stretches.{IsCase, IsInUse, claim_of, plan_of, collisions_fault};
-ghost use Rattle.cs_classes.specs.Used.{seen};
+ghost use Rattle.cs_classes.specs.Said.{said};
+ghost use Rattle.cs_check.specs.Stretches.{IsCase, claim_of, plan_of, collisions_fault};
+ghost use Rattle.cs_classes.specs.Used.{IsInUse, seen};
 ghost use Rattle.cs_report.specs.Told.{told};
 
 use crate::case::{Case, civil, minute_on};

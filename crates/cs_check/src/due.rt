@@ -1,13 +1,12 @@
 //! Due minutes: the class of each kind of day has exactly those of the kind.
 ghost use Rattle.std.specs.Prelude.{◌≡◌, [], IfErr, IfOk};
-ghost use Rattle.cs_cert.specs.Claim.{said};
-ghost use Rattle.cs_check.specs.Case.{claim_fault};
+ghost use Rattle.cs_classes.specs.Said.{said};
+ghost use Rattle.cs_check.specs.Case.{IsFit, claim_fault};
 ghost use Rattle.cs_check.specs.Checked.{Tells};
 ghost use Rattle.cs_check.specs.ClassDays.{IsBasisOf};
 
 use crate::fault::CheckError;
-use cs_cert::Claim;
-use cs_classes::{Workers, first_unlike, occupied};
+use cs_classes::{Claim, Workers, first_unlike, occupied};
 use cs_decl::Plan;
 use cs_report::CheckFault;
 use cs_wait::Backlog;
@@ -35,11 +34,11 @@ pub(crate) fn basis_of<'a, W: Workers>(
     none: &'a Backlog,
 ) -> Result<Basis<'a>, CheckError>
     requires ready { W.can_work workers.now }
+    requires fit { IsFit plan.now (said claim.now).reach }
     requires none { none.now ≡ [] }
     ensures ok { IfOk result (IsBasisOf plan.now (said claim.now)) }
     ensures fault { IfErr result (Tells (claim_fault plan.now (said claim.now))) }
 {
-    let _jobs = plan.jobs();
     let unlike = first_unlike(workers, alloc, plan, claim)?;
     let occupied = occupied(alloc, plan, claim.reach())?;
     if let Some(kind) = unlike {

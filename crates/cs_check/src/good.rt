@@ -1,7 +1,8 @@
 //! A quick test of one stretch in use, by all rules that are looked at stretch by stretch.
 ghost use Rattle.std.specs.Prelude.{IfOk, IsTrue};
-ghost use Rattle.cs_cert.specs.Claim.{said};
-ghost use Rattle.cs_check.specs.Stretches.{IsCase, IsGoodIn, IsInUse};
+ghost use Rattle.cs_classes.specs.Said.{said};
+ghost use Rattle.cs_classes.specs.Used.{IsInUse};
+ghost use Rattle.cs_check.specs.Stretches.{IsCase, IsGoodIn};
 
 use crate::case::Case;
 use crate::{leaves, reaches, steps};

@@ -1,8 +1,8 @@
 //! Leaves: where windows are listed, each minute's leaf on the last day lists all that hold it.
 ghost use Rattle.std.specs.Prelude.{◌≡◌, IfOk, IsTrue, option_map};
-ghost use Rattle.cs_cert.specs.Claim.{said};
-ghost use Rattle.cs_check.specs.Stretches.{AreInside, IsCase, IsInUse, claim_of, plan_of, leaves_fault};
-ghost use Rattle.cs_classes.specs.Used.{seen};
+ghost use Rattle.cs_classes.specs.Said.{said};
+ghost use Rattle.cs_check.specs.Stretches.{IsCase, claim_of, plan_of, leaves_fault};
+ghost use Rattle.cs_classes.specs.Used.{AreInside, IsInUse, seen};
 ghost use Rattle.cs_report.specs.Told.{told};
 ghost use Rattle.cs_theorem.specs.Accepted.{ListsAll};
 

@@ -1,8 +1,8 @@
 //! The first fault of the stretches in use, in the order of the rules.
 ghost use Rattle.std.specs.Prelude.{◌≡◌, All, IfOk, option_map};
-ghost use Rattle.cs_cert.specs.Claim.{said};
-ghost use Rattle.cs_check.specs.Stretches.{IsCase, IsInUse, all_seen, claim_of, fault_by, later_fault, plan_of, windows_fault};
-ghost use Rattle.cs_classes.specs.Used.{seen};
+ghost use Rattle.cs_classes.specs.Said.{said};
+ghost use Rattle.cs_check.specs.Stretches.{IsCase, all_seen, claim_of, fault_by, later_fault, plan_of, windows_fault};
+ghost use Rattle.cs_classes.specs.Used.{IsInUse, seen};
 ghost use Rattle.cs_report.specs.Told.{told};
 ghost use Rattle.cs_theorem.specs.Faults.{first_of};
 

@@ -6,6 +6,7 @@ ghost use Rattle.cs_check.specs.Checked.{AreFew, IsCalmThroughout, IsHeadline, S
 ghost use Rattle.cs_decl.specs.Plan.{as_plan};
 
 use crate::checked::Checked;
+use crate::checking::look_at;
 use cs_cert::Certificate;
 use cs_decl::Plan;
 
@@ -35,8 +36,6 @@ impl Checked {
         // At most as many runs as the capacity run at once, since each weighs at least 1.
         ensures few { AreFew (as_plan (plan_in self.now)) }
     {
-        let _jobs = self.plan.jobs();
-        let claim = self.certificate.claim();
-        let _reach = claim.reach();
+        look_at(&self.plan, &self.certificate);
     }
 }

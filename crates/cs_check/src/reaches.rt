@@ -1,10 +1,10 @@
 //! Reaches: each job that waits has one, and its lock within it.
 ghost use Rattle.std.specs.Prelude.{◌≡◌, ◌<◌, ℕ, All, IsTrue, Some, map, option_map, true};
 ghost use Rattle.std.specs.List.{list_all};
-ghost use Rattle.cs_cert.specs.Claim.{said};
+ghost use Rattle.cs_classes.specs.Said.{said};
 ghost use Rattle.cs_check.specs.ClassDays.{IsBasis, Settle, Settles};
-ghost use Rattle.cs_check.specs.Stretches.{HaveReaches, IsCase, IsInUse, ReachHolds, ReachesHold, all_seen, claim_of, classes_in, clears_on, is_far, plan_of, reaches_fault};
-ghost use Rattle.cs_classes.specs.Used.{seen};
+ghost use Rattle.cs_check.specs.Stretches.{HaveReaches, IsCase, ReachHolds, ReachesHold, all_seen, claim_of, classes_in, clears_on, is_far, plan_of, reaches_fault};
+ghost use Rattle.cs_classes.specs.Used.{IsInUse, seen};
 ghost use Rattle.cs_decl.specs.Plan.{crons};
 ghost use Rattle.cs_history.specs.Plan.{waits};
 ghost use Rattle.cs_report.specs.Told.{told};

@@ -1,8 +1,8 @@
 //! Backlog steps: bounds of groups follow the arrivals, from the last day but one to the last.
 ghost use Rattle.std.specs.Prelude.{◌≡◌, IfOk, IsTrue, option_map};
-ghost use Rattle.cs_cert.specs.Claim.{said};
-ghost use Rattle.cs_check.specs.Stretches.{IsCase, IsInUse, StepsHold, claim_of, plan_of, steps_fault};
-ghost use Rattle.cs_classes.specs.Used.{seen};
+ghost use Rattle.cs_classes.specs.Said.{said};
+ghost use Rattle.cs_check.specs.Stretches.{IsCase, StepsHold, claim_of, plan_of, steps_fault};
+ghost use Rattle.cs_classes.specs.Used.{IsInUse, seen};
 ghost use Rattle.cs_report.specs.Told.{told};
 
 use crate::case::{Case, civil, minute_on};

@@ -1,6 +1,6 @@
 //! Stretches: each successive kinds of days have the stretch of their classes.
 ghost use Rattle.std.specs.Prelude.{IfErr, IfOk};
-ghost use Rattle.cs_cert.specs.Claim.{said};
+ghost use Rattle.cs_classes.specs.Said.{said};
 ghost use Rattle.cs_check.specs.Case.{claim_fault};
 ghost use Rattle.cs_check.specs.Checked.{Tells};
 ghost use Rattle.cs_check.specs.Stretches.{AreStretches, IsCase};
@@ -18,7 +18,6 @@ pub(crate) fn in_use<'a>(alloc: Global, case: &Case<'a>) -> Result<Vec<UsedStret
     ensures fault { IfErr result (Tells (claim_fault case.now.plan.now (said case.now.claim.now))) }
 {
     let _days = case.days();
-    let _stretches = case.claim.stretches();
     if let Some(kinds) = first_missing(alloc, case.claim, case.days)? {
         return Err(CheckError::Fault(CheckFault::MissingPair(kinds)));
     }

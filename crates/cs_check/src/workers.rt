@@ -1,8 +1,9 @@
 //! Who goes through classes and stretches: one thread, or several.
 ghost use Rattle.std.specs.Prelude.{◌<◌, All, IfOk, IsTrue, length};
-ghost use Rattle.cs_cert.specs.Claim.{said};
+ghost use Rattle.cs_classes.specs.Said.{said};
+ghost use Rattle.cs_classes.specs.Used.{IsInUse};
 ghost use Rattle.cs_check.specs.ClassDays.{AreClassDays, IsBasis, IsClassDay};
-ghost use Rattle.cs_check.specs.Stretches.{AreGood, IsCase, IsGoodIn, IsInUse};
+ghost use Rattle.cs_check.specs.Stretches.{AreGood, IsCase, IsGoodIn};
 
 use crate::case::Case;
 use crate::class_day::{ClassDay, class_day};

@@ -9,10 +9,9 @@ use Rattle.cs_windows.specs.Windows.{day_minutes}
 use Rattle.cs_windows.proofs.Members.{Has, has_range, range_has}
 use Rattle.cs_theorem.specs.Faults.{Fault, ClassNotDue, first_of, is_due_alike, or_else, same_bool, unless}
 use Rattle.cs_theorem.proofs.Below.{below_range}
-use Rattle.cs_cert.specs.Certificate.{class_of, is_due_in}
-use Rattle.cs_cert.specs.Content.{Content}
+use Rattle.cs_cert.specs.Certificate.{is_due_in}
 use Rattle.cs_cert.specs.declared.class.Class.{Class}
-use Rattle.cs_classes.specs.Claim.{as_certificate, class_at}
+use Rattle.cs_classes.specs.Claim.{Claimed, as_certificate, class_at, class_of}
 use Rattle.cs_classes.specs.DayMinutes.{AreDueSets}
 use Rattle.cs_classes.specs.declared.likeness.Likeness.{Likeness}
 use Rattle.cs_classes.specs.Likeness.{AreLikenesses, AreTimes, IsRow, has_just, is_due_day, is_due_minute, likeness_at, likeness_by, likeness_of, likeness_on}
@@ -25,10 +24,10 @@ use Rattle.std.proofs.lemmas.List.{get_or_default}
 use Rattle.cs_decl.specs.Plan.{Declared, as_plan, command_of, no_command}
 
 -- whether the class of a kind has the due minutes of a cron job
-abbrev pub job_alike : Declared → Content → Kind → ℕ → Bool
+abbrev pub job_alike : Declared → Claimed → Kind → ℕ → Bool
 job_alike d c k j = list_all (λ m. same_bool (is_due_in (class_at c.classes (class_of c k)) j m) (due_on d j k m)) day_minutes
 
-abbrev pub unlike : Declared → Content → Kind → Option Fault
+abbrev pub unlike : Declared → Claimed → Kind → Option Fault
 unlike d c k = unless (is_due_alike (as_plan d) (due_on d) (as_certificate c) k) (ClassNotDue k)
 
 pub all_true : {A : Type 0} (t : A → Bool) (xs : List A) → ((x : A) → Has xs x → t x ≡ true) → list_all t xs ≡ true
@@ -75,10 +74,10 @@ below_true t n k l h = all_true t (below n) (λ j has. h j (let r = range_has 0 
 pub below_false : (t : ℕ → Bool) (n j : ℕ) → j < n → t j ≡ false → list_all t (below n) ≡ false
 below_false t n j l e = all_false t (below n) j (subst (λ (xs : List ℕ). Has xs j) (sym (below_range n)) (has_range 0 n j (omega arith) (omega (arith, l)))) e
 
-pub unlike_here : (d : Declared) (c : Content) (k : Kind) (ks : List Kind) → is_due_alike (as_plan d) (due_on d) (as_certificate c) k ≡ false → first_of (unlike d c) (k ∷ ks) ≡ Some (ClassNotDue k)
+pub unlike_here : (d : Declared) (c : Claimed) (k : Kind) (ks : List Kind) → is_due_alike (as_plan d) (due_on d) (as_certificate c) k ≡ false → first_of (unlike d c) (k ∷ ks) ≡ Some (ClassNotDue k)
 unlike_here d c k ks e = ap (λ (b : Bool). or_else (unless b (ClassNotDue k)) (first_of (unlike d c) ks)) e
 
-pub unlike_later : (d : Declared) (c : Content) (k : Kind) (ks : List Kind) → is_due_alike (as_plan d) (due_on d) (as_certificate c) k ≡ true → first_of (unlike d c) (k ∷ ks) ≡ first_of (unlike d c) ks
+pub unlike_later : (d : Declared) (c : Claimed) (k : Kind) (ks : List Kind) → is_due_alike (as_plan d) (due_on d) (as_certificate c) k ≡ true → first_of (unlike d c) (k ∷ ks) ≡ first_of (unlike d c) ks
 unlike_later d c k ks e = ap (λ (b : Bool). or_else (unless b (ClassNotDue k)) (first_of (unlike d c) ks)) e
 
 -- the test by the likeness of a class is that of all minutes of the day
@@ -116,7 +115,7 @@ row_is d class sets times row due are long each = record {
 }
 
 -- a class's row for a job: the line of the job is that at its place
-pub row_says : (d : Declared) (c : Content) (k : Kind) (j n : ℕ) (rows : List (List Likeness)) (row : List Likeness) (line : CommandLine) (lines : List CommandLine) → AreLikenesses d c rows → row ≡ get_or rows n row → n ≡ class_of c k → n < length c.classes → lines ≡ d.crontab.lines → j < length lines → line ≡ get_or lines j line → likeness_on (likeness_at row j) (is_due_day line.when k) ≡ job_alike d c k j
+pub row_says : (d : Declared) (c : Claimed) (k : Kind) (j n : ℕ) (rows : List (List Likeness)) (row : List Likeness) (line : CommandLine) (lines : List CommandLine) → AreLikenesses d c rows → row ≡ get_or rows n row → n ≡ class_of c k → n < length c.classes → lines ≡ d.crontab.lines → j < length lines → line ≡ get_or lines j line → likeness_on (likeness_at row j) (is_due_day line.when k) ≡ job_alike d c k j
 row_says d c k j n rows row line lines are own at there whole lt is =
     let class = class_at c.classes n in
     let long = ap length whole in

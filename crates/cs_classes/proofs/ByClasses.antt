@@ -5,7 +5,6 @@ use Rattle.std.specs.List.{list_any}
 use Rattle.std.specs.Option.{IfSome, IfNone, is_some}
 use Rattle.std.specs.Cmp.Lexicographic.{pointwise}
 use Rattle.std.proofs.lemmas.Bool.{both_ways}
-use Rattle.std.proofs.lemmas.List.{take_more}
 use Rattle.std.proofs.lemmas.List.Folds.{list_any_at}
 use Rattle.std.proofs.lemmas.List.Elements.{Contains-append_left, Contains-push}
 use Rattle.indexmap.specs.IndexSet.{insert_key}
@@ -14,7 +13,7 @@ use Rattle.cs_theorem.proofs.Chains.{same_list_is, is_same_list}
 use Rattle.cs_classes.specs.ByClasses.{IsFoundBy, same_classes, is_among}
 use Rattle.cs_classes.specs.Used.{classes_in, has_classes}
 use Rattle.cs_classes.specs.declared.classed.ClassedChain.{ClassedChain}
-use Rattle.cs_classes.proofs.Searched.{slices_same}
+use Rattle.cs_classes.proofs.Searched.{one_more, slices_same}
 
 -- lists that are the same are so either way round
 pub same_either_way : (xs ys : List ℕ) → same_list xs ys ≡ same_list ys xs
@@ -36,10 +35,6 @@ any_push p (x ∷ xs) y = ap (λ (b : Bool). p x || b) (any_push p xs y) ∙ or_
     or_assoc : (a b c : Bool) → (a || (b || c)) ≡ ((a || b) || c)
     or_assoc true b c = refl
     or_assoc false b c = refl
-
--- the first of a list, with the next
-pub one_more : {X : Type 0} (xs : List X) (i : ℕ) (x : X) → i < length xs → x ≡ get_or xs i x → take i xs ++ x ∷ [] ≡ take (i + 1) xs
-one_more {X} xs i x within is = ap (λ (y : X). take i xs ++ y ∷ []) is ∙ sym (take_more xs i x within)
 
 -- neither an element nor one more passes
 none_more : {X : Type 0} (p : X → Bool) (xs : List X) (y : X) → list_any p xs ≡ false → p y ≡ false → list_any p (xs ++ y ∷ []) ≡ false

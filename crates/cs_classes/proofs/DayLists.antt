@@ -1,12 +1,9 @@
 -- Lists by the minutes of a day, and groups one after the other.
-use Rattle.std.proofs.Common.{◌≡◌, ℕ, suc, ◌+◌, ◌<◌, ◌++◌, List, [], ◌∷◌, Bool, filter, length, map, slice_index, refl, ap, ◌∙◌, arith, if◌then◌else◌}
+use Rattle.std.proofs.Common.{◌≡◌, ℕ, suc, ◌+◌, ◌<◌, List, [], ◌∷◌, Bool, filter, length, map, slice_index, refl, ap, ◌∙◌, arith}
 use Rattle.std.specs.List.{range_with_len}
-use Rattle.std.proofs.lemmas.List.{map-append}
-use Rattle.cs_history.specs.Lists.{below}
 use Rattle.cs_schedule.specs.Minutes.{minutes_where}
 use Rattle.cs_windows.specs.Windows.{day_minutes}
 use Rattle.cs_windows.proofs.Minutes.{minutes_all}
-use Rattle.cs_classes.proofs.Lists.{filter_push}
 
 -- a list that has at each place what a function gives there
 list_is_from : (xs : List ℕ) (f : ℕ → ℕ) (first : ℕ) → ((m : ℕ) → m < length xs → slice_index xs m ≡ f (first + m)) → xs ≡ map f (range_with_len first (length xs))

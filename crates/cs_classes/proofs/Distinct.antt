@@ -1,13 +1,11 @@
 -- Lists of classes, each once: all that are given are among them, and no others.
-use Rattle.std.proofs.Common.{◌≡◌, ◌==◌, ℕ, Bool, true, false, ◌||◌, List, [], ◌∷◌, ◌++◌, Option, None, Some, cond, filter, refl, ap, ◌∙◌, map}
+use Rattle.std.proofs.Common.{◌≡◌, ℕ, Bool, true, false, ◌||◌, List, [], ◌∷◌, ◌++◌, Option, None, cond, filter, refl, ap, ◌∙◌, map}
 use Rattle.std.specs.Prelude.{fold}
 use Rattle.std.specs.List.{AllByRecursion, list_any}
 use Rattle.std.proofs.lemmas.List.Folds.{list_any-append}
 use Rattle.cs_theorem.specs.Certificate.{Stretch}
 use Rattle.cs_theorem.specs.Faults.{first_of, or_else, same_list}
 use Rattle.cs_theorem.proofs.Chains.{is_same_list}
-use Rattle.cs_windows.specs.Tree.{leaf}
-use Rattle.cs_classes.specs.Claim.{as_stretch}
 use Rattle.cs_classes.specs.StandsFor.{bare, distinct, with_list}
 
 -- whether these classes are among the lists
@@ -81,26 +79,20 @@ each_itself {X} g xs = among_all xs xs (λ p h. h)
       among_all ys all (λ p h. part p (ap (λ (b : Bool). p y || b) h ∙ or_true (p y))),
     )
 
--- the stretches that have such classes, by their lists
-pub any_bare : (version : ℕ) (p : List ℕ → Bool) (lists : List (List ℕ)) → list_any (λ s. p s.of) (map (as_stretch version) (map bare lists)) ≡ list_any p lists
-any_bare version p [] = refl
-any_bare version p (l ∷ ls) = ap (λ (b : Bool). p l || b) (any_bare version p ls)
-
 -- all that pass are kept
-pub all_pass : (version : ℕ) (p : List ℕ → Bool) (lists : List (List ℕ)) → AllByRecursion (λ l. p l ≡ true) lists → filter (λ (s : Stretch). p s.of) (map (as_stretch version) (map bare lists)) ≡ map (as_stretch version) (map bare lists)
-all_pass version p [] h = refl
-all_pass version p (l ∷ ls) h = rw h.0 (ap (λ (ss : List Stretch). as_stretch version (bare l) ∷ ss) (all_pass version p ls h.1))
+pub all_pass : (p : List ℕ → Bool) (lists : List (List ℕ)) → AllByRecursion (λ l. p l ≡ true) lists → filter (λ (s : Stretch). p s.of) (map bare lists) ≡ map bare lists
+all_pass p [] h = refl
+all_pass p (l ∷ ls) h = rw h.0 (ap (λ (ss : List Stretch). bare l ∷ ss) (all_pass p ls h.1))
 
 -- no answer where each gives none
 pub none_of_each : {X Y : Type 0} (f : X → Option Y) (xs : List X) → AllByRecursion (λ x. f x ≡ None) xs → first_of f xs ≡ None
 none_of_each f [] h = refl
 none_of_each f (x ∷ xs) h = ap (λ (o : Option _). or_else o (first_of f xs)) h.0 ∙ none_of_each f xs h.1
 
--- nor where none has a tree
-pub no_leaves : {Y : Type 0} (f : Stretch → Option Y) (version : ℕ) (lists : List (List ℕ)) → (version == 3) ≡ true → ((s : Stretch) → s.tree ≡ None → f s ≡ None)
-    → AllByRecursion (λ s. f s ≡ None) (map (as_stretch version) (map bare lists))
-no_leaves f version [] is none = tt
-no_leaves f version (l ∷ ls) is none = (none (as_stretch version (bare l)) (ap (λ (b : Bool). cond b None (Some (leaf []))) is), no_leaves f version ls is none)
+-- what holds of each that is made
+pub each_made : {X Y : Type 0} (P : Y → Type 0) (f : X → Y) (xs : List X) → ((x : X) → P (f x)) → AllByRecursion P (map f xs)
+each_made P f [] h = tt
+each_made P f (x ∷ xs) h = (h x, each_made P f xs h)
 
 -- of a filtered list too
 pub none_of_kept : {X Y : Type 0} (f : X → Option Y) (p : X → Bool) (xs : List X) → AllByRecursion (λ x. f x ≡ None) xs → first_of f (filter p xs) ≡ None

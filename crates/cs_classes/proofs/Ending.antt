@@ -5,13 +5,11 @@ use Rattle.std.specs.List.{range_with_len}
 use Rattle.cs_theorem.specs.Faults.{last_of, same_list}
 use Rattle.std.proofs.lemmas.List.{map-append}
 use Rattle.cs_civil.specs.Calendar.{kind}
-use Rattle.cs_cert.specs.Certificate.{class_of}
-use Rattle.cs_cert.specs.Content.{Content}
-use Rattle.cs_classes.specs.Claim.{as_certificate}
+use Rattle.cs_classes.specs.Claim.{Claimed, as_certificate, class_of}
 use Rattle.cs_classes.specs.Days.{classes_on}
 
 -- whether the days of which this is the last have the classes
-abbrev pub ends : Content → ℕ → List ℕ → ℕ → Bool
+abbrev pub ends : Claimed → ℕ → List ℕ → ℕ → Bool
 ends c n s last = same_list (classes_on c (last + 1 - n) n) s
 
 unfoldable pub first_from : (ℕ → Bool) → ℕ → Option ℕ
@@ -21,7 +19,7 @@ pub first_is : (t : ℕ → Bool) (n k : ℕ) → k ≡ 10227 → find t (range_
 unfolding first_from
 first_is t n k e = ap (λ (j : ℕ). find t (range_with_len n j)) e
 
-pub last_is : (c : Content) (n : ℕ) (s : List ℕ) → last_of (as_certificate c) n s ≡ unwrap_or (first_from (ends c n s) n) n
+pub last_is : (c : Claimed) (n : ℕ) (s : List ℕ) → last_of (as_certificate c) n s ≡ unwrap_or (first_from (ends c n s) n) n
 unfolding last_of first_from
 last_is c n s = refl
 
@@ -49,7 +47,7 @@ range_more a (suc n) =
     ap (λ (x : ℕ). a ∷ (range_with_len (a + 1) n ++ x ∷ [])) e ∙ ap (λ (l : List ℕ). a ∷ l) (range_more (a + 1) n) ∙ ap (range_with_len a) s
 
 -- the classes of one day more
-pub classes_more : (c : Content) (first n class : ℕ) → class ≡ class_of c (kind (first + n)) → classes_on c first n ++ class ∷ [] ≡ classes_on c first (n + 1)
+pub classes_more : (c : Claimed) (first n class : ℕ) → class ≡ class_of c (kind (first + n)) → classes_on c first n ++ class ∷ [] ≡ classes_on c first (n + 1)
 classes_more c first n class e =
     ap (λ (k : ℕ). classes_on c first n ++ k ∷ []) e
     ∙ sym (map-append (λ d. class_of c (kind d)) (range_with_len first n) ((first + n) ∷ [])) ∙ ap (map (λ d. class_of c (kind d))) (range_more first n)

@@ -12,12 +12,12 @@ use Rattle.cs_windows.proofs.Members.{Has, has_range}
 pub any_below : (t : ℕ → Bool) (n m : ℕ) → n < m → t n ≡ true → list_any t (below m) ≡ true
 any_below t n m lt e = any_has t (below m) n (subst (λ (xs : List ℕ). Has xs n) (sym (below_range m)) (has_range 0 m n (omega arith) (omega (arith, lt)))) e
 
-pub filter_push : (t : ℕ → Bool) (xs : List ℕ) (y : ℕ) → filter t (xs ++ y ∷ []) ≡ filter t xs ++ (if t y then y ∷ [] else [])
+pub filter_push : {A : Type 0} (t : A → Bool) (xs : List A) (y : A) → filter t (xs ++ y ∷ []) ≡ filter t xs ++ (if t y then y ∷ [] else [])
 filter_push t [] y = refl
-filter_push t (x ∷ xs) y = step (t x) (filter_push t xs y)
+filter_push {A} t (x ∷ xs) y = step (t x) (filter_push t xs y)
   where
     step : (b : Bool) → filter t (xs ++ y ∷ []) ≡ filter t xs ++ (if t y then y ∷ [] else []) → cond b (x ∷ filter t (xs ++ y ∷ [])) (filter t (xs ++ y ∷ [])) ≡ cond b (x ∷ filter t xs) (filter t xs) ++ (if t y then y ∷ [] else [])
-    step true e = ap (λ (ys : List ℕ). x ∷ ys) e
+    step true e = ap (λ (ys : List A). x ∷ ys) e
     step false e = e
 
 total_append : (f : ℕ → ℕ) (xs ys : List ℕ) → total f (xs ++ ys) ≡ total f xs + total f ys

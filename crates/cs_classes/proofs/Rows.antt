@@ -4,9 +4,8 @@ use Rattle.std.specs.Prelude.{IfOk, MatchResult, Contains}
 use Rattle.std.specs.List.{AllZip}
 use Rattle.std.specs.declared.alloc.AllocError.{AllocError}
 use Rattle.std.proofs.lemmas.Slice.Zip.{AllZip-long}
-use Rattle.cs_cert.specs.Content.{Content}
 use Rattle.cs_cert.specs.declared.class.Class.{Class}
-use Rattle.cs_classes.specs.Claim.{class_at}
+use Rattle.cs_classes.specs.Claim.{Claimed, class_at}
 use Rattle.cs_decl.specs.Plan.{Declared}
 use Rattle.cs_classes.specs.declared.likeness.Likeness.{Likeness}
 use Rattle.cs_classes.specs.Likeness.{AreLikenesses, IsRow}
@@ -18,7 +17,7 @@ row_at d (class ∷ classes) [] zip n lt = absurd zip
 row_at d (class ∷ classes) (row ∷ rows) zip zero lt = zip.0
 row_at d (class ∷ classes) (row ∷ rows) zip (suc n) lt = row_at d classes rows zip.1 n (omega (arith, lt))
 
-pub rows_of_answers : (d : Declared) (c : Content) (answers : List (Result (List Likeness) AllocError)) (r : Result (Vec (List Likeness) Global) AllocError)
+pub rows_of_answers : (d : Declared) (c : Claimed) (answers : List (Result (List Likeness) AllocError)) (r : Result (Vec (List Likeness) Global) AllocError)
     → AllZip (λ class (answer : Result (List Likeness) AllocError). IfOk answer (IsRow d class)) c.classes answers
     → MatchResult r (λ v. (rows : List (List Likeness)) × (answers ≡ map Ok rows) × (v.items ≡ rows)) (λ e. Contains answers (Err e))
     → IfOk r (λ rows. AreLikenesses d c rows.items)

@@ -1,17 +1,20 @@
--- Kinds of days by their classes, and classes that were worked out of each number.
-use Rattle.std.proofs.Common.{◌≡◌, ◌==◌, ℕ, Bool, true, false, List, [], ◌∷◌, Ok, Err, Result, Vec, Global, map, refl, sym, ap, subst, ◌∙◌}
+-- Kinds of days by their classes, and what was worked out of a certificate.
+use Rattle.std.proofs.Common.{◌≡◌, ◌==◌, ℕ, zero, suc, Bool, true, false, List, [], ◌∷◌, Ok, Err, Option, None, Some, Result, Vec, Global, length, map, refl, sym, ap, arith, subst, ◌∙◌}
 use Rattle.std.specs.Prelude.{find, Contains, IfOk, MatchResult}
 use Rattle.std.specs.List.{AllZip, range_with_len}
 use Rattle.std.specs.declared.alloc.AllocError.{AllocError}
+use Rattle.std.proofs.lemmas.List.{length-append, length-map}
 use Rattle.std.proofs.lemmas.Slice.Zip.{AllZip-map}
 use Rattle.cs_theorem.proofs.Below.{below_range}
 use Rattle.cs_civil.specs.Calendar.{Kind}
 use Rattle.cs_civil.specs.Order.{all_kinds}
 use Rattle.cs_cert.specs.Certificate.{class_of}
 use Rattle.cs_cert.specs.Content.{Content}
-use Rattle.cs_classes.specs.StandsFor.{first_kind}
+use Rattle.cs_decl.specs.Plan.{Declared}
+use Rattle.cs_classes.specs.StandsFor.{bare, claimed, first_kind, worked_of}
 use Rattle.cs_history.specs.Lists.{below}
-use Rattle.cs_classes.specs.WorkedOut.{classed_kind, first_classed}
+use Rattle.cs_classes.specs.WorkedOut.{IsWorkedOut, classed_kind, classes_by, first_classed, judged}
+use Rattle.cs_classes.specs.declared.working_out.WorkedOut.{WorkedOut}
 use Rattle.cs_classes.proofs.Collected.{of_answers}
 
 -- the first of these kinds that has the class, by their classes
@@ -39,3 +42,17 @@ all_worked {X} f n numbers answers (Ok v) all zip h =
     let ys = h.0 in
     let zip = of_answers P (range_with_len 0 n) ys (subst (Q (range_with_len 0 n)) h.1 (subst (λ (ns : List ℕ). Q ns answers) all zip)) in
     h.2 ∙ AllZip-map f (range_with_len 0 n) ys zip ∙ ap (map f) (sym (below_range n))
+
+-- what is judged has as many classes as the certificate
+pub as_many : (d : Declared) (c : Content) (w : Option WorkedOut) → IsWorkedOut d c w → length (classes_by c w) ≡ length c.classes
+as_many d c None h = refl
+as_many d c (Some w) h = ap length h.1.classes ∙ (length-map (below (length c.classes)) (worked_of d c) ∙ below_long (length c.classes))
+  where
+    below_long : (n : ℕ) → length (below n) ≡ n
+    below_long zero = refl
+    below_long (suc n) = length-append (below n) (n ∷ []) ∙ (let e = below_long n in omega (arith, e))
+
+-- and is what the certificate stands for
+pub judged_is : (d : Declared) (c : Content) (w : Option WorkedOut) → IsWorkedOut d c w → judged c w ≡ claimed d c
+judged_is d c None h = rw h refl
+judged_is d c (Some w) h = rw h.0 (λ i. record { classes = h.1.classes i; kinds = c.kinds; stretches = map bare (h.1.stretches i); reach = c.reach })

@@ -12,3 +12,4 @@ pub mod Fitting
 pub mod Likeness
 pub mod ByClasses
 pub mod WorkedOut
+pub mod Said

@@ -9,9 +9,8 @@ use Rattle.cs_windows.specs.Windows.{day_minutes}
 use Rattle.cs_theorem.specs.Faults.{same_bool}
 use Rattle.cs_decl.specs.Plan.{Declared, command_of, crons}
 use Rattle.cs_cert.specs.Certificate.{is_due_in}
-use Rattle.cs_cert.specs.Content.{Content}
 use Rattle.cs_cert.specs.declared.class.Class.{Class}
-use Rattle.cs_classes.specs.Claim.{class_at}
+use Rattle.cs_classes.specs.Claim.{Claimed, class_at}
 use Rattle.cs_schedule.specs.Numbers.{has}
 use Rattle.cs_classes.specs.declared.likeness.Likeness.{Likeness}
 
@@ -57,7 +56,7 @@ pub record IsRow (d : Declared) (class : Class) (row : List Likeness) : Type 0 w
   pub each : (j : ℕ) → j < crons d → likeness_at row j ≡ likeness_of (command_of d j).when j class
 
 -- a row for each class, by number
-pub record AreLikenesses (d : Declared) (c : Content) (rows : List (List Likeness)) : Type 0 where
+pub record AreLikenesses (d : Declared) (c : Claimed) (rows : List (List Likeness)) : Type 0 where
   pub long : length rows ≡ length c.classes
   pub each : (n : ℕ) → n < length c.classes
       → IsRow d (class_at c.classes n) (slice_index_or rows n [])

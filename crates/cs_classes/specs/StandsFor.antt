@@ -6,17 +6,18 @@ use Rattle.std.specs.List.{list_any}
 use Rattle.cs_civil.specs.Calendar.{Kind}
 use Rattle.cs_civil.specs.Order.{all_kinds}
 use Rattle.cs_windows.specs.Windows.{day_minutes}
-use Rattle.cs_windows.specs.Tree.{leaf}
 use Rattle.cs_wait.specs.Bounds.{following}
 use Rattle.cs_history.specs.Lists.{below}
+use Rattle.cs_windows.specs.declared.reach.JobReach.{JobReach}
 use Rattle.cs_decl.specs.Plan.{Declared, as_plan, crons}
 use Rattle.cs_cert.specs.Certificate.{bound_in, class_of}
 use Rattle.cs_cert.specs.Content.{Content, StretchTree}
 use Rattle.cs_cert.specs.declared.class.Class.{Class}
 use Rattle.cs_cert.specs.declared.class.DueList.{DueList}
 use Rattle.cs_cert.specs.declared.class.GroupBacklog.{GroupBacklog}
+use Rattle.cs_theorem.specs.Certificate.{Stretch}
 use Rattle.cs_theorem.specs.Faults.{chains, has_waiter, same_list, stretch_length}
-use Rattle.cs_classes.specs.Claim.{class_at}
+use Rattle.cs_classes.specs.Claim.{Claimed, class_at}
 use Rattle.cs_classes.specs.Planned.{due_on, reach_by}
 use Rattle.cs_classes.specs.Work.{arrivals_in}
 
@@ -79,19 +80,35 @@ abbrev pub class_lists : Content → ℕ → List (List ℕ)
 class_lists c n = distinct (map (map (class_of c)) (chains n))
 
 -- such days, with no tree
-abbrev pub bare : List ℕ → StretchTree
-bare classes = record { of = classes; tree = leaf [] }
+abbrev pub bare : List ℕ → Stretch
+bare classes = record { of = classes; tree = None }
+
+-- a stretch that is listed, with its tree
+abbrev pub listed : StretchTree → Stretch
+listed s = record { of = s.of; tree = Some s.tree }
+
+-- what a certificate says itself
+abbrev pub as_listed : Content → Claimed
+as_listed c = record {
+  classes = c.classes;
+  kinds = c.kinds;
+  stretches = map listed c.stretches;
+  reach = c.reach;
+}
 
 -- the length of the stretches: the plan and the reaches decide it
+abbrev pub days_by : Declared → List JobReach → ℕ
+days_by d reach = stretch_length (as_plan d) (due_on d) (reach_by d reach)
+
 abbrev pub days_for : Declared → Content → ℕ
-days_for d c = stretch_length (as_plan d) (due_on d) (reach_by d c.reach)
+days_for d c = days_by d c.reach
 
 -- what the certificate stands for under the plan
-abbrev pub claimed : Declared → Content → Content
+abbrev pub claimed : Declared → Content → Claimed
 claimed d c = record {
-  version = c.version;
   classes = if c.version == 3 then worked_classes d c else c.classes;
   kinds = c.kinds;
-  stretches = if c.version == 3 then map bare (class_lists c (days_for d c)) else c.stretches;
+  stretches = if c.version == 3 then map bare (class_lists c (days_for d c))
+      else map listed c.stretches;
   reach = c.reach;
 }

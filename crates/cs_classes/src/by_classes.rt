@@ -3,11 +3,12 @@ ghost use Rattle.std.specs.Prelude.{◌≡◌, ◌++◌, ◌∷◌, [], ℕ, Lis
 ghost use Rattle.std.specs.List.{list_any};
 ghost use Rattle.cs_theorem.specs.Faults.{same_list};
 ghost use Rattle.cs_classes.specs.ByClasses.{LeadTo, is_among};
+ghost use Rattle.cs_classes.specs.Said.{said};
 ghost use Rattle.cs_classes.specs.Used.{has_classes};
 ghost use Rattle.cs_classes.specs.declared.classed.ClassedChain.{ClassedChain};
 
+use crate::claim::Claim;
 use crate::classed::ClassedChain;
-use cs_cert::Stretch;
 use indexmap::{IndexMap, IndexSet};
 use std::alloc::{AllocError, Global};
 
@@ -51,17 +52,17 @@ pub(crate) fn by_classes(
     Ok(by)
 }
 
-/// The lists of classes that the stretches have. The only error is out of memory.
-pub(crate) fn class_lists(
+/// The lists of classes that the stretches of a claim have. The only error is out of memory.
+pub(crate) fn class_lists<'a>(
     alloc: Global,
-    stretches: &[Stretch],
-) -> Result<IndexSet<&[u32]>, AllocError>
-    ensures { IfOk result (λ lists. (classes : List ℕ)
-        → is_among lists.keys classes ≡ list_any (λ s. same_list s.of classes) stretches.now) }
+    claim: &Claim<'a>,
+) -> Result<IndexSet<&'a [u32]>, AllocError>
+    ensures { IfOk result (λ lists. (classes : List ℕ) → is_among lists.keys classes
+        ≡ list_any (λ s. same_list s.of classes) (said claim.now).stretches) }
 {
     let mut lists = IndexSet::new(alloc);
-    for stretch in stretches {
-        lists.insert(stretch.of.as_slice())?;
+    for number in 0..claim.count() {
+        lists.insert(claim.stretch(number).of)?;
     }
     Ok(lists)
 }

@@ -1,12 +1,11 @@
 //! The kinds of successive days with their classes.
 ghost use Rattle.std.specs.Prelude.{◌≡◌, ◌≤◌, IfOk, map};
-ghost use Rattle.cs_cert.specs.Certificate.{class_of};
-ghost use Rattle.cs_cert.specs.Claim.{said};
+ghost use Rattle.cs_daytree.specs.Tree.{class_in, tree_of};
 ghost use Rattle.cs_classes.specs.Used.{AreClassed};
 
 use crate::chain::{Chain, chains};
 use arrayvec::ArrayVec;
-use cs_cert::Claim;
+use cs_daytree::DayTree;
 use std::alloc::{AllocError, Global};
 
 /// Kinds that successive days can have, and the class of each.
@@ -16,12 +15,12 @@ pub(crate) struct ClassedChain {
     pub(crate) classes: ArrayVec<u32, 4>,
 }
 
-pub(crate) fn classes_of(claim: &Claim<'_>, chain: &Chain) -> ArrayVec<u32, 4>
-    ensures { result.items ≡ map (class_of (said claim.now)) chain.now.items }
+pub(crate) fn classes_of(tree: &DayTree, chain: &Chain) -> ArrayVec<u32, 4>
+    ensures { result.items ≡ map (class_in (tree_of tree.now)) chain.now.items }
 {
     let mut classes = ArrayVec::new();
     for kind in chain.as_slice() {
-        classes.push(claim.class_of(*kind));
+        classes.push(tree.class_of(*kind));
     }
     classes
 }
@@ -29,15 +28,15 @@ pub(crate) fn classes_of(claim: &Claim<'_>, chain: &Chain) -> ArrayVec<u32, 4>
 /// All chains of this many days with their classes.
 pub(crate) fn classed_chains(
     alloc: Global,
-    claim: &Claim<'_>,
+    tree: &DayTree,
     days: u8,
 ) -> Result<Vec<ClassedChain>, AllocError>
     requires { (1 ≤ days) × (days ≤ 4) }
-    ensures { IfOk result (λ classed. AreClassed (said claim.now) days classed.items) }
+    ensures { IfOk result (λ classed. AreClassed (tree_of tree.now) days classed.items) }
 {
     let mut classed = Vec::new(alloc);
     for kinds in chains(alloc, days)? {
-        let classes = classes_of(claim, &kinds);
+        let classes = classes_of(tree, &kinds);
         classed.push(ClassedChain { kinds, classes })?;
     }
     Ok(classed)

@@ -2,14 +2,13 @@
 ghost use Rattle.std.specs.Prelude.{◌≡◌, ◌+◌, ◌<◌, ◌≤◌, map};
 ghost use Rattle.std.specs.List.{range_with_len};
 ghost use Rattle.cs_theorem.specs.Faults.{last_of, same_list};
-ghost use Rattle.cs_cert.specs.Certificate.{class_of};
-ghost use Rattle.cs_cert.specs.Claim.{said};
-ghost use Rattle.cs_classes.specs.Claim.{as_certificate};
+ghost use Rattle.cs_classes.specs.Claim.{as_certificate, class_of};
+ghost use Rattle.cs_classes.specs.Said.{said};
 ghost use Rattle.cs_civil.specs.Calendar.{kind};
 ghost use Rattle.cs_classes.specs.Days.{classes_on};
 
+use crate::claim::Claim;
 use arrayvec::ArrayVec;
-use cs_cert::Claim;
 use cs_civil::{Day, kind_of};
 
 /// All chains of days occur within this many days, 28 years.
@@ -20,7 +19,7 @@ fn class_on(claim: &Claim<'_>, day: u32) -> u32
     ensures { result ≡ class_of (said claim.now) (kind day) }
 {
     match Day::new(u64::from(day)) {
-        Some(day) => claim.class_of(kind_of(day)),
+        Some(day) => claim.kinds().class_of(kind_of(day)),
         None => 0,
     }
 }

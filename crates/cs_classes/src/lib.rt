@@ -4,6 +4,8 @@
 
 mod by_classes;
 mod chain;
+mod claim;
+mod claiming;
 mod classed;
 mod due;
 mod fitting;
@@ -23,6 +25,8 @@ mod workers;
 mod working_out;
 
 pub use chain::{Chain, chains};
+pub use claim::Claim;
+pub use claiming::claim_by;
 pub use due::due_minutes;
 pub use fitting::stretch_length;
 pub use group_day::{GroupDay, group_days, is_steady_over};
@@ -35,4 +39,4 @@ pub use steps::first_rise;
 pub use unlike::first_unlike;
 pub use used::{UsedStretch, used_stretches};
 pub use workers::{OneThread, SeveralThreads, Workers};
-pub use working_out::{WorkedOut, claim_by, work_out};
+pub use working_out::{WorkedOut, work_out};

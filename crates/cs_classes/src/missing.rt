@@ -1,15 +1,15 @@
 //! The first stretch of successive days that a certificate lacks.
 ghost use Rattle.std.specs.Prelude.{◌≡◌, ◌≤◌, IfOk, option_map};
 ghost use Rattle.cs_theorem.specs.Faults.{stretch_fault};
-ghost use Rattle.cs_cert.specs.Claim.{said};
 ghost use Rattle.cs_classes.specs.Claim.{as_certificate};
 ghost use Rattle.cs_classes.specs.ByClasses.{is_among};
 ghost use Rattle.cs_classes.specs.Chains.{missing_chain};
+ghost use Rattle.cs_classes.specs.Said.{said};
 
 use crate::by_classes::class_lists;
 use crate::chain::{Chain, chains};
+use crate::claim::Claim;
 use crate::classed::classes_of;
-use cs_cert::Claim;
 use indexmap::IndexSet;
 use std::alloc::{AllocError, Global};
 
@@ -30,9 +30,9 @@ pub fn first_missing(
     ensures { IfOk result (λ found.
         stretch_fault (as_certificate (said claim.now)) days ≡ option_map missing_chain found) }
 {
-    let lists = class_lists(alloc, claim.stretches())?;
+    let lists = class_lists(alloc, claim)?;
     for chain in chains(alloc, days)? {
-        let classes = classes_of(claim, &chain);
+        let classes = classes_of(claim.kinds(), &chain);
         if !is_listed(&lists, classes.as_slice()) {
             return Ok(Some(chain));
         }

@@ -1,15 +1,15 @@
 //! Whether each class of a certificate has the due minutes of its kinds of days.
 ghost use Rattle.std.specs.Prelude.{◌≡◌, IfOk, option_map};
 ghost use Rattle.cs_theorem.specs.Faults.{ClassNotDue, due_fault, is_due_alike};
-ghost use Rattle.cs_cert.specs.Claim.{said};
 ghost use Rattle.cs_classes.specs.Likeness.{AreLikenesses, is_due_day, likeness_on};
 ghost use Rattle.cs_classes.specs.Claim.{as_certificate};
 ghost use Rattle.cs_classes.specs.Planned.{due_on};
+ghost use Rattle.cs_classes.specs.Said.{said};
 ghost use Rattle.cs_decl.specs.Plan.{as_plan};
 
+use crate::claim::Claim;
 use crate::likeness::{Likeness, is_due_day};
 use crate::workers::Workers;
-use cs_cert::Claim;
 use cs_civil::{DayKind, Sequence, all_kinds};
 use cs_crontab::Line;
 use cs_decl::Plan;
@@ -32,7 +32,7 @@ fn is_alike(plan: &Plan, claim: &Claim<'_>, rows: &[Sequence<Likeness>], kind: D
     ensures { result
         ≡ is_due_alike (as_plan plan.now) (due_on plan.now) (as_certificate (said claim.now)) kind }
 {
-    let class = claim.class_of(kind) as usize;
+    let class = claim.kinds().class_of(kind) as usize;
     let row = rows[class].as_slice();
     for (number, line) in plan.crontab().lines().iter().enumerate() {
         if !is_job_alike(row[number], line, kind) {

@@ -1,16 +1,18 @@
 //! Who goes through the classes of a certificate: one thread, or several.
 ghost use denote.Param.Send.{IsSync};
 ghost use Rattle.std.specs.Prelude.{◌≡◌, ◌<◌, IfOk, length, map, ⊤};
-ghost use Rattle.cs_cert.specs.Claim.{said};
+ghost use Rattle.cs_cert.specs.Certificate.{content};
 ghost use Rattle.cs_classes.specs.Likeness.{AreLikenesses, AreTimes, IsRow};
 ghost use Rattle.cs_classes.specs.WorkedOut.{classed_kind};
 ghost use Rattle.cs_civil.specs.Order.{all_kinds};
 ghost use Rattle.cs_classes.specs.StandsFor.{worked_classes, worked_of};
+ghost use Rattle.cs_classes.specs.Said.{said};
 ghost use Rattle.cs_decl.specs.Plan.{Declared};
 
+use crate::claim::Claim;
 use crate::likeness::{Likeness, row_of, times_of_jobs};
 use crate::working_out::{class_of_number, classed_kinds};
-use cs_cert::{Claim, Class};
+use cs_cert::{Certificate, Class};
 use cs_civil::Sequence;
 use cs_decl::Plan;
 use rayon::prelude::*;
@@ -41,10 +43,11 @@ pub trait Workers {
         &self,
         alloc: Global,
         plan: &Plan,
-        claim: &Claim<'_>,
+        certificate: &Certificate,
     ) -> Result<Vec<Class>, AllocError>
         requires { can_work self.now }
-        ensures { IfOk result (λ worked. worked.items ≡ worked_classes plan.now (said claim.now)) };
+        ensures { IfOk result (λ worked.
+            worked.items ≡ worked_classes plan.now (content certificate.now)) };
 }
 
 /// One thread.
@@ -72,12 +75,12 @@ impl Workers for OneThread {
         &self,
         alloc: Global,
         plan: &Plan,
-        claim: &Claim<'_>,
+        certificate: &Certificate,
     ) -> Result<Vec<Class>, AllocError> {
-        let kinds = classed_kinds(alloc, claim)?;
+        let kinds = classed_kinds(alloc, certificate)?;
         let mut worked = Vec::new(alloc);
-        for number in 0..claim.classes().len() {
-            worked.push(class_of_number(alloc, plan, claim, kinds.as_slice(), number)?)?;
+        for number in 0..certificate.classes().len() {
+            worked.push(class_of_number(alloc, plan, certificate, kinds.as_slice(), number)?)?;
         }
         Ok(worked)
     }
@@ -115,20 +118,20 @@ impl<R: Threads + Sync> Workers for SeveralThreads<'_, R> {
         &self,
         alloc: Global,
         plan: &Plan,
-        claim: &Claim<'_>,
+        certificate: &Certificate,
     ) -> Result<Vec<Class>, AllocError> {
-        let kinds = classed_kinds(alloc, claim)?;
+        let kinds = classed_kinds(alloc, certificate)?;
         let kinds = kinds.as_slice();
-        (0..claim.classes().len())
+        (0..certificate.classes().len())
             .into_par_iter()
             .with_min_len(1)
             .map(
                 |number: usize| -> Result<Class, AllocError>
-                    requires { (number < length (said claim.now).classes)
-                        × (kinds.now ≡ map (classed_kind (said claim.now)) all_kinds) }
+                    requires { (number < length (content certificate.now).classes)
+                        × (kinds.now ≡ map (classed_kind (content certificate.now)) all_kinds) }
                     ensures { IfOk result (λ worked.
-                        worked ≡ worked_of plan.entry.now (said claim.entry.now) number) }
-                { class_of_number(alloc, plan, claim, kinds, number) },
+                        worked ≡ worked_of plan.entry.now (content certificate.entry.now) number) }
+                { class_of_number(alloc, plan, certificate, kinds, number) },
             )
             .collect::<Result<Vec<Class>, AllocError>>(self.0, alloc)?
     }

@@ -1,22 +1,19 @@
 //! What a certificate of version 3 stands for, worked out from the plan.
 ghost use Rattle.std.specs.Prelude.{◌≡◌, ◌<◌, IfOk, length, map};
 ghost use Rattle.cs_cert.specs.Certificate.{content};
-ghost use Rattle.cs_cert.specs.Claim.{said};
-ghost use Rattle.cs_cert.specs.Content.{stretch_of};
 ghost use Rattle.cs_classes.specs.Used.{classes_in};
 ghost use Rattle.cs_classes.specs.WorkedOut.{IsWorkedOut, IsWorkedOutOf, classed_kind, first_classed};
 ghost use Rattle.cs_civil.specs.Order.{all_kinds};
-ghost use Rattle.cs_classes.specs.StandsFor.{bare, claimed, class_lists, days_for, distinct, worked_classes, worked_of};
+ghost use Rattle.cs_classes.specs.StandsFor.{class_lists, days_for, distinct, worked_classes, worked_of};
 
 use crate::classed::{ClassedChain, classed_chains};
 use crate::fitting::stretch_length;
 use crate::planned::occupied;
 use crate::worked::worked_class;
 use crate::workers::Workers;
-use cs_cert::{Certificate, Claim, Class, Stretch};
+use cs_cert::{Certificate, Class};
 use cs_civil::{DayKind, Sequence, all_kinds};
 use cs_decl::Plan;
-use cs_windows::MinuteTree;
 use indexmap::IndexSet;
 use std::alloc::{AllocError, Global};
 
@@ -25,8 +22,8 @@ use std::alloc::{AllocError, Global};
 pub struct WorkedOut {
     /// The classes, by number.
     pub classes: Vec<Class>,
-    /// The stretches.
-    pub stretches: Vec<Stretch>,
+    /// The classes of each stretch.
+    pub stretches: Vec<Sequence<u32>>,
 }
 
 /// A kind of day and its class.
@@ -39,13 +36,14 @@ pub(crate) struct ClassedKind {
 /// Each kind of day with its class, in the order of [`all_kinds`].
 pub(crate) fn classed_kinds(
     alloc: Global,
-    claim: &Claim<'_>,
+    certificate: &Certificate,
 ) -> Result<Vec<ClassedKind>, AllocError>
-    ensures { IfOk result (λ kinds. kinds.items ≡ map (classed_kind (said claim.now)) all_kinds) }
+    ensures { IfOk result (λ kinds.
+        kinds.items ≡ map (classed_kind (content certificate.now)) all_kinds) }
 {
     let mut kinds = Vec::new(alloc);
     for kind in all_kinds() {
-        let class = claim.class_of(kind);
+        let class = certificate.class_of(kind);
         kinds.push(ClassedKind { kind, class })?;
     }
     Ok(kinds)
@@ -66,16 +64,17 @@ fn first_kind(kinds: &[ClassedKind], class: u32) -> Option<DayKind>
 pub(crate) fn class_of_number(
     alloc: Global,
     plan: &Plan,
-    claim: &Claim<'_>,
+    certificate: &Certificate,
     kinds: &[ClassedKind],
     number: usize,
 ) -> Result<Class, AllocError>
-    requires there { number < length (said claim.now).classes }
-    requires kinds { kinds.now ≡ map (classed_kind (said claim.now)) all_kinds }
-    ensures { IfOk result (λ worked. worked ≡ worked_of plan.now (said claim.now) number) }
+    requires there { number < length (content certificate.now).classes }
+    requires kinds { kinds.now ≡ map (classed_kind (content certificate.now)) all_kinds }
+    ensures { IfOk result (λ worked. worked ≡ worked_of plan.now (content certificate.now) number) }
 {
+    let class = &certificate.classes()[number];
     let kind = first_kind(kinds, number as u32);
-    worked_class(alloc, plan, kind, &claim.classes()[number])
+    worked_class(alloc, plan, kind, class)
 }
 
 /// The different lists of classes that the chains have, in order of their first place.
@@ -90,55 +89,44 @@ fn distinct_lists(alloc: Global, chains: &[ClassedChain]) -> Result<IndexSet<&[u
     Ok(lists)
 }
 
-/// Days of these classes, with no tree.
-fn bare(alloc: Global, classes: &[u32]) -> Result<Stretch, AllocError>
-    ensures { IfOk result (λ stretch. stretch_of stretch ≡ bare classes.now) }
+/// A copy of these lists of classes.
+fn copies_of(alloc: Global, lists: &IndexSet<&[u32]>) -> Result<Vec<Sequence<u32>>, AllocError>
+    ensures { IfOk result (λ copies. copies.items ≡ map (λ list. list.now) lists.now.keys) }
 {
-    Ok(Stretch {
-        of: Sequence::from_slice(alloc, classes)?,
-        tree: MinuteTree::Leaf(Sequence::new(alloc)),
-    })
-}
-
-/// Days of each of these lists of classes.
-fn bare_stretches(alloc: Global, lists: &IndexSet<&[u32]>) -> Result<Vec<Stretch>, AllocError>
-    ensures { IfOk result (λ stretches. map stretch_of stretches.items
-        ≡ map bare (map (λ list. list.now) lists.now.keys)) }
-{
-    let mut stretches = Vec::new(alloc);
+    let mut copies = Vec::new(alloc);
     for classes in lists.iter() {
-        stretches.push(bare(alloc, classes)?)?;
+        copies.push(Sequence::from_slice(alloc, classes)?)?;
     }
-    Ok(stretches)
+    Ok(copies)
 }
 
-/// The stretches that successive days have, in the order of the kinds that first have them.
+/// The classes that successive days have, in the order of the kinds that first have them.
 fn stretches_of_kinds(
     alloc: Global,
     plan: &Plan,
-    claim: &Claim<'_>,
-) -> Result<Vec<Stretch>, AllocError>
-    ensures { IfOk result (λ stretches. map stretch_of stretches.items
-        ≡ map bare (class_lists (said claim.now) (days_for plan.now (said claim.now)))) }
+    certificate: &Certificate,
+) -> Result<Vec<Sequence<u32>>, AllocError>
+    ensures { IfOk result (λ lists. lists.items
+        ≡ class_lists (content certificate.now) (days_for plan.now (content certificate.now))) }
 {
-    let occupied = occupied(alloc, plan, claim.reach())?;
+    let occupied = occupied(alloc, plan, certificate.reach())?;
     let days = stretch_length(occupied.as_slice());
-    let chains = classed_chains(alloc, claim, days)?;
+    let chains = classed_chains(alloc, certificate.kinds(), days)?;
     let lists = distinct_lists(alloc, chains.as_slice())?;
-    bare_stretches(alloc, &lists)
+    copies_of(alloc, &lists)
 }
 
 /// What a certificate of version 3 stands for, with these classes.
 fn worked_out(
     alloc: Global,
     plan: &Plan,
-    claim: &Claim<'_>,
+    certificate: &Certificate,
     classes: Vec<Class>,
 ) -> Result<WorkedOut, AllocError>
-    requires { classes.items ≡ worked_classes plan.now (said claim.now) }
-    ensures { IfOk result (IsWorkedOutOf plan.now (said claim.now)) }
+    requires { classes.items ≡ worked_classes plan.now (content certificate.now) }
+    ensures { IfOk result (IsWorkedOutOf plan.now (content certificate.now)) }
 {
-    let stretches = stretches_of_kinds(alloc, plan, claim)?;
+    let stretches = stretches_of_kinds(alloc, plan, certificate)?;
     Ok(WorkedOut { classes, stretches })
 }
 
@@ -153,27 +141,9 @@ pub fn work_out<W: Workers>(
     requires { W.can_work workers.now }
     ensures { IfOk result (IsWorkedOut plan.now (content certificate.now)) }
 {
-    let claim = certificate.claim();
-    if claim.version() != 3 {
+    if certificate.version() != 3 {
         return Ok(None);
     }
-    let classes = workers.classes_worked_out(alloc, plan, &claim)?;
-    Ok(Some(worked_out(alloc, plan, &claim, classes)?))
-}
-
-/// Returns the claim of a certificate under a plan, with what was worked out of it.
-pub fn claim_by<'a>(
-    plan: &Plan,
-    certificate: &'a Certificate,
-    worked: &'a Option<WorkedOut>,
-) -> Claim<'a>
-    requires { IsWorkedOut plan.now (content certificate.now) worked.now }
-    ensures { said result ≡ claimed plan.now (content certificate.now) }
-{
-    match worked {
-        Some(worked) => {
-            certificate.claim_of(worked.classes.as_slice(), worked.stretches.as_slice())
-        }
-        None => certificate.claim(),
-    }
+    let classes = workers.classes_worked_out(alloc, plan, certificate)?;
+    Ok(Some(worked_out(alloc, plan, certificate, classes)?))
 }

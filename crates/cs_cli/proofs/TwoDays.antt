@@ -18,14 +18,14 @@ use Rattle.cs_cert.specs.Denoted.{certificate_by, content_in, json_in, ◌then�
 use Rattle.cs_cert.specs.Rules.{judged, or_fault, most_reach, fault_of as certificate_fault, reach_fits}
 use Rattle.cs_cert.specs.declared.fault.CertFault.{CertFault}
 use Rattle.cs_cert.specs.declared.fault.CertFault.TheVariants.{TooLong}
-use Rattle.cs_cert.proofs.Keeping.{claims}
+use Rattle.cs_cert.proofs.Keeping.{keeps}
 use Rattle.cs_theorem.specs.Accepted.{EndWithin, IsAccepted, IsLength, IsModest}
 use Rattle.cs_theorem.specs.Faults.{first_fault, stretch_length}
 use Rattle.cs_theorem.proofs.Lengths.{length_is}
 use Rattle.cs_theorem.proofs.Points.{says_all}
-use Rattle.cs_classes.specs.Claim.{as_certificate}
+use Rattle.cs_classes.specs.Claim.{Claimed, as_certificate}
 use Rattle.cs_classes.specs.Planned.{due_on}
-use Rattle.cs_classes.specs.StandsFor.{claimed}
+use Rattle.cs_classes.specs.StandsFor.{as_listed, claimed}
 use Rattle.cs_check.specs.Case.{claim_fault, fault_of, length_for, reach_for}
 use Rattle.cs_check.specs.Checked.{IsLengthFor}
 
@@ -111,7 +111,7 @@ certificate_kept bytes c is = text_kept (nat_lt 16_777_216 (length bytes)) (json
 
 -- ---- how it is judged
 
-pub listed_itself : (d : Declared) (c : Content) → c.version ≢ 3 → claimed d c ≡ c
+pub listed_itself : (d : Declared) (c : Content) → c.version ≢ 3 → claimed d c ≡ as_listed c
 listed_itself d c other = rw (ne_eqb c.version 3 other) refl
 
 module _ (d : Declared) (bytes : List ℕ) (c : Content) (whole : IsWhole d) (short : All (λ job. job.max ≤ 1440) d.jobs) (is : certificate_by bytes ≡ Ok c) (first : c.version ≡ 1) where
@@ -124,7 +124,7 @@ module _ (d : Declared) (bytes : List ℕ) (c : Content) (whole : IsWhole d) (sh
   reaches : (j : ℕ) → reach_for d c j ≤ 1440
   reaches j =
       let most : most_reach c.version ≡ 1440 = ap most_reach first in
-      let fits : reach_fits 1440 c.reach ≡ true = subst (λ (m : ℕ). reach_fits m c.reach ≡ true) most (claims c (certificate_kept bytes c is)).reach in
+      let fits : reach_fits 1440 c.reach ≡ true = subst (λ (m : ℕ). reach_fits m c.reach ≡ true) most (keeps c (certificate_kept bytes c is)).reach in
       within_most 1440 c.reach j ((as_plan d).limit j) (limits j) (and_parts _ (list_all (is_reach 1440) c.reach) fits).1
 
   pub in_pairs : IsLengthFor d c 2
@@ -133,10 +133,10 @@ module _ (d : Declared) (bytes : List ℕ) (c : Content) (whole : IsWhole d) (sh
   days : length_for d c ≡ 2
   days = two_days (as_plan d) plan (due_on d) (reach_for d c) limits reaches
 
-  claim_accepted : (claim_fault d c ≡ None) ↔ IsAccepted (as_plan d) (due_on d) (as_certificate c) 2
+  claim_accepted : (claim_fault d (as_listed c) ≡ None) ↔ IsAccepted (as_plan d) (due_on d) (as_certificate (as_listed c)) 2
   unfolding claim_fault
-  claim_accepted = subst (λ (n : ℕ). (first_fault (as_plan d) (due_on d) (as_certificate c) n ≡ None) ↔ IsAccepted (as_plan d) (due_on d) (as_certificate c) 2) (sym days) (says_all (as_plan d) plan (due_on d) (as_certificate c) 2 (omega arith))
+  claim_accepted = subst (λ (n : ℕ). (first_fault (as_plan d) (due_on d) (as_certificate (as_listed c)) n ≡ None) ↔ IsAccepted (as_plan d) (due_on d) (as_certificate (as_listed c)) 2) (sym days) (says_all (as_plan d) plan (due_on d) (as_certificate (as_listed c)) 2 (omega arith))
 
-  pub accepted_in_pairs : (fault_of d c ≡ None) ↔ IsAccepted (as_plan d) (due_on d) (as_certificate c) 2
+  pub accepted_in_pairs : (fault_of d c ≡ None) ↔ IsAccepted (as_plan d) (due_on d) (as_certificate (as_listed c)) 2
   unfolding fault_of
-  accepted_in_pairs = subst (λ (x : Content). (claim_fault d x ≡ None) ↔ IsAccepted (as_plan d) (due_on d) (as_certificate c) 2) (sym (listed_itself d c (λ h. omega (arith, h, first)))) claim_accepted
+  accepted_in_pairs = subst (λ (x : Claimed). (claim_fault d x ≡ None) ↔ IsAccepted (as_plan d) (due_on d) (as_certificate (as_listed c)) 2) (sym (listed_itself d c (λ h. omega (arith, h, first)))) claim_accepted

@@ -8,7 +8,7 @@ ghost use Rattle.cs_check.specs.Case.{fault_of};
 ghost use Rattle.cs_check.specs.Checked.{IsLengthFor};
 ghost use Rattle.cs_classes.specs.Claim.{as_certificate};
 ghost use Rattle.cs_classes.specs.Planned.{due_on};
-ghost use Rattle.cs_classes.specs.StandsFor.{claimed};
+ghost use Rattle.cs_classes.specs.StandsFor.{as_listed, claimed};
 ghost use Rattle.cs_decl.specs.Plan.{Declared, IsWhole, as_plan};
 ghost use Rattle.cs_io.specs.Files.{Failed};
 ghost use Rattle.cs_files.specs.Response.{Ending};
@@ -99,12 +99,13 @@ pub fn what_make_says()
 /// above 1,440, a stretch has two days; so one of version 1 is accepted exactly if the eight rules
 /// hold of it over pairs of successive days.
 pub fn what_version_1_says()
-    ensures itself { (plan : Declared) (c : Content) → c.version ≢ 3 → claimed plan c ≡ c }
+    ensures itself { (plan : Declared) (c : Content) → c.version ≢ 3
+        → claimed plan c ≡ as_listed c }
     ensures pairs { (plan : Declared) (bytes : List ℕ) (c : Content) → IsWhole plan
         → All (λ job. job.max ≤ 1440) plan.jobs → certificate_by bytes ≡ Ok c → c.version ≡ 1
         → IsLengthFor plan c 2 }
     ensures accepted { (plan : Declared) (bytes : List ℕ) (c : Content) → IsWhole plan
         → All (λ job. job.max ≤ 1440) plan.jobs → certificate_by bytes ≡ Ok c → c.version ≡ 1
         → (fault_of plan c ≡ None)
-        ↔ IsAccepted (as_plan plan) (due_on plan) (as_certificate c) 2 }
+        ↔ IsAccepted (as_plan plan) (due_on plan) (as_certificate (as_listed c)) 2 }
 {}

@@ -11,6 +11,8 @@ pub mod Rests
 pub mod Joins
 pub mod Wholes
 pub mod Uniques
+pub mod Minutes
+pub mod Makeup
 pub mod Commands
 pub mod Parted
 pub mod JobTerms

@@ -12,7 +12,7 @@ use Rattle.cs_decl.specs.declared.entries.CronEntry.{CronEntry}
 use Rattle.cs_decl.specs.declared.entries.AnacronEntry.{AnacronEntry}
 use Rattle.cs_decl.specs.declared.entries.DefaultEntry.{DefaultEntry}
 use Rattle.cs_decl.specs.declared.entries.Entries.{Entries}
-use Rattle.cs_decl.specs.Faults.{Fault, is_within, is_bad_offset, first_twice, is_bad_max, is_bad_weight, is_bad_default, needs_group, is_unlisted, are_bad_hours, is_bad_pass, one_too_many, at_anacron, where_true, twice_declared, bad_numbers, bad_groups, bad_times, first_fault}
+use Rattle.cs_decl.specs.Faults.{Fault, is_within, is_bad_offset, first_twice, is_bad_max, is_bad_weight, is_bad_default, needs_group, is_unlisted, are_bad_hours, is_bad_pass, one_too_many, at_anacron, where_true, twice_declared, bad_numbers, bad_groups, bad_times, bad_parts, has_bad_parts, first_fault}
 use Rattle.cs_decl.specs.Meaning.{IsValid}
 use Rattle.cs_decl.specs.Job.{IsPossible}
 use Rattle.cs_decl.specs.Plan.{IsListed}
@@ -54,6 +54,7 @@ pub record Facts (d : Entries) : Type 0 where
   pub few : one_too_many d.groups ≡ None
   pub hours : are_bad_hours d.hours ≡ false
   pub pass : is_bad_pass d.pass ≡ false
+  pub parts : All (λ e. has_bad_parts e ≡ false) d.cron
 
 pub facts : (d : Entries) → IsValid d → Facts d
 unfolding twice_declared bad_numbers bad_groups bad_times
@@ -61,7 +62,8 @@ facts d v =
     let a = no_row _ _ v in
     let b = no_part (twice_declared d) _ a.1 in
     let c = no_part (bad_numbers d) _ b.1 in
-    let e = no_part (bad_groups d) (bad_times d) c.1 in
+    let e = no_part (bad_groups d) (bad_times d ++ bad_parts d) c.1 in
+    let t = no_part (bad_times d) (bad_parts d) e.1 in
     let t0 = no_row _ _ b.0 in
     let n0 = no_row _ _ c.0 in
     let n1 = no_row _ _ n0.1 in
@@ -74,7 +76,7 @@ facts d v =
     let g1 = no_row _ _ g0.1 in
     let g2 = no_row _ _ g1.1 in
     let g3 = no_row _ _ g2.1 in
-    let h0 = no_row _ _ e.1 in
+    let h0 = no_row _ _ t.0 in
     let h1 = no_row (at_anacron faults.ModeOnAnacron (position (λ e. e.has_mode) d.anacron)) (where_true faults.BadPassMinute (is_bad_pass d.pass) ∷ []) h0.1 in
     let h2 = no_row (where_true faults.BadPassMinute (is_bad_pass d.pass)) [] h1.1 in
     record {
@@ -93,6 +95,7 @@ facts d v =
       few = mapped_none _ _ g3.0;
       hours = unset _ _ h0.0;
       pass = unset faults.BadPassMinute _ h2.0;
+      parts = position_none _ _ (mapped_none _ _ (no_row _ _ t.1).0);
     }
 
 -- ---- numbers in their ranges
@@ -101,7 +104,7 @@ pub yes : (b : Bool) → not b ≡ false → b ≡ true
 yes true e = refl
 yes false e = absurd cc
 
-within_abs : (low high : ℕ) (z : ℤ) → is_within low high z ≡ true → (low ≤ unsigned_abs z) × (unsigned_abs z ≤ high)
+pub within_abs : (low high : ℕ) (z : ℤ) → is_within low high z ≡ true → (low ≤ unsigned_abs z) × (unsigned_abs z ≤ high)
 within_abs low high (pos n) e = let p = and_parts _ _ e in (leb-true low n p.0, leb-true n high p.1)
 within_abs low high (negsuc n) e = absurd cc
 

@@ -1,5 +1,5 @@
 -- What is wrong with declarations: a table of faults, in the order in which they are answered.
-use Rattle.std.specs.Prelude.{List, [], ◌∷◌, ◌++◌, ℕ, ◌+◌, ℤ, pos, Option, None, Some, option_map, if◌then◌else◌, Bool, false, not, ◌&&◌, bytes_eq, map, length, nat_lt, unsigned_abs, int_lt, int_le, is_none, position}
+use Rattle.std.specs.Prelude.{List, [], ◌∷◌, ◌++◌, ℕ, ◌+◌, ℤ, pos, Option, None, Some, option_map, if◌then◌else◌, Bool, false, not, ◌&&◌, bytes_eq, map, length, nat_lt, unsigned_abs, int_lt, int_le, is_none, is_some, sum_by, position, ◌||◌, ◌==◌}
 use Rattle.std.specs.Ordering.{int_eq}
 use Rattle.std.specs.List.{list_any}
 use Rattle.cs_history.specs.Plan.{takes}
@@ -12,6 +12,7 @@ use Rattle.cs_decl.specs.declared.fault.Place.TheVariants.{Group, Cron, Anacron,
 use Rattle.cs_decl.specs.declared.entries.GroupEntry.{GroupEntry}
 use Rattle.cs_decl.specs.declared.entries.CronEntry.{CronEntry}
 use Rattle.cs_decl.specs.declared.entries.DefaultEntry.{DefaultEntry}
+use Rattle.cs_decl.specs.declared.entries.PartEntry.{PartEntry}
 use Rattle.cs_decl.specs.declared.entries.Entries.{Entries}
 
 -- a fault, and its place if it has one
@@ -67,6 +68,20 @@ is_unlisted groups (Some name) = not (list_any (λ g. bytes_eq name g.name) grou
 -- no minutes of one day, the first before the last
 abbrev pub are_bad_hours : ℤ × ℤ → Bool
 are_bad_hours h = not (int_le (pos 0) h.0 && int_lt h.0 h.1 && int_le h.1 (pos MINUTES_OF_DAY))
+
+-- the longest times of parts, one after the other
+abbrev pub minutes_of : List PartEntry → ℕ
+minutes_of parts = sum_by (λ p. unsigned_abs p.max) parts
+
+-- two of one name, a longest time that is none, or all together another than the entry's
+abbrev pub are_bad : ℤ → List PartEntry → Bool
+are_bad max parts = is_some (first_twice bytes_eq (map (λ p. p.name) parts))
+    || list_any (λ p. is_bad_max p.max) parts
+    || not (int_eq max (pos (minutes_of parts)))
+
+-- an entry that has parts, and bad ones
+abbrev pub has_bad_parts : CronEntry → Bool
+has_bad_parts e = not (length e.parts == 0) && are_bad e.max e.parts
 
 -- a minute of no day
 abbrev pub is_bad_pass : Option ℤ → Bool
@@ -132,10 +147,15 @@ bad_times d =
     ∷ where_true faults.BadPassMinute (is_bad_pass d.pass)
     ∷ []
 
+-- parts that don't make up what they are parts of
+abbrev pub bad_parts : Entries → List (Option Fault)
+bad_parts d = at_cron faults.BadParts (position has_bad_parts d.cron) ∷ []
+
 -- all of them: by number, and of one number in the order groups, cron, anacron, default
 abbrev pub faults_of : Entries → List (Option Fault)
 faults_of d = where_true faults.BadShape (is_bad_offset d.offset)
-    ∷ (twice_declared d ++ (bad_numbers d ++ (bad_groups d ++ bad_times d)))
+    ∷ (twice_declared d
+    ++ (bad_numbers d ++ (bad_groups d ++ (bad_times d ++ bad_parts d))))
 
 -- the first fault that there is
 abbrev pub first_fault : List (Option Fault) → Option Fault

@@ -6,7 +6,7 @@ use Rattle.cs_decl.specs.declared.fault.DeclFault.TheVariants as faults
 use Rattle.cs_decl.specs.declared.fault.Place.{Place}
 use Rattle.cs_decl.specs.declared.fault.Place.TheVariants.{Group, Cron, Anacron}
 use Rattle.cs_decl.specs.declared.entries.Entries.{Entries}
-use Rattle.cs_decl.specs.Faults.{Fault, is_within, same_number, is_bad_offset, is_bad_max, is_bad_weight, is_bad_default, needs_group, is_unlisted, are_bad_hours, is_bad_pass}
+use Rattle.cs_decl.specs.Faults.{Fault, is_within, same_number, is_bad_offset, is_bad_max, is_bad_weight, is_bad_default, needs_group, is_unlisted, are_bad_hours, is_bad_pass, has_bad_parts}
 
 -- the entry at a place is there, and passes
 abbrev pub passes_at : {A : Type 0} → (A → Bool) → List A → ℕ → Bool
@@ -40,7 +40,8 @@ row (faults.TooManyGroups, Some (Group i)) = 14
 row (faults.BadHours, None) = 15
 row (faults.ModeOnAnacron, Some (Anacron i)) = 16
 row (faults.BadPassMinute, None) = 17
-row _ = 18
+row (faults.BadParts, Some (Cron i)) = 18
+row _ = 19
 
 -- the place in its list
 abbrev pub place_index : Option Place → ℕ
@@ -73,6 +74,7 @@ stands_at d k i =
     else if k == 15 then are_bad_hours d.hours
     else if k == 16 then passes_at (λ e. e.has_mode) d.anacron i
     else if k == 17 then is_bad_pass d.pass
+    else if k == 18 then passes_at has_bad_parts d.cron i
     else false
 
 -- the fault exists

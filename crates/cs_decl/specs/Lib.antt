@@ -11,3 +11,4 @@ pub mod Join
 pub mod Plain
 pub mod Lines
 pub mod Law
+pub mod Parts

@@ -26,6 +26,7 @@ fault_text faults.RebootLine = codes "14 RebootLine"
 fault_text faults.BadPassMinute = codes "15 BadPassMinute"
 fault_text faults.OtherCommand = codes "16 OtherCommand"
 fault_text faults.AmbiguousCommand = codes "17 AmbiguousCommand"
+fault_text faults.BadParts = codes "18 BadParts"
 
 -- an entry is counted from 1, a line is named by its number, and a job by its identifier
 abbrev pub place_text : Place → List ℕ

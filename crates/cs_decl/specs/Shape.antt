@@ -10,6 +10,7 @@ use Rattle.cs_history.specs.declared.mode.Mode.TheVariants.{Plain, Skip, Try, Wa
 use Rattle.cs_decl.specs.declared.entries.LineName.{LineName}
 use Rattle.cs_decl.specs.declared.entries.GroupEntry.{GroupEntry}
 use Rattle.cs_decl.specs.declared.entries.CronEntry.{CronEntry}
+use Rattle.cs_decl.specs.declared.entries.PartEntry.{PartEntry}
 use Rattle.cs_decl.specs.declared.entries.AnacronEntry.{AnacronEntry}
 use Rattle.cs_decl.specs.declared.entries.DefaultEntry.{DefaultEntry}
 use Rattle.cs_decl.specs.declared.entries.Entries.{Entries}
@@ -32,11 +33,15 @@ mode_of d = or_bad_shape (option_and_then mode_named (as_str d))
 unfoldable pub is_group_member : List ℕ → Bool
 is_group_member = is_among (codes "exclusive" ∷ codes "name" ∷ codes "note" ∷ [])
 
+-- the members of an entry of `parts`
+unfoldable pub is_part_member : List ℕ → Bool
+is_part_member = is_among (codes "max" ∷ codes "name" ∷ codes "note" ∷ [])
+
 -- the members of an entry of `cron`
 unfoldable pub is_cron_member : List ℕ → Bool
 is_cron_member = is_among
     (codes "command" ∷ codes "group" ∷ codes "line" ∷ codes "max" ∷ codes "mode" ∷ codes "note"
-    ∷ codes "weight" ∷ [])
+    ∷ codes "parts" ∷ codes "weight" ∷ [])
 
 -- the members of an entry of `anacron`
 unfoldable pub is_anacron_member : List ℕ → Bool
@@ -78,7 +83,16 @@ group_of d = do
   exclusive ← member_as flag (codes "exclusive") d
   Ok (record { name = name; exclusive = exclusive })
 
--- an entry of `cron`: the weight is 1 and the mode `none` where they are absent
+-- an entry of `parts`: name and longest time have to be there
+unfoldable pub part_of : Data → Result PartEntry JsonFault
+part_of d = do
+  o ← object_with is_part_member d
+  note ← note_of d
+  name ← member_as text (codes "name") d
+  max ← member_as whole_number (codes "max") d
+  Ok (record { name = name; max = max })
+
+-- an entry of `cron`: where they are absent, the weight is 1, the mode `none`, and parts are none
 unfoldable pub cron_of : Data → Result CronEntry JsonFault
 cron_of d = do
   o ← object_with is_cron_member d
@@ -88,7 +102,15 @@ cron_of d = do
   weight ← member_or_default whole_number (pos 1) (codes "weight") d
   group ← member_or_none text (codes "group") d
   mode ← member_or_default mode_of Plain (codes "mode") d
-  Ok (record { name = name; max = max; weight = weight; group = group; mode = mode })
+  parts ← member_or_default (list_as part_of) [] (codes "parts") d
+  Ok (record {
+    name = name;
+    max = max;
+    weight = weight;
+    group = group;
+    mode = mode;
+    parts = parts;
+  })
 
 -- an entry of `anacron`: of a mode it is known alone whether it is there
 unfoldable pub anacron_of : Data → Result AnacronEntry JsonFault

@@ -32,6 +32,18 @@ pub struct CronEntry {
     pub group: Option<Bytes>,
     /// How it treats the lock of its group.
     pub mode: Mode,
+    /// The parts of its command, if it is known to have some.
+    pub parts: Sequence<PartEntry>,
+}
+
+/// An entry of `parts`: one of the programs that a command runs one after the other, as run-parts(8)
+/// does.
+#[derive(Debug, Drop)]
+pub struct PartEntry {
+    /// The name of the program.
+    pub name: Bytes,
+    /// The longest time that it takes in minutes.
+    pub max: i128,
 }
 
 /// An entry of `anacron`.

@@ -44,6 +44,9 @@ pub enum DeclFault {
     OtherCommand,
     /// Several lines have the command of an entry without a number.
     AmbiguousCommand,
+    /// Two parts have one name, the longest time of a part is not from 1 to
+    /// [`MAX_MINUTES`](crate::MAX_MINUTES) minutes, or all together are not that of the entry.
+    BadParts,
 }
 
 impl DeclFault {
@@ -69,6 +72,7 @@ impl DeclFault {
             DeclFault::BadPassMinute => "15 BadPassMinute",
             DeclFault::OtherCommand => "16 OtherCommand",
             DeclFault::AmbiguousCommand => "17 AmbiguousCommand",
+            DeclFault::BadParts => "18 BadParts",
         }
     }
 }

@@ -12,6 +12,8 @@ ghost use Rattle.cs_decl.specs.Join.{is_named, joined};
 ghost use Rattle.cs_decl.specs.Law.{IsFirst, stands};
 ghost use Rattle.cs_decl.specs.Lines.{TellsOf, IsLeftOut, HasNoEntry, AreParted, IsDeclared};
 ghost use Rattle.cs_decl.specs.Lines.{names_of};
+ghost use Rattle.cs_decl.specs.Meaning.{IsValid};
+ghost use Rattle.cs_decl.specs.Parts.{AreItsParts};
 ghost use Rattle.cs_decl.specs.Plan.{Declared, places_of, command_of, job_at, crons};
 
 /// Lemma. The fault that is returned has the smallest number of those there are, and the first
@@ -63,6 +65,12 @@ pub fn each_line_has_its_job()
         → IsDeclared d (command_of plan j) (job_at plan j) }
     ensures defaulted { (table : Table) (jobs : JobTable) (d : Entries) (plan : Declared)
         → joined table jobs d ≡ Ok plan → d.default ≡ None → plan.defaulted ≡ 0 }
+{}
+
+/// Lemma. Where declarations are read, the parts of an entry, if it has some, have names of their own,
+/// each from 1 to 4,320 minutes, and all together the entry's longest time.
+pub fn parts_make_up_the_whole()
+    ensures { (d : Entries) → IsValid d → All AreItsParts d.cron }
 {}
 
 /// Lemma. A member is found that stands twice exactly if an object of the text has one, as the JSON

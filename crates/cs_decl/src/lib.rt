@@ -15,6 +15,7 @@ mod limits;
 mod lookups;
 mod names;
 mod naming;
+mod parts;
 mod plain;
 mod plan;
 mod reading;
@@ -23,7 +24,9 @@ mod terms;
 mod twice;
 
 pub use declarations::{Declarations, read_declarations};
-pub use entries::{AnacronEntry, CronEntry, DefaultEntry, Entries, GroupEntry, LineName};
+pub use entries::{
+    AnacronEntry, CronEntry, DefaultEntry, Entries, GroupEntry, LineName, PartEntry,
+};
 pub use fault::{DeclError, DeclFault, Place};
 pub use group::Group;
 pub use job::Job;
@@ -31,7 +34,7 @@ pub use job_names::{identifier_of, push_command_name, push_due_name};
 pub use joining::join;
 pub use laws::{
     commands_are_those_of_lines, doubled_members_are_told, each_entry_names_one_line,
-    each_line_has_its_job, first_of_faults, left_out_lines_have_no_entry,
+    each_line_has_its_job, first_of_faults, left_out_lines_have_no_entry, parts_make_up_the_whole,
 };
 pub use limits::{MAX_CAPACITY, MAX_GROUPS, MAX_MINUTES, MAX_OFFSET, MAX_WEIGHT};
 pub use plan::Plan;

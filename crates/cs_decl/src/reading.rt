@@ -10,15 +10,18 @@ ghost use Rattle.cs_decl.specs.Shape.{mode_named, mode_of, note_of, group_of, li
 ghost use Rattle.cs_decl.specs.Shape.{cron_of, anacron_of, default_of, left_out_of, terms_of};
 ghost use Rattle.cs_decl.specs.Shape.{entries_of, is_group_member, is_cron_member};
 ghost use Rattle.cs_decl.specs.Shape.{is_anacron_member, is_default_member, is_left_out_member};
-ghost use Rattle.cs_decl.specs.Shape.{is_member};
+ghost use Rattle.cs_decl.specs.Shape.{is_member, is_part_member, part_of};
 ghost use Rattle.cs_decl.specs.declared.entries.LineName.{LineName};
 ghost use Rattle.cs_decl.specs.declared.entries.GroupEntry.{GroupEntry};
 ghost use Rattle.cs_decl.specs.declared.entries.CronEntry.{CronEntry};
+ghost use Rattle.cs_decl.specs.declared.entries.PartEntry.{PartEntry};
 ghost use Rattle.cs_decl.specs.declared.entries.AnacronEntry.{AnacronEntry};
 ghost use Rattle.cs_decl.specs.declared.entries.DefaultEntry.{DefaultEntry};
 ghost use Rattle.cs_decl.specs.declared.entries.Entries.{Entries};
 
-use crate::entries::{AnacronEntry, CronEntry, DefaultEntry, Entries, GroupEntry, LineName};
+use crate::entries::{
+    AnacronEntry, CronEntry, DefaultEntry, Entries, GroupEntry, LineName, PartEntry,
+};
 use cs_civil::{Bytes, Sequence};
 use cs_history::Mode;
 use cs_json::{BAD_SHAPE, FromJson, Misread, member, member_if_there, member_or, only_members};
@@ -148,7 +151,10 @@ fn cron_object(value: &Value) -> Result<(), Misread>
 {
     only_members(
         value,
-        ["command", "group", "line", "max", "mode", "note", "weight"].as_slice(),
+        [
+            "command", "group", "line", "max", "mode", "note", "parts", "weight",
+        ]
+        .as_slice(),
     )
 }
 
@@ -169,6 +175,32 @@ impl FromJson for CronEntry {
             weight: weight_member(alloc, value)?,
             group: text_if_there(alloc, value, "group")?,
             mode: mode_member(value)?,
+            parts: list_member(alloc, value, "parts")?,
+        })
+    }
+}
+
+#[tactic(auto, unfolding(crate::specs::Shape::is_part_member))]
+fn part_object(value: &Value) -> Result<(), Misread>
+    ensures { Gives (λ u. u) result (object_with is_part_member (view value.now)) }
+{
+    only_members(value, ["max", "name", "note"].as_slice())
+}
+
+#[tactic(auto, unfolding(crate::specs::Shape::part_of))]
+impl FromJson for PartEntry {
+    ghost Seen = { PartEntry };
+
+    ghost seen = { λ e. e };
+
+    ghost shape = { part_of };
+
+    fn from_json(alloc: Global, value: &Value) -> Result<PartEntry, Misread> {
+        part_object(value)?;
+        pass_note(value)?;
+        Ok(PartEntry {
+            name: text_member(alloc, value, "name")?,
+            max: member(alloc, value, "max")?,
         })
     }
 }

@@ -1,15 +1,16 @@
 //! The table of faults, row after row.
-ghost use Rattle.std.specs.Prelude.{◌≡◌, IfOk, Some, position, map, option_map, bytes_eq};
+ghost use Rattle.std.specs.Prelude.{◌≡◌, ◌++◌, IfOk, Some, position, map, option_map, bytes_eq};
 ghost use Rattle.std.specs.List.{list_any};
 ghost use Rattle.cs_decl.specs.Faults.{is_within, is_bad_offset, is_bad_max, is_bad_weight};
 ghost use Rattle.cs_decl.specs.Faults.{is_bad_default, needs_group, is_unlisted, are_bad_hours};
 ghost use Rattle.cs_decl.specs.Faults.{is_bad_pass, first_fault, twice_declared, bad_numbers};
-ghost use Rattle.cs_decl.specs.Faults.{bad_groups, bad_times, faults_of};
+ghost use Rattle.cs_decl.specs.Faults.{bad_groups, bad_parts, bad_times, faults_of};
 
 use crate::entries::{AnacronEntry, CronEntry, DefaultEntry, Entries};
 use crate::fault::{DeclFault, Place};
 use crate::limits::{MAX_CAPACITY, MAX_GROUPS, MAX_MINUTES, MAX_OFFSET, MAX_WEIGHT};
 use crate::names::{unlisted_anacron, unlisted_cron};
+use crate::parts::first_with_bad_parts;
 use crate::twice::{twice_group, twice_identifier, twice_line};
 use cs_civil::MINUTES_OF_DAY;
 use std::alloc::{AllocError, Global};
@@ -29,7 +30,7 @@ fn has_bad_offset(entries: &Entries) -> bool
     entries.offset.unsigned_abs() > u128::from(MAX_OFFSET)
 }
 
-fn is_bad_max(max: i128) -> bool
+pub(crate) fn is_bad_max(max: i128) -> bool
     ensures { result ≡ is_bad_max max }
 {
     !is_within(1, MAX_MINUTES, max)
@@ -197,6 +198,27 @@ fn bad_times(entries: &Entries) -> Option<Found>
     None
 }
 
+fn bad_parts(alloc: Global, entries: &Entries) -> Result<Option<Found>, AllocError>
+    ensures { IfOk result (λ f. f ≡ first_fault (bad_parts entries.now)) }
+{
+    match first_with_bad_parts(alloc, entries.cron.as_slice())? {
+        Some(i) => Ok(Some((DeclFault::BadParts, Some(Place::Cron(i))))),
+        None => Ok(None),
+    }
+}
+
+/// What is wrong with times, and then with parts.
+#[tactic(auto, using(crate::proofs::Order::first_bad_time, crate::proofs::Order::past_times))]
+fn bad_times_or_parts(alloc: Global, entries: &Entries) -> Result<Option<Found>, AllocError>
+    ensures { IfOk result
+        (λ f. f ≡ first_fault (bad_times entries.now ++ bad_parts entries.now)) }
+{
+    if let Some(found) = bad_times(entries) {
+        return Ok(Some(found));
+    }
+    bad_parts(alloc, entries)
+}
+
 #[tactic(auto, using(crate::proofs::Order::first_twice_declared, crate::proofs::Order::first_bad_number, crate::proofs::Order::first_bad_group, crate::proofs::Order::past_groups))]
 pub(crate) fn fault_of(alloc: Global, entries: &Entries) -> Result<Option<Found>, AllocError>
     ensures { IfOk result (λ f. f ≡ first_fault (faults_of entries.now)) }
@@ -213,5 +235,5 @@ pub(crate) fn fault_of(alloc: Global, entries: &Entries) -> Result<Option<Found>
     if let Some(found) = bad_groups(alloc, entries)? {
         return Ok(Some(found));
     }
-    Ok(bad_times(entries))
+    bad_times_or_parts(alloc, entries)
 }

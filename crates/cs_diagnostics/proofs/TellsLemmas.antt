@@ -10,7 +10,7 @@ use Rattle.std.proofs.lemmas.Bool.{and_parts, and_from, eqb-true, eq-eqb, leb-tr
 use Rattle.std.proofs.Math.ListN.{drop_of_length-le}
 use Rattle.std.proofs.lemmas.Bool.Decides.{Decides-eqb}
 use Rattle.std.proofs.lemmas.Slice.Eq.{starts_is}
-use Rattle.cs_diagnostics.specs.Told.{IsCalled, IsPart, IsPiece, IsToldIn, TellsPiece, TellsPieces, head, stands_at, tells}
+use Rattle.cs_diagnostics.specs.Told.{EndsWith, IsCalled, IsPart, IsPiece, IsToldIn, TellsPiece, TellsPieces, head, stands_at, tells}
 use Rattle.cs_diagnostics.specs.declared.findings.Finding.{Finding}
 use Rattle.cs_diagnostics.specs.declared.findings.FirstFault.{FirstFault}
 
@@ -66,6 +66,10 @@ piece_of path old name marks top mid new words line column called says first sec
   (name, words ++ marks, line, column, called, refl),
   piece_is old name marks _ _ (codes ": fault: ") words top mid new says first second,
 )
+
+-- What ends the text that is put at an end ends the whole.
+pub ends : (mid marks end below new : List ℕ) → new ≡ mid ++ below → below ≡ marks ++ end → EndsWith end new
+ends mid marks end below new whole says = (mid ++ marks, rw whole (rw says (simp append_assoc refl)))
 
 -- A part of a part is a part.
 pub part_of : (a b c : List ℕ) → IsPart a b → IsPart b c → IsPart a c

@@ -1,10 +1,11 @@
 -- Which faults are among what was found in a file, and are told.
-use Rattle.std.specs.Prelude.{◌≡◌, ◌≢◌, ℕ, ◌+◌, ◌-◌, ◌≤◌, ◌⊎◌, Bool, true, ◌&&◌, ◌||◌, nat_eq, nat_le, List, [], ◌∷◌, ◌++◌, length, codes, decimal, string_bytes, All}
-use Rattle.std.specs.List.{concat, list_any, starts_with}
+use Rattle.std.specs.Prelude.{◌≡◌, ◌≢◌, ℕ, ◌+◌, ◌-◌, ◌≤◌, ◌⊎◌, ◌==◌, Bool, true, ◌&&◌, ◌||◌, nat_eq, nat_le, List, [], ◌∷◌, ◌++◌, length, Option, None, Some, codes, decimal, string_bytes, All}
+use Rattle.std.specs.List.{concat, find, list_any, starts_with}
 use Rattle.cs_diagnostics.specs.declared.findings.TheConstants.{MAX_TOLD}
 use Rattle.cs_diagnostics.specs.declared.findings.Finding.{Finding}
 use Rattle.cs_diagnostics.specs.declared.findings.FirstFault.{FirstFault}
 use Rattle.cs_diagnostics.specs.declared.findings.Findings.{Findings}
+use Rattle.cs_diagnostics.specs.declared.findings.Note.{Note}
 
 -- A finding stands where a fault does. A fault of line 0 is one of the whole file.
 abbrev pub stands_at : FirstFault → Finding → Bool
@@ -69,3 +70,18 @@ pub record TellsPieces (path : List ℕ) (number : ℕ) (text : List ℕ) : Type
 -- A text tells a hundred faults of that file, as many as are told at most.
 abbrev pub IsFull : List ℕ → List ℕ → Type 0
 IsFull path text = TellsPieces path MAX_TOLD text
+
+-- ---- notes
+
+-- the note of a line, if it has one
+abbrev pub note_of : List Note → ℕ → Option Note
+note_of notes line = find (λ note. note.line == line) notes
+
+-- the line that it adds: `  line 14 is /etc/cron.d/munin:12 (munin)`
+abbrev pub note_line : Option Note → List ℕ
+note_line None = []
+note_line (Some note) = codes "  " ++ (note.text.items ++ 10 ∷ [])
+
+-- The one text is the end of the other.
+abbrev pub EndsWith : List ℕ → List ℕ → Type 0
+EndsWith end text = (before : List ℕ) × (text ≡ before ++ end)

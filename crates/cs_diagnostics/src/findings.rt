@@ -27,6 +27,8 @@ pub(crate) struct Finding {
     pub(crate) place: Span,
     /// What it is, in one line.
     pub(crate) words: String,
+    /// The line whose note is told behind it.
+    pub(crate) about: u64,
 }
 
 /// The first fault of a file, as its reader answers it.
@@ -40,6 +42,15 @@ pub struct FirstFault<'a> {
     pub more: usize,
     /// Its number and name.
     pub name: &'a str,
+}
+
+/// What is told of a line behind each finding that is about it.
+#[derive(Drop)]
+pub struct Note {
+    /// The number of the line, from 1.
+    pub line: u64,
+    /// What is told of it, in one line.
+    pub text: Vec<u8>,
 }
 
 impl Finding {
@@ -93,6 +104,9 @@ pub struct Findings {
     pub(crate) more: u64,
     /// Whether anything odd was found.
     pub has_oddities: bool,
+    /// The line that what is added from now on is about: nothing where that is the one on which it
+    /// stands, and 0 where it's about none.
+    pub about: Option<u64>,
 }
 
 impl Findings {
@@ -112,6 +126,7 @@ impl Findings {
             oddities: Vec::new(alloc),
             more: 0,
             has_oddities: false,
+            about: None,
         })
     }
 
@@ -146,6 +161,7 @@ impl Findings {
             start,
             place: Span::of(place.from.saturating_sub(start), place.len()),
             words: format!(in self.alloc; "{words}")?,
+            about: self.about.unwrap_or(line),
         };
         if is_odd {
             return put(&mut self.oddities, finding);
@@ -189,11 +205,13 @@ impl Findings {
         }
         let name = fault.name;
         let words = format!(in self.alloc; "{name}: see 'cronsafe explain'")?;
+        let line = fault.line.max(1);
         let finding = Finding {
-            line: fault.line.max(1),
+            line,
             start: self.line_start(fault.line),
             place: Span::of(fault.from, 1),
             words,
+            about: self.about.unwrap_or(line),
         };
         put(&mut self.faults, finding)?;
         Ok(())

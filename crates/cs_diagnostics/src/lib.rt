@@ -5,6 +5,6 @@ mod findings;
 mod names;
 mod render;
 
-pub use findings::{Done, Findings, FirstFault, MAX_TOLD, Words};
+pub use findings::{Done, Findings, FirstFault, MAX_TOLD, Note, Words};
 pub use names::{meant, nearest, quoted, shown};
 pub use render::File;

@@ -1,11 +1,12 @@
 //! How findings are told: the place and the words, the line, and a mark under the place.
 ghost use Rattle.std.specs.Prelude.{◌≡◌, ◌+◌, ◌++◌, ◌∷◌, [], length, true, false, OnOk, IfOk};
 ghost use Rattle.std.specs.List.{list_any};
+ghost use Rattle.std.specs.Option.{option_map};
 ghost use Rattle.std.specs.String.{string_bytes};
-ghost use Rattle.cs_diagnostics.specs.Told.{IsCalled, IsFull, IsPart, IsToldIn, TellsPiece, TellsPieces, head, is_full, is_told, tells};
+ghost use Rattle.cs_diagnostics.specs.Told.{EndsWith, IsCalled, IsFull, IsPart, IsToldIn, TellsPiece, TellsPieces, head, is_full, is_told, note_line, note_of, tells};
 ghost use Rattle.cs_diagnostics.specs.declared.findings.FirstFault.{FirstFault};
 
-use crate::findings::{Done, Finding, Findings, MAX_TOLD, Words};
+use crate::findings::{Done, Finding, Findings, MAX_TOLD, Note, Words};
 use crate::names::is_control;
 use cs_outline::Span;
 use std::alloc::{AllocError, Global};
@@ -103,11 +104,32 @@ fn heading(alloc: Global, name: &str, is_odd: bool, finding: &Finding) -> Words
     format!(in alloc; "{name}:{line}:{column}: fault: {words}\n")
 }
 
+/// The note of a line, if it has one.
+fn note_of(notes: &[Note], line: u64) -> Option<&Note>
+    ensures { option_map (λ note. note.now) result ≡ note_of notes.now line }
+{
+    notes.iter().find(|note| note.line == line)
+}
+
+/// Adds a note, a line, where there is one.
+fn add_note(text: &mut Vec<u8>, note: Option<&Note>) -> Done
+    ensures { OnOk result (text.new.items
+        ≡ text.old.items ++ note_line (option_map (λ note. note.now) note.entry)) }
+{
+    let Some(note) = note else {
+        return Ok(());
+    };
+    text.extend_from_slice(b"  ")?;
+    text.extend_from_slice(note.text.as_slice())?;
+    text.extend_from_slice(b"\n")
+}
+
 /// Adds what is told of a finding.
 fn add_finding(
     alloc: Global,
     text: &mut Vec<u8>,
     file: &File<'_>,
+    notes: &[Note],
     is_odd: bool,
     finding: &Finding,
 ) -> Done
@@ -116,11 +138,15 @@ fn add_finding(
     ensures kept { OnOk result (IsPart text.old.items text.new.items) }
     ensures piece { OnOk result (is_odd ≡ false
         → TellsPiece file.now.path.now text.old.items text.new.items) }
+    // The note of the line that it is about comes last.
+    ensures note { OnOk result (EndsWith (note_line (note_of notes.now finding.now.about))
+        text.new.items) }
 {
     let heading = heading(alloc, file.name(), is_odd, finding)?;
-    let marked = marked(alloc, file.bytes, finding)?;
+    let mut below = marked(alloc, file.bytes, finding)?;
+    add_note(&mut below, note_of(notes, finding.about))?;
     text.extend_from_slice(heading.as_bytes())?;
-    text.extend_from_slice(marked.as_slice())?;
+    text.extend_from_slice(below.as_slice())?;
     Ok(())
 }
 
@@ -129,6 +155,7 @@ fn add_findings(
     alloc: Global,
     text: &mut Vec<u8>,
     file: &File<'_>,
+    notes: &[Note],
     is_odd: bool,
     findings: &[Finding],
 ) -> Done
@@ -139,7 +166,7 @@ fn add_findings(
         → TellsPieces file.now.path.now (length findings.now) text.new.items) }
 {
     for finding in findings.iter() {
-        add_finding(alloc, text, file, is_odd, finding)?;
+        add_finding(alloc, text, file, notes, is_odd, finding)?;
     }
     Ok(())
 }
@@ -150,10 +177,11 @@ impl Findings {
     /// Of each a line `FILE:LINE:COLUMN: fault: WORDS` or `FILE:LINE:COLUMN: odd: WORDS`, lines and
     /// columns counted from 1, columns in bytes; then the line of the place, a control byte other
     /// than a tab as `?`; then `^` and a `~` for each further letter of the place under it. Of a
-    /// line of more than 160 bytes a part round the place is shown, with `...` for what isn't.
-    /// Behind [`MAX_TOLD`](crate::MAX_TOLD) of them stands `FILE: and N more`. The only error is
-    /// want of memory.
-    pub fn tell(&self, file: &File<'_>, text: &mut Vec<u8>) -> Done
+    /// line of more than 160 bytes a part round the place is shown, with `...` for what isn't. Last
+    /// comes the note of the line that it is about, if there is one, behind two blanks. Behind
+    /// [`MAX_TOLD`](crate::MAX_TOLD) of them stands `FILE: and N more`. The only error is want of
+    /// memory.
+    pub fn tell(&self, file: &File<'_>, notes: &[Note], text: &mut Vec<u8>) -> Done
         // Each fault that is among them is told at its line and column.
         ensures told { OnOk result ((fault : FirstFault) → is_told fault self.now ≡ true
             → IsToldIn text.new.items fault) }
@@ -161,11 +189,11 @@ impl Findings {
         ensures full { OnOk result (is_full self.now ≡ true
             → IsFull file.now.path.now text.new.items) }
     {
-        add_findings(self.alloc, text, file, false, self.faults.as_slice())?;
+        add_findings(self.alloc, text, file, notes, false, self.faults.as_slice())?;
         let left = MAX_TOLD
             .saturating_sub(self.faults.len())
             .min(self.oddities.len());
-        add_findings(self.alloc, text, file, true, &self.oddities[..left])?;
+        add_findings(self.alloc, text, file, notes, true, &self.oddities[..left])?;
         if self.more > 0 {
             let (name, more) = (file.name(), self.more);
             let last = format!(in self.alloc; "{name}: and {more} more\n")?;

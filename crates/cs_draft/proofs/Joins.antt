@@ -2,6 +2,7 @@
 use Rattle.std.proofs.Common.{◌≡◌, List, ℕ, IfOk, IsTrue, Bool, None, Result, Ok, Err}
 use Rattle.cs_crontab.specs.Crontab.{Table as Crontab}
 use Rattle.cs_anacrontab.specs.Anacrontab.{Table as Anacrontab}
+use Rattle.cs_gather.specs.declared.places.Place.{Place}
 use Rattle.cs_decl.specs.declared.entries.Entries.{Entries}
 use Rattle.cs_decl.specs.Plan.{Declared}
 use Rattle.cs_decl.specs.Faults.{first_fault}
@@ -14,7 +15,7 @@ unfolding joined
 plan_fits crontab anacrontab d plan h = (no_fault _ plan _ h).0
 
 -- what was read back is an update, where it fits
-module _ (crontab : Crontab) (anacrontab : Anacrontab) (old : Entries) (max : ℕ) (d : Entries) (bytes : List ℕ) (update : first_fault (join_faults crontab anacrontab d) ≡ None → IsUpdate crontab anacrontab old max bytes) where
-  pub updates : {E : Type 0} (r : Result Bool E) → IfOk r (λ b. IsTrue b → first_fault (join_faults crontab anacrontab d) ≡ None) → IfOk r (λ b. IsTrue b → IsUpdate crontab anacrontab old max bytes)
+module _ (crontab : Crontab) (anacrontab : Anacrontab) (places : List Place) (old : Entries) (max : ℕ) (d : Entries) (bytes : List ℕ) (update : first_fault (join_faults crontab anacrontab d) ≡ None → IsUpdate crontab anacrontab places old max bytes) where
+  pub updates : {E : Type 0} (r : Result Bool E) → IfOk r (λ b. IsTrue b → first_fault (join_faults crontab anacrontab d) ≡ None) → IfOk r (λ b. IsTrue b → IsUpdate crontab anacrontab places old max bytes)
   updates (Ok b) fits = λ yes. update (fits yes)
   updates (Err e) fits = fits

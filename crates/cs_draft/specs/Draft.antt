@@ -1,6 +1,6 @@
 -- What is drawn up: declarations that join with the tables, and that keep what older ones declare.
-use Rattle.std.specs.Prelude.{◌≡◌, ◌≢◌, ◌⊎◌, ◌≤ℤ◌, ℕ, ℤ, pos, unsigned_abs, List, All, length, take, drop, Bool, true, false, not, ◌==◌, ◌&&◌, bytes_eq, Option, None, Some, IfNone, IfSome, IsSomeAnd, Ok}
-use Rattle.std.specs.List.{count_by, find, list_any}
+use Rattle.std.specs.Prelude.{◌≡◌, ◌≢◌, ◌⊎◌, ◌+◌, ◌*◌, ◌/◌, ◌<◌, ◌≤◌, min, max as nat_max, ℕ, ℤ, pos, unsigned_abs, List, [], ◌∷◌, All, length, map, take, drop, Bool, true, false, not, ◌==◌, ◌&&◌, nat_le, bytes_eq, if◌then◌else◌, Option, None, Some, IfNone, IfSome, IsSomeAnd, Ok}
+use Rattle.std.specs.List.{count_by, find, list_all, list_any}
 use Rattle.std.specs.Str.{IsUtf8}
 use Rattle.cs_crontab.specs.Crontab.{Table as Crontab, CommandLine}
 use Rattle.cs_crontab.specs.declared.table.When.{When}
@@ -8,17 +8,20 @@ use Rattle.cs_crontab.specs.declared.table.When.TheVariants.{At, Reboot}
 use Rattle.cs_anacrontab.specs.Anacrontab.{Table as Anacrontab, JobLine}
 use Rattle.cs_schedule.specs.Times.{Times}
 use Rattle.cs_gap.specs.Gap.{AreApart, can_be_apart}
+use Rattle.cs_gather.specs.Places.{place_of}
+use Rattle.cs_gather.specs.declared.places.Place.{Place}
 use Rattle.cs_civil.specs.declared.minute.TheConstants.{MINUTES_OF_DAY}
 use Rattle.cs_history.specs.declared.mode.Mode.{Mode}
 use Rattle.cs_history.specs.declared.mode.Mode.TheVariants.{Plain}
-use Rattle.cs_decl.specs.declared.limits.TheConstants.{MAX_CAPACITY, MAX_GROUPS}
+use Rattle.cs_decl.specs.declared.limits.TheConstants.{MAX_CAPACITY, MAX_GROUPS, MAX_MINUTES}
 use Rattle.cs_decl.specs.declared.entries.LineName.{LineName}
+use Rattle.cs_decl.specs.declared.entries.PartEntry.{PartEntry}
 use Rattle.cs_decl.specs.declared.entries.CronEntry.{CronEntry}
 use Rattle.cs_decl.specs.declared.entries.DefaultEntry.{DefaultEntry}
 use Rattle.cs_decl.specs.declared.entries.GroupEntry.{GroupEntry}
 use Rattle.cs_decl.specs.declared.entries.AnacronEntry.{AnacronEntry}
 use Rattle.cs_decl.specs.declared.entries.Entries.{Entries}
-use Rattle.cs_decl.specs.Faults.{first_fault}
+use Rattle.cs_decl.specs.Faults.{first_fault, minutes_of}
 use Rattle.cs_decl.specs.Meaning.{declared_by}
 use Rattle.cs_decl.specs.Join.{is_left_out, is_named, is_of_job, is_reboot, join_faults}
 use Rattle.cs_decl.specs.Lines.{names_of}
@@ -43,24 +46,86 @@ pub record IsSound (crontab : Crontab) (anacrontab : Anacrontab) (bytes : List �
   pub fits : first_fault (join_faults crontab anacrontab d) ≡ None
   pub bound : All (IsBound d) crontab.lines
 
+-- ---- parts
+
+-- the names of the parts that the place of a line tells
+abbrev pub names_at : Option Place → List (List ℕ)
+names_at None = []
+names_at (Some place) = place.parts
+
+-- the name is among them
+abbrev pub has_name : List ℕ → List (List ℕ) → Bool
+has_name name names = list_any (λ other. bytes_eq other name) names
+
+-- no name stands twice
+abbrev pub have_own : List (List ℕ) → Bool
+have_own [] = true
+have_own (name ∷ names) = not (has_name name names) && have_own names
+
+-- All of them; or none where declarations can't have them: two have one name, or there are more than
+-- a job may have minutes.
+abbrev pub declarable : List (List ℕ) → List (List ℕ)
+declarable names =
+    if nat_le (length names) MAX_MINUTES && have_own names then names else []
+
+-- the parts of the line with that number, by its place in a gathered table
+abbrev pub parts_of : List Place → ℕ → List (List ℕ)
+parts_of places number = declarable (names_at (place_of places number))
+
+-- the part has that name
+abbrev pub is_part : List ℕ → PartEntry → Bool
+is_part name p = bytes_eq p.name name
+
+-- the longest time of a part, which is a share where it is new
+abbrev pub time_of : ℕ → Option PartEntry → ℤ
+time_of share None = pos share
+time_of share (Some p) = p.max
+
+-- parts of these names, of which those that were there keep their longest time
+abbrev pub parts_with : ℕ → List PartEntry → List (List ℕ) → List PartEntry
+parts_with share old names =
+    map (λ name. record { name = name; max = time_of share (find (is_part name) old) }) names
+
 -- ---- drafts
 
 -- The longest time is the asked one, or one that can be from a due minute to the next; it isn't
 -- more than the asked one, nor than any from a due minute to the next.
-abbrev pub IsBrief : ℕ → Times → CronEntry → Type 0
-IsBrief max schedule e = (e.max ≤ℤ pos max) × AreApart schedule (unsigned_abs e.max)
-    × ((e.max ≡ pos max) ⊎ (can_be_apart schedule (unsigned_abs e.max) ≡ true))
+abbrev pub IsBrief : ℕ → Times → ℕ → Type 0
+IsBrief asked schedule brief = (brief ≤ asked) × AreApart schedule brief
+    × ((brief ≡ asked) ⊎ (can_be_apart schedule brief ≡ true))
 
--- A command that is started at startup is left out, and each other one has an entry that is brief
--- and has the least weight.
-abbrev pub IsDraftedAs : ℕ → Option CronEntry → Bool → When → Type 0
-IsDraftedAs max entry is_out (At schedule) =
-    (is_out ≡ false) × IsSomeAnd entry (λ e. IsBrief max schedule e × (e.weight ≡ pos 1))
-IsDraftedAs max entry is_out Reboot = is_out ≡ true
+-- Of a brief time of so many parts together each has an equal share, and at least one minute.
+abbrev pub IsShare : ℕ → Times → ℕ → ℕ → Type 0
+IsShare asked schedule count share = (brief : ℕ)
+    × IsBrief (min (count * asked) MAX_MINUTES) schedule brief
+    × (share ≡ nat_max 1 (brief / count))
 
-abbrev pub IsDrafted : ℕ → Entries → CommandLine → Type 0
-IsDrafted max d line =
-    IsDraftedAs max (find (λ e. is_named e.name line) d.cron) (is_left_out d line) line.when
+-- the longest time is brief, and there are no parts
+abbrev pub IsTimedAlone : ℕ → Times → CronEntry → Type 0
+IsTimedAlone asked schedule e =
+    (brief : ℕ) × IsBrief asked schedule brief × (e.max ≡ pos brief) × (e.parts ≡ [])
+
+-- parts of these names have a share each, and the longest time is their sum
+abbrev pub IsTimedByParts : ℕ → Times → List (List ℕ) → CronEntry → Type 0
+IsTimedByParts asked schedule names e = (share : ℕ)
+    × IsShare asked schedule (length names) share
+    × (e.max ≡ pos (length names * share)) × (e.parts ≡ parts_with share [] names)
+
+-- the longest times of an entry whose command has parts of these names, or none
+abbrev pub IsTimed : ℕ → Times → List (List ℕ) → CronEntry → Type 0
+IsTimed asked schedule [] e = IsTimedAlone asked schedule e
+IsTimed asked schedule (name ∷ names) e = IsTimedByParts asked schedule (name ∷ names) e
+
+-- A command that is started at startup is left out, and each other one has an entry with the times
+-- of these parts and the least weight.
+abbrev pub IsDraftedAs : ℕ → List (List ℕ) → Option CronEntry → Bool → When → Type 0
+IsDraftedAs asked names entry is_out (At schedule) = (is_out ≡ false)
+    × IsSomeAnd entry (λ e. IsTimed asked schedule names e × (e.weight ≡ pos 1))
+IsDraftedAs asked names entry is_out Reboot = is_out ≡ true
+
+abbrev pub IsDrafted : ℕ → List Place → Entries → CommandLine → Type 0
+IsDrafted asked places d line = IsDraftedAs asked (parts_of places line.number)
+    (find (λ e. is_named e.name line) d.cron) (is_left_out d line) line.when
 
 -- the text is this one
 abbrev pub is_text : List ℕ → Option (List ℕ) → Bool
@@ -112,12 +177,12 @@ pub record AreFresh (east : ℤ) (d : Entries) : Type 0 where
 
 -- Each job has an entry of its own, which has the lock of its command; `@reboot` lines alone are left
 -- out; and each group is exclusive, and that of an entry.
-pub record IsDraft (crontab : Crontab) (anacrontab : Anacrontab) (max : ℕ) (east : ℤ)
-    (bytes : List ℕ) : Type 0 where
+pub record IsDraft (crontab : Crontab) (anacrontab : Anacrontab) (places : List Place) (max : ℕ)
+    (east : ℤ) (bytes : List ℕ) : Type 0 where
   pub entries : Entries
   pub sound : IsSound crontab anacrontab bytes entries
   pub terms : AreFresh east entries
-  pub lines : All (IsDrafted max entries) crontab.lines
+  pub lines : All (IsDrafted max places entries) crontab.lines
   pub locks : All (HasLock entries) crontab.lines
   pub groups : All (IsDraftedGroup entries) entries.groups
   pub jobs : All (IsDraftedJob max entries) anacrontab.lines
@@ -142,9 +207,41 @@ is_lone lines old line = not (is_reboot line.when)
 abbrev pub is_new : Entries → CommandLine → Bool
 is_new old line = not (is_reboot line.when) && times_told line.command old == 0
 
--- the same is declared by two entries
-abbrev pub AreAlike : CronEntry → CronEntry → Type 0
-AreAlike o n = (n.max ≡ o.max) × (n.weight ≡ o.weight) × (n.group ≡ o.group) × (n.mode ≡ o.mode)
+-- the names of the parts are these, in any order
+abbrev pub are_same : List (List ℕ) → List PartEntry → Bool
+are_same names parts = list_all (λ name. list_any (is_part name) parts) names
+    && list_all (λ p. has_name p.name names) parts
+
+-- there are parts in the entry and in the table, and not the same ones
+abbrev pub have_changed : List (List ℕ) → List PartEntry → Bool
+have_changed names parts =
+    not (length names == 0) && (not (length parts == 0) && not (are_same names parts))
+
+-- with that longest time of new parts, all take more minutes than a job may
+abbrev pub AreTooLong : ℕ → List PartEntry → List (List ℕ) → Type 0
+AreTooLong share old names = MAX_MINUTES < minutes_of (parts_with share old names)
+
+-- The parts have the table's names, and the longest time is their sum. New ones have the asked
+-- longest time, or less, but not a minute less than there is room for.
+pub record AreRenewed (asked : ℕ) (names : List (List ℕ)) (o n : CronEntry) : Type 0 where
+  pub share : ℕ
+  pub within : share ≤ asked
+  pub parts : n.parts ≡ parts_with share o.parts names
+  pub sum : n.max ≡ pos (minutes_of n.parts)
+  pub most : (share ≡ asked) ⊎ AreTooLong (share + 1) o.parts names
+
+-- The longest time and the parts are kept, unless parts came or went: then they are renewed, where
+-- there is room for a minute of each.
+abbrev pub KeepsTimes : ℕ → List (List ℕ) → CronEntry → CronEntry → Type 0
+KeepsTimes asked names o n =
+    ((have_changed names o.parts ≡ true) × AreRenewed asked names o n)
+    ⊎ (((have_changed names o.parts ≡ false) ⊎ AreTooLong 1 o.parts names)
+    × (n.max ≡ o.max) × (n.parts ≡ o.parts))
+
+-- the same is declared by two entries, but for parts that came or went
+abbrev pub AreAlike : ℕ → List (List ℕ) → CronEntry → CronEntry → Type 0
+AreAlike asked names o n = KeepsTimes asked names o n
+    × (n.weight ≡ o.weight) × (n.group ≡ o.group) × (n.mode ≡ o.mode)
 
 abbrev pub AreAlikeJobs : AnacronEntry → AnacronEntry → Type 0
 AreAlikeJobs o n = (n.max ≡ o.max) × (n.weight ≡ o.weight) × (n.group ≡ o.group)
@@ -154,9 +251,10 @@ abbrev pub IsKept : {E : Type 0} → (E → E → Type 0) → Option E → Optio
 IsKept Alike old new = IfSome old (λ o. IsSomeAnd new (Alike o))
 
 -- the line's entry is like the old one that tells its command, and it is left out if that was
-pub record IsKeptLine (old new : Entries) (line : CommandLine) : Type 0 where
-  pub entry : IsKept AreAlike (find (λ e. tells line.command e.name) old.cron)
-      (find (λ e. is_named e.name line) new.cron)
+pub record IsKeptLine (asked : ℕ) (places : List Place) (old new : Entries) (line : CommandLine)
+    : Type 0 where
+  pub entry : IsKept (AreAlike asked (parts_of places line.number))
+      (find (λ e. tells line.command e.name) old.cron) (find (λ e. is_named e.name line) new.cron)
   pub left_out : list_any (tells line.command) old.left_out ≡ true → is_left_out new line ≡ true
 
 abbrev pub IsKeptJob : Entries → Entries → JobLine → Type 0
@@ -179,9 +277,10 @@ IsAsNew None entry Drafted = Drafted
 IsAsNew (Some default) entry Drafted = entry ≡ None
 
 -- A new command's line is declared so, and isn't left out. Its entry has the lock of its command.
-abbrev pub IsNewLine : ℕ → Entries → Entries → CommandLine → Type 0
-IsNewLine max old new line = is_new old line ≡ true
-    → IsAsNew old.default (find (λ e. is_named e.name line) new.cron) (IsDrafted max new line)
+abbrev pub IsNewLine : ℕ → List Place → Entries → Entries → CommandLine → Type 0
+IsNewLine max places old new line = is_new old line ≡ true
+    → IsAsNew old.default (find (λ e. is_named e.name line) new.cron)
+    (IsDrafted max places new line)
     × (is_left_out new line ≡ false) × HasLock new line
 
 -- an anacron job that has no old entry is declared so
@@ -192,14 +291,14 @@ IsNewJob max old new line = IfNone (find (is_of_job line.identifier) old.anacron
 -- What is declared of a command that one line has and one old entry tells is declared of that line,
 -- and what is declared of an anacron job is. What no old entry tells is declared as in a draft with
 -- that longest time, or has the default where there is one; each new group is that of an entry.
-pub record IsUpdate (crontab : Crontab) (anacrontab : Anacrontab) (old : Entries) (max : ℕ)
-    (bytes : List ℕ) : Type 0 where
+pub record IsUpdate (crontab : Crontab) (anacrontab : Anacrontab) (places : List Place)
+    (old : Entries) (max : ℕ) (bytes : List ℕ) : Type 0 where
   pub entries : Entries
   pub sound : IsSound crontab anacrontab bytes entries
-  pub lines : All (λ line. is_lone crontab.lines old line ≡ true → IsKeptLine old entries line)
-      crontab.lines
+  pub lines : All (λ line. is_lone crontab.lines old line ≡ true
+      → IsKeptLine max places old entries line) crontab.lines
   pub jobs : All (IsKeptJob old entries) anacrontab.lines
   pub terms : AreTerms old entries
-  pub new_lines : All (IsNewLine max old entries) crontab.lines
+  pub new_lines : All (IsNewLine max places old entries) crontab.lines
   pub new_jobs : All (IsNewJob max old entries) anacrontab.lines
   pub new_groups : All (IsDraftedGroup entries) (drop (length old.groups) entries.groups)

@@ -12,16 +12,18 @@ use crate::terms::is_drafted_job;
 use cs_anacrontab::Job;
 use cs_crontab::Line;
 use cs_decl::Entries;
+use cs_gather::Place;
 use std::alloc::{AllocError, Global};
 
 /// Whether the line is declared as in a draft, or has no entry where there is a default.
-fn is_as_new(asked: u64, old: &Entries, new: &Entries, line: &Line) -> bool
+fn is_as_new(asked: u64, places: &[Place], old: &Entries, new: &Entries, line: &Line) -> bool
     ensures { IsTrue result → IsAsNew old.now.default
-        (find (λ e. is_named e.name line.now) new.now.cron) (IsDrafted asked new.now line.now) }
+        (find (λ e. is_named e.name line.now) new.now.cron)
+        (IsDrafted asked places.now new.now line.now) }
 {
     match old.default {
         Some(_) => entry_of(new, line).is_none(),
-        None => is_drafted(asked, new, line),
+        None => is_drafted(asked, places, new, line),
     }
 }
 
@@ -30,16 +32,17 @@ fn is_as_new(asked: u64, old: &Entries, new: &Entries, line: &Line) -> bool
 fn is_new_line(
     alloc: Global,
     asked: u64,
+    places: &[Place],
     old: &Entries,
     new: &Entries,
     line: &Line,
 ) -> Result<bool, AllocError>
-    ensures { IfOk result (λ b. IsTrue b → IsNewLine asked old.now new.now line.now) }
+    ensures { IfOk result (λ b. IsTrue b → IsNewLine asked places.now old.now new.now line.now) }
 {
     if !is_new(old, line) {
         return Ok(true);
     }
-    if !is_as_new(asked, old, new, line) || is_left_out(new, line) {
+    if !is_as_new(asked, places, old, new, line) || is_left_out(new, line) {
         return Ok(false);
     }
     has_lock(alloc, new, line)
@@ -49,14 +52,16 @@ fn is_new_line(
 pub(crate) fn are_new_lines(
     alloc: Global,
     asked: u64,
+    places: &[Place],
     old: &Entries,
     new: &Entries,
     lines: &[Line],
 ) -> Result<bool, AllocError>
-    ensures { IfOk result (λ b. IsTrue b → All (IsNewLine asked old.now new.now) lines.now) }
+    ensures { IfOk result
+        (λ b. IsTrue b → All (IsNewLine asked places.now old.now new.now) lines.now) }
 {
     for line in lines {
-        if !is_new_line(alloc, asked, old, new, line)? {
+        if !is_new_line(alloc, asked, places, old, new, line)? {
             return Ok(false);
         }
     }

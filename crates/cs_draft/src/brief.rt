@@ -1,13 +1,16 @@
 //! Whether each line of a crontab is declared as a draft has it.
-ghost use Rattle.std.specs.Prelude.{◌≡◌, ◌⊎◌, ◌≤◌, All, IsTrue, pos, true};
+ghost use Rattle.std.specs.Prelude.{◌≡◌, ◌⊎◌, ◌*◌, ◌≤◌, [], All, IsTrue, length, pos, true};
 ghost use Rattle.cs_gap.specs.Gap.{AreApart, can_be_apart};
 ghost use Rattle.cs_gap.specs.declared.gap.TheConstants.{MAX_GAP};
-ghost use Rattle.cs_draft.specs.Draft.{IsBrief, IsDrafted};
+ghost use Rattle.cs_draft.specs.Draft.{IsDrafted, IsShare, IsTimed, IsTimedAlone, parts_of, parts_with};
 
 use crate::names::{entry_of, is_left_out};
+use crate::parts::{are_parts_with, parts_of};
+use cs_civil::Bytes;
 use cs_crontab::{Line, When};
-use cs_decl::{CronEntry, Entries};
+use cs_decl::{CronEntry, Entries, MAX_MINUTES};
 use cs_gap::{MAX_GAP, least_gap};
+use cs_gather::Place;
 use cs_schedule::Schedule;
 
 /// The longest time of a new command in minutes: the asked one, or the time to its next due minute if
@@ -24,23 +27,65 @@ pub(crate) fn brief_max(schedule: &Schedule, asked: u64) -> u64
     }
 }
 
-/// Whether the weight is 1, and the longest time that of a new command, where that is looked for.
-fn is_brief(asked: u64, schedule: &Schedule, entry: &CronEntry) -> bool
-    ensures { IsTrue result → IsBrief asked schedule.now entry.now × (entry.now.weight ≡ pos 1) }
+/// The longest time of each of so many parts of a new command in minutes: an equal share of a time
+/// that is brief, but at least one minute.
+pub(crate) fn share_of(schedule: &Schedule, asked: u64, count: usize) -> u64
+    ensures { 1 ≤ count → IsShare asked schedule.now count result }
 {
-    if asked > u64::from(MAX_GAP) || entry.weight != 1 {
+    let all = asked
+        .saturating_mul(count as u64)
+        .min(u64::from(MAX_MINUTES));
+    let brief = brief_max(schedule, all);
+    if count == 0 {
+        return 1;
+    }
+    (brief / count as u64).max(1)
+}
+
+/// Whether the longest time is brief, and there are no parts.
+fn is_timed_alone(asked: u64, schedule: &Schedule, entry: &CronEntry) -> bool
+    ensures { IsTrue result → IsTimedAlone asked schedule.now entry.now }
+{
+    if asked > u64::from(MAX_GAP) || !entry.parts.is_empty() {
         return false;
     }
     entry.max == i128::from(brief_max(schedule, asked))
 }
 
-/// Whether the line is left out if it is started at startup, and else has an entry that is brief.
-pub(crate) fn is_drafted(asked: u64, entries: &Entries, line: &Line) -> bool
-    ensures { IsTrue result → IsDrafted asked entries.now line.now }
+/// Whether parts of those names have that longest time each, and the entry has their sum.
+fn has_shares(share: u64, names: &[Bytes], entry: &CronEntry) -> bool
+    ensures max { IsTrue result → entry.now.max ≡ pos (length names.now * share) }
+    ensures parts { IsTrue result → entry.now.parts ≡ parts_with share [] names.now }
 {
+    let Some(all) = (names.len() as u64).checked_mul(share) else {
+        return false;
+    };
+    entry.max == i128::from(all) && are_parts_with(share, &[], names, entry.parts.as_slice())
+}
+
+/// Whether the longest times are those of a new command with parts of those names.
+fn is_timed(asked: u64, schedule: &Schedule, names: &[Bytes], entry: &CronEntry) -> bool
+    ensures { IsTrue result → IsTimed asked schedule.now names.now entry.now }
+{
+    if names.is_empty() {
+        return is_timed_alone(asked, schedule, entry);
+    }
+    has_shares(share_of(schedule, asked, names.len()), names, entry)
+}
+
+/// Whether the line is left out if it is started at startup, and else has an entry with such times
+/// that weighs 1.
+pub(crate) fn is_drafted(asked: u64, places: &[Place], entries: &Entries, line: &Line) -> bool
+    ensures { IsTrue result → IsDrafted asked places.now entries.now line.now }
+{
+    let names = parts_of(places, line.number());
     match line.when() {
         When::At(schedule) => match entry_of(entries, line) {
-            Some(entry) => !is_left_out(entries, line) && is_brief(asked, schedule, entry),
+            Some(entry) => {
+                !is_left_out(entries, line)
+                    && entry.weight == 1
+                    && is_timed(asked, schedule, names, entry)
+            }
             None => false,
         },
         When::Reboot => is_left_out(entries, line),
@@ -48,11 +93,11 @@ pub(crate) fn is_drafted(asked: u64, entries: &Entries, line: &Line) -> bool
 }
 
 /// And so of all lines.
-pub(crate) fn are_drafted(asked: u64, entries: &Entries, lines: &[Line]) -> bool
-    ensures { IsTrue result → All (IsDrafted asked entries.now) lines.now }
+pub(crate) fn are_drafted(asked: u64, places: &[Place], entries: &Entries, lines: &[Line]) -> bool
+    ensures { IsTrue result → All (IsDrafted asked places.now entries.now) lines.now }
 {
     for line in lines {
-        if !is_drafted(asked, entries, line) {
+        if !is_drafted(asked, places, entries, line) {
             return false;
         }
     }

@@ -13,6 +13,7 @@ use crate::terms::{are_drafted_jobs, are_fresh};
 use cs_anacrontab::{Anacrontab, Job};
 use cs_crontab::{Crontab, Line};
 use cs_decl::{DeclError, Declarations, Entries, join, read_declarations};
+use cs_gather::Place;
 use std::alloc::{AllocError, Global};
 
 /// Whether there is a plan of the tables and the declarations. The only error is want of memory.
@@ -42,29 +43,45 @@ fn are_sound(entries: &Entries, lines: &[Line]) -> bool
 }
 
 /// Whether the entries are those of a draft, but for the locks of commands.
-fn are_drafts(max: u64, offset: i16, entries: &Entries, lines: &[Line], jobs: &[Job]) -> bool
+fn are_drafts(
+    max: u64,
+    offset: i16,
+    places: &[Place],
+    entries: &Entries,
+    lines: &[Line],
+    jobs: &[Job],
+) -> bool
     ensures once { IsTrue result → entries.now.doubled ≡ None }
     ensures bound { IsTrue result → All (IsBound entries.now) lines.now }
     ensures terms { IsTrue result → AreFresh offset entries.now }
-    ensures lines { IsTrue result → All (IsDrafted max entries.now) lines.now }
+    ensures lines { IsTrue result → All (IsDrafted max places.now entries.now) lines.now }
     ensures groups { IsTrue result → All (IsDraftedGroup entries.now) entries.now.groups }
     ensures jobs { IsTrue result → All (IsDraftedJob max entries.now) jobs.now }
 {
     are_sound(entries, lines)
         && are_fresh(offset, entries)
-        && are_drafted(max, entries, lines)
+        && are_drafted(max, places, entries, lines)
         && are_drafted_groups(entries, entries.groups.as_slice())
         && are_drafted_jobs(max, entries, jobs)
 }
 
 /// Whether the entries keep what the old ones declare.
-fn are_kept(old: &Entries, new: &Entries, lines: &[Line], jobs: &[Job]) -> bool
+fn are_kept(
+    max: u64,
+    places: &[Place],
+    old: &Entries,
+    new: &Entries,
+    lines: &[Line],
+    jobs: &[Job],
+) -> bool
     ensures lines { IsTrue result → All (λ line. is_lone lines.now old.now line ≡ true
-        → IsKeptLine old.now new.now line) lines.now }
+        → IsKeptLine max places.now old.now new.now line) lines.now }
     ensures jobs { IsTrue result → All (IsKeptJob old.now new.now) jobs.now }
     ensures terms { IsTrue result → AreTerms old.now new.now }
 {
-    are_kept_lines(old, new, lines) && are_kept_jobs(old, new, jobs) && are_terms(old, new)
+    are_kept_lines(max, places, old, new, lines)
+        && are_kept_jobs(old, new, jobs)
+        && are_terms(old, new)
 }
 
 /// Whether each further group is exclusive, and that of an entry.
@@ -81,11 +98,13 @@ pub(crate) fn is_draft(
     alloc: Global,
     table: &Crontab,
     jobs: &Anacrontab,
+    places: &[Place],
     max: u64,
     offset: i16,
     text: &[u8],
 ) -> Result<bool, AllocError>
-    ensures { IfOk result (λ b. IsTrue b → IsDraft table.now jobs.now max offset text.now) }
+    ensures { IfOk result
+        (λ b. IsTrue b → IsDraft table.now jobs.now places.now max offset text.now) }
 {
     let declarations = match read_declarations(alloc, text) {
         Ok(declarations) => declarations,
@@ -93,7 +112,7 @@ pub(crate) fn is_draft(
         Err(DeclError::At { .. }) => return Ok(false),
     };
     let entries = declarations.entries();
-    if !are_drafts(max, offset, entries, table.lines(), jobs.lines()) {
+    if !are_drafts(max, offset, places, entries, table.lines(), jobs.lines()) {
         return Ok(false);
     }
     if !have_locks(alloc, entries, table.lines())? {
@@ -107,11 +126,13 @@ pub(crate) fn is_update(
     alloc: Global,
     table: &Crontab,
     jobs: &Anacrontab,
+    places: &[Place],
     old: &Entries,
     max: u64,
     text: &[u8],
 ) -> Result<bool, AllocError>
-    ensures { IfOk result (λ b. IsTrue b → IsUpdate table.now jobs.now old.now max text.now) }
+    ensures { IfOk result
+        (λ b. IsTrue b → IsUpdate table.now jobs.now places.now old.now max text.now) }
 {
     let declarations = match read_declarations(alloc, text) {
         Ok(declarations) => declarations,
@@ -120,13 +141,13 @@ pub(crate) fn is_update(
     };
     let new = declarations.entries();
     let (lines, job_lines) = (table.lines(), jobs.lines());
-    if !are_sound(new, lines) || !are_kept(old, new, lines, job_lines) {
+    if !are_sound(new, lines) || !are_kept(max, places, old, new, lines, job_lines) {
         return Ok(false);
     }
     if !are_new_jobs(max, old, new, job_lines) || !are_new_groups(old, new) {
         return Ok(false);
     }
-    if !are_new_lines(alloc, max, old, new, lines)? {
+    if !are_new_lines(alloc, max, places, old, new, lines)? {
         return Ok(false);
     }
     is_fitting(alloc, table, jobs, declarations)

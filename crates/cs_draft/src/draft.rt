@@ -4,11 +4,13 @@ ghost use Rattle.cs_draft.specs.Drawing.{IsDrawing, IsUpdating};
 
 use crate::confirm::{is_draft, is_update};
 use crate::fresh::fresh_texts;
+use crate::old::Old;
 use crate::updated::updated_texts;
 use cs_anacrontab::Anacrontab;
 use cs_civil::Bytes;
 use cs_crontab::Crontab;
-use cs_decl::{Declarations, MAX_MINUTES};
+use cs_decl::{Declarations, Entries, MAX_MINUTES};
+use cs_gather::Place;
 use cs_json::{Misread, parse};
 use std::alloc::{AllocError, Global};
 use std::marker::Model;
@@ -75,26 +77,29 @@ fn is_possible_max(max: u64) -> bool
 /// are ahead of UTC by `offset` minutes.
 ///
 /// Each job has that longest time, or a command the time to its own next due minute if that is
-/// shorter, and the capacity is the greatest. A command that is run under flock(1) has the group of
-/// the lock file, which is exclusive and has the file's name, and the mode that the options ask for:
-/// `try` for `-n`, `shared` for `-s`, else `wait`. Where no mode or no group is like it, it has no
-/// lock, and a warning tells why. `@reboot` lines are left out, each with a warning. What is drawn up
-/// was read back, compared with the commands and joined with the tables. The only error is want of
-/// memory.
+/// shorter, and the capacity is the greatest. A command that has parts, as the places tell, has them
+/// in its entry: each has an equal share of the time to the next due minute, but at most `max`
+/// minutes and at least one, and the longest time is their sum. A command that is run under flock(1)
+/// has the group of the lock file, which is exclusive and has the file's name, and the mode that the
+/// options ask for: `try` for `-n`, `shared` for `-s`, else `wait`. Where no mode or no group is like
+/// it, it has no lock, and a warning tells why. `@reboot` lines are left out, each with a warning. What
+/// is drawn up was read back, compared with the commands and joined with the tables. The only error is
+/// want of memory.
 pub fn draw_up(
     alloc: Global,
     table: &Crontab,
     jobs: &Anacrontab,
+    places: &[Place],
     max: u64,
     offset: i16,
 ) -> Result<Drawing, AllocError>
-    ensures { IfOk result (IsDrawing table.now jobs.now max offset) }
+    ensures { IfOk result (IsDrawing table.now jobs.now places.now max offset) }
 {
     if !is_possible_max(max) {
         return Ok(Drawing::BadMax);
     }
-    let (text, warnings) = fresh_texts(alloc, table, jobs, max, offset)?;
-    if !is_draft(alloc, table, jobs, max, offset, text.as_slice())? {
+    let (text, warnings) = fresh_texts(alloc, table, jobs, places, max, offset)?;
+    if !is_draft(alloc, table, jobs, places, max, offset, text.as_slice())? {
         return Ok(Drawing::NotConfirmed);
     }
     Ok(Drawing::Drawn(Draft {
@@ -108,11 +113,19 @@ fn texts_of(
     alloc: Global,
     table: &Crontab,
     jobs: &Anacrontab,
+    places: &[Place],
+    entries: &Entries,
     bytes: &[u8],
     max: u64,
 ) -> Result<Option<(Vec<u8>, Vec<u8>)>, AllocError> {
     match parse(alloc, bytes) {
-        Ok(value) => Ok(Some(updated_texts(alloc, table, jobs, &value, max)?)),
+        Ok(value) => {
+            let old = Old {
+                value: &value,
+                entries,
+            };
+            Ok(Some(updated_texts(alloc, table, jobs, places, old, max)?))
+        }
         Err(Misread::Memory) => Err(AllocError),
         Err(Misread::Fault(_)) => Ok(None),
     }
@@ -122,27 +135,38 @@ fn texts_of(
 ///
 /// A command that an old entry tells keeps what that declares, wherever its line is now: of several
 /// entries and lines of one command, if there are as many of both, the first is that of the first,
-/// and so on. An anacron job keeps what is declared of its identifier, and all else is as before.
-/// Where there is no default, what is new is declared as by [`draw_up`]. What is new or gone is told.
-/// What is drawn up was read back, compared with the old declarations and the commands, and joined
-/// with the tables. The only error is want of memory.
+/// and so on. Where its entry has parts, and the places tell others, those that stay keep their
+/// longest times, and the longest time is the new sum. An anacron job keeps what is declared of its
+/// identifier, and all else is as before. Where there is no default, what is new is declared as by
+/// [`draw_up`]. What is new or gone is told. What is drawn up was read back, compared with the old
+/// declarations and the commands, and joined with the tables. The only error is want of memory.
 pub fn update(
     alloc: Global,
     table: &Crontab,
     jobs: &Anacrontab,
+    places: &[Place],
     old: &Declarations,
     bytes: &[u8],
     max: u64,
 ) -> Result<Drawing, AllocError>
-    ensures { IfOk result (IsUpdating table.now jobs.now old.now max) }
+    ensures { IfOk result (IsUpdating table.now jobs.now places.now old.now max) }
 {
     if !is_possible_max(max) {
         return Ok(Drawing::BadMax);
     }
-    let Some((text, warnings)) = texts_of(alloc, table, jobs, bytes, max)? else {
+    let Some((text, warnings)) = texts_of(alloc, table, jobs, places, old.entries(), bytes, max)?
+    else {
         return Ok(Drawing::NotConfirmed);
     };
-    if !is_update(alloc, table, jobs, old.entries(), max, text.as_slice())? {
+    if !is_update(
+        alloc,
+        table,
+        jobs,
+        places,
+        old.entries(),
+        max,
+        text.as_slice(),
+    )? {
         return Ok(Drawing::NotConfirmed);
     }
     Ok(Drawing::Drawn(Draft {

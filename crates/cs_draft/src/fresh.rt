@@ -5,6 +5,7 @@ use crate::sheet::Sheet;
 use cs_anacrontab::Anacrontab;
 use cs_crontab::{Crontab, Line, When};
 use cs_decl::MAX_CAPACITY;
+use cs_gather::Place;
 use std::alloc::{AllocError, Global};
 
 /// Adds the entry of a command, or leaves it out where it is started at startup.
@@ -24,10 +25,11 @@ pub(crate) fn fresh_texts(
     alloc: Global,
     table: &Crontab,
     jobs: &Anacrontab,
+    places: &[Place],
     max: u64,
     offset: i16,
 ) -> Result<(Vec<u8>, Vec<u8>), AllocError> {
-    let mut sheet = Sheet::new(alloc, max);
+    let mut sheet = Sheet::new(alloc, places, max);
     for line in table.lines() {
         add_line(alloc, &mut sheet, line)?;
     }

@@ -1,13 +1,16 @@
 //! Whether new declarations keep what old ones declare.
 ghost use Rattle.std.specs.Prelude.{◌≡◌, ◌==◌, All, IsTrue, bytes_eq, length, option_map, take, true};
 ghost use Rattle.std.specs.List.{count_by, find, list_any};
-ghost use Rattle.cs_draft.specs.Draft.{AreAlike, AreAlikeJobs, AreTerms, IsKept, IsKeptJob, IsKeptLine, is_lone, is_new, tells, times_told};
+ghost use Rattle.cs_decl.specs.Join.{is_named};
+ghost use Rattle.cs_draft.specs.Draft.{AreAlike, AreAlikeJobs, AreTerms, IsKept, IsKeptJob, IsKeptLine, is_lone, is_new, parts_of, tells, times_told};
 
 use crate::names::{entry_of, is_left_out, is_reboot, job_entry, tells};
+use crate::parts::{keeps_times, parts_of};
 use cs_anacrontab::Job;
 use cs_civil::Bytes;
 use cs_crontab::Line;
 use cs_decl::{AnacronEntry, CronEntry, DefaultEntry, Entries, GroupEntry, LineName};
+use cs_gather::Place;
 
 fn is_same_name(old: &Option<Bytes>, new: &Option<Bytes>) -> bool
     ensures { IsTrue result → new.now ≡ old.now }
@@ -19,10 +22,10 @@ fn is_same_name(old: &Option<Bytes>, new: &Option<Bytes>) -> bool
     }
 }
 
-fn are_alike(old: &CronEntry, new: &CronEntry) -> bool
-    ensures { IsTrue result → AreAlike old.now new.now }
+fn are_alike(asked: u64, names: &[Bytes], old: &CronEntry, new: &CronEntry) -> bool
+    ensures { IsTrue result → AreAlike asked names.now old.now new.now }
 {
-    old.max == new.max
+    keeps_times(asked, names, old, new)
         && old.weight == new.weight
         && is_same_name(&old.group, &new.group)
         && old.mode == new.mode
@@ -95,13 +98,14 @@ fn entry_that_tells<'e>(entries: &'e Entries, command: &[u8]) -> Option<&'e Cron
     cron.iter().find(|entry| tells(command, &entry.name))
 }
 
-fn is_kept(old: Option<&CronEntry>, new: Option<&CronEntry>) -> bool
-    ensures { IsTrue result → IsKept AreAlike (option_map (λ e. e.now) old.entry)
+fn is_kept(asked: u64, names: &[Bytes], old: Option<&CronEntry>, new: Option<&CronEntry>) -> bool
+    ensures { IsTrue result
+        → IsKept (AreAlike asked names.now) (option_map (λ e. e.now) old.entry)
         (option_map (λ e. e.now) new.entry) }
 {
     match old {
         Some(old) => match new {
-            Some(new) => are_alike(old, new),
+            Some(new) => are_alike(asked, names, old, new),
             None => false,
         },
         None => true,
@@ -116,28 +120,51 @@ fn was_left_out(old: &Entries, command: &[u8]) -> bool
     names.iter().any(|name| tells(command, name))
 }
 
-fn is_kept_line(old: &Entries, new: &Entries, line: &Line) -> bool
-    ensures { IsTrue result → IsKeptLine old.now new.now line.now }
+/// Whether the line's entry declares what the old one that tells its command does, if there is one.
+fn keeps_entry(asked: u64, places: &[Place], old: &Entries, new: &Entries, line: &Line) -> bool
+    ensures { IsTrue result → IsKept (AreAlike asked (parts_of places.now line.now.number))
+        (find (λ e. tells line.now.command e.name) old.now.cron)
+        (find (λ e. is_named e.name line.now) new.now.cron) }
 {
-    let command = line.command();
-    is_kept(entry_that_tells(old, command), entry_of(new, line))
-        && (!was_left_out(old, command) || is_left_out(new, line))
+    let names = parts_of(places, line.number());
+    let entry = entry_that_tells(old, line.command());
+    is_kept(asked, names, entry, entry_of(new, line))
 }
 
-fn is_kept_if_lone(lines: &[Line], old: &Entries, new: &Entries, line: &Line) -> bool
+fn is_kept_line(asked: u64, places: &[Place], old: &Entries, new: &Entries, line: &Line) -> bool
+    ensures { IsTrue result → IsKeptLine asked places.now old.now new.now line.now }
+{
+    keeps_entry(asked, places, old, new, line)
+        && (!was_left_out(old, line.command()) || is_left_out(new, line))
+}
+
+fn is_kept_if_lone(
+    asked: u64,
+    places: &[Place],
+    lines: &[Line],
+    old: &Entries,
+    new: &Entries,
+    line: &Line,
+) -> bool
     ensures { IsTrue result → is_lone lines.now old.now line.now ≡ true
-        → IsKeptLine old.now new.now line.now }
+        → IsKeptLine asked places.now old.now new.now line.now }
 {
-    !is_lone(lines, old, line) || is_kept_line(old, new, line)
+    !is_lone(lines, old, line) || is_kept_line(asked, places, old, new, line)
 }
 
-/// Whether each lone line is declared as before.
-pub(crate) fn are_kept_lines(old: &Entries, new: &Entries, lines: &[Line]) -> bool
+/// Whether each lone line is declared as before, with new parts where there are some.
+pub(crate) fn are_kept_lines(
+    asked: u64,
+    places: &[Place],
+    old: &Entries,
+    new: &Entries,
+    lines: &[Line],
+) -> bool
     ensures { IsTrue result → All (λ line. is_lone lines.now old.now line ≡ true
-        → IsKeptLine old.now new.now line) lines.now }
+        → IsKeptLine asked places.now old.now new.now line) lines.now }
 {
     for line in lines {
-        if !is_kept_if_lone(lines, old, new, line) {
+        if !is_kept_if_lone(asked, places, lines, old, new, line) {
             return false;
         }
     }

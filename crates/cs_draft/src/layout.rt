@@ -86,6 +86,24 @@ impl Object {
         Ok(())
     }
 
+    /// Adds a member that is a list of objects. The only error is want of memory.
+    pub(crate) fn add_list(
+        &mut self,
+        alloc: Global,
+        name: &str,
+        objects: &[Object],
+    ) -> Result<(), AllocError> {
+        let mut text = String::from_str(alloc, "[")?;
+        for (i, object) in objects.iter().enumerate() {
+            if i > 0 {
+                text.push_str(", ")?;
+            }
+            text.push_str(object.text(alloc)?.as_str())?;
+        }
+        text.push_str("]")?;
+        self.add(name, text.as_str())
+    }
+
     /// The text of the object. The only error is want of memory.
     pub(crate) fn text(&self, alloc: Global) -> Result<String, AllocError> {
         let members = self.members.as_str();

@@ -4,13 +4,33 @@
 use crate::names::is_reboot;
 use crate::told::Told;
 use cs_crontab::Line;
+use cs_decl::{Entries, PartEntry};
 use serde_json::Value;
 use std::alloc::{AllocError, Global};
+
+/// Declarations as their JSON has them, and as they were read.
+#[derive(Clone, Copy)]
+pub(crate) struct Old<'v> {
+    pub(crate) value: &'v Value,
+    pub(crate) entries: &'v Entries,
+}
+
+impl<'v> Old<'v> {
+    /// The parts of the entry at that index of `cron`.
+    fn parts_at(self, index: usize) -> &'v [PartEntry] {
+        match self.entries.cron.as_slice().get(index) {
+            Some(entry) => entry.parts.as_slice(),
+            None => &[],
+        }
+    }
+}
 
 /// An entry that tells a command.
 #[derive(Clone, Copy)]
 pub(crate) struct Bound<'v> {
     pub(crate) entry: &'v Value,
+    /// Its parts; of an entry that leaves a line out there are none.
+    pub(crate) parts: &'v [PartEntry],
     pub(crate) command: &'v str,
     /// The number of the line, if that is told.
     pub(crate) number: Option<u64>,
@@ -32,17 +52,18 @@ fn add_bound<'v>(
     alloc: Global,
     bound: &mut Vec<Bound<'v>>,
     told: &mut Told,
-    old: &'v Value,
+    old: Old<'v>,
     list: &str,
     is_left_out: bool,
 ) -> Result<(), AllocError> {
-    let Some(entries) = items(old, list) else {
+    let Some(entries) = items(old.value, list) else {
         return Ok(());
     };
     for (i, entry) in entries.iter().enumerate() {
         match text_of(entry, "command") {
             Some(command) => bound.push(Bound {
                 entry,
+                parts: if is_left_out { &[] } else { old.parts_at(i) },
                 command,
                 number: entry.get("line").and_then(Value::as_u64),
                 is_left_out,
@@ -58,7 +79,7 @@ fn add_bound<'v>(
 pub(crate) fn bound_in<'v>(
     alloc: Global,
     told: &mut Told,
-    old: &'v Value,
+    old: Old<'v>,
 ) -> Result<Vec<Bound<'v>>, AllocError> {
     let mut bound = Vec::new(alloc);
     add_bound(alloc, &mut bound, told, old, "cron", false)?;

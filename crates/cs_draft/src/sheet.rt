@@ -1,12 +1,16 @@
 //! Declarations as they are drawn up, job by job.
 
-use crate::brief::brief_max;
 use crate::layout::{Front, Listing, Object};
 use crate::lock::{Lock, lock_of};
+use crate::old::Bound;
+use crate::parts::{declarable, has_name, has_part, have_changed, is_placed, names_at};
+use crate::times::{add_new_times, add_old_times, add_renewed_times, room_for};
 use crate::told::Told;
 use crate::unlocked::Unlocked;
+use cs_civil::Bytes;
 use cs_crontab::Line;
-use cs_decl::MAX_GROUPS;
+use cs_decl::{MAX_GROUPS, MAX_MINUTES, PartEntry};
+use cs_gather::Place;
 use cs_history::Mode;
 use cs_schedule::Schedule;
 use indexmap::IndexSet;
@@ -16,6 +20,7 @@ use std::alloc::{AllocError, Global};
 /// The entries so far, the names of the groups, in order of first use, and what is told.
 #[derive(Drop)]
 pub(crate) struct Sheet<'a> {
+    places: &'a [Place],
     max: u64,
     names: IndexSet<&'a str>,
     groups: Listing,
@@ -52,9 +57,10 @@ fn add_lock(alloc: Global, entry: &mut Object, file: &str, mode: Mode) -> Result
 }
 
 impl<'a> Sheet<'a> {
-    /// No entries, for a longest time of new jobs in minutes.
-    pub(crate) fn new(alloc: Global, max: u64) -> Sheet<'a> {
+    /// No entries, for the places of the lines and a longest time of new jobs in minutes.
+    pub(crate) fn new(alloc: Global, places: &'a [Place], max: u64) -> Sheet<'a> {
         Sheet {
+            places,
             max,
             names: IndexSet::new(alloc),
             groups: Listing::new(alloc),
@@ -116,6 +122,23 @@ impl<'a> Sheet<'a> {
         self.told.unlocked(alloc, line.number(), reason)
     }
 
+    /// The names of the parts of a line; none where declarations can't have them, which is told. The
+    /// only error is want of memory.
+    fn parts_of(&mut self, alloc: Global, line: &Line) -> Result<&'a [Bytes], AllocError> {
+        let names = names_at(self.places, line.number());
+        let parts = declarable(names);
+        if parts.len() == names.len() {
+            return Ok(parts);
+        }
+        let reason = if names.len() > usize::from(MAX_MINUTES) {
+            "more parts than a job may have minutes: they aren't declared"
+        } else {
+            "two parts of one name: they aren't declared"
+        };
+        self.told.undeclared(alloc, line.number(), reason)?;
+        Ok(parts)
+    }
+
     /// Adds the entry of a new command. The only error is want of memory.
     pub(crate) fn add_new(
         &mut self,
@@ -125,27 +148,87 @@ impl<'a> Sheet<'a> {
     ) -> Result<(), AllocError> {
         let mut entry = Object::new(alloc);
         entry.add_number(alloc, "line", u64::from(line.number()))?;
-        entry.add_number(alloc, "max", brief_max(schedule, self.max))?;
+        let names = self.parts_of(alloc, line)?;
+        add_new_times(alloc, &mut entry, schedule, self.max, names)?;
         self.add_lock_of(alloc, &mut entry, line)?;
         add_command(alloc, &mut entry, line)?;
         self.cron.add(alloc, &entry)
     }
 
-    /// Adds the entry of a command as it was declared, with the number of its line if it is to be
-    /// told. The only error is want of memory.
+    /// Tells which parts came and which ones went. The only error is want of memory.
+    fn tell_parts(
+        &mut self,
+        alloc: Global,
+        number: u32,
+        old: &[PartEntry],
+        names: &[Bytes],
+    ) -> Result<(), AllocError> {
+        for name in names {
+            if !has_part(old, name.as_slice()) {
+                self.told.new_part(alloc, number, name.as_slice())?;
+            }
+        }
+        for part in old {
+            if !has_name(part.name.as_slice(), names) {
+                self.told.gone_part(alloc, number, part.name.as_slice())?;
+            }
+        }
+        Ok(())
+    }
+
+    /// Tells that parts are kept of which the table tells nothing, if it tells where the line comes
+    /// from. The only error is want of memory.
+    fn tell_kept_parts(&mut self, alloc: Global, number: u32) -> Result<(), AllocError> {
+        if is_placed(self.places, number) && names_at(self.places, number).is_empty() {
+            return self.told.no_parts(alloc, number);
+        }
+        Ok(())
+    }
+
+    /// Adds the longest time and the parts of an old entry, which has some: those that the table has.
+    /// The only error is want of memory.
+    fn add_parts(
+        &mut self,
+        alloc: Global,
+        entry: &mut Object,
+        line: &Line,
+        old: Bound<'_>,
+    ) -> Result<(), AllocError> {
+        let number = line.number();
+        let names = self.parts_of(alloc, line)?;
+        if !have_changed(names, old.parts) {
+            self.tell_kept_parts(alloc, number)?;
+            return add_old_times(alloc, entry, old.entry);
+        }
+        let Some(share) = room_for(self.max, old.parts, names) else {
+            let reason = "more parts than a job may have minutes: its entry is kept";
+            self.told.undeclared(alloc, number, reason)?;
+            return add_old_times(alloc, entry, old.entry);
+        };
+        self.tell_parts(alloc, number, old.parts, names)?;
+        add_renewed_times(alloc, entry, share, old, names)
+    }
+
+    /// Adds the entry of a command as it was declared, but for parts that came or went; with the
+    /// number of its line if it is to be told. The only error is want of memory.
     pub(crate) fn add_kept(
         &mut self,
         alloc: Global,
         line: &Line,
-        old: &Value,
+        old: Bound<'_>,
         is_numbered: bool,
     ) -> Result<(), AllocError> {
         let mut entry = Object::new(alloc);
         if is_numbered {
             entry.add_number(alloc, "line", u64::from(line.number()))?;
         }
-        let names = ["max", "weight", "group", "mode", "note"];
-        entry.add_members(alloc, old, names.as_slice())?;
+        if old.parts.is_empty() {
+            add_old_times(alloc, &mut entry, old.entry)?;
+        } else {
+            self.add_parts(alloc, &mut entry, line, old)?;
+        }
+        let names = ["weight", "group", "mode", "note"];
+        entry.add_members(alloc, old.entry, names.as_slice())?;
         add_command(alloc, &mut entry, line)?;
         self.cron.add(alloc, &entry)
     }

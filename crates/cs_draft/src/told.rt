@@ -44,6 +44,52 @@ impl Told {
         self.add(line.as_str())
     }
 
+    /// The parts of that line's command aren't declared. The only error is want of memory.
+    pub(crate) fn undeclared(
+        &mut self,
+        alloc: Global,
+        number: u32,
+        reason: &str,
+    ) -> Result<(), AllocError> {
+        let line = format!(in alloc;
+            "warning: the command on line {number} of the crontab has {reason}\n"
+        )?;
+        self.add(line.as_str())
+    }
+
+    /// That line's command has no parts in the table, and its entry has some. The only error is want
+    /// of memory.
+    pub(crate) fn no_parts(&mut self, alloc: Global, number: u32) -> Result<(), AllocError> {
+        let line = format!(in alloc;
+            "note: line {number} has no parts in the crontab: those of its entry are kept\n"
+        )?;
+        self.add(line.as_str())
+    }
+
+    /// That line's command has a part that its entry doesn't have. The only error is want of memory.
+    pub(crate) fn new_part(
+        &mut self,
+        alloc: Global,
+        number: u32,
+        name: &[u8],
+    ) -> Result<(), AllocError> {
+        let name = shown(alloc, name)?;
+        let line = format!(in alloc; "note: line {number} has a new part: {name}\n")?;
+        self.add(line.as_str())
+    }
+
+    /// That line's command has no such part any more. The only error is want of memory.
+    pub(crate) fn gone_part(
+        &mut self,
+        alloc: Global,
+        number: u32,
+        name: &[u8],
+    ) -> Result<(), AllocError> {
+        let name = shown(alloc, name)?;
+        let line = format!(in alloc; "note: line {number} has no part {name} any more\n")?;
+        self.add(line.as_str())
+    }
+
     /// The line of that number is left out, as before. The only error is want of memory.
     pub(crate) fn left_out(&mut self, alloc: Global, number: u32) -> Result<(), AllocError> {
         let line = format!(in alloc; "note: line {number} is left out of the plan\n")?;

@@ -1,11 +1,12 @@
 //! The draft of tables of which something is declared already.
 
 use crate::layout::{Front, Object, value_text};
-use crate::old::{Bound, bound_in, count_lines, entry_of, items, text_of};
+use crate::old::{Bound, Old, bound_in, count_lines, entry_of, items, text_of};
 use crate::sheet::Sheet;
 use crate::told::Told;
 use cs_anacrontab::{Anacrontab, Job};
 use cs_crontab::{Crontab, Line, When};
+use cs_gather::Place;
 use cs_schedule::Schedule;
 use serde_json::Value;
 use std::alloc::{AllocError, Global};
@@ -45,15 +46,20 @@ struct Update<'a> {
 }
 
 impl<'a> Update<'a> {
-    fn of(alloc: Global, old: &'a Value, max: u64) -> Result<Update<'a>, AllocError> {
-        let mut sheet = Sheet::new(alloc, max);
-        add_groups(alloc, &mut sheet, old)?;
+    fn of(
+        alloc: Global,
+        places: &'a [Place],
+        old: Old<'a>,
+        max: u64,
+    ) -> Result<Update<'a>, AllocError> {
+        let mut sheet = Sheet::new(alloc, places, max);
+        add_groups(alloc, &mut sheet, old.value)?;
         let bound = bound_in(alloc, &mut sheet.told, old)?;
         Ok(Update {
             sheet,
             bound,
             kept: Vec::new(alloc),
-            has_default: old.get("default").is_some(),
+            has_default: old.value.get("default").is_some(),
             defaulted: 0,
         })
     }
@@ -101,7 +107,7 @@ impl<'a> Update<'a> {
                 .sheet
                 .leave_out(alloc, line, Some(old.entry), is_numbered);
         }
-        self.sheet.add_kept(alloc, line, old.entry, is_numbered)
+        self.sheet.add_kept(alloc, line, old, is_numbered)
     }
 
     /// Adds a line that has none, unless there is a default.
@@ -214,11 +220,12 @@ pub(crate) fn updated_texts(
     alloc: Global,
     table: &Crontab,
     jobs: &Anacrontab,
-    old: &Value,
+    places: &[Place],
+    old: Old<'_>,
     max: u64,
 ) -> Result<(Vec<u8>, Vec<u8>), AllocError> {
     let lines = table.lines();
-    let mut update = Update::of(alloc, old, max)?;
+    let mut update = Update::of(alloc, places, old, max)?;
     for (place, line) in lines.iter().enumerate() {
         update.add_line(alloc, lines, place, line)?;
     }
@@ -226,7 +233,7 @@ pub(crate) fn updated_texts(
     for job in jobs.lines() {
         // the identifiers of a table that was read are UTF-8
         if let Ok(identifier) = str::from_utf8(job.identifier()) {
-            update.add_job(alloc, old, identifier)?;
+            update.add_job(alloc, old.value, identifier)?;
         }
     }
     let Update {
@@ -234,7 +241,7 @@ pub(crate) fn updated_texts(
         defaulted,
         ..
     } = update;
-    tell_gone_jobs(alloc, &mut sheet.told, jobs.lines(), old)?;
+    tell_gone_jobs(alloc, &mut sheet.told, jobs.lines(), old.value)?;
     sheet.told.defaulted(alloc, defaulted)?;
-    sheet.into_texts(alloc, &front(alloc, old)?)
+    sheet.into_texts(alloc, &front(alloc, old.value)?)
 }

@@ -2,7 +2,7 @@
 use crate::meaning::Meaning;
 
 /// In the order of their numbers.
-pub(crate) static MEANINGS: [Meaning; 17] = [
+pub(crate) static MEANINGS: [Meaning; 18] = [
     Meaning {
         name: "NotJson",
         short: "the bytes aren't JSON",
@@ -19,10 +19,10 @@ right:
         name: "BadShape",
         short: "a member is unknown or absent, or has no value of its kind",
         text: r#"The members are capacity, offset, hours, pass, groups, default, cron, anacron
-and left_out. Those of a cron entry are line, command, max, weight, group and
-mode; of left_out line and command, of which one is enough; of default max and
-weight. Each object may have a note, a text. Numbers are whole and have no
-quotes; offset is -1439 to 1439.
+and left_out. Those of a cron entry are line, command, max, weight, group, mode
+and parts; of a part name and max; of left_out line and command, of which one is
+enough; of default max and weight. Each object may have a note, a text. Numbers
+are whole and have no quotes; offset is -1439 to 1439.
 crontab:
   30 23 * * * /usr/bin/backup
 wrong:
@@ -214,5 +214,20 @@ wrong:
 right:
   {"capacity": 1, "cron": [{"line": 1, "command": "/usr/bin/poll", "max": 10},
                            {"line": 2, "command": "/usr/bin/poll", "max": 20}]}"#,
+    },
+    Meaning {
+        name: "BadParts",
+        short: "two parts have one name, one isn't 1 to 4320, or the sum isn't max",
+        text: r#"The parts are what run-parts(8) runs, one after the other, so max is the sum of
+theirs. Each has a name of its own, and a max from 1 to 4320. 'cronsafe lint'
+says which part is wrong.
+crontab:
+  25 6 * * * run-parts /etc/cron.daily
+wrong:
+  {"capacity": 1, "cron": [{"line": 1, "max": 60,
+   "parts": [{"name": "logrotate", "max": 60}, {"name": "man-db", "max": 30}]}]}
+right:
+  {"capacity": 1, "cron": [{"line": 1, "max": 90,
+   "parts": [{"name": "logrotate", "max": 60}, {"name": "man-db", "max": 30}]}]}"#,
     },
 ];

@@ -9,7 +9,7 @@ use Rattle.cs_crontab.specs.declared.fault.LineFault.TheVariants.{TooLong, TooMa
 use Rattle.cs_system.specs.declared.fault.SystemFault.TheVariants.{Line}
 use Rattle.cs_gather.specs.Gathered.{GatheredCommand}
 use Rattle.cs_gather.specs.Gather.{IsLineAt, IsOverflow}
-use Rattle.cs_gather.proofs.Parts.{parts_at}
+use Rattle.cs_gather.proofs.Between.{parts_at}
 
 -- so many lines of the text are behind, and the rest is left
 pub record IsWalked (text rest : List ℕ) (number : ℕ) : Type 0 where

@@ -1,7 +1,7 @@
 -- A text by its last byte, and its last word.
 use Rattle.std.proofs.Common.{◌≡◌, ℕ, zero, suc, ◌+◌, ◌-◌, ◌<◌, ◌≤◌, true, false, List, [], ◌∷◌, ◌++◌, length, get_or, take, reverse, refl, sym, ap, ◌∙◌, arith}
 use Rattle.std.proofs.lemmas.List.{take_more, take_all, length-take-le, reverse-append, reverse-reverse}
-use Rattle.cs_table.specs.Text.{after, is_blank, is_solid}
+use Rattle.cs_table.specs.Text.{after, is_blank}
 use Rattle.cs_gather.specs.Places.{before_word}
 
 by_last : (xs : List ℕ) → 1 ≤ length xs → xs ≡ take (length xs - 1) xs ++ get_or xs (length xs - 1) 0 ∷ []

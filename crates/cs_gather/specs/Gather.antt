@@ -15,22 +15,27 @@ use Rattle.cs_system.specs.declared.fault.SystemFault.{SystemFault}
 use Rattle.cs_system.specs.declared.fault.SystemFault.TheVariants.{Line}
 use Rattle.cs_system.specs.System.{Table as SystemTable}
 use Rattle.cs_system.specs.Faults.{IsSystemCrontab, IsFaultOf}
-use Rattle.cs_gather.specs.Gathered.{GatheredCommand, of_system, of_user, place_comment}
+use Rattle.cs_gather.specs.Gathered.{GatheredCommand, comments, of_system, of_user}
+use Rattle.cs_gather.specs.declared.programs.Parts.{Parts}
 
 -- ---- what the text says
 
--- The line above that number is this comment.
-abbrev pub IsAbove : List (List ℕ) → ℕ → List ℕ → Type 0
-IsAbove lines number comment =
-    (before behind : List (List ℕ)) × (lines ≡ before ++ (comment ∷ behind))
-    × (number ≡ length before + 2)
+-- These comments stand at the front of lines.
+abbrev pub BeginWith : List (List ℕ) → List (List ℕ) → Type 0
+BeginWith lines comments = (behind : List (List ℕ)) × (lines ≡ comments ++ behind)
 
--- A line of the text has the same time and command, and its place stands above it.
+-- The lines above that number are these comments.
+abbrev pub AreAbove : List (List ℕ) → ℕ → List (List ℕ) → Type 0
+AreAbove lines number comments =
+    (before from : List (List ℕ)) × (lines ≡ before ++ from) × BeginWith from comments
+    × (number ≡ length before + length comments + 1)
+
+-- A line of the text has the same time and command, and its place and then its parts stand above it.
 pub record IsGathered (lines : List (List ℕ)) (line : CommandLine) (gathered : GatheredCommand)
     : Type 0 where
   pub when : line.when ≡ gathered.when
   pub command : line.command ≡ gathered.command
-  pub place : IsAbove lines line.number (place_comment gathered)
+  pub place : AreAbove lines line.number (comments gathered)
 
 -- `CRONSAFE_TABLE`: by a setting of this name `run` sees that a table was gathered (this profile)
 abbrev pub mark_name : List ℕ
@@ -53,14 +58,15 @@ pub record Gathers (text : List ℕ) (commands : List GatheredCommand) : Type 0 
 
 -- ---- what a table adds
 
-abbrev pub AddsSystem : List ℕ → List ℕ → List GatheredCommand → List GatheredCommand → Type 0
-AddsSystem name text old more = (table : SystemTable) × IsSystemCrontab text table
-    × (more ≡ old ++ map (of_system name) table.lines)
+abbrev pub AddsSystem : List ℕ → List ℕ → List Parts → List GatheredCommand
+    → List GatheredCommand → Type 0
+AddsSystem name text parts old more = (table : SystemTable) × IsSystemCrontab text table
+    × (more ≡ old ++ map (of_system name parts) table.lines)
 
-abbrev pub AddsUser : List ℕ → List ℕ → List ℕ → List GatheredCommand → List GatheredCommand
-    → Type 0
-AddsUser name user text old more = (table : Table) × IsCrontab text table
-    × (more ≡ old ++ map (of_user name user) table.lines)
+abbrev pub AddsUser : List ℕ → List ℕ → List ℕ → List Parts → List GatheredCommand
+    → List GatheredCommand → Type 0
+AddsUser name user text parts old more = (table : Table) × IsCrontab text table
+    × (more ≡ old ++ map (of_user name user parts) table.lines)
 
 -- ---- why a table is refused
 
@@ -101,14 +107,15 @@ abbrev pub room_behind : List GatheredCommand → ℕ
 room_behind old = MAX_COMMANDS - length old
 
 -- The table has this first fault of its own, or it has none, and too much to add.
-abbrev pub IsSystemFault : List ℕ → List ℕ → List GatheredCommand → TableFault SystemFault → Type 0
-IsSystemFault name text old fault = IsFaultOf text fault
+abbrev pub IsSystemFault : List ℕ → List ℕ → List Parts → List GatheredCommand
+    → TableFault SystemFault → Type 0
+IsSystemFault name text parts old fault = IsFaultOf text fault
     ⊎ ((table : SystemTable) × IsSystemCrontab text table
-    × IsOverflow text (room_behind old) (map (of_system name) table.lines) fault)
+    × IsOverflow text (room_behind old) (map (of_system name parts) table.lines) fault)
 
-abbrev pub IsUserFault : List ℕ → List ℕ → List ℕ → List GatheredCommand → TableFault SystemFault
-    → Type 0
-IsUserFault name user text old fault =
+abbrev pub IsUserFault : List ℕ → List ℕ → List ℕ → List Parts → List GatheredCommand
+    → TableFault SystemFault → Type 0
+IsUserFault name user text parts old fault =
     ((inner : TableFault LineFault) × users.IsFaultOf text inner × (fault ≡ as_system inner))
     ⊎ ((table : Table) × IsCrontab text table
-    × IsOverflow text (room_behind old) (map (of_user name user) table.lines) fault)
+    × IsOverflow text (room_behind old) (map (of_user name user parts) table.lines) fault)

@@ -1,39 +1,53 @@
 -- A command that is gathered from a table, and the comment with its place.
-use Rattle.std.specs.Prelude.{ℕ, ◌+◌, ◌/◌, ◌%◌, Bool, ◌&&◌, ◌==◌, not, nat_le, nat_lt, if◌then◌else◌, List, [], ◌∷◌, ◌++◌, flat_map, decimal, codes}
+use Rattle.std.specs.Prelude.{ℕ, ◌+◌, ◌/◌, ◌%◌, Bool, ◌&&◌, ◌==◌, not, nat_le, nat_lt, if◌then◌else◌, List, [], ◌∷◌, ◌++◌, map, flat_map, decimal, codes, Option, Some, None}
+use Rattle.std.specs.List.{find}
 use Rattle.cs_crontab.specs.declared.table.When.{When}
 use Rattle.cs_crontab.specs.Crontab.{CommandLine}
 use Rattle.cs_system.specs.System.{SystemCommand}
+use Rattle.cs_gather.specs.declared.programs.Parts.{Parts}
 
--- a command, when it is started, the user that it runs as, the name of its table, and the number of
--- its line there, counted from 1
+-- a command, when it is started, the user that it runs as, the name of its table, the number of its
+-- line there, counted from 1, and the names of the parts that it runs by run-parts(8)
 pub record GatheredCommand : Type 0 where
   pub name : List ℕ
   pub number : ℕ
   pub user : List ℕ
   pub when : When
   pub command : List ℕ
+  pub parts : List (List ℕ)
 
--- a command of the system table of that name
-abbrev pub of_system : List ℕ → SystemCommand → GatheredCommand
-of_system name line = record {
+-- the names of these parts, or none
+abbrev pub names_in : Option Parts → List (List ℕ)
+names_in None = []
+names_in (Some parts) = parts.names
+
+-- those of the line of that number: the first of its number counts
+abbrev pub names_at : List Parts → ℕ → List (List ℕ)
+names_at parts number = names_in (find (λ p. p.line == number) parts)
+
+-- a command of the system table of that name, in which commands have these parts
+abbrev pub of_system : List ℕ → List Parts → SystemCommand → GatheredCommand
+of_system name parts line = record {
   name = name;
   number = line.number;
   user = line.user;
   when = line.when;
   command = line.command;
+  parts = names_at parts line.number;
 }
 
 -- a command of that user's table
-abbrev pub of_user : List ℕ → List ℕ → CommandLine → GatheredCommand
-of_user name user line = record {
+abbrev pub of_user : List ℕ → List ℕ → List Parts → CommandLine → GatheredCommand
+of_user name user parts line = record {
   name = name;
   number = line.number;
   user = user;
   when = line.when;
   command = line.command;
+  parts = names_at parts line.number;
 }
 
--- ---- the comment
+-- ---- the comments
 
 -- a byte that a comment shows as it is: no control byte and no `\`
 abbrev pub is_plain : ℕ → Bool
@@ -55,3 +69,11 @@ place_text name number = flat_map shown name ++ 58 ∷ decimal number
 abbrev pub place_comment : GatheredCommand → List ℕ
 place_comment c =
     codes "#@ " ++ (place_text c.name c.number ++ 32 ∷ flat_map shown c.user)
+
+-- `#@ part NAME`
+abbrev pub part_comment : List ℕ → List ℕ
+part_comment name = codes "#@ part " ++ name
+
+-- above a command: its place, and then its parts
+abbrev pub comments : GatheredCommand → List (List ℕ)
+comments c = place_comment c ∷ map part_comment c.parts

@@ -1,6 +1,7 @@
 -- Where the commands of a gathered table come from, read off the comments above them.
-use Rattle.std.specs.Prelude.{ℕ, ◌+◌, Bool, not, ◌&&◌, ◌||◌, ◌==◌, nat_lt, if◌then◌else◌, List, [], ◌∷◌, ◌++◌, length, drop, reverse, Option, Some, None, codes, decimal, flat_map}
-use Rattle.std.specs.List.{find, list_any}
+use Rattle.std.specs.Prelude.{ℕ, ◌+◌, Bool, not, ◌&&◌, ◌||◌, ◌==◌, nat_eq, nat_lt, if◌then◌else◌, List, [], ◌∷◌, ◌++◌, length, drop, reverse, Option, Some, None, codes, decimal, flat_map}
+use Rattle.std.specs.Char.{is_ascii_alphanumeric}
+use Rattle.std.specs.List.{find, list_all, list_any, starts_with}
 use Rattle.cs_table.specs.SettingReading.{trimmed}
 use Rattle.cs_table.specs.Text.{lines_of, after, is_solid}
 use Rattle.cs_crontab.specs.Crontab.{CommandLine, Table}
@@ -25,17 +26,50 @@ abbrev pub is_place : List ℕ → Bool
 is_place text = list_any (λ b. b == 58) (before_word text)
     && (not (length (last_word text) == 0) && not (list_any is_control text))
 
-abbrev pub place_at : ℕ → List ℕ → Place
-place_at number text =
-    record { line = number; origin = trimmed (before_word text); user = last_word text }
+-- a letter, a digit, `_` or `-`
+abbrev pub is_name_byte : ℕ → Bool
+is_name_byte byte = is_ascii_alphanumeric byte || ((byte == 95) || (byte == 45))
 
--- the place that the comment `#@ NAME:LINE USER` gives the line below it, which has that number
-unfoldable pub place_in : ℕ → List ℕ → Option Place
-place_in number [] = None
-place_in number (a ∷ []) = None
-place_in number (a ∷ b ∷ []) = None
-place_in number (a ∷ b ∷ c ∷ text) =
-    if (a == 35 && (b == 64 && c == 32)) && is_place text then Some (place_at number text) else None
+-- run-parts(8) runs a program of such a name, and cron(8) reads such a table
+abbrev pub is_part_name : List ℕ → Bool
+is_part_name name = not (length name == 0) && list_all is_name_byte name
+
+-- the name of a part in the comment `#@ part NAME`
+unfoldable pub part_in : List ℕ → Option (List ℕ)
+part_in comment =
+    if starts_with nat_eq comment (codes "#@ part ") && is_part_name (drop 8 comment)
+    then Some (drop 8 comment)
+    else None
+
+-- with a part's name, or nothing from there on
+abbrev pub with_part : Option (List ℕ) → List (List ℕ) → List (List ℕ)
+with_part None names = []
+with_part (Some name) names = name ∷ names
+
+-- the parts in the comments at the front of lines
+unfoldable pub parts_in : List (List ℕ) → List (List ℕ)
+parts_in [] = []
+parts_in (line ∷ lines) = with_part (part_in line) (parts_in lines)
+
+-- the place of the first line behind the comments with parts, where the lines begin at that number
+abbrev pub place_at : ℕ → List ℕ → List (List ℕ) → Place
+place_at number text lines = record {
+  line = number + length (parts_in lines);
+  origin = trimmed (before_word text);
+  user = last_word text;
+  parts = parts_in lines;
+}
+
+-- the place that the comment `#@ NAME:LINE USER` gives a line below it: these lines are below it,
+-- the first of which has that number
+unfoldable pub place_in : ℕ → List ℕ → List (List ℕ) → Option Place
+place_in number [] lines = None
+place_in number (a ∷ []) lines = None
+place_in number (a ∷ b ∷ []) lines = None
+place_in number (a ∷ b ∷ c ∷ text) lines =
+    if (a == 35 && (b == 64 && c == 32)) && is_place text
+    then Some (place_at number text lines)
+    else None
 
 -- ---- the places of a table
 
@@ -47,7 +81,7 @@ listed (Some place) = place ∷ []
 unfoldable pub places_from : ℕ → List (List ℕ) → List Place
 places_from number [] = []
 places_from number (line ∷ lines) =
-    listed (place_in number line) ++ places_from (number + 1) lines
+    listed (place_in number line lines) ++ places_from (number + 1) lines
 
 -- those of a gathered table; another table has no places, whatever its comments say
 abbrev pub places_of : List ℕ → Table → List Place

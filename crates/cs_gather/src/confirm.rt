@@ -1,15 +1,17 @@
 //! Whether a text says what was gathered: it is read back.
-ghost use Rattle.std.specs.Prelude.{◌≡◌, All, IfOk, IsTrue, map};
+ghost use Rattle.std.specs.Prelude.{◌≡◌, ◌∷◌, All, IfOk, IsTrue, map};
 ghost use Rattle.std.specs.List.{AllZip};
 ghost use Rattle.cs_table.specs.Text.{lines_of};
 ghost use Rattle.cs_gather.specs.Normal.{IsNormal};
-ghost use Rattle.cs_gather.specs.Gathered.{place_comment};
-ghost use Rattle.cs_gather.specs.Gather.{IsAbove, IsGathered, Gathers};
+ghost use Rattle.cs_gather.specs.Gathered.{part_comment};
+ghost use Rattle.cs_gather.specs.Gather.{AreAbove, BeginWith, IsGathered, Gathers};
 
 use crate::fault::TextFault;
 use crate::line::GatheredLine;
 use crate::mark::are_mark;
+use crate::programs::is_part;
 use crate::when::is_same_when;
+use cs_civil::Bytes;
 use cs_crontab::{Line, TableFault, read_crontab};
 use cs_table::text::first_line;
 use std::alloc::{AllocError, Global};
@@ -28,20 +30,51 @@ fn lines_of(alloc: Global, text: &[u8]) -> Result<Vec<&[u8]>, AllocError>
     Ok(lines)
 }
 
-/// Whether the line above that number is the comment.
-fn is_above(lines: &[&[u8]], number: u32, comment: &[u8]) -> bool
-    ensures { IsTrue result → IsAbove (map (λ line. line.now) lines.now) number comment.now }
+/// Whether the comments of parts of these names stand at the front of lines.
+fn are_parts(lines: &[&[u8]], names: &[Bytes]) -> bool
+    ensures { IsTrue result → BeginWith (map (λ line. line.now) lines.now)
+        (map part_comment names.now) }
 {
-    if number < 2 {
-        return false;
+    let mut lines = lines;
+    let mut names = names;
+    while let [name, later_names @ ..] = names {
+        let [line, later_lines @ ..] = lines else {
+            return false;
+        };
+        if !is_part(*line, name.as_slice()) {
+            return false;
+        }
+        lines = later_lines;
+        names = later_names;
     }
-    match lines.get(number as usize - 2) {
-        Some(line) => *line == comment,
-        None => false,
+    true
+}
+
+/// Whether the comment stands at the front of lines, and then those of parts of these names.
+fn are_comments(lines: &[&[u8]], comment: &[u8], names: &[Bytes]) -> bool
+    ensures { IsTrue result → BeginWith (map (λ line. line.now) lines.now)
+        (comment.now ∷ map part_comment names.now) }
+{
+    match lines {
+        [line, later @ ..] => *line == comment && are_parts(later, names),
+        [] => false,
     }
 }
 
-/// Whether the line says the command, and the line above it its place.
+/// Whether the lines above that number are the comment, and those of parts of these names.
+fn are_above(lines: &[&[u8]], number: u32, comment: &[u8], names: &[Bytes]) -> bool
+    ensures { IsTrue result → AreAbove (map (λ line. line.now) lines.now) number
+        (comment.now ∷ map part_comment names.now) }
+{
+    let number = number as usize;
+    if number < names.len() + 2 || lines.len() < number {
+        return false;
+    }
+    let (_, above) = lines.split_at(number - names.len() - 2);
+    are_comments(above, comment, names)
+}
+
+/// Whether the line says the command, and the lines above it its place and its parts.
 fn is_gathered(
     alloc: Global,
     lines: &[&[u8]],
@@ -55,7 +88,7 @@ fn is_gathered(
     Ok(
         is_same_when(line.when(), gathered.when())
             && line.command() == gathered.command()
-            && is_above(lines, line.number(), comment.as_slice()),
+            && are_above(lines, line.number(), comment.as_slice(), gathered.parts()),
     )
 }
 

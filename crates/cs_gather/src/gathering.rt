@@ -6,6 +6,7 @@ use crate::confirm::confirm;
 use crate::fault::{GatherFault, TextFault, as_system};
 use crate::line::GatheredLine;
 use crate::mark::MARK;
+use crate::programs::Parts;
 use crate::reading::{system_lines, user_lines};
 use crate::writing::push_lines;
 use cs_civil::{Bytes, Sequence};
@@ -16,10 +17,10 @@ use std::marker::Model;
 
 /// Tables of a machine, gathered as one user's table, and seen as their commands so far.
 ///
-/// Each command stands below a comment with its place, `#@ NAME:LINE USER`. A setting becomes the
-/// comment `# NAME:LINE SETTING`, or `# NAME:LINE` if that would exceed
-/// [`MAX_LINE`](cs_table::MAX_LINE). Other lines are left out. In comments a byte below 32, 127 and
-/// `\` are written `\xNN` (this profile).
+/// Each command stands below a comment with its place, `#@ NAME:LINE USER`, and then a comment
+/// `#@ part NAME` for each of its parts. A setting becomes the comment `# NAME:LINE SETTING`, or
+/// `# NAME:LINE` if that would exceed [`MAX_LINE`](cs_table::MAX_LINE). Other lines are left out. In
+/// comments a byte below 32, 127 and `\` are written `\xNN` (this profile).
 #[derive(Drop)]
 pub struct Gathering {
     written: Vec<u8>,
@@ -72,18 +73,25 @@ impl Gathering {
         Ok(())
     }
 
-    /// Adds the commands of a system table, which comments call by that name.
+    /// Adds the commands of a system table, which comments call by that name. These are the parts
+    /// of its lines: the first of a line's number counts, and a line without has no parts.
     ///
     /// The table's own first fault comes first; then, from its first line on, too many commands
     /// before too long a text. After a fault the gathering is as it was.
-    pub fn add_system(&mut self, alloc: Global, name: &str, bytes: &[u8]) -> Result<(), GatherFault>
-        ensures ok { OnOk result (AddsSystem name.now bytes.now self.old self.new) }
+    pub fn add_system(
+        &mut self,
+        alloc: Global,
+        name: &str,
+        bytes: &[u8],
+        parts: &[Parts],
+    ) -> Result<(), GatherFault>
+        ensures ok { OnOk result (AddsSystem name.now bytes.now parts.now self.old self.new) }
         // err: `OutOfMemory` only if memory runs out
-        ensures err { IfErr result (IsSystemFault name.now bytes.now self.old) }
+        ensures err { IfErr result (IsSystemFault name.now bytes.now parts.now self.old) }
         ensures unchanged { OnErr result (self.new ≡ self.old) }
     {
         let table = read_system_crontab(alloc, bytes)?;
-        let commands = system_lines(alloc, name.as_bytes(), table.lines())?;
+        let commands = system_lines(alloc, name.as_bytes(), table.lines(), parts)?;
         self.add(alloc, name, bytes, commands)
     }
 
@@ -95,23 +103,32 @@ impl Gathering {
         name: &str,
         user: &str,
         bytes: &[u8],
+        parts: &[Parts],
     ) -> Result<(), GatherFault>
-        ensures ok { OnOk result (AddsUser name.now user.now bytes.now self.old self.new) }
+        ensures ok { OnOk result
+            (AddsUser name.now user.now bytes.now parts.now self.old self.new) }
         // err: `OutOfMemory` only if memory runs out
-        ensures err { IfErr result (IsUserFault name.now user.now bytes.now self.old) }
+        ensures err { IfErr result
+            (IsUserFault name.now user.now bytes.now parts.now self.old) }
         ensures unchanged { OnErr result (self.new ≡ self.old) }
     {
         let table = match read_crontab(alloc, bytes) {
             Ok(table) => table,
             Err(fault) => return Err(as_system(fault)),
         };
-        let commands = user_lines(alloc, name.as_bytes(), user.as_bytes(), table.lines())?;
+        let commands = user_lines(
+            alloc,
+            name.as_bytes(),
+            user.as_bytes(),
+            table.lines(),
+            parts,
+        )?;
         self.add(alloc, name, bytes, commands)
     }
 
-    /// Returns the table of all the commands, in order, each below the comment with its place. Its
-    /// first line is the setting `CRONSAFE_TABLE=gathered`, by which [`is_gathered`](crate::is_gathered)
-    /// knows it.
+    /// Returns the table of all the commands, in order, each below the comments with its place and
+    /// its parts. Its first line is the setting `CRONSAFE_TABLE=gathered`, by which
+    /// [`is_gathered`](crate::is_gathered) knows it.
     ///
     /// The text is read back first: [`NotReadBack`](TextFault::NotReadBack) where it says anything
     /// else.

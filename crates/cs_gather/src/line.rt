@@ -1,10 +1,10 @@
-ghost use Rattle.std.specs.Prelude.{◌≡◌, IfOk};
+ghost use Rattle.std.specs.Prelude.{◌≡◌, [], IfOk};
 ghost use Rattle.cs_gather.specs.Normal.{IsNormal};
 ghost use Rattle.cs_gather.specs.Gathered.{place_comment};
 
 use crate::comment::{push_place, push_shown};
 use crate::when::copy_when;
-use cs_civil::Bytes;
+use cs_civil::{Bytes, Sequence};
 use cs_crontab::When;
 use std::alloc::{AllocError, Global};
 use std::marker::Model;
@@ -17,6 +17,7 @@ pub(crate) struct GatheredLine {
     owner: Bytes,
     time: When,
     text: Bytes,
+    programs: Sequence<Bytes>,
 }
 
 impl Model for GatheredLine {
@@ -31,13 +32,14 @@ impl Model for GatheredLine {
       user = a.owner;
       when = a.time;
       command = a.text;
+      parts = a.programs;
     } };
 
     ghost invariant = { λ a. IsNormal a.time };
 }
 
 impl GatheredLine {
-    /// Copies what a table says.
+    /// Copies what a table says of a command without parts.
     pub(crate) fn new(
         alloc: Global,
         name: &[u8],
@@ -53,6 +55,7 @@ impl GatheredLine {
           user = user.now;
           when = when.now;
           command = command.now;
+          parts = [];
         }) }
     {
         Ok(GatheredLine {
@@ -61,7 +64,17 @@ impl GatheredLine {
             owner: Bytes::from_slice(alloc, user)?,
             time: copy_when(when),
             text: Bytes::from_slice(alloc, command)?,
+            programs: Sequence::new(alloc),
         })
+    }
+
+    /// The same with parts of these names.
+    pub(crate) fn with_parts(self, names: Sequence<Bytes>) -> GatheredLine
+        ensures { result ≡ record self { parts = names } }
+    {
+        let mut line = self;
+        line.programs = names;
+        line
     }
 
     pub(crate) fn number(&self) -> u32
@@ -81,6 +94,13 @@ impl GatheredLine {
         ensures { result.now ≡ self.now.command }
     {
         self.text.as_slice()
+    }
+
+    /// The names of its parts.
+    pub(crate) fn parts(&self) -> &[Bytes]
+        ensures { result.now ≡ self.now.parts }
+    {
+        self.programs.as_slice()
     }
 
     /// Returns the comment with its place, `#@ NAME:LINE USER`.

@@ -7,7 +7,8 @@ use cs_table::Setting;
 /// The first line of a gathered table.
 pub(crate) const MARK: &str = "CRONSAFE_TABLE=gathered\n";
 
-fn is_mark_name(name: &[u8]) -> bool
+/// Whether a setting of that name marks a table as gathered.
+pub fn is_mark_name(name: &[u8]) -> bool
     ensures { result ≡ bytes_eq name.now mark_name }
 {
     name == b"CRONSAFE_TABLE".as_slice()

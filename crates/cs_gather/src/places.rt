@@ -1,16 +1,17 @@
 //! Where the commands of a gathered table come from.
-ghost use Rattle.std.specs.Prelude.{◌≡◌, ◌==◌, ◌≤◌, ◌++◌, IfOk, OnOk, length};
+ghost use Rattle.std.specs.Prelude.{◌≡◌, ◌==◌, ◌+◌, ◌^◌, ◌<◌, ◌≤◌, ◌++◌, IfOk, OnOk, length};
 ghost use Rattle.std.specs.Option.{option_map};
 ghost use Rattle.std.specs.List.{list_any};
 ghost use Rattle.cs_table.specs.Text.{lines_of};
 ghost use Rattle.cs_table.specs.declared.limits.TheConstants.{MAX_TABLE};
 ghost use Rattle.cs_crontab.specs.Faults.{IsCrontab};
 ghost use Rattle.cs_gather.specs.Places.{before_word, is_among, is_control, is_place, last_word};
-ghost use Rattle.cs_gather.specs.Places.{line_told, listed, place_in, place_line, place_of, place_text, places_from};
+ghost use Rattle.cs_gather.specs.Places.{line_told, listed, parts_in, place_in, place_line, place_of, place_text, places_from};
 ghost use Rattle.cs_gather.specs.Places.{places_of, places_told};
 
 use crate::comment::push_shown;
 use crate::mark::is_gathered;
+use crate::programs::part_in;
 use cs_civil::{Bytes, Sequence, push_number};
 use cs_crontab::{Crontab, Line};
 use cs_table::text::{first_line, is_blank, trim_end};
@@ -25,10 +26,12 @@ pub struct Place {
     pub origin: Bytes,
     /// The user that cron runs the command as there.
     pub user: Bytes,
+    /// The names of the parts that the command runs by run-parts(8), in their order.
+    pub parts: Sequence<Bytes>,
 }
 
 /// The text without its last word, and that word.
-fn split_last_word(text: &[u8]) -> (&[u8], &[u8])
+pub(crate) fn split_last_word(text: &[u8]) -> (&[u8], &[u8])
     ensures before { result.0.now ≡ before_word text.now }
     ensures word { result.1.now ≡ last_word text.now }
 {
@@ -67,10 +70,34 @@ fn is_place(text: &[u8]) -> bool
     has_colon(before) && !user.is_empty() && !has_control(text)
 }
 
-/// The place that a comment gives the line of that number below it.
+/// The names of the parts in the comments at the front of a text.
+fn parts_in(alloc: Global, text: &[u8]) -> Result<Sequence<Bytes>, AllocError>
+    ensures parts { IfOk result (λ parts. parts ≡ parts_in (lines_of text.now)) }
+    ensures few { IfOk result (λ parts. length parts ≤ length text.now) }
+{
+    let mut parts = Sequence::new(alloc);
+    let mut rest = text;
+    while !rest.is_empty() {
+        let (line, behind) = first_line(rest);
+        let Some(name) = part_in(line) else {
+            return Ok(parts);
+        };
+        parts.push(Bytes::from_slice(alloc, name)?)?;
+        rest = behind;
+    }
+    Ok(parts)
+}
+
+/// The place that a comment gives a line below it, where the line directly below has that number.
 #[tactic(auto, unfolding(crate::specs::Places::place_in))]
-fn place_in(alloc: Global, number: u32, comment: &[u8]) -> Result<Option<Place>, AllocError>
-    ensures { IfOk result (λ place. place ≡ place_in number comment.now) }
+fn place_in(
+    alloc: Global,
+    number: u32,
+    comment: &[u8],
+    below: &[u8],
+) -> Result<Option<Place>, AllocError>
+    requires { number + length below.now < 2 ^ 32 }
+    ensures { IfOk result (λ place. place ≡ place_in number comment.now (lines_of below.now)) }
 {
     let [first, second, third, text @ ..] = comment else {
         return Ok(None);
@@ -79,16 +106,18 @@ fn place_in(alloc: Global, number: u32, comment: &[u8]) -> Result<Option<Place>,
         return Ok(None);
     }
     let (before, user) = split_last_word(text);
+    let parts = parts_in(alloc, below)?;
     Ok(Some(Place {
-        line: number,
+        line: number + parts.len() as u32,
         origin: Bytes::from_slice(alloc, trim_end(before))?,
         user: Bytes::from_slice(alloc, user)?,
+        parts,
     }))
 }
 
 /// Adds the places that the comments among the lines of a text give.
 #[tactic(auto, unfolding(crate::specs::Places::places_from))]
-fn push_places(alloc: Global, places: &mut Vec<Place>, text: &[u8]) -> Result<(), AllocError>
+pub fn push_places(alloc: Global, places: &mut Vec<Place>, text: &[u8]) -> Result<(), AllocError>
     requires { length text.now ≤ MAX_TABLE }
     ensures { OnOk result (places.new.items ≡ places.old.items ++ places_from 2 (lines_of text.now)) }
 {
@@ -96,7 +125,7 @@ fn push_places(alloc: Global, places: &mut Vec<Place>, text: &[u8]) -> Result<()
     let mut rest = text;
     while !rest.is_empty() {
         let (line, behind) = first_line(rest);
-        if let Some(place) = place_in(alloc, number, line)? {
+        if let Some(place) = place_in(alloc, number, line, behind)? {
             places.push(place)?;
         }
         number += 1;
@@ -124,7 +153,7 @@ pub fn read_places(
 
 /// Adds `/etc/cron.d/munin:12 (munin)`.
 #[tactic(auto, unfolding(crate::specs::Places::place_text))]
-fn push_place_text(text: &mut Vec<u8>, place: &Place) -> Result<(), AllocError>
+pub fn push_place_text(text: &mut Vec<u8>, place: &Place) -> Result<(), AllocError>
     ensures { OnOk result (text.new.items ≡ text.old.items ++ place_text place.now) }
 {
     text.extend_from_slice(place.origin.as_slice())?;

@@ -4,6 +4,7 @@ ghost use Rattle.cs_gather.specs.Normal.{IsNormal};
 ghost use Rattle.cs_gather.specs.Gathered.{of_system, of_user};
 
 use crate::line::GatheredLine;
+use crate::programs::{Parts, names_at};
 use cs_crontab::Line;
 use cs_system::SystemLine;
 use std::alloc::{AllocError, Global};
@@ -12,15 +13,17 @@ pub(crate) fn system_lines(
     alloc: Global,
     name: &[u8],
     lines: &[SystemLine],
+    parts: &[Parts],
 ) -> Result<Vec<GatheredLine>, AllocError>
     requires { All (λ line. IsNormal line.when) lines.now }
-    ensures { IfOk result (λ gathered. gathered.items ≡ map (of_system name.now) lines.now) }
+    ensures { IfOk result
+        (λ gathered. gathered.items ≡ map (of_system name.now parts.now) lines.now) }
 {
     let mut gathered = Vec::new(alloc);
     for line in lines {
         let (number, user) = (line.number(), line.user());
         let command = GatheredLine::new(alloc, name, number, user, line.when(), line.command())?;
-        gathered.push(command)?;
+        gathered.push(command.with_parts(names_at(alloc, parts, number)?))?;
     }
     Ok(gathered)
 }
@@ -30,15 +33,17 @@ pub(crate) fn user_lines(
     name: &[u8],
     user: &[u8],
     lines: &[Line],
+    parts: &[Parts],
 ) -> Result<Vec<GatheredLine>, AllocError>
     requires { All (λ line. IsNormal line.when) lines.now }
-    ensures { IfOk result (λ gathered. gathered.items ≡ map (of_user name.now user.now) lines.now) }
+    ensures { IfOk result
+        (λ gathered. gathered.items ≡ map (of_user name.now user.now parts.now) lines.now) }
 {
     let mut gathered = Vec::new(alloc);
     for line in lines {
         let number = line.number();
         let command = GatheredLine::new(alloc, name, number, user, line.when(), line.command())?;
-        gathered.push(command)?;
+        gathered.push(command.with_parts(names_at(alloc, parts, number)?))?;
     }
     Ok(gathered)
 }

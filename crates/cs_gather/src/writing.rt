@@ -12,6 +12,8 @@ use crate::comment::{push_place, push_shown};
 use crate::fault::GatherFault;
 use crate::line::GatheredLine;
 use crate::mark::MARK;
+use crate::programs::PART;
+use cs_civil::Bytes;
 use cs_crontab::{Entry, LineFault, read_line};
 use cs_system::SystemFault;
 use cs_table::text::{first_line, skip_blanks};
@@ -27,7 +29,20 @@ fn time_text(line: &[u8]) -> &[u8] {
     }
 }
 
-/// Adds the place of a command and the command. Says whether the text stays short enough.
+/// Adds the comments of parts. Says whether they are short enough.
+fn push_parts(text: &mut Vec<u8>, names: &[Bytes]) -> Result<bool, AllocError> {
+    let mut is_short = true;
+    for name in names {
+        text.extend_from_slice(PART)?;
+        text.extend_from_slice(name.as_slice())?;
+        text.push(b'\n')?;
+        is_short = is_short && name.len() <= MAX_LINE - PART.len();
+    }
+    Ok(is_short)
+}
+
+/// Adds the place of a command, its parts, and the command. Says whether the text stays short
+/// enough.
 fn push_command(
     alloc: Global,
     text: &mut Vec<u8>,
@@ -37,10 +52,11 @@ fn push_command(
     let comment = gathered.comment(alloc)?;
     text.extend_from_slice(comment.as_slice())?;
     text.push(b'\n')?;
+    let is_short = push_parts(text, gathered.parts())?;
     text.extend_from_slice(time_text(line))?;
     text.extend_from_slice(gathered.command())?;
     text.push(b'\n')?;
-    Ok(comment.len() <= MAX_LINE && text.len() <= MAX_TABLE - MARK.len())
+    Ok(is_short && comment.len() <= MAX_LINE && text.len() <= MAX_TABLE - MARK.len())
 }
 
 /// Returns the comment `# NAME:LINE SETTING`, or `# NAME:LINE` if that is too long.

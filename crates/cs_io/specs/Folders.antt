@@ -1,19 +1,10 @@
 -- What is listed of a folder.
-use Rattle.std.specs.Prelude.{◌==◌, ◌&&◌, ◌||◌, ℕ, Bool, List, [], ◌∷◌, length, not}
+use Rattle.std.specs.Prelude.{◌==◌, ◌&&◌, ℕ, Bool, List, [], ◌∷◌, length, not}
 use Rattle.std.specs.Ordering.{nat_cmp}
-use Rattle.std.specs.Char.{is_ascii_alphanumeric}
 use Rattle.std.specs.Cmp.Lexicographic.{slice_cmp}
-use Rattle.std.specs.List.{filter, list_all, slice_split}
+use Rattle.std.specs.List.{filter, slice_split}
 use Rattle.std.specs.List.Sorted.{IsSorted}
 use Rattle.std.specs.Str.{bytes_eq}
-
--- a letter, a digit, `_` or `-`
-abbrev pub is_name_byte : ℕ → Bool
-is_name_byte byte = is_ascii_alphanumeric byte || ((byte == 95) || (byte == 45))
-
--- of such bytes alone, as run-parts(8) has it
-abbrev pub is_table_name : List ℕ → Bool
-is_table_name name = not (length name == 0) && list_all is_name_byte name
 
 -- neither of the folder itself, nor of the one above it
 abbrev pub is_listed : List ℕ → Bool

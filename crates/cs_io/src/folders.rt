@@ -1,8 +1,7 @@
 //! The folders that the program looks into.
 ghost use Rattle.std.specs.Prelude.{◌≡◌, ◌<◌, ◌≤◌, ℕ, List, Option, None, true, IfOk, IfErr, IfSome};
 ghost use Rattle.std.specs.Prelude.{IsPermutation, OnErr, OnOk, length, map};
-ghost use Rattle.std.specs.List.{list_all};
-ghost use Rattle.cs_io.specs.Folders.{IsInByteOrder, is_listed, is_name_byte, is_table_name, names_in};
+ghost use Rattle.cs_io.specs.Folders.{IsInByteOrder, is_listed, names_in};
 ghost use Rattle.cs_io.specs.Reasons.{IsCannotRead};
 
 use crate::inputs::{CannotRead, Inputs, ReadFault};
@@ -14,8 +13,10 @@ use std::io::Read;
 /// What a path leads to, behind its links.
 #[derive(Clone, Copy, Debug, PartialEq, Eq)]
 pub enum FileKind {
-    /// A regular file.
+    /// A regular file that no one may execute.
     Regular,
+    /// A regular file that someone may execute: one of the bits 0o111 of its mode is set.
+    Program,
     /// A folder.
     Folder,
     /// Something else: a FIFO, a socket, a device, or links in a circle.
@@ -59,28 +60,6 @@ pub trait Folders: Inputs {
         ensures works { OnOk result (Self.failed self.new ≡ Self.failed self.old) }
         ensures fails { IfErr result (λ e. IsCannotRead e
             → Self.failed self.new path.now ≡ true) };
-}
-
-/// Whether a table of this name in a folder of tables is read: one of ASCII letters, digits, `_` and
-/// `-` alone (cron(8), run-parts(8)).
-pub fn is_table_name(name: &[u8]) -> bool
-    ensures { result ≡ is_table_name name.now }
-{
-    !name.is_empty() && has_only_name_bytes(name)
-}
-
-/// Whether all bytes may be in the name of a table.
-fn has_only_name_bytes(name: &[u8]) -> bool
-    ensures { result ≡ list_all is_name_byte name.now }
-{
-    name.iter().all(|byte| is_name_byte(*byte))
-}
-
-/// Whether a byte may be in the name of a table.
-fn is_name_byte(byte: u8) -> bool
-    ensures { result ≡ is_name_byte byte }
-{
-    byte.is_ascii_alphanumeric() || byte == b'_' || byte == b'-'
 }
 
 /// Whether this is a name of something in a folder, and not of the folder or of the one above it.

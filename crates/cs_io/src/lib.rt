@@ -7,7 +7,7 @@ mod machine;
 mod outputs;
 mod reason;
 
-pub use folders::{FileKind, Folders, MOST_NAMES, is_table_name};
+pub use folders::{FileKind, Folders, MOST_NAMES};
 pub use inputs::{CannotRead, Inputs, MOST_READS, ReadFault, read_up_to, read_whole};
 pub use machine::Machine;
 pub use outputs::{CannotWrite, Output, Printer};

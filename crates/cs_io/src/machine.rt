@@ -1,13 +1,17 @@
 //! The machine's files and its standard input.
-ghost use Rattle.std.specs.Prelude.{◌≡◌, ◌≤◌, IfOk, IfSome, false, length};
+ghost use Rattle.std.specs.Prelude.{◌≡◌, ◌==◌, ◌≤◌, IfOk, IfSome, bit_and, false, if◌then◌else◌, length};
+ghost use Rattle.std.specs.Fs.{permissions_mode};
 ghost use Rattle.cs_io.specs.Folders.{IsInByteOrder};
+ghost use Rattle.cs_io.specs.declared.folders.FileKind.TheVariants.{Program, Regular};
 
 use crate::folders::{FileKind, Folders, MOST_NAMES, names_in_order, read_list};
 use crate::inputs::{CannotRead, Inputs, ReadFault};
 use crate::reason::Reason;
 use cs_civil::{Bytes, Sequence};
 use std::alloc::{AllocError, Global};
+use std::fs::Permissions;
 use std::io::{ErrorKind, Read};
+use std::os::unix::fs::PermissionsExt;
 use std::rt::Files;
 use std::{fs, io};
 
@@ -58,7 +62,7 @@ impl<'a, R: Files + Input> Machine<'a, R> {
             Err(error) => return kind_behind(&error),
         };
         if found.is_file() {
-            return Ok(Some(FileKind::Regular));
+            return Ok(Some(file_kind(&found.permissions())));
         }
         if found.is_dir() {
             return Ok(Some(FileKind::Folder));
@@ -87,6 +91,18 @@ impl<'a, R: Files + Input> Machine<'a, R> {
         };
         let list = read_list(alloc, &mut folder)?;
         Ok(Some(names_in_order(alloc, list.as_slice())?))
+    }
+}
+
+/// Which kind of regular file has these permissions.
+fn file_kind(permissions: &Permissions) -> FileKind
+    ensures { result ≡ (if bit_and (permissions_mode permissions.now) 0o111 == 0
+        then Regular else Program) }
+{
+    if permissions.mode() & 0o111 == 0 {
+        FileKind::Regular
+    } else {
+        FileKind::Program
     }
 }
 

@@ -1,3 +1,4 @@
 pub mod Refused
 pub mod Kept
 pub mod Each
+pub mod Noted

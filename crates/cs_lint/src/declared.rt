@@ -2,6 +2,7 @@
 //! tables.
 use crate::lines::{Name, Shift};
 use crate::object::{Kind, Tell};
+use crate::parts::Parts;
 use crate::shape::{find_in_object, has_meant};
 use crate::table::Table;
 use cs_decl::{DeclFault, MAX_GROUPS};
@@ -19,6 +20,8 @@ pub(crate) struct Declared<'v> {
     groups: IndexSet<&'v str>,
     identifiers: IndexSet<&'v str>,
     pub(crate) names: Vec<Name<'v>>,
+    /// What the entries of `cron` that have parts say of them.
+    pub(crate) parts: Vec<Parts<'v>>,
     pub(crate) shift: Option<Shift>,
     /// The lines that entries name, and those of them that are left out.
     pub(crate) lines: IndexSet<i128>,
@@ -40,9 +43,11 @@ impl<'v> Declared<'v> {
         table: &Table<'_>,
         jobs: Option<&Table<'_>>,
     ) -> Result<Declared<'v>, AllocError> {
+        let mut findings = Findings::new(alloc, bytes)?;
+        findings.about = Some(0);
         let mut declared = Declared {
             tell: Tell {
-                findings: Findings::new(alloc, bytes)?,
+                findings,
                 kind: Kind::Whole,
                 index: 0,
             },
@@ -50,6 +55,7 @@ impl<'v> Declared<'v> {
             groups: IndexSet::new(alloc),
             identifiers: IndexSet::new(alloc),
             names: Vec::new(alloc),
+            parts: Vec::new(alloc),
             shift: None,
             lines: IndexSet::new(alloc),
             left_out: IndexSet::new(alloc),
@@ -123,7 +129,7 @@ impl<'v> Declared<'v> {
         kind: Kind,
         jobs: Option<&Table<'_>>,
     ) -> Result<bool, AllocError> {
-        let (alloc, (name, _, called)) = (self.tell.findings.alloc, kind.names());
+        let (alloc, (name, _, _)) = (self.tell.findings.alloc, kind.names());
         let Some((value, span)) = whole.member(name) else {
             return Ok(!has_meant(alloc, whole, name)?);
         };
@@ -137,8 +143,7 @@ impl<'v> Declared<'v> {
                 let entry = Object::new(alloc, self.bytes, (value, part.value))?;
                 self.look_at_entry(&entry, jobs)?;
             } else {
-                let why = format_args!("{called} is an object: write {{..}}");
-                self.tell.fault(part.value, DeclFault::BadShape, why)?;
+                self.tell.no_object(part.value)?;
             }
         }
         Ok(true)
@@ -147,11 +152,14 @@ impl<'v> Declared<'v> {
     fn look_at_entry(&mut self, entry: &Object<'v>, jobs: Option<&Table<'_>>) -> Done {
         find_in_object(&mut self.tell, entry)?;
         match self.tell.kind {
-            Kind::Whole | Kind::Default => Ok(()),
+            Kind::Whole | Kind::Default | Kind::Part => Ok(()),
             Kind::Group => self.look_at_group(entry),
             Kind::Cron | Kind::LeftOut => {
                 self.find_group(entry)?;
-                self.names.push(Name::of(entry, &self.tell))?;
+                let name = Name::of(entry, &self.tell, self.parts.len());
+                self.names.push(name)?;
+                let parts = Parts::at(&mut self.tell, self.bytes, entry)?;
+                self.parts.push(parts)?;
                 Ok(())
             }
             Kind::Anacron => {

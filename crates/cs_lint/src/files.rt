@@ -12,11 +12,13 @@ ghost use Rattle.cs_lint.specs.Refused.{Finds, Judges, TellsFirst};
 
 use crate::declared::Declared;
 use crate::each::keep_lines;
+use crate::places::{notes_on, places_in};
 use crate::refusal::{Refusal, first_refusal};
 use crate::report::{Report, Verdict};
 use crate::table::{Kind, Table};
 use cs_civil::Bytes;
-use cs_diagnostics::{Done, File, Findings};
+use cs_diagnostics::{Done, File, Findings, Note};
+use cs_gather::Place;
 use cs_outline::parsed;
 use std::alloc::{AllocError, Global};
 
@@ -58,11 +60,12 @@ impl Found {
     fn at(
         alloc: Global,
         table: &[u8],
+        places: &[Place],
         jobs: Option<&[u8]>,
         declarations: Option<&[u8]>,
     ) -> Result<Found, AllocError> {
-        let mut table = Table::at(alloc, table, Kind::Crontab)?;
-        let mut look = Table::at(alloc, jobs.unwrap_or(&[]), Kind::Anacrontab)?;
+        let mut table = Table::at(alloc, table, places, Kind::Crontab)?;
+        let mut look = Table::at(alloc, jobs.unwrap_or(&[]), &[], Kind::Anacrontab)?;
         let declared = match declarations {
             Some(bytes) => {
                 look_at_declarations(alloc, bytes, &mut table, &mut look, jobs.is_some())?
@@ -120,13 +123,14 @@ impl Found {
         self.table.has_oddities || self.jobs.has_oddities || self.declared.has_oddities
     }
 
-    /// What is told of it.
+    /// What is told of it, with the notes on the lines of the crontab.
     fn text(
         &self,
         alloc: Global,
         table: &File<'_>,
         jobs: &File<'_>,
         declarations: &File<'_>,
+        notes: &[Note],
     ) -> Result<Bytes, AllocError>
         ensures told { IfOk result (λ text. (first : FirstFault)
             → is_found first self.now ≡ true → IsToldIn text first) }
@@ -136,9 +140,9 @@ impl Found {
             → IsFull jobs.now.path.now text) }
     {
         let mut text = Vec::new(alloc);
-        self.table.tell(table, &mut text)?;
-        self.jobs.tell(jobs, &mut text)?;
-        self.declared.tell(declarations, &mut text)?;
+        self.table.tell(table, notes, &mut text)?;
+        self.jobs.tell(jobs, &[], &mut text)?;
+        self.declared.tell(declarations, notes, &mut text)?;
         Ok(Bytes::from_vec(text))
     }
 }
@@ -172,8 +176,9 @@ fn some_file<'a>(file: Option<&File<'a>>) -> File<'a>
 /// are any.
 ///
 /// The text tells the findings of the crontab, then those of the anacrontab, then those of the
-/// declarations, each as [`Findings::tell`] does. What is wrong begins with the fault's number and
-/// name, as the readers answer it. Not only the first fault is told: of a line each field and each
+/// declarations, each as [`Findings::tell`] does, and where it's about a line of a gathered table
+/// with the place that the line comes from. What is wrong begins with the fault's number and name,
+/// as the readers answer it. Not only the first fault is told: of a line each field and each
 /// item by itself, of declarations each member and each entry, and of both what doesn't fit
 /// together. A table of more than 1 MiB isn't looked at any further. The only error is want of
 /// memory.
@@ -197,10 +202,13 @@ pub fn lint(
 {
     let (job_bytes, terms) = (bytes_of(jobs), bytes_of(declarations));
     let refusal = first_refusal(alloc, table.bytes, job_bytes, terms)?;
-    let kept = Found::at(alloc, table.bytes, job_bytes, terms)?.with(&refusal)?;
+    let places = places_in(alloc, table.bytes)?;
+    let notes = notes_on(alloc, places.as_slice())?;
+    let look = Found::at(alloc, table.bytes, places.as_slice(), job_bytes, terms)?;
+    let kept = look.with(&refusal)?;
     let found = kept.with_lines(table.bytes, job_bytes)?;
     let (jobs, declarations) = (some_file(jobs), some_file(declarations));
-    let text = found.text(alloc, table, &jobs, &declarations)?;
+    let text = found.text(alloc, table, &jobs, &declarations, notes.as_slice())?;
     let verdict = verdict_of(&refusal, found.is_odd());
     Ok(Report { text, verdict })
 }

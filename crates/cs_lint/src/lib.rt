@@ -8,6 +8,8 @@ mod front;
 mod line;
 mod lines;
 mod object;
+mod parts;
+mod places;
 mod refusal;
 mod report;
 mod shape;

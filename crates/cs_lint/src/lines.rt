@@ -23,11 +23,13 @@ pub(crate) struct Name<'v> {
     is_bound: bool,
     /// The longest time of its runs, where they take no lock.
     max: Option<(i128, Span)>,
+    /// Which of the parts of all entries are its own.
+    parts: usize,
 }
 
 impl<'v> Name<'v> {
-    /// That of the entry that is looked at.
-    pub(crate) fn of(entry: &Object<'v>, tell: &Tell) -> Name<'v> {
+    /// That of the entry that is looked at, with the place of its parts.
+    pub(crate) fn of(entry: &Object<'v>, tell: &Tell, parts: usize) -> Name<'v> {
         let takes_lock = match entry.text("mode") {
             Some((mode, _)) => mode != "none",
             None => entry.has("mode"),
@@ -40,7 +42,13 @@ impl<'v> Name<'v> {
             command: entry.text("command"),
             is_bound: entry.has("command"),
             max: max.filter(|_| tell.kind == Kind::Cron && !takes_lock),
+            parts,
         }
+    }
+
+    /// Whether the command on a line may be the one that it tells, if it tells one.
+    fn may_be_on(&self, begun: &Begun<'_>) -> bool {
+        self.command.is_none_or(|(told, _)| begun.may_be(told))
     }
 
     /// Its number and command, where the line of that number has none or another one.
@@ -113,6 +121,7 @@ impl<'v> Declared<'v> {
                 self.look_at_name(&name, table)?;
             }
         }
+        self.tell.findings.about = Some(0);
         self.find_shift(table)?;
         self.find_unbound()
     }
@@ -129,6 +138,8 @@ impl<'v> Declared<'v> {
 
     fn look_at_name(&mut self, name: &Name<'_>, table: &Table<'_>) -> Done {
         let line = self.line_of(name, table);
+        let number = line.and_then(|(line, _)| u64::try_from(line).ok());
+        self.tell.findings.about = Some(number.unwrap_or(0));
         if let Some((line, span)) = line {
             if name.kind == Kind::LeftOut {
                 self.left_out.insert(line)?;
@@ -146,7 +157,10 @@ impl<'v> Declared<'v> {
             self.find_apart(name, table, None)?;
         }
         match line.and_then(|(line, _)| table.begun_on(line)) {
-            Some(begun) => self.find_overlap(name, begun),
+            Some(begun) => {
+                self.find_overlap(name, begun)?;
+                self.find_moved_parts(name, begun, table)
+            }
             None => Ok(()),
         }
     }
@@ -188,6 +202,17 @@ impl<'v> Declared<'v> {
                 let advice = advice.unwrap_or("correct \"line\" or \"command\"");
                 let why = format_args!("{why}: {advice}");
                 self.tell.fault(span, DeclFault::OtherCommand, why)
+            }
+            _ => Ok(()),
+        }
+    }
+
+    /// Adds which parts of an entry its line has no more, and which it has besides.
+    fn find_moved_parts(&mut self, name: &Name<'_>, begun: &Begun<'_>, table: &Table<'_>) -> Done {
+        let place = table.place_of(begun.number);
+        match (self.parts.get(name.parts), place) {
+            (Some(parts), Some(place)) if name.may_be_on(begun) => {
+                parts.find_moved(&mut self.tell, place)
             }
             _ => Ok(()),
         }

@@ -10,6 +10,8 @@ pub(crate) enum Kind {
     Whole,
     Group,
     Cron,
+    /// A part of an entry of `cron`, which has the place of that entry.
+    Part,
     Anacron,
     LeftOut,
     Default,
@@ -22,6 +24,7 @@ impl Kind {
             Kind::Whole => ("", "", "the declarations"),
             Kind::Group => ("groups", "group", "this entry of \"groups\""),
             Kind::Cron => ("cron", "cron", "this entry of \"cron\""),
+            Kind::Part => ("parts", "cron", "this entry of \"parts\""),
             Kind::Anacron => ("anacron", "anacron", "this entry of \"anacron\""),
             Kind::LeftOut => ("left_out", "left_out", "this entry of \"left_out\""),
             Kind::Default => ("default", "", "\"default\""),
@@ -55,9 +58,20 @@ impl Tell {
         self.findings.fault(span, words)
     }
 
+    /// Adds that an item of a list is no object.
+    pub(crate) fn no_object(&mut self, span: Span) -> Done {
+        let (_, _, called) = self.kind.names();
+        let why = format_args!("{called} is an object: write {{..}}");
+        self.fault(span, DeclFault::BadShape, why)
+    }
+
     /// Adds that something of the object has an entry before it.
     pub(crate) fn twice(&mut self, span: Span, what: impl Display + Drop) -> Done {
         let why = format_args!("{what} has an entry already: remove one of the two");
-        self.fault(span, DeclFault::TwiceDeclared, why)
+        let fault = match self.kind {
+            Kind::Part => DeclFault::BadParts,
+            _ => DeclFault::TwiceDeclared,
+        };
+        self.fault(span, fault, why)
     }
 }

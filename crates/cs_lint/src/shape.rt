@@ -17,7 +17,8 @@ fn names_of(kind: Kind) -> &'static str {
     match kind {
         Kind::Whole => "anacron capacity cron default groups hours left_out note offset pass",
         Kind::Group => "exclusive name note",
-        Kind::Cron => "command group line max mode note weight",
+        Kind::Cron => "command group line max mode note parts weight",
+        Kind::Part => "max name note",
         Kind::Anacron => "group id max note weight",
         Kind::LeftOut => "command line note",
         Kind::Default => "max note weight",
@@ -54,7 +55,7 @@ fn are_hours(value: &Value) -> Option<bool> {
 /// Adds what is wrong with the value of a member of that name.
 fn find_in_value(tell: &mut Tell, name: &str, value: &Value, span: Span) -> Done {
     let (is_so, wanted) = match name {
-        "anacron" | "cron" | "groups" | "left_out" => (value.is_array(), "a list, [..]"),
+        "anacron" | "cron" | "groups" | "left_out" | "parts" => (value.is_array(), "a list, [..]"),
         "default" => (value.is_object(), "an object, {..}"),
         "exclusive" => (value.is_boolean(), "true or false"),
         "hours" => (are_hours(value).is_some(), HOURS),
@@ -105,9 +106,13 @@ fn find_none(tell: &mut Tell, span: Span, name: &str, says: (&str, &str, &str)) 
 }
 
 fn find_in_range(tell: &mut Tell, name: &str, value: &Value, span: Span) -> Done {
+    let bad_max = match tell.kind {
+        Kind::Part => DeclFault::BadParts,
+        _ => DeclFault::BadMax,
+    };
     let (low, high, fault, unit) = match name {
         "capacity" => (1, i64::from(MAX_CAPACITY), DeclFault::BadCapacity, ""),
-        "max" => (1, i64::from(MAX_MINUTES), DeclFault::BadMax, ", in minutes"),
+        "max" => (1, i64::from(MAX_MINUTES), bad_max, ", in minutes"),
         "offset" => (-1439, 1439, DeclFault::BadShape, ", in minutes east of UTC"),
         "pass" => (0, 1439, DeclFault::BadPassMinute, ", a minute of the day"),
         "weight" => (1, i64::from(MAX_WEIGHT), DeclFault::BadWeight, ""),

@@ -9,6 +9,7 @@ use cs_crontab::{
 };
 use cs_decl::DeclFault;
 use cs_diagnostics::{Done, Findings, shown};
+use cs_gather::{Place, place_of};
 use cs_outline::Span;
 use cs_report::first_behind_user;
 use cs_schedule::Part;
@@ -99,11 +100,18 @@ pub(crate) struct Table<'a> {
     pub(crate) is_whole: bool,
     /// Whether each of its lines can be read.
     pub(crate) is_read: bool,
+    /// The places of its lines, if it was gathered.
+    places: &'a [Place],
 }
 
 impl<'a> Table<'a> {
-    /// What is found in a table by itself.
-    pub(crate) fn at(alloc: Global, bytes: &'a [u8], kind: Kind) -> Result<Self, AllocError> {
+    /// What is found in a table by itself, whose lines have these places.
+    pub(crate) fn at(
+        alloc: Global,
+        bytes: &'a [u8],
+        places: &'a [Place],
+        kind: Kind,
+    ) -> Result<Self, AllocError> {
         let mut table = Table {
             findings: Findings::new(alloc, bytes)?,
             kind,
@@ -114,6 +122,7 @@ impl<'a> Table<'a> {
             names: IndexMap::new(alloc),
             is_whole: bytes.len() <= MAX_TABLE,
             is_read: true,
+            places,
         };
         if !table.is_whole {
             let why = "a table has at most 1,048,576 bytes: remove what begins here";
@@ -141,6 +150,11 @@ impl<'a> Table<'a> {
         let before = |begun: &Begun<'_>| i128::from(begun.number) < number;
         let begun = self.begun.get(self.begun.partition_point(before))?;
         (i128::from(begun.number) == number).then_some(begun)
+    }
+
+    /// The place of the line of that number, if it has one.
+    pub(crate) fn place_of(&self, number: u32) -> Option<&'a Place> {
+        place_of(self.places, number)
     }
 
     /// The first and the last line that have that command or identifier, if any has.

@@ -27,6 +27,11 @@ usual_words =
 abbrev pub is_one_of : List ℕ → List ℕ → Bool
 is_one_of list word = list_any (λ known. bytes_eq known word) (slice_split (λ b. b == 32) list)
 
+-- Commands usually begin with the word, and no user of a system has it as its name.
+abbrev pub is_no_user : List ℕ → Bool
+is_no_user word = is_one_of usual_words word
+    && (not (is_one_of system_users word) && not (bytes_eq word (codes "mail")))
+
 abbrev pub is_letter : ℕ → Bool
 is_letter b = nat_le 97 b && nat_le b 122
 
@@ -37,6 +42,11 @@ is_name_byte b = is_letter b || is_digit b || b == 45 || b == 46 || b == 95
 abbrev pub is_name : List ℕ → Bool
 is_name [] = false
 is_name (b ∷ bs) = is_letter b && list_all is_name_byte bs
+
+-- `_` and a name: users of Debian's packages are called so (Debian Policy 9.2.1)
+abbrev pub is_package_user : List ℕ → Bool
+is_package_user [] = false
+is_package_user (b ∷ bs) = b == 95 && is_name bs
 
 -- The word begins with `$`, `(`, `/`, `[`, `{` or `~`.
 abbrev pub is_sign : List ℕ → Bool
@@ -65,12 +75,13 @@ is_alike line other = not (other.number == line.number)
     && begins_command (second_word other.command)
 
 -- The first word is `root`. Or the second one begins a command, and the first is a user of a
--- system, or a name and no usual word that stands so on another line too.
+-- system, or `_` and a name, or a name and no usual word that stands so on another line too.
 unfoldable pub is_behind_user : List CommandLine → CommandLine → Bool
 is_behind_user lines line =
     bytes_eq (first_word line.command) (codes "root")
     || (begins_command (second_word line.command)
     && (is_one_of system_users (first_word line.command)
+    || is_package_user (first_word line.command)
     || (is_name (first_word line.command)
     && not (is_one_of usual_words (first_word line.command))
     && list_any (is_alike line) lines)))

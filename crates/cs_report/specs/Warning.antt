@@ -1,15 +1,15 @@
 -- The warnings that come with two tables, and the notes that come with a plan.
-use Rattle.std.specs.Prelude.{ℕ, ◌==◌, Bool, ◌||◌, List, [], ◌∷◌, ◌++◌, Option, Some, None, codes}
+use Rattle.std.specs.Prelude.{ℕ, ◌==◌, Bool, not, ◌&&◌, ◌||◌, List, [], ◌∷◌, ◌++◌, Option, Some, None, codes}
 use Rattle.std.specs.Prelude.{if◌then◌else◌, length}
 use Rattle.std.specs.Fmt.{decimal}
-use Rattle.std.specs.List.{filter, find, flat_map}
+use Rattle.std.specs.List.{filter, find, flat_map, list_all}
 use Rattle.std.specs.Str.{bytes_eq}
 use Rattle.cs_anacrontab.specs.Anacrontab.{Table as JobTable}
 use Rattle.cs_crontab.specs.Crontab.{CommandLine, Table}
 use Rattle.cs_decl.specs.Plan.{Declared}
 use Rattle.cs_report.specs.User.{is_behind_user}
 use Rattle.cs_table.specs.Setting.{SettingLine}
-use Rattle.cs_table.specs.Text.{front, is_solid}
+use Rattle.cs_table.specs.Text.{front, is_digit, is_solid}
 
 -- Other daemons heed these settings of a crontab or an anacrontab.
 abbrev pub is_unheeded : SettingLine → Bool
@@ -43,12 +43,31 @@ abbrev pub user_warning_of : Option CommandLine → List ℕ
 user_warning_of None = []
 user_warning_of (Some line) = user_warning line
 
--- those of the crontab's settings, that of the first command that seems to stand behind a user, and
--- then those of the anacrontab's settings
+-- the first word is a number, as the delay of a job of an anacrontab is (anacrontab(5))
+abbrev pub begins_with_number : CommandLine → Bool
+begins_with_number line =
+    not (length (front is_solid line.command) == 0) && list_all is_digit (front is_solid line.command)
+
+-- `warning: the command on line N of the crontab begins with NUMBER, as in an anacrontab: see
+-- --anacrontab` and a newline
+abbrev pub number_warning : CommandLine → List ℕ
+number_warning line = codes "warning: the command on line "
+    ++ (decimal line.number
+    ++ (codes " of the crontab begins with "
+    ++ (front is_solid line.command ++ codes ", as in an anacrontab: see --anacrontab\n")))
+
+-- such a line for a command that begins with a number, if there is one
+abbrev pub number_warning_of : Option CommandLine → List ℕ
+number_warning_of None = []
+number_warning_of (Some line) = number_warning line
+
+-- those of the crontab's settings, that of the first command that seems to stand behind a user, that
+-- of the first that begins with a number, and then those of the anacrontab's settings
 abbrev pub warnings : Table → JobTable → List ℕ
 warnings crontab anacrontab = warnings_of (codes "crontab") crontab.settings
     ++ (user_warning_of (find (is_behind_user crontab.lines) crontab.lines)
-    ++ warnings_of (codes "anacrontab") anacrontab.settings)
+    ++ (number_warning_of (find begins_with_number crontab.lines)
+    ++ warnings_of (codes "anacrontab") anacrontab.settings))
 
 -- `note: line N is left out of the plan` and a newline
 unfoldable pub left_out_note : ℕ → List ℕ

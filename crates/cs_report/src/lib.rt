@@ -24,6 +24,6 @@ pub use refusal::fault_text;
 pub use reply::{push_reply, reply_text};
 pub use script::{MAX_SCRIPT, NumberedScript, read_numbered_script, read_script};
 pub use script_fault::{ScriptError, ScriptFault};
-pub use user::first_behind_user;
+pub use user::{first_behind_user, is_no_user};
 pub use warning::{is_unheeded, plan_notes, warnings};
 pub use writing::script_text;

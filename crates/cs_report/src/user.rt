@@ -4,7 +4,8 @@ ghost use Rattle.std.specs.List.{find, list_all, list_any};
 ghost use Rattle.std.specs.Option.{option_map};
 ghost use Rattle.std.specs.Str.{bytes_eq};
 ghost use Rattle.cs_report.specs.User.{begins_command, is_alike, is_assignment, is_behind_user};
-ghost use Rattle.cs_report.specs.User.{is_letter, is_name, is_name_byte, is_one_of, is_sign};
+ghost use Rattle.cs_report.specs.User.{is_letter, is_name, is_name_byte, is_no_user, is_one_of};
+ghost use Rattle.cs_report.specs.User.{is_package_user, is_sign};
 ghost use Rattle.cs_report.specs.User.{second_word, system_users, usual_words};
 
 use cs_crontab::Line;
@@ -61,6 +62,14 @@ fn is_usual_word(word: &[u8]) -> bool
     is_one_of(USUAL_WORDS, word)
 }
 
+/// Whether the word, where a table has the user of a command, is probably the command's own: commands
+/// usually begin with it, and no user of a system has it as its name (this profile).
+pub fn is_no_user(word: &[u8]) -> bool
+    ensures { result ≡ is_no_user word.now }
+{
+    is_usual_word(word) && !is_system_user(word) && word != b"mail".as_slice()
+}
+
 fn is_letter(byte: u8) -> bool
     ensures { result ≡ is_letter byte }
 {
@@ -84,6 +93,16 @@ fn is_name(word: &[u8]) -> bool
 {
     match word {
         [first, others @ ..] => is_letter(*first) && are_name_bytes(others),
+        [] => false,
+    }
+}
+
+/// Whether the word is `_` and a name, as users of Debian's packages are called.
+fn is_package_user(word: &[u8]) -> bool
+    ensures { result ≡ is_package_user word.now }
+{
+    match word {
+        [first, others @ ..] => *first == b'_' && is_name(others),
         [] => false,
     }
 }
@@ -152,6 +171,7 @@ fn is_behind_user(lines: &[Line], line: &Line) -> bool
     }
     begins_command(second_word(line.command()))
         && (is_system_user(first)
+            || is_package_user(first)
             || (is_name(first) && !is_usual_word(first) && has_alike(lines, line)))
 }
 
@@ -159,8 +179,8 @@ fn is_behind_user(lines: &[Line], line: &Line) -> bool
 /// column (this profile).
 ///
 /// The command's first word is `root`. Or its second word begins a command: by a sign of the shell,
-/// a path, a setting or a usual word; and its first word is a user of a system, or a name and no
-/// usual word that stands so on another line too.
+/// a path, a setting or a usual word; and its first word is a user of a system, or `_` and a name, or
+/// a name and no usual word that stands so on another line too.
 pub fn first_behind_user(lines: &[Line]) -> Option<&Line>
     ensures { option_map (λ line. line.now) result ≡ find (is_behind_user lines.now) lines.now }
 {

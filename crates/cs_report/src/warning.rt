@@ -1,8 +1,10 @@
-ghost use Rattle.std.specs.Prelude.{◌≡◌, ◌++◌, IfOk, OnOk};
+ghost use Rattle.std.specs.Prelude.{◌≡◌, ◌==◌, ◌&&◌, ◌++◌, IfOk, OnOk, length, not};
 ghost use Rattle.std.specs.Fmt.{decimal};
-ghost use Rattle.std.specs.List.{find, flat_map};
+ghost use Rattle.std.specs.List.{find, flat_map, list_all};
+ghost use Rattle.cs_table.specs.Text.{is_digit};
 ghost use Rattle.std.specs.Option.{option_map};
 ghost use Rattle.cs_report.specs.User.{is_behind_user};
+ghost use Rattle.cs_report.specs.Warning.{begins_with_number, number_warning, number_warning_of};
 ghost use Rattle.cs_report.specs.Warning.{default_note, doubled_warning, is_unheeded, left_out_note};
 ghost use Rattle.cs_report.specs.Warning.{no_job_note, plan_notes, user_warning, user_warning_of};
 ghost use Rattle.cs_report.specs.Warning.{warning, warnings, warnings_of};
@@ -126,16 +128,80 @@ fn push_first_user_warning(
     }
 }
 
+fn is_digit(byte: u8) -> bool
+    ensures { result ≡ is_digit byte }
+{
+    byte.is_ascii_digit()
+}
+
+fn are_digits(text: &[u8]) -> bool
+    ensures { result ≡ list_all is_digit text.now }
+{
+    text.iter().all(|byte| is_digit(*byte))
+}
+
+fn is_number(word: &[u8]) -> bool
+    ensures { result ≡ not (length word.now == 0) && list_all is_digit word.now }
+{
+    !word.is_empty() && are_digits(word)
+}
+
+fn begins_with_number(line: &Line) -> bool
+    ensures { result ≡ begins_with_number line.now }
+{
+    let (first, _) = word(line.command());
+    is_number(first)
+}
+
+fn first_with_number(lines: &[Line]) -> Option<&Line>
+    ensures { option_map (λ line. line.now) result ≡ find begins_with_number lines.now }
+{
+    lines.iter().find(|line| begins_with_number(line))
+}
+
+/// Writes the warning of a command that begins with a number behind the text.
+fn push_number_warning(alloc: Global, text: &mut Vec<u8>, line: &Line) -> Result<(), AllocError>
+    ensures { OnOk result (text.new.items ≡ text.old.items ++ number_warning line.now) }
+{
+    let (first, _) = word(line.command());
+    push_named(
+        alloc,
+        text,
+        b"warning: the command on line ",
+        u128::from(line.number()),
+        b" of the crontab begins with ",
+        first,
+        b", as in an anacrontab: see --anacrontab\n",
+    )
+}
+
+/// Writes the warning of the first such command behind the text.
+fn push_first_number_warning(
+    alloc: Global,
+    text: &mut Vec<u8>,
+    lines: &[Line],
+) -> Result<(), AllocError>
+    ensures { OnOk result (text.new.items
+        ≡ text.old.items ++ number_warning_of (find begins_with_number lines.now)) }
+{
+    match first_with_number(lines) {
+        Some(line) => push_number_warning(alloc, text, line),
+        None => Ok(()),
+    }
+}
+
 /// A line for each setting that other daemons heed and this profile reads as a plain setting: `CRON_TZ`,
-/// `RANDOM_DELAY` and `START_HOURS_RANGE` of crontab(5) and anacrontab(5); and one for a crontab with a
-/// user column, as /etc/crontab and those of /etc/cron.d have it.
+/// `RANDOM_DELAY` and `START_HOURS_RANGE` of crontab(5) and anacrontab(5); one for a crontab with a
+/// user column, as /etc/crontab and those of /etc/cron.d have it; and one for an anacrontab that reads
+/// as a crontab, where all its periods are `@` words.
 ///
 /// A setting's is `warning: CRON_TZ on line 1 of the crontab has no effect`, or `.. of the anacrontab ..`.
 /// The first command that seems to stand behind a user has `warning: the command on line 1 of the
 /// crontab begins with root, as in a table with a user column: see cronsafe gather`
-/// ([`first_behind_user`]). The settings of the crontab come first, in order of their numbers, then
-/// the command, then the settings of the anacrontab, each line with a newline. Where there is nothing
-/// to warn of, no text. The only error is want of memory.
+/// ([`first_behind_user`]), and the first that begins with a number `.. begins with 5, as in an
+/// anacrontab: see --anacrontab`. The settings of the crontab come first, in order of their numbers,
+/// then the commands, then the settings of the anacrontab, each line with a newline. Where there is
+/// nothing to warn of, no text. The only error is want of memory.
 pub fn warnings(
     alloc: Global,
     crontab: &Crontab,
@@ -146,6 +212,7 @@ pub fn warnings(
     let mut text = Vec::new(alloc);
     push_warnings(alloc, &mut text, b"crontab", crontab.settings())?;
     push_first_user_warning(alloc, &mut text, crontab.lines())?;
+    push_first_number_warning(alloc, &mut text, crontab.lines())?;
     push_warnings(alloc, &mut text, b"anacrontab", anacrontab.settings())?;
     Ok(Bytes::from_vec(text))
 }

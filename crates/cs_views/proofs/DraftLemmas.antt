@@ -1,14 +1,15 @@
 -- What is answered to `draft`.
-use Rattle.std.proofs.Common.{◌≡◌, ◌⊎◌, ◌≤◌, ℕ, ℤ, true, List, Option, Some, None, IfSome, Ok, Err, inl, inr, length, refl, subst}
+use Rattle.std.proofs.Common.{◌≡◌, ◌⊎◌, ◌≤◌, ℕ, ℤ, true, List, Option, Some, None, IfSome, Ok, Err, inl, inr, length, refl, subst, sym}
 use Rattle.clap.specs.Words.{Text}
 use Rattle.cs_crontab.specs.Crontab.{Table}
 use Rattle.cs_anacrontab.specs.Anacrontab.{Table as JobTable}
+use Rattle.cs_gather.specs.declared.places.Place.{Place}
 use Rattle.cs_decl.specs.Meaning.{declared_by}
 use Rattle.cs_decl.specs.declared.entries.Entries.{Entries}
 use Rattle.cs_draft.specs.Draft.{IsUpdate}
 use Rattle.cs_io.specs.Files.{Failed, IsFresh, IsReadOut, IsTooLong, Reads}
 use Rattle.cs_io.specs.declared.inputs.TheConstants.{MOST_READS}
-use Rattle.cs_files.specs.Reads.{IsUnreadWhole}
+use Rattle.cs_files.specs.Reads.{IsUnreadWhole, PlacesIn}
 use Rattle.cs_files.specs.Response.{Ending}
 use Rattle.cs_files.specs.Trouble.{TellsPath, Trouble, trouble}
 use Rattle.cs_files.specs.declared.fault.Fault.{Fault}
@@ -21,24 +22,30 @@ declared d bytes (Some text) left fresh read is =
     let e : bytes ≡ text = subst (λ o. IfSome o (λ t. bytes ≡ t)) fresh read in
     subst (λ b. declared_by b ≡ Ok d) e is
 
+-- places that were read, where the files are as they were
+pub placed_on : (path : Text) (tables : Table × JobTable) (read places : List Place) (after before : List ℕ → Option (List ℕ))
+    → after ≡ before → places ≡ read → PlacesIn before path tables.0 read → PlacesIn after path tables.0 places
+placed_on path tables read places after before same is placed =
+    subst (λ (f : List ℕ → Option (List ℕ)). PlacesIn f path tables.0 places) (sym same) (subst (λ (l : List Place). PlacesIn before path tables.0 l) (sym is) placed)
+
 -- an update of declarations that were read
-pub updated : (files left : List ℕ → Option (List ℕ)) (path : Text) (bytes : List ℕ) (max : ℕ) (offset : ℤ) (tables : Table × JobTable) (old : Entries) (r : Ending) (before after : Failed)
-    → after ≡ before → IsFresh files left → IfSome (left path) (λ text. bytes ≡ text) → declared_by bytes ≡ Ok old → IsPrinted (IsUpdate tables.0 tables.1 old max) r
-    → Drafts files max offset (Some path) tables before after (Ok r)
-updated files left path bytes max offset tables old r before after works fresh read is printed =
-    inr (old, inl (refl, declared old bytes (files path) (left path) (fresh path) read is), (works, (r, printed, refl)))
+pub updated : (files left : List ℕ → Option (List ℕ)) (table path : Text) (bytes : List ℕ) (max : ℕ) (offset : ℤ) (tables : Table × JobTable) (places : List Place) (old : Entries) (r : Ending) (before after : Failed)
+    → after ≡ before → PlacesIn files table tables.0 places → IsFresh files left → IfSome (left path) (λ text. bytes ≡ text) → declared_by bytes ≡ Ok old → IsPrinted (IsUpdate tables.0 tables.1 places old max) r
+    → Drafts files table max offset (Some path) tables before after (Ok r)
+updated files left table path bytes max offset tables places old r before after works placed fresh read is printed =
+    inr (old, inl (refl, declared old bytes (files path) (left path) (fresh path) read is), (works, (r, (places, placed, printed), refl)))
 
 -- old declarations that could not be read, or not to their end
-pub unread : (files left : List ℕ → Option (List ℕ)) (path : Text) (max : ℕ) (offset : ℤ) (tables : Table × JobTable) (before after : Failed) (old new : Reads) (e : Fault)
-    → IsFresh files left → IsUnreadWhole path left before after old new e → IfSome (trouble e) (λ t. Drafts files max offset (Some path) tables before after (Err t))
-unread files left path max offset tables before after old new e fresh = by_trouble (trouble e)
+pub unread : (files left : List ℕ → Option (List ℕ)) (table path : Text) (max : ℕ) (offset : ℤ) (tables : Table × JobTable) (before after : Failed) (old new : Reads) (e : Fault)
+    → IsFresh files left → IsUnreadWhole path left before after old new e → IfSome (trouble e) (λ t. Drafts files table max offset (Some path) tables before after (Err t))
+unread files left table path max offset tables before after old new e fresh = by_trouble (trouble e)
   where
     too_long : (whole rest : Option (List ℕ)) → IfSome whole (λ text. rest ≡ Some text) → IfSome rest (λ text. MOST_READS ≤ length text) → IfSome whole (λ text. MOST_READS ≤ length text)
     too_long None rest same long = same
     too_long (Some text) rest same long = subst (λ o. IfSome o (λ t. MOST_READS ≤ length t)) same long
 
     by_trouble : (o : Option Trouble) → IfSome o (λ t. TellsPath path t × ((after path ≡ true) ⊎ ((after ≡ before) × IsReadOut path old new × IsTooLong path left)))
-        → IfSome o (λ t. Drafts files max offset (Some path) tables before after (Err t))
+        → IfSome o (λ t. Drafts files table max offset (Some path) tables before after (Err t))
     by_trouble None h = h
     by_trouble (Some t) (is, inl failed) = inl (t, inl (inl (failed, is)), refl)
     by_trouble (Some t) (is, inr (same, out, long)) = inl (t, inr (same, too_long (files path) (left path) (fresh path) long, (t, is, refl)), refl)

@@ -1,5 +1,5 @@
 -- What is answered to `gather`.
-use Rattle.std.proofs.Common.{◌≡◌, ◌<◌, ◌≤◌, ◌∙◌, ℕ, true, List, [], ◌∷◌, ◌++◌, Option, Some, None, IfSome, IfErr, IfOk, Ok, Err, Result, ap, arith, inl, inr, length, map, option_map, refl, string_bytes, subst, sym, append_assoc}
+use Rattle.std.proofs.Common.{◌≡◌, ◌<◌, ◌≤◌, ◌∙◌, ℕ, Bool, Bor, true, List, [], ◌∷◌, ◌++◌, Option, Some, None, IfSome, IfErr, IfOk, Ok, Err, Result, ap, arith, inl, inr, is_some, length, map, option_map, refl, string_bytes, subst, sym, append_assoc}
 use Rattle.std.specs.List.{AllZip}
 use Rattle.std.specs.Result.{IsErrAnd}
 use Rattle.std.proofs.lemmas.List.{map-append}
@@ -13,6 +13,7 @@ use Rattle.cs_crontab.specs.Faults.{crontab}
 use Rattle.cs_system.specs.declared.fault.SystemFault.{SystemFault}
 use Rattle.cs_system.specs.Faults.{system}
 use Rattle.cs_gather.specs.Gathered.{GatheredCommand}
+use Rattle.cs_gather.specs.declared.programs.Parts.{Parts}
 use Rattle.cs_io.specs.Files.{AreReadInTurn, Failed, IsFresh, IsUpTo, Reads}
 use Rattle.cs_io.specs.declared.reason.Reason.{Reason}
 use Rattle.cs_args.specs.CommandLine.{AskedGather}
@@ -24,27 +25,30 @@ use Rattle.cs_files.specs.declared.fault.Fault.{Fault}
 use Rattle.cs_files.proofs.TroubleLemmas.{some_is}
 use Rattle.cs_files.proofs.TurnLemmas.{some_read, then_read}
 use Rattle.cs_views.specs.GatherTables.{AreFound, AreNamed, Given, IsUserFile, system_table}
-use Rattle.cs_views.specs.GatherAnswer.{Adds, AddsAs, EndsFor, FaultsAs, FirstStops, GathersAll, ShowsGathered, Stops}
-use Rattle.cs_views.specs.Listing.{IsUnlisted, TellsUnlisted}
+use Rattle.cs_views.specs.GatherAnswer.{Adds, AddsAs, AreParts, EndsFor, FaultsAs, GathersAll, ShowsGathered, Stops}
+use Rattle.cs_views.specs.Listing.{IsHonestStop, IsUnlisted, stop_trouble, unlisted_trouble}
+use Rattle.cs_views.specs.declared.gather_stop.Stop.{Stop}
+use Rattle.cs_views.specs.declared.gather_stop.Stop.TheVariants.{AtParts}
 use Rattle.cs_views.specs.declared.gather_below.Unlisted.{Unlisted}
 use Rattle.cs_views.specs.declared.gather_below.Unlisted.TheVariants.{CannotRead, OutOfMemory as NoMemory}
 
 -- ---- of the bytes that were read
 
-pub is_short : (user : Option Text) (path : Text) (bytes : List ℕ) (old more : List GatheredCommand) → AddsAs user path bytes old more → length bytes ≤ MAX_TABLE
-is_short None path bytes old more (table, is, same) = is.short
-is_short (Some user) path bytes old more (table, is, same) = is.short
+pub is_short : (user : Option Text) (path : Text) (bytes : List ℕ) (parts : List Parts) (old more : List GatheredCommand) → AddsAs user path bytes parts old more → length bytes ≤ MAX_TABLE
+is_short None path bytes parts old more (table, is, same) = is.short
+is_short (Some user) path bytes parts old more (table, is, same) = is.short
 
 -- what the bytes add the file adds
-pub adds_read : (files left : List ℕ → Option (List ℕ)) (user : Option Text) (path : Text) (bytes : List ℕ) (old more : List GatheredCommand)
-    → IsFresh files left → IsRead MAX_TABLE path left bytes → AddsAs user path bytes old more → IfSome (files path) (λ text. AddsAs user path text old more)
-adds_read files left user path bytes old more fresh read adds = by_file (files path) (left path) (fresh path) read
+pub adds_read : (looks : Bool) (files left : List ℕ → Option (List ℕ)) (given : Given) (bytes : List ℕ) (parts : List Parts) (old more : List GatheredCommand)
+    → IsFresh files left → IsRead MAX_TABLE given.path left bytes → AreParts looks parts → AddsAs given.user given.path bytes parts old more → Adds looks files given old more
+adds_read looks files left given bytes parts old more fresh read are adds = by_file (files given.path) (left given.path) (fresh given.path) read
   where
-    same : (text : List ℕ) → IsUpTo MAX_TABLE text bytes → AddsAs user path text old more
-    same text (inl e) = subst (λ (b : List ℕ). AddsAs user path b old more) e adds
-    same text (inr (long, other)) = absurd (let short = is_short user path bytes old more adds in omega (arith, short, long))
+    same : (text : List ℕ) → IsUpTo MAX_TABLE text bytes → (ps : List Parts) × AreParts looks ps × AddsAs given.user given.path text ps old more
+    same text (inl e) = (parts, are, subst (λ (b : List ℕ). AddsAs given.user given.path b parts old more) e adds)
+    same text (inr (long, other)) = absurd (let short = is_short given.user given.path bytes parts old more adds in omega (arith, short, long))
 
-    by_file : (whole rest : Option (List ℕ)) → IfSome whole (λ text. rest ≡ Some text) → IfSome rest (λ text. IsUpTo MAX_TABLE text bytes) → IfSome whole (λ text. AddsAs user path text old more)
+    by_file : (whole rest : Option (List ℕ)) → IfSome whole (λ text. rest ≡ Some text) → IfSome rest (λ text. IsUpTo MAX_TABLE text bytes)
+        → IfSome whole (λ text. (ps : List Parts) × AreParts looks ps × AddsAs given.user given.path text ps old more)
     by_file None rest is up = tt
     by_file (Some text) rest is up = same text (subst (λ (o : Option (List ℕ)). IfSome o (λ t. IsUpTo MAX_TABLE t bytes)) is up)
 
@@ -54,40 +58,52 @@ same_fault kind bytes text OutOfMemory long other is = tt
 same_fault kind bytes text (At line column size fault) long other (inl (past, is)) = inl (other, is)
 same_fault kind bytes text (At line column size fault) long other (inr first) = absurd (let short = first.short in omega (arith, short, long))
 
-long_faults : (user : Option Text) (path : Text) (bytes text : List ℕ) (old : List GatheredCommand) (fault : TableFault SystemFault) → MAX_TABLE < length bytes → MAX_TABLE < length text → FaultsAs user path bytes old fault → FaultsAs user path text old fault
-long_faults None path bytes text old fault long other (inl is) = inl (same_fault system bytes text fault long other is)
-long_faults None path bytes text old fault long other (inr (table, is, over)) = absurd (let short = is.short in omega (arith, short, long))
-long_faults (Some user) path bytes text old fault long other (inl (inner, is, same)) = inl (inner, same_fault crontab bytes text inner long other is, same)
-long_faults (Some user) path bytes text old fault long other (inr (table, is, over)) = absurd (let short = is.short in omega (arith, short, long))
+long_faults : (user : Option Text) (path : Text) (bytes text : List ℕ) (parts : List Parts) (old : List GatheredCommand) (fault : TableFault SystemFault) → MAX_TABLE < length bytes → MAX_TABLE < length text → FaultsAs user path bytes parts old fault → FaultsAs user path text parts old fault
+long_faults None path bytes text parts old fault long other (inl is) = inl (same_fault system bytes text fault long other is)
+long_faults None path bytes text parts old fault long other (inr (table, is, over)) = absurd (let short = is.short in omega (arith, short, long))
+long_faults (Some user) path bytes text parts old fault long other (inl (inner, is, same)) = inl (inner, same_fault crontab bytes text inner long other is, same)
+long_faults (Some user) path bytes text parts old fault long other (inr (table, is, over)) = absurd (let short = is.short in omega (arith, short, long))
 
 -- which fault the bytes have the file has
-faults_read : (files left : List ℕ → Option (List ℕ)) (user : Option Text) (path : Text) (bytes : List ℕ) (old : List GatheredCommand) (fault : TableFault SystemFault)
-    → IsFresh files left → IsRead MAX_TABLE path left bytes → FaultsAs user path bytes old fault → IfSome (files path) (λ text. FaultsAs user path text old fault)
-faults_read files left user path bytes old fault fresh read faults = by_file (files path) (left path) (fresh path) read
+faults_read : (looks : Bool) (files left : List ℕ → Option (List ℕ)) (given : Given) (bytes : List ℕ) (parts : List Parts) (old : List GatheredCommand) (fault : TableFault SystemFault)
+    → IsFresh files left → IsRead MAX_TABLE given.path left bytes → AreParts looks parts → FaultsAs given.user given.path bytes parts old fault
+    → IfSome (files given.path) (λ text. (ps : List Parts) × AreParts looks ps × FaultsAs given.user given.path text ps old fault)
+faults_read looks files left given bytes parts old fault fresh read are faults = by_file (files given.path) (left given.path) (fresh given.path) read
   where
-    same : (text : List ℕ) → IsUpTo MAX_TABLE text bytes → FaultsAs user path text old fault
-    same text (inl e) = subst (λ (b : List ℕ). FaultsAs user path b old fault) e faults
-    same text (inr (long, other)) = long_faults user path bytes text old fault long other faults
+    same : (text : List ℕ) → IsUpTo MAX_TABLE text bytes → (ps : List Parts) × AreParts looks ps × FaultsAs given.user given.path text ps old fault
+    same text (inl e) = (parts, are, subst (λ (b : List ℕ). FaultsAs given.user given.path b parts old fault) e faults)
+    same text (inr (long, other)) = (parts, are, long_faults given.user given.path bytes text parts old fault long other faults)
 
-    by_file : (whole rest : Option (List ℕ)) → IfSome whole (λ text. rest ≡ Some text) → IfSome rest (λ text. IsUpTo MAX_TABLE text bytes) → IfSome whole (λ text. FaultsAs user path text old fault)
+    by_file : (whole rest : Option (List ℕ)) → IfSome whole (λ text. rest ≡ Some text) → IfSome rest (λ text. IsUpTo MAX_TABLE text bytes)
+        → IfSome whole (λ text. (ps : List Parts) × AreParts looks ps × FaultsAs given.user given.path text ps old fault)
     by_file None rest is up = tt
     by_file (Some text) rest is up = same text (subst (λ (o : Option (List ℕ)). IfSome o (λ t. IsUpTo MAX_TABLE t bytes)) is up)
 
 -- a table with a fault stops the call
-pub stops_read : (files left : List ℕ → Option (List ℕ)) (before after : Failed) (given : Given) (bytes : List ℕ) (old : List GatheredCommand) (fault : TableFault SystemFault)
-    → IsFresh files left → after ≡ before → IsRead MAX_TABLE given.path left bytes → FaultsAs given.user given.path bytes old fault
-    → IfSome (gathered_trouble given.path fault) (Stops files before after given old)
-stops_read files left before after given bytes old OutOfMemory fresh works read faults = tt
-stops_read files left before after given bytes old (At line column size fault) fresh works read faults =
-    inr (works, (record { line = line; column = column; size = size; fault = fault }, refl, faults_read files left given.user given.path bytes old (At line column size fault) fresh read faults))
+pub stops_read : (looks : Bool) (files left : List ℕ → Option (List ℕ)) (before after : Failed) (given : Given) (bytes : List ℕ) (parts : List Parts) (old : List GatheredCommand) (fault : TableFault SystemFault)
+    → IsFresh files left → after ≡ before → IsRead MAX_TABLE given.path left bytes → AreParts looks parts → FaultsAs given.user given.path bytes parts old fault
+    → IfSome (gathered_trouble given.path fault) (Stops looks files before after given old)
+stops_read looks files left before after given bytes parts old OutOfMemory fresh works read are faults = tt
+stops_read looks files left before after given bytes parts old (At line column size fault) fresh works read are faults =
+    inr (inl (works, (record { line = line; column = column; size = size; fault = fault }, refl, faults_read looks files left given bytes parts old (At line column size fault) fresh read are faults)))
 
 -- and so does one that can't be read
-pub stops_unread : (files : List ℕ → Option (List ℕ)) (before after : Failed) (given : Given) (old : List GatheredCommand) (e : Fault) → IsUnreadAt given.path after e → IfSome (trouble e) (Stops files before after given old)
-stops_unread files before after given old e = by_trouble (trouble e)
+pub stops_unread : (looks : Bool) (files : List ℕ → Option (List ℕ)) (before after : Failed) (given : Given) (old : List GatheredCommand) (e : Fault) → IsUnreadAt given.path after e → IfSome (trouble e) (Stops looks files before after given old)
+stops_unread looks files before after given old e = by_trouble (trouble e)
   where
-    by_trouble : (o : Option Trouble) → IfSome o (λ t. (after given.path ≡ true) × TellsPath given.path t) → IfSome o (Stops files before after given old)
+    by_trouble : (o : Option Trouble) → IfSome o (λ t. (after given.path ≡ true) × TellsPath given.path t) → IfSome o (Stops looks files before after given old)
     by_trouble None h = h
     by_trouble (Some t) h = inl h
+
+-- and parts that can't be listed
+pub stops_unlisted : (looks : Bool) (files : List ℕ → Option (List ℕ)) (before after : Failed) (given : Given) (old : List GatheredCommand) (u : Unlisted) → looks ≡ true
+    → IfSome (unlisted_trouble u) (Stops looks files before after given old)
+stops_unlisted looks files before after given old (CannotRead path reason) asked = inr (inr (asked, (string_bytes path, (reason, refl))))
+stops_unlisted looks files before after given old NoMemory asked = tt
+
+pub honest_parts : (failed : Failed) (reads : Reads) (u : Unlisted) → IsUnlisted failed reads u → IsHonestStop failed reads (AtParts u)
+honest_parts failed reads (CannotRead path reason) unread = λ six. (string_bytes path, unread, (reason, refl))
+honest_parts failed reads NoMemory unread = tt
 
 -- a fault of a table is no failure of a device
 pub honest_gathered : (failed : Failed) (reads : Reads) (path : Text) (fault : TableFault SystemFault) → IfSome (gathered_trouble path fault) (λ t. trouble_status t ≡ 6 → (p : Text) × IsUnread p failed reads × TellsPath p t)
@@ -96,27 +112,25 @@ honest_gathered failed reads path (At line column size fault) = λ six. absurd (
 
 -- ---- of tables in turn
 
--- the first that stops the call is behind one that adds its commands
-pub later_stops : (files : List ℕ → Option (List ℕ)) (before after : Failed) (given : Given) (later : List Given) (old between : List GatheredCommand) (e : Fault)
-    → Adds files given old between → IfSome (trouble e) (FirstStops files before after later between) → IfSome (trouble e) (FirstStops files before after (given ∷ later) old)
-later_stops files before after given later old between e adds = by_trouble (trouble e)
-  where
-    by_trouble : (o : Option Trouble) → IfSome o (FirstStops files before after later between) → IfSome o (FirstStops files before after (given ∷ later) old)
-    by_trouble None h = h
-    by_trouble (Some t) h = inr (between, adds, h)
-
 pub some_so : (P Q : Trouble → Type 0) (o : Option Trouble) → ((t : Trouble) → P t → Q t) → IfSome o P → IfSome o Q
 some_so P Q None so h = h
 some_so P Q (Some t) so h = so t h
 
 -- ---- what is answered
 
-pub ends_for : (P : Trouble → Type 0) (notes : List ℕ) (e : Fault) (r : Ending) → IfSome (trouble e) P → option_map (ends notes) (trouble e) ≡ Some r → (t : Trouble) × P t × EndsFor t r
-ends_for P notes e r = by_trouble (trouble e)
+pub ends_for : (P : Trouble → Type 0) (notes : List ℕ) (o : Option Trouble) (r : Ending) → IfSome o P → option_map (ends notes) o ≡ Some r → (t : Trouble) × P t × EndsFor t r
+ends_for P notes None r h is = absurd (cc)
+ends_for P notes (Some t) r h is = (t, h, (notes, sym (some_is (ends notes t) r is)))
+
+pub honest_stop : (failed : Failed) (reads : Reads) (notes : List ℕ) (stop : Stop) (r : Ending) → IsHonestStop failed reads stop → option_map (ends notes) (stop_trouble stop) ≡ Some r → IsHonest failed reads r
+honest_stop failed reads notes stop r = by_trouble (stop_trouble stop)
   where
-    by_trouble : (o : Option Trouble) → IfSome o P → option_map (ends notes) o ≡ Some r → (t : Trouble) × P t × EndsFor t r
+    by_trouble : (o : Option Trouble) → IfSome o (λ t. trouble_status t ≡ 6 → (path : Text) × IsUnread path failed reads × TellsPath path t) → option_map (ends notes) o ≡ Some r → IsHonest failed reads r
     by_trouble None h is = absurd (cc)
-    by_trouble (Some t) h is = (t, h, (notes, sym (some_is (ends notes t) r is)))
+    by_trouble (Some t) h is = λ six.
+        let same : ends notes t ≡ r = some_is (ends notes t) r is in
+        let (path, unread, (reason, told)) = h (ap (λ (x : Ending). x.status) same ∙ six) in
+        record { path = path; unread = unread; warnings = notes; reason = reason; told = sym same ∙ ap (ends notes) told }
 
 -- a gathered table, or one that isn't, is no failure of a device
 pub honest_shown : (failed : Failed) (reads : Reads) (commands : List GatheredCommand) (r : Ending) → ShowsGathered commands r → IsHonest failed reads r
@@ -124,9 +138,9 @@ honest_shown failed reads commands r (inl (done, gathers)) = λ six. absurd (let
 honest_shown failed reads commands r (inr (notes, is)) = λ six. absurd (let e = sym (ap (λ (x : Ending). x.status) is) ∙ six in cc)
 
 -- the same where nothing has failed yet
-pub stops_same : (files whole : List ℕ → Option (List ℕ)) (before mid after : Failed) (given : Given) (old : List GatheredCommand) (t : Trouble) → whole ≡ files → mid ≡ before → Stops whole mid after given old t → Stops files before after given old t
-stops_same files whole before mid after given old t same works stops =
-    subst (λ (w : List ℕ → Option (List ℕ)). Stops w before after given old t) same (subst (λ (f : Failed). Stops whole f after given old t) works stops)
+pub stops_same : (looks : Bool) (files whole : List ℕ → Option (List ℕ)) (before mid after : Failed) (given : Given) (old : List GatheredCommand) (t : Trouble) → whole ≡ files → mid ≡ before → Stops looks whole mid after given old t → Stops looks files before after given old t
+stops_same looks files whole before mid after given old t same works stops =
+    subst (λ (w : List ℕ → Option (List ℕ)). Stops looks w before after given old t) same (subst (λ (f : Failed). Stops looks whole f after given old t) works stops)
 
 pub err_so : {T E : Type 0} (P Q : E → Type 0) (r : Result T E) → ((e : E) → P e → Q e) → IsErrAnd r P → IfErr r Q
 err_so P Q (Ok x) so h = absurd h
@@ -138,19 +152,16 @@ if_ok P Q (Ok x) so h = so x h
 if_ok P Q (Err e) so h = h
 
 -- that a path can't be read
-pub told_unread : {E : Type 0} (path text notes : List ℕ) (reason : Reason) (r : Result Ending E) → path ≡ text → IfOk r (λ x. Some (ends notes (Unread path reason)) ≡ Some x)
-    → IfOk r (λ x. (ns : List ℕ) × (x ≡ ends ns (Unread text reason)))
-told_unread path text notes reason (Ok x) same is = (notes, sym (some_is (ends notes (Unread path reason)) x is) ∙ ap (λ (p : List ℕ). ends notes (Unread p reason)) same)
-told_unread path text notes reason (Err e) same is = is
+pub told_unread : {E : Type 0} (path text notes : List ℕ) (reason : Reason) (r : Result Ending E) → path ≡ text → IfOk r (λ x. Some (ends notes (Unread path reason)) ≡ Some x) → IfOk r (λ x. Some (ends notes (Unread text reason)) ≡ Some x)
+told_unread path text notes reason r same is = subst (λ (p : List ℕ). IfOk r (λ x. Some (ends notes (Unread p reason)) ≡ Some x)) same is
 
-pub tells_unlisted : (u : Unlisted) (r : Ending) → TellsUnlisted u r → (path : Text) × (t : Trouble) × TellsPath path t × EndsFor t r
-tells_unlisted (CannotRead path reason) r told = (string_bytes path, Unread (string_bytes path) reason, (reason, refl), told)
-tells_unlisted NoMemory r told = absurd told
+pub tells_unlisted : (u : Unlisted) (notes : List ℕ) (r : Ending) → option_map (ends notes) (unlisted_trouble u) ≡ Some r → (path : Text) × (t : Trouble) × TellsPath path t × EndsFor t r
+tells_unlisted (CannotRead path reason) notes r is =
+    let t : Trouble = Unread (string_bytes path) reason in (string_bytes path, t, (reason, refl), (notes, sym (some_is (ends notes t) r is)))
+tells_unlisted NoMemory notes r is = absurd (cc)
 
-pub honest_unlisted : (failed : Failed) (reads : Reads) (u : Unlisted) (r : Ending) → IsUnlisted failed reads u → TellsUnlisted u r → IsHonest failed reads r
-honest_unlisted failed reads (CannotRead path reason) r unread (notes, is) = λ six.
-    record { path = string_bytes path; unread = unread; warnings = notes; reason = reason; told = is }
-honest_unlisted failed reads NoMemory r unread told = absurd told
+pub honest_unlisted : (failed : Failed) (reads : Reads) (u : Unlisted) (notes : List ℕ) (r : Ending) → IsUnlisted failed reads u → option_map (ends notes) (unlisted_trouble u) ≡ Some r → IsHonest failed reads r
+honest_unlisted failed reads u notes r unread is = honest_stop failed reads notes (AtParts u) r (honest_parts failed reads u unread) is
 
 -- ---- which files are read
 
@@ -189,7 +200,14 @@ all_read a paths found named tables old mid new none root are_found are_named is
 pub root_read : (a : AskedGather) (paths : List Text) (old new : Reads) → (a.root ≡ None → paths ≡ []) → AreReadInTurn paths old new → AreReadToGather a old new
 root_read a paths old new none turn = (paths, none, some_read paths (gather_paths a) old new turn)
 
+-- a root folder is asked, or none is
+pub some_same : (o : Option (Bor (List ℕ))) → is_some o ≡ is_some (option_map (λ (b : Bor (List ℕ)). b.now) o)
+some_same None = refl
+some_same (Some b) = refl
+
 -- tables that are gathered
-pub gathers_same : (files whole : List ℕ → Option (List ℕ)) (before mid after : Failed) (tables all : List Given) (r : Ending) → whole ≡ files → mid ≡ before → tables ≡ all → GathersAll whole mid after tables r → GathersAll files before after all r
-gathers_same files whole before mid after tables all r same works is gathers =
-    subst (λ (w : List ℕ → Option (List ℕ)). GathersAll w before after all r) same (subst (λ (f : Failed). GathersAll whole f after all r) works (subst (λ (ts : List Given). GathersAll whole mid after ts r) is gathers))
+pub gathers_same : (asked looks : Bool) (files whole : List ℕ → Option (List ℕ)) (before mid after : Failed) (tables all : List Given) (r : Ending)
+    → asked ≡ looks → whole ≡ files → mid ≡ before → tables ≡ all → GathersAll asked whole mid after tables r → GathersAll looks files before after all r
+gathers_same asked looks files whole before mid after tables all r so same works is gathers =
+    subst (λ (l : Bool). GathersAll l files before after all r) so
+    (subst (λ (w : List ℕ → Option (List ℕ)). GathersAll asked w before after all r) same (subst (λ (f : Failed). GathersAll asked whole f after all r) works (subst (λ (ts : List Given). GathersAll asked whole mid after ts r) is gathers)))

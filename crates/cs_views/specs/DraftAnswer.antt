@@ -3,12 +3,13 @@ use Rattle.std.specs.Prelude.{◌≡◌, ◌⊎◌, ℕ, ℤ, true, false, List,
 use Rattle.clap.specs.Words.{Text}
 use Rattle.cs_crontab.specs.Crontab.{Table}
 use Rattle.cs_anacrontab.specs.Anacrontab.{Table as JobTable}
+use Rattle.cs_gather.specs.declared.places.Place.{Place}
 use Rattle.cs_decl.specs.Plain.{is_possible_max}
 use Rattle.cs_draft.specs.Draft.{IsDraft, IsUpdate}
 use Rattle.cs_args.specs.CommandLine.{AskedDraft}
 use Rattle.cs_args.specs.declared.question.WordFault.TheVariants.{BadMax}
 use Rattle.cs_io.specs.Files.{Failed}
-use Rattle.cs_files.specs.Reads.{AndThen, Answered, GivesSome, ReadsEntries, ReadsTables}
+use Rattle.cs_files.specs.Reads.{AndThen, Answered, GivesSome, PlacesIn, ReadsEntries, ReadsTables}
 use Rattle.cs_files.specs.Response.{Ending}
 use Rattle.cs_files.specs.Trouble.{InWords, Trouble, ends}
 
@@ -17,21 +18,27 @@ abbrev pub IsPrinted : (List ℕ → Type 0) → Ending → Type 0
 IsPrinted Is ending =
     ((ending.status ≡ 0) × Is ending.out) ⊎ ((ending.status ≡ 2) × (ending.out ≡ []))
 
--- a draft of the tables at an offset; or the old declarations are read, and an update of them is
--- printed
-abbrev pub Drafts : (List ℕ → Option (List ℕ)) → ℕ → ℤ → Option Text → Table × JobTable
+-- and so with the places of the table at a path
+abbrev pub IsPrintedAt : (List ℕ → Option (List ℕ)) → Text → Table → (List Place → List ℕ → Type 0)
+    → Ending → Type 0
+IsPrintedAt files path table Is ending =
+    (places : List Place) × PlacesIn files path table places × IsPrinted (Is places) ending
+
+-- a draft of the tables, of which the first is at that path, at an offset; or the old declarations are
+-- read, and an update of them is printed
+abbrev pub Drafts : (List ℕ → Option (List ℕ)) → Text → ℕ → ℤ → Option Text → Table × JobTable
     → Failed → Failed → Result Ending Trouble → Type 0
-Drafts files max offset None tables =
-    GivesSome (IsPrinted (IsDraft tables.0 tables.1 max offset))
-Drafts files max offset (Some path) tables =
-    AndThen (ReadsEntries files path)
-    (λ old. GivesSome (IsPrinted (IsUpdate tables.0 tables.1 old max)))
+Drafts files table max offset None tables = GivesSome (IsPrintedAt files table tables.0
+    (λ places. IsDraft tables.0 tables.1 places max offset))
+Drafts files table max offset (Some path) tables =
+    AndThen (ReadsEntries files path) (λ old. GivesSome (IsPrintedAt files table tables.0
+    (λ places. IsUpdate tables.0 tables.1 places old max)))
 
 -- both tables are read first
 abbrev pub DraftsTables : AskedDraft → ℤ → (List ℕ → Option (List ℕ)) → Failed → Failed → Ending
     → Type 0
 DraftsTables a offset files = Answered (ReadsTables files a.table a.anacrontab)
-    (λ both. Drafts files a.max offset a.update both)
+    (λ both. Drafts files a.table a.max offset a.update both)
 
 -- what is answered to `draft`: a longest time that no job may declare ends the call before a file is
 -- read; else the first fault of the files does

@@ -2,7 +2,7 @@
 use Rattle.std.specs.Prelude.{◌≡◌, ◌⊎◌, ◌==◌, All, true, false, List, [], ◌∷◌, ◌++◌, Option, Some, None, codes, map}
 use Rattle.std.specs.List.{AllZip, list_any}
 use Rattle.clap.specs.Words.{Text}
-use Rattle.cs_io.specs.Folders.{is_table_name}
+use Rattle.cs_gather.specs.Places.{is_part_name}
 use Rattle.cs_args.specs.CommandLine.{AskedGather}
 
 -- a table to gather: its path, and whose it is, unless its lines name users
@@ -44,7 +44,7 @@ IsFront root front = (root ≡ front ++ (47 ∷ [])) ⊎ ((root ≡ front)
 abbrev pub IsBelow : Text → Given → Type 0
 IsBelow front given =
     (given ≡ system_table (front ++ codes "/etc/crontab"))
-    ⊎ (((name : Text) × (is_table_name name ≡ true)
+    ⊎ (((name : Text) × (is_part_name name ≡ true)
     × (given ≡ system_table ((front ++ codes "/etc/cron.d/") ++ name)))
     ⊎ ((name : Text)
     × (given ≡ user_table ((front ++ codes "/var/spool/cron/crontabs/") ++ name) name)))

@@ -10,22 +10,24 @@ ghost use Rattle.cs_views.specs.ChartAnswer.{AnswersChart, Charts, ChartsTables,
 
 use cs_anacrontab::Anacrontab;
 use cs_args::{ChartWords, Question};
-use cs_chart::{Terms, chart as table_picture, plan_chart};
+use cs_chart::{Subject, Terms, chart as table_picture, plan_chart};
 use cs_civil::Bytes;
 use cs_crontab::Crontab;
 use cs_decl::Plan;
-use cs_files::{Fault, RanOut, Response, declared_plan_from, read_tables};
+use cs_files::{Fault, RanOut, Response, declared_plan_from, read_placed_tables};
+use cs_gather::Place;
 use cs_io::Inputs;
 use cs_report::warnings;
 use std::alloc::{AllocError, Global};
 
-/// What the picture calls the tables.
-fn subject<'a>(request: &ChartWords<'a>) -> &'a [u8] {
-    if request.day.table == "-" {
+/// What the picture calls the tables, and where their lines come from.
+fn subject<'a>(request: &ChartWords<'a>, places: &'a [Place]) -> Subject<'a> {
+    let name = if request.day.table == "-" {
         b"standard input".as_slice()
     } else {
         request.day.table.as_bytes()
-    }
+    };
+    Subject { name, places }
 }
 
 /// The picture of both tables, with one longest time for all jobs.
@@ -35,6 +37,7 @@ fn show_tables(
     question: Question,
     table: &Crontab,
     jobs: &Anacrontab,
+    places: &[Place],
 ) -> Result<Response, AllocError>
     ensures { IfOk result (IsPicture question request.now.days
         (jobs_of_tables (terms_of question) table.now jobs.now)) }
@@ -46,8 +49,8 @@ fn show_tables(
         to: hours.to(),
     };
     let day = question.day();
-    let subject = subject(request);
-    let picture = table_picture(alloc, subject, table, jobs, terms, day, request.days)?;
+    let subject = subject(request, places);
+    let picture = table_picture(alloc, &subject, table, jobs, terms, day, request.days)?;
     Ok(Response::done(picture.into_bytes(), Bytes::new(alloc)))
 }
 
@@ -57,10 +60,12 @@ fn show_plan(
     request: &ChartWords<'_>,
     question: Question,
     plan: &Plan,
+    places: &[Place],
 ) -> Result<Response, AllocError>
     ensures { IfOk result (IsPicture question request.now.days (jobs_of_plan plan.now)) }
 {
-    let picture = plan_chart(alloc, subject(request), plan, question.day(), request.days)?;
+    let subject = subject(request, places);
+    let picture = plan_chart(alloc, &subject, plan, question.day(), request.days)?;
     Ok(Response::done(picture.into_bytes(), Bytes::new(alloc)))
 }
 
@@ -72,6 +77,7 @@ fn drawn<'a, I: Inputs>(
     question: Question,
     table: Crontab,
     jobs: Anacrontab,
+    places: &[Place],
 ) -> Result<Response, Fault<'a>>
     ensures step { IsFresh (I.whole inputs.old) (I.left inputs.old)
         → CameTo (Charts question (asked_chart request.now).days (I.whole inputs.old)
@@ -85,9 +91,9 @@ fn drawn<'a, I: Inputs>(
     match request.declarations {
         Some(path) => {
             let plan = declared_plan_from(alloc, inputs, path, table, jobs)?;
-            Ok(show_plan(alloc, request, question, &plan)?)
+            Ok(show_plan(alloc, request, question, &plan, places)?)
         }
-        None => Ok(show_tables(alloc, request, question, &table, &jobs)?),
+        None => Ok(show_tables(alloc, request, question, &table, &jobs, places)?),
     }
 }
 
@@ -110,12 +116,21 @@ fn chart_tables<I: Inputs>(
         (I.reads inputs.old) (I.reads inputs.new) }
 {
     let words = &request.day;
-    let (table, jobs) = match read_tables(alloc, inputs, words.table, words.anacrontab) {
-        Ok(tables) => tables,
+    let (tables, places) = match read_placed_tables(alloc, inputs, words.table, words.anacrontab) {
+        Ok(found) => found,
         Err(fault) => return Ok(fault.response(alloc, b"".as_slice())?),
     };
+    let (table, jobs) = tables;
     let warnings = warnings(alloc, &table, &jobs)?;
-    match drawn(alloc, inputs, request, question, table, jobs) {
+    match drawn(
+        alloc,
+        inputs,
+        request,
+        question,
+        table,
+        jobs,
+        places.as_slice(),
+    ) {
         Ok(answer) => answer.behind(warnings),
         Err(fault) => fault.response_behind(alloc, warnings),
     }

@@ -5,6 +5,7 @@ ghost use Rattle.cs_decl.specs.Plain.{is_possible_max};
 ghost use Rattle.cs_draft.specs.Draft.{IsDraft, IsUpdate};
 ghost use Rattle.cs_io.specs.Files.{AreReadInTurn, IsFresh};
 ghost use Rattle.cs_files.specs.RanOut.{IsWarned};
+ghost use Rattle.cs_files.specs.Reads.{PlacesIn};
 ghost use Rattle.cs_files.specs.Trouble.{CameTo, IsHonest, IsHonestOf};
 ghost use Rattle.cs_files.specs.Turn.{draft_paths, some_path};
 ghost use Rattle.cs_views.specs.DraftAnswer.{AnswersDraft, Drafts, DraftsTables, IsPrinted};
@@ -14,7 +15,8 @@ use cs_args::{DraftWords, WordFault};
 use cs_crontab::Crontab;
 use cs_decl::{Declarations, MAX_MINUTES, read_declarations};
 use cs_draft::{Draft, Drawing, draw_up, update};
-use cs_files::{Fault, RanOut, Response, Status, all_bytes_at, read_tables};
+use cs_files::{Fault, RanOut, Response, Status, all_bytes_at, read_placed_tables};
+use cs_gather::Place;
 use cs_io::Inputs;
 use cs_report::warnings;
 use std::alloc::{AllocError, Global};
@@ -42,36 +44,38 @@ fn printed(draft: Draft) -> Response
     Response::done(text.into_vec(), warnings)
 }
 
-/// What is answered of both tables, where a job may declare this longest time.
+/// What is answered of both tables and the places of the lines, where a job may declare this longest time.
 fn show_draft(
     alloc: Global,
     table: &Crontab,
     jobs: &Anacrontab,
+    places: &[Place],
     max: u64,
     offset: i16,
 ) -> Result<Response, AllocError>
     requires { is_possible_max max ≡ true }
-    ensures { IfOk result (IsPrinted (IsDraft table.now jobs.now max offset)) }
+    ensures { IfOk result (IsPrinted (IsDraft table.now jobs.now places.now max offset)) }
 {
-    match draw_up(alloc, table, jobs, max, offset)? {
+    match draw_up(alloc, table, jobs, places, max, offset)? {
         Drawing::Drawn(draft) => Ok(printed(draft)),
         _ => nothing_drawn(alloc),
     }
 }
 
-/// What is answered of both tables and the old declarations in the bytes.
+/// What is answered of both tables, the places of the lines and the old declarations in the bytes.
 fn show_update(
     alloc: Global,
     table: &Crontab,
     jobs: &Anacrontab,
+    places: &[Place],
     old: &Declarations,
     bytes: &[u8],
     max: u64,
 ) -> Result<Response, AllocError>
     requires { is_possible_max max ≡ true }
-    ensures { IfOk result (IsPrinted (IsUpdate table.now jobs.now old.now max)) }
+    ensures { IfOk result (IsPrinted (IsUpdate table.now jobs.now places.now old.now max)) }
 {
-    match update(alloc, table, jobs, old, bytes, max)? {
+    match update(alloc, table, jobs, places, old, bytes, max)? {
         Drawing::Drawn(draft) => Ok(printed(draft)),
         _ => nothing_drawn(alloc),
     }
@@ -83,27 +87,30 @@ fn drawn<'a, I: Inputs>(
     inputs: &mut I,
     request: &DraftWords<'a>,
     offset: i16,
-    table: &Crontab,
-    jobs: &Anacrontab,
+    tables: &(Crontab, Anacrontab),
+    places: &[Place],
 ) -> Result<Response, Fault<'a>>
     requires { is_possible_max request.now.max ≡ true }
     ensures step { IsFresh (I.whole inputs.old) (I.left inputs.old)
-        → CameTo (Drafts (I.whole inputs.old) (asked_draft request.now).max offset
-        (asked_draft request.now).update (table.now, jobs.now)
+        → PlacesIn (I.whole inputs.old) (asked_draft request.now).table tables.now.0 places.now
+        → CameTo (Drafts (I.whole inputs.old) (asked_draft request.now).table
+        (asked_draft request.now).max offset (asked_draft request.now).update tables.now
         (I.failed inputs.old) (I.failed inputs.new)) result }
     ensures status { IfErr result (IsHonestOf (I.failed inputs.new) (I.reads inputs.new)) }
     ensures turn { AreReadInTurn (some_path (asked_draft request.now).update)
         (I.reads inputs.old) (I.reads inputs.new) }
     ensures done { IfOk result (λ r. r.status ≢ 6) }
 {
+    let (table, jobs) = (&tables.0, &tables.1);
     match request.update {
         Some(path) => {
             let bytes = all_bytes_at(alloc, inputs, path)?;
             let old = read_declarations(alloc, bytes.as_slice())?;
             let bytes = bytes.as_slice();
-            Ok(show_update(alloc, table, jobs, &old, bytes, request.max)?)
+            let max = request.max;
+            Ok(show_update(alloc, table, jobs, places, &old, bytes, max)?)
         }
-        None => Ok(show_draft(alloc, table, jobs, request.max, offset)?),
+        None => Ok(show_draft(alloc, table, jobs, places, request.max, offset)?),
     }
 }
 
@@ -126,12 +133,13 @@ fn draft_tables<I: Inputs>(
     ensures turn { AreReadInTurn (draft_paths (asked_draft request.now))
         (I.reads inputs.old) (I.reads inputs.new) }
 {
-    let (table, jobs) = match read_tables(alloc, inputs, request.table, request.anacrontab) {
-        Ok(tables) => tables,
+    let read = read_placed_tables(alloc, inputs, request.table, request.anacrontab);
+    let (tables, places) = match read {
+        Ok(found) => found,
         Err(fault) => return Ok(fault.response(alloc, b"".as_slice())?),
     };
-    let warnings = warnings(alloc, &table, &jobs)?;
-    match drawn(alloc, inputs, request, offset, &table, &jobs) {
+    let warnings = warnings(alloc, &tables.0, &tables.1)?;
+    match drawn(alloc, inputs, request, offset, &tables, places.as_slice()) {
         Ok(answer) => answer.behind(warnings),
         Err(fault) => fault.response_behind(alloc, warnings),
     }

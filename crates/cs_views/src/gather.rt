@@ -1,74 +1,81 @@
 //! The subcommand `gather`.
-ghost use Rattle.std.specs.Prelude.{◌≡◌, IfErr, IfOk, IfSome, None, OnOk, map};
+ghost use Rattle.std.specs.Prelude.{◌≡◌, IfErr, IfOk, IfSome, None, OnOk, is_some, map};
 ghost use Rattle.cs_args.specs.Asked.{asked_gather};
 ghost use Rattle.cs_io.specs.Files.{AreReadInTurn, IsFresh, IsReadAlone};
-ghost use Rattle.cs_files.specs.Trouble.{IsHonest, IsHonestOf, trouble};
+ghost use Rattle.cs_files.specs.Trouble.{IsHonest};
 ghost use Rattle.cs_files.specs.Turn.{AreReadToGather};
 ghost use Rattle.cs_views.specs.GatherAnswer.{Adds, AllAdded, AnswersGather, FirstStops};
 ghost use Rattle.cs_views.specs.GatherAnswer.{GathersAll, ShowsGathered, Stops};
-ghost use Rattle.cs_views.specs.Listing.{TellsUnlisted};
+ghost use Rattle.cs_views.specs.Listing.{IsHonestStop, stop_trouble};
 
-use crate::gather_below::Unlisted;
 use crate::gather_given::{Given, push_named};
 use crate::gather_note::push_warnings;
-use crate::gather_root::found_tables;
+use crate::gather_parts::parts_asked;
+use crate::gather_root::{found_tables, front_asked};
+use crate::gather_stop::{Stop, tell};
 use cs_args::GatherWords;
 use cs_civil::Bytes;
 use cs_files::{Fault, RanOut, Response, Status, bytes_at};
 use cs_gather::{Gathering, TextFault};
-use cs_io::{Folders, Inputs};
+use cs_io::Folders;
 use cs_table::MAX_TABLE;
 use std::alloc::{AllocError, Global};
 
-/// Reads a table and adds its commands; what is to be warned of in it comes behind the notes.
-fn add_table<'a, I: Inputs>(
+/// Reads a table and adds its commands, with their parts where paths below a root folder begin so;
+/// what is to be told of it comes behind the notes.
+fn add_table<'a, I: Folders>(
     alloc: Global,
     inputs: &mut I,
+    front: Option<&str>,
     given: &'a Given,
     gathering: &mut Gathering,
     notes: &mut Vec<u8>,
-) -> Result<(), Fault<'a>>
-    ensures adds { IsFresh (I.whole inputs.old) (I.left inputs.old)
-        → OnOk result (Adds (I.whole inputs.old) given.now gathering.old gathering.new) }
+) -> Result<(), Stop<'a>>
+    ensures adds { IsFresh (I.whole inputs.old) (I.left inputs.old) → OnOk result
+        (Adds (is_some front.entry) (I.whole inputs.old) given.now gathering.old gathering.new) }
     ensures stops { IsFresh (I.whole inputs.old) (I.left inputs.old)
-        → IfErr result (λ e. IfSome (trouble e) (Stops (I.whole inputs.old)
-        (I.failed inputs.old) (I.failed inputs.new) given.now gathering.old)) }
+        → IfErr result (λ e. IfSome (stop_trouble e) (Stops (is_some front.entry)
+        (I.whole inputs.old) (I.failed inputs.old) (I.failed inputs.new)
+        given.now gathering.old)) }
     ensures works { OnOk result (I.failed inputs.new ≡ I.failed inputs.old) }
     ensures whole { I.whole inputs.new ≡ I.whole inputs.old }
     ensures fresh { OnOk result (IsFresh (I.whole inputs.old) (I.left inputs.old)
         → IsFresh (I.whole inputs.new) (I.left inputs.new)) }
-    ensures status { IfErr result (IsHonestOf (I.failed inputs.new) (I.reads inputs.new)) }
+    ensures status { IfErr result (IsHonestStop (I.failed inputs.new) (I.reads inputs.new)) }
     ensures alone { IsReadAlone given.now.path (I.reads inputs.old) (I.reads inputs.new) }
 {
     let path = given.path();
     let bytes = bytes_at(alloc, inputs, path, MAX_TABLE as u32)?;
-    match given.add(alloc, gathering, bytes.as_slice()) {
+    let parts = parts_asked(alloc, inputs, front, given, bytes.as_slice(), notes)?;
+    match given.add(alloc, gathering, bytes.as_slice(), parts.as_slice()) {
         Ok(()) => Ok(push_warnings(alloc, notes, given, bytes.as_slice())?),
-        Err(fault) => Err(Fault::Gathered(path, fault)),
+        Err(fault) => Err(Stop::AtTable(Fault::Gathered(path, fault))),
     }
 }
 
 /// Reads tables and adds their commands, one table after the other.
-fn add_tables<'a, I: Inputs>(
+fn add_tables<'a, I: Folders>(
     alloc: Global,
     inputs: &mut I,
+    front: Option<&str>,
     tables: &'a [Given],
     gathering: &mut Gathering,
     notes: &mut Vec<u8>,
-) -> Result<(), Fault<'a>>
-    ensures adds { IsFresh (I.whole inputs.old) (I.left inputs.old)
-        → OnOk result (AllAdded (I.whole inputs.old) tables.now gathering.old gathering.new) }
+) -> Result<(), Stop<'a>>
+    ensures adds { IsFresh (I.whole inputs.old) (I.left inputs.old) → OnOk result (AllAdded
+        (is_some front.entry) (I.whole inputs.old) tables.now gathering.old gathering.new) }
     ensures stops { IsFresh (I.whole inputs.old) (I.left inputs.old)
-        → IfErr result (λ e. IfSome (trouble e) (FirstStops (I.whole inputs.old)
-        (I.failed inputs.old) (I.failed inputs.new) tables.now gathering.old)) }
+        → IfErr result (λ e. IfSome (stop_trouble e) (FirstStops (is_some front.entry)
+        (I.whole inputs.old) (I.failed inputs.old) (I.failed inputs.new)
+        tables.now gathering.old)) }
     ensures works { OnOk result (I.failed inputs.new ≡ I.failed inputs.old) }
-    ensures status { IfErr result (IsHonestOf (I.failed inputs.new) (I.reads inputs.new)) }
+    ensures status { IfErr result (IsHonestStop (I.failed inputs.new) (I.reads inputs.new)) }
     ensures turn { AreReadInTurn (map (λ given. given.path) tables.now)
         (I.reads inputs.old) (I.reads inputs.new) }
 {
     let mut rest = tables;
     while let [given, later @ ..] = rest {
-        add_table(alloc, inputs, given, gathering, notes)?;
+        add_table(alloc, inputs, front, given, gathering, notes)?;
         rest = later;
     }
     Ok(())
@@ -89,14 +96,15 @@ fn show(alloc: Global, gathering: Gathering, notes: Vec<u8>) -> Result<Response,
 }
 
 /// What is answered of tables, behind notes.
-fn gather<I: Inputs>(
+fn gather<I: Folders>(
     alloc: Global,
     inputs: &mut I,
+    front: Option<&str>,
     tables: &[Given],
     notes: Vec<u8>,
 ) -> Result<Response, AllocError>
     ensures value { IsFresh (I.whole inputs.old) (I.left inputs.old)
-        → IfOk result (GathersAll (I.whole inputs.old)
+        → IfOk result (GathersAll (is_some front.entry) (I.whole inputs.old)
         (I.failed inputs.old) (I.failed inputs.new) tables.now) }
     ensures status { IfOk result (IsHonest (I.failed inputs.new) (I.reads inputs.new)) }
     ensures turn { AreReadInTurn (map (λ given. given.path) tables.now)
@@ -104,21 +112,9 @@ fn gather<I: Inputs>(
 {
     let mut notes = notes;
     let mut gathering = Gathering::new(alloc);
-    match add_tables(alloc, inputs, tables, &mut gathering, &mut notes) {
+    match add_tables(alloc, inputs, front, tables, &mut gathering, &mut notes) {
         Ok(()) => show(alloc, gathering, notes),
-        Err(fault) => fault.response(alloc, notes.as_slice()),
-    }
-}
-
-/// What is answered where the tables below a root folder aren't known.
-fn tell(alloc: Global, unlisted: &Unlisted, notes: &[u8]) -> Result<Response, AllocError>
-    ensures { IfOk result (TellsUnlisted unlisted.now) }
-{
-    match unlisted {
-        Unlisted::CannotRead(path, reason) => {
-            Fault::CannotRead(path.as_str(), *reason).response(alloc, notes)
-        }
-        Unlisted::OutOfMemory => Err(AllocError),
+        Err(stop) => stop.response(alloc, notes.as_slice()),
     }
 }
 
@@ -142,5 +138,11 @@ pub fn answer_gather<I: Folders>(
         Err(unlisted) => return Ok(tell(alloc, &unlisted, notes.as_slice())?),
     };
     push_named(alloc, request, &mut tables)?;
-    Ok(gather(alloc, inputs, tables.as_slice(), notes)?)
+    Ok(gather(
+        alloc,
+        inputs,
+        front_asked(request.root),
+        tables.as_slice(),
+        notes,
+    )?)
 }

@@ -1,12 +1,14 @@
 //! The tables below a root folder.
-ghost use Rattle.std.specs.Prelude.{◌≡◌, ◌⊎◌, ◌++◌, [], ◌∷◌, All, IfErr, IfOk, OnOk, string_bytes};
+ghost use Rattle.std.specs.Prelude.{◌≡◌, ◌⊎◌, ◌++◌, [], ◌∷◌, All, IfErr, IfOk, OnOk, string_bytes, true};
+ghost use Rattle.cs_gather.specs.Places.{is_part_name};
 ghost use Rattle.cs_views.specs.GatherTables.{IsBelow};
 ghost use Rattle.cs_views.specs.Listing.{HasName, IsUnlisted, given_in, place_of};
 
 use crate::gather_given::Given;
 use crate::gather_note::push_passed_over;
 use cs_civil::{Bytes, Sequence};
-use cs_io::{FileKind, Folders, ReadFault, Reason, is_table_name};
+use cs_gather::is_part_name;
+use cs_io::{FileKind, Folders, ReadFault, Reason};
 use std::alloc::{AllocError, AllocFailed, Global};
 use std::str;
 
@@ -39,6 +41,27 @@ impl<T: Drop> From<AllocFailed<T>> for Unlisted {
     }
 }
 
+/// The name of a table in a folder of system tables, or of a part, or why it is none.
+pub(crate) fn table_name(name: &[u8]) -> Result<&str, &'static str>
+    ensures name { IfOk result (λ text. text.now ≡ name.now) }
+    ensures signs { OnOk result (is_part_name name.now ≡ true) }
+{
+    if !is_part_name(name) {
+        return Err("its name holds other signs than letters, digits, _ and -");
+    }
+    str::from_utf8(name).map_err(|_| "its name isn't UTF-8")
+}
+
+/// The name of a user's table, or why it is none.
+fn user_name(name: &[u8]) -> Result<&str, &'static str>
+    ensures { IfOk result (λ text. text.now ≡ name.now) }
+{
+    if name.first() == Some(&b'.') {
+        return Err("its name begins with a dot");
+    }
+    str::from_utf8(name).map_err(|_| "its name isn't UTF-8")
+}
+
 /// A folder of tables below a root folder.
 #[derive(Clone, Copy)]
 pub(crate) enum Shelf {
@@ -65,15 +88,9 @@ impl Shelf {
         ensures signs { OnOk result (HasName self name.now) }
     {
         match self {
-            Shelf::CronD if !is_table_name(name) => {
-                return Err("its name holds other signs than letters, digits, _ and -");
-            }
-            Shelf::Crontabs if name.first() == Some(&b'.') => {
-                return Err("its name begins with a dot");
-            }
-            _ => {}
+            Shelf::CronD => table_name(name),
+            Shelf::Crontabs => user_name(name),
         }
-        str::from_utf8(name).map_err(|_| "its name isn't UTF-8")
     }
 
     /// A table in it.
@@ -88,7 +105,7 @@ impl Shelf {
 }
 
 /// A path in two parts.
-fn joined(alloc: Global, front: &str, rest: &str) -> Result<String, AllocError>
+pub(crate) fn joined(alloc: Global, front: &str, rest: &str) -> Result<String, AllocError>
     ensures { IfOk result (λ path. string_bytes path ≡ front.now ++ rest.now) }
 {
     let mut path = String::from_str(alloc, front)?;
@@ -97,7 +114,7 @@ fn joined(alloc: Global, front: &str, rest: &str) -> Result<String, AllocError>
 }
 
 /// What a path leads to.
-fn kind_at<I: Folders>(
+pub(crate) fn kind_at<I: Folders>(
     alloc: Global,
     inputs: &mut I,
     path: &str,
@@ -113,20 +130,19 @@ fn kind_at<I: Folders>(
     }
 }
 
-/// The names in a folder; none where there is no such folder.
-fn names_at<I: Folders>(
+/// The names in a folder, if there is one.
+pub(crate) fn names_at<I: Folders>(
     alloc: Global,
     inputs: &mut I,
     path: &str,
-) -> Result<Sequence<Bytes>, Unlisted>
+) -> Result<Option<Sequence<Bytes>>, Unlisted>
     ensures stays { (I.whole inputs.new ≡ I.whole inputs.old)
         × (I.left inputs.new ≡ I.left inputs.old) × (I.reads inputs.new ≡ I.reads inputs.old) }
     ensures works { OnOk result (I.failed inputs.new ≡ I.failed inputs.old) }
     ensures fails { IfErr result (IsUnlisted (I.failed inputs.new) (I.reads inputs.new)) }
 {
     match inputs.names(alloc, path) {
-        Ok(Some(names)) => Ok(names),
-        Ok(None) => Ok(Sequence::new(alloc)),
+        Ok(names) => Ok(names),
         Err(ReadFault::CannotRead(reason)) => {
             Err(Unlisted::CannotRead(String::from_str(alloc, path)?, reason))
         }
@@ -144,7 +160,7 @@ fn push_found(
     ensures { OnOk result
         ((found.new.items ≡ found.old.items) ⊎ (found.new.items ≡ found.old.items ++ given ∷ [])) }
 {
-    if let Some(FileKind::Regular) = kind {
+    if let Some(FileKind::Regular | FileKind::Program) = kind {
         found.push(given)?;
         return Ok(());
     }
@@ -218,7 +234,9 @@ pub(crate) fn push_shelf<I: Folders>(
     ensures fails { IfErr result (IsUnlisted (I.failed inputs.new) (I.reads inputs.new)) }
 {
     let folder = joined(alloc, front, shelf.place())?;
-    let names = names_at(alloc, inputs, folder.as_str())?;
+    let Some(names) = names_at(alloc, inputs, folder.as_str())? else {
+        return Ok(());
+    };
     for name in names.as_slice() {
         push_named(
             alloc,

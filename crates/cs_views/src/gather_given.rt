@@ -6,7 +6,7 @@ ghost use Rattle.cs_views.specs.GatherTables.{AreNamed, IsLastPart, IsUserFile, 
 ghost use Rattle.cs_views.specs.GatherAnswer.{AddsAs, FaultsAs};
 
 use cs_args::GatherWords;
-use cs_gather::{GatherFault, Gathering};
+use cs_gather::{GatherFault, Gathering, Parts};
 use std::alloc::{AllocError, Global};
 use std::marker::Model;
 
@@ -68,21 +68,22 @@ impl Given {
         }
     }
 
-    /// Adds its commands, as its bytes say them.
+    /// Adds its commands, as its bytes say them, with these parts.
     pub(crate) fn add(
         &self,
         alloc: Global,
         gathering: &mut Gathering,
         bytes: &[u8],
+        parts: &[Parts],
     ) -> Result<(), GatherFault>
         ensures ok { OnOk result
-            (AddsAs self.now.user self.now.path bytes.now gathering.old gathering.new) }
+            (AddsAs self.now.user self.now.path bytes.now parts.now gathering.old gathering.new) }
         ensures err { IfErr result
-            (FaultsAs self.now.user self.now.path bytes.now gathering.old) }
+            (FaultsAs self.now.user self.now.path bytes.now parts.now gathering.old) }
     {
         match self.owner() {
-            Some(user) => gathering.add_user(alloc, self.path(), user, bytes),
-            None => gathering.add_system(alloc, self.path(), bytes),
+            Some(user) => gathering.add_user(alloc, self.path(), user, bytes, parts),
+            None => gathering.add_system(alloc, self.path(), bytes, parts),
         }
     }
 }

@@ -3,8 +3,8 @@ use crate::gather_given::Given;
 use cs_civil::push_number;
 use cs_crontab::{Crontab, Line, read_crontab};
 use cs_gather::push_shown;
-use cs_report::{first_behind_user, is_unheeded};
-use cs_system::read_system_crontab;
+use cs_report::{first_behind_user, is_no_user, is_unheeded};
+use cs_system::{SystemLine, SystemTable, read_system_crontab};
 use cs_table::text::word;
 use cs_table::{Setting, TableFault};
 use std::alloc::{AllocError, Global};
@@ -28,6 +28,49 @@ pub(crate) fn push_passed_over(
 pub(crate) fn push_no_tables(text: &mut Vec<u8>, root: &str) -> Result<(), AllocError> {
     text.extend_from_slice(b"note: there are no tables below ")?;
     push_shown(text, root.as_bytes())?;
+    text.extend_from_slice(b"\n")
+}
+
+/// Writes the place of a command behind the text.
+fn push_command_place(
+    alloc: Global,
+    text: &mut Vec<u8>,
+    line: u32,
+    path: &str,
+) -> Result<(), AllocError> {
+    text.extend_from_slice(b"the command on line ")?;
+    push_number(alloc, text, u128::from(line))?;
+    text.extend_from_slice(b" of ")?;
+    push_shown(text, path.as_bytes())
+}
+
+/// Writes behind the text that there is no folder with the parts of a command.
+pub(crate) fn push_no_parts(
+    alloc: Global,
+    text: &mut Vec<u8>,
+    line: u32,
+    path: &str,
+    folder: &str,
+) -> Result<(), AllocError> {
+    text.extend_from_slice(b"note: there are no parts of ")?;
+    push_command_place(alloc, text, line, path)?;
+    text.extend_from_slice(b": there is no folder ")?;
+    push_shown(text, folder.as_bytes())?;
+    text.extend_from_slice(b"\n")
+}
+
+/// Writes behind the text why the parts of a command aren't known.
+pub(crate) fn push_unknown_parts(
+    alloc: Global,
+    text: &mut Vec<u8>,
+    line: u32,
+    path: &str,
+    why: &str,
+) -> Result<(), AllocError> {
+    text.extend_from_slice(b"warning: the parts of ")?;
+    push_command_place(alloc, text, line, path)?;
+    text.extend_from_slice(b" aren't known: ")?;
+    text.extend_from_slice(why.as_bytes())?;
     text.extend_from_slice(b"\n")
 }
 
@@ -73,13 +116,41 @@ fn push_behind_user(
         return Ok(());
     };
     let (name, _) = word(line.command());
-    text.extend_from_slice(b"warning: the command on line ")?;
-    push_number(alloc, text, u128::from(line.number()))?;
-    text.extend_from_slice(b" of ")?;
-    push_shown(text, path.as_bytes())?;
+    text.extend_from_slice(b"warning: ")?;
+    push_command_place(alloc, text, line.number(), path)?;
     text.extend_from_slice(b" begins with ")?;
     push_shown(text, name)?;
     text.extend_from_slice(b", as in a system table: see --system\n")
+}
+
+/// Writes behind the text the warning of the first user that is probably a command.
+fn push_no_user(
+    alloc: Global,
+    text: &mut Vec<u8>,
+    path: &str,
+    lines: &[SystemLine],
+) -> Result<(), AllocError> {
+    let Some(line) = lines.iter().find(|line| is_no_user(line.user())) else {
+        return Ok(());
+    };
+    text.extend_from_slice(b"warning: the user on line ")?;
+    push_number(alloc, text, u128::from(line.number()))?;
+    text.extend_from_slice(b" of ")?;
+    push_shown(text, path.as_bytes())?;
+    text.extend_from_slice(b" is ")?;
+    push_shown(text, line.user())?;
+    text.extend_from_slice(b", as a command in a user's table: see --user\n")
+}
+
+/// Writes behind the text what is to be warned of in a system table.
+fn push_system_warnings(
+    alloc: Global,
+    text: &mut Vec<u8>,
+    path: &str,
+    table: &SystemTable,
+) -> Result<(), AllocError> {
+    push_all_unheeded(alloc, text, path, table.settings())?;
+    push_no_user(alloc, text, path, table.lines())
 }
 
 /// Writes behind the text what is to be warned of in a user's table.
@@ -103,7 +174,7 @@ pub(crate) fn push_warnings(
     let path = given.path();
     if given.owner().is_none() {
         return match read_system_crontab(alloc, bytes) {
-            Ok(table) => push_all_unheeded(alloc, text, path, table.settings()),
+            Ok(table) => push_system_warnings(alloc, text, path, &table),
             Err(TableFault::OutOfMemory) => Err(AllocError),
             Err(TableFault::At { .. }) => Ok(()),
         };

@@ -1,5 +1,5 @@
 //! The root folder of a machine's tables.
-ghost use Rattle.std.specs.Prelude.{◌≡◌, All, IfErr, IfOk, OnErr, OnOk, IsSome, None, Some, [], option_map};
+ghost use Rattle.std.specs.Prelude.{◌≡◌, All, IfErr, IfOk, OnErr, OnOk, IsSome, None, Some, [], is_some, option_map};
 ghost use Rattle.cs_io.specs.Files.{AreReadInTurn, IsFresh};
 ghost use Rattle.cs_io.specs.Reasons.{IsCannotRead};
 ghost use Rattle.cs_files.specs.Trouble.{IsUnread};
@@ -27,6 +27,16 @@ fn front(root: &str) -> &str
     match root.strip_suffix('/') {
         Some(front) => front,
         None => root,
+    }
+}
+
+/// How paths below the root folder begin, if one is asked.
+pub(crate) fn front_asked(root: Option<&str>) -> Option<&str>
+    ensures { is_some result ≡ is_some root.entry }
+{
+    match root {
+        Some(root) => Some(front(root)),
+        None => None,
     }
 }
 

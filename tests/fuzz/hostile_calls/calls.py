@@ -86,7 +86,7 @@ def is_met(wanted, got):
 def is_drawn_up(call, text):
     """Returns whether a text is the draft, or the update, that a call asks for."""
     if b"--update" in call.words:
-        return is_update(text, call.files, call.files[b"declarations"])
+        return is_update(text, call.files, call.files[b"declarations"], GREATEST_MAX)
     return is_draft(text, call.files, GREATEST_MAX)
 
 

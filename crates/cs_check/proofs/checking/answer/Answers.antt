@@ -1,6 +1,6 @@
 use Rattle.std.proofs.Common.{rules, ◌≡◌, List, true, option_map, sym, ap, ◌∙◌}
 use Rattle.cs_theorem.specs.Certificate.{Stretch}
-use Rattle.cs_cert.specs.Claim.{said}
+use Rattle.cs_classes.specs.Said.{said}
 use Rattle.cs_classes.specs.Claim.{as_certificate}
 use Rattle.cs_decl.specs.Plan.{as_plan}
 use Rattle.cs_report.specs.Told.{told}

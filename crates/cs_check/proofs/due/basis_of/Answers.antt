@@ -1,10 +1,9 @@
 use Rattle.std.proofs.Common.{List, option_map, ap, sym, ◌∙◌, refl}
 use Rattle.cs_theorem.specs.Faults.{ClassNotDue}
-use Rattle.cs_cert.specs.Claim.{said}
+use Rattle.cs_classes.specs.Said.{said}
 use Rattle.cs_classes.specs.Planned.{planned}
 use Rattle.cs_windows.specs.declared.reach.JobReach.{JobReach}
 use Rattle.cs_check.proofs.Firsts.{unlike_first}
-use Rattle.cs_check.proofs.Fitting.{fits}
 use Rattle.cs_check.proofs.due.basis_of.Goals as goal
 
 pub returns-in-Some-clause-fault : goal.returns-in-Some-clause-fault
@@ -16,11 +15,10 @@ returns-clause-ok g c =
     let k = said c.args.claim.now in
     record {
       basis = record {
-        fit = fits d k c.jobs-jobs.ensures.resolved c.jobs-jobs.ensures.limits c.reach.ensures.kept;
-        keeps = c.reach.ensures.kept;
+        fit = c.requires.fit;
         due = sym c.in_ok-unlike.ensures ∙ ap (option_map ClassNotDue) c.in_default.is;
         few = c.in_ok-occupied.ensures.few;
-        jobs = c.in_ok-occupied.ensures.jobs ∙ ap (λ (rs : List JobReach). planned d rs) c.reach.ensures.value;
+        jobs = c.in_ok-occupied.ensures.jobs ∙ ap (λ (rs : List JobReach). planned d rs) c.reach.ensures;
         nothing = c.requires.none;
       };
       plan = refl;

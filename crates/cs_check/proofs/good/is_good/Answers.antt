@@ -1,7 +1,7 @@
 use Rattle.std.proofs.Common.{rules, ◌≡◌, true, subst, sym, ◌∙◌, ◌&&◌}
 use Rattle.std.proofs.lemmas.Bool.{and_parts}
 use Rattle.cs_theorem.specs.Accepted.{AreWithin, AreApart, ListsAll, AreFree, windows_of}
-use Rattle.cs_cert.specs.Claim.{said}
+use Rattle.cs_classes.specs.Said.{said}
 use Rattle.cs_classes.specs.Used.{seen}
 use Rattle.cs_classes.specs.Claim.{as_certificate}
 use Rattle.cs_decl.specs.Plan.{as_plan}

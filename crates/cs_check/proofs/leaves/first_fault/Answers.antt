@@ -1,12 +1,11 @@
 use Rattle.std.proofs.Common.{◌≡◌, ◌∙◌, Option, option_map, ap, subst, sym, arith}
-use Rattle.cs_cert.specs.Claim.{said}
+use Rattle.cs_classes.specs.Said.{said}
 use Rattle.cs_classes.specs.Claim.{as_certificate}
-use Rattle.cs_classes.specs.Used.{seen}
+use Rattle.cs_classes.specs.Used.{AreInside, seen}
 use Rattle.cs_decl.specs.Plan.{as_plan}
 use Rattle.cs_theorem.specs.Accepted.{ListsAll, windows_of}
 use Rattle.cs_theorem.specs.Faults.{WindowMissing, minute_of, missing_in}
 use Rattle.cs_windows.specs.Tree.{Tree}
-use Rattle.cs_check.specs.Stretches.{AreInside}
 use Rattle.cs_check.proofs.Covering.{none_seen, tree_seen}
 use Rattle.cs_check.proofs.Harmless.{leaves_pass}
 use Rattle.cs_check.proofs.Using.{days_range}

@@ -1,8 +1,8 @@
 use Rattle.std.proofs.Common.{Option, subst, sym}
 use Rattle.cs_theorem.specs.Accepted.{ListsAll}
 use Rattle.cs_windows.specs.Tree.{SplitsInside, Tree, tree_of}
+use Rattle.cs_classes.specs.Used.{AreInside}
 use Rattle.cs_check.proofs.Covering.{covered_from, none_seen, tree_seen}
-use Rattle.cs_check.specs.Stretches.{AreInside}
 use Rattle.cs_check.proofs.leaves.holds.Goals as goal
 
 pub returns-in-Some : goal.returns-in-Some

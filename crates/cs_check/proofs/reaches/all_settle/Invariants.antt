@@ -1,5 +1,5 @@
 use Rattle.std.proofs.Common.{ℕ, ◌<◌}
-use Rattle.cs_cert.specs.Claim.{said}
+use Rattle.cs_classes.specs.Said.{said}
 use Rattle.cs_check.specs.ClassDays.{Settles}
 use Rattle.cs_check.proofs.reaches.all_settle.Given as goal
 

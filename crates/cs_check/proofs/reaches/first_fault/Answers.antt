@@ -1,7 +1,7 @@
 use Rattle.std.proofs.Common.{rules, ◌≡◌, ◌<◌, ℕ, Bool, true, false, Option, map, sym, ap, ◌∙◌, arith}
 use Rattle.cs_theorem.specs.Faults.{Fault, ReachTooShort, first_of, unless}
 use Rattle.cs_check.specs.Stretches.{is_far}
-use Rattle.cs_cert.specs.Claim.{said}
+use Rattle.cs_classes.specs.Said.{said}
 use Rattle.cs_classes.specs.Used.{seen}
 use Rattle.cs_classes.specs.Claim.{as_certificate}
 use Rattle.cs_decl.specs.Plan.{as_plan, crons}

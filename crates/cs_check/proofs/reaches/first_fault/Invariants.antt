@@ -2,7 +2,7 @@ use Rattle.std.proofs.Common.{◌≡◌, None, map}
 use Rattle.std.specs.List.{range_with_len}
 use Rattle.cs_theorem.specs.Faults.{ReachTooShort, first_of, unless}
 use Rattle.cs_check.specs.Stretches.{is_far}
-use Rattle.cs_cert.specs.Claim.{said}
+use Rattle.cs_classes.specs.Said.{said}
 use Rattle.cs_classes.specs.Used.{seen}
 use Rattle.cs_classes.specs.Claim.{as_certificate}
 use Rattle.cs_decl.specs.Plan.{as_plan}

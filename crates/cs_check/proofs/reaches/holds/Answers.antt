@@ -1,5 +1,5 @@
 use Rattle.std.proofs.Common.{◌<◌, length, below_more, arith}
-use Rattle.cs_cert.specs.Claim.{said}
+use Rattle.cs_classes.specs.Said.{said}
 use Rattle.cs_classes.specs.Claim.{as_certificate}
 use Rattle.cs_classes.specs.Used.{seen}
 use Rattle.cs_decl.specs.Plan.{as_plan}

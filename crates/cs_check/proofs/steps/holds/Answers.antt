@@ -1,6 +1,6 @@
 use Rattle.std.proofs.Common.{ℕ, ◌-◌, List, sym, subst}
 use Rattle.cs_theorem.specs.Accepted.{nth}
-use Rattle.cs_cert.specs.Claim.{said}
+use Rattle.cs_classes.specs.Said.{said}
 use Rattle.cs_classes.specs.Claim.{class_at}
 use Rattle.cs_classes.specs.GroupDays.{AreGroupDays}
 use Rattle.cs_classes.specs.declared.group_day.GroupDay.{GroupDay}

@@ -1,7 +1,7 @@
 use Rattle.std.proofs.Common.{List, take, subst}
 use Rattle.cs_classes.specs.ByClasses.{LeadTo}
 use Rattle.cs_classes.specs.declared.classed.ClassedChain.{ClassedChain}
-use Rattle.cs_classes.proofs.ByClasses.{one_more}
+use Rattle.cs_classes.proofs.Searched.{one_more}
 use Rattle.cs_classes.proofs.by_classes.by_classes.Goals as goal
 
 pub loop-chain-preserved : goal.loop-chain-preserved

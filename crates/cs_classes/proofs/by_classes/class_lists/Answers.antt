@@ -1,10 +1,16 @@
-use Rattle.std.proofs.Common.{ℕ, List, Bor, ap, ◌∙◌}
-use Rattle.cs_cert.specs.declared.stretch.Stretch.{Stretch}
+use Rattle.std.proofs.Common.{ℕ, List, Bor, ap, refl, sym, ◌∙◌}
+use Rattle.std.proofs.lemmas.Option.{get_or_from_slice_get, slice_get_within}
+use Rattle.cs_theorem.specs.Certificate.{Stretch}
 use Rattle.cs_classes.specs.ByClasses.{is_among}
+use Rattle.cs_classes.specs.Said.{said}
+use Rattle.cs_classes.specs.Used.{shown}
 use Rattle.cs_classes.proofs.ByClasses.{among_more}
 use Rattle.cs_classes.proofs.by_classes.class_lists.Goals as goal
 
-pub loop-stretch-preserved : goal.loop-stretch-preserved
-loop-stretch-preserved c = λ classes.
+pub loop-number-preserved : goal.loop-number-preserved
+loop-number-preserved c = λ classes.
+    let ss = (said c.args.claim.now).stretches in
+    let s = shown c.stretch.result in
+    let at = c.stretch.ensures.value in
     ap (λ (keys : List (Bor (List ℕ))). is_among keys classes) c.in_ok-insert.ensures.keys
-    ∙ among_more (λ (s : Stretch). s.of) classes c.loop-stretch.lists.keys c.as_slice.result c.args.stretches.now c.loop-stretch.stretch-index c.stretch-item.result c.loop-stretch-test.true c.stretch-item.is c.as_slice.ensures (c.loop-stretch.invariant classes)
+    ∙ among_more (λ (t : Stretch). t.of) classes c.loop-number.lists.keys c.stretch.result.of ss c.loop-number.number s (slice_get_within ss c.loop-number.number s at) (sym (get_or_from_slice_get ss c.loop-number.number s s at)) refl (c.loop-number.invariant classes)

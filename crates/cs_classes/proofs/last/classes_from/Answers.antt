@@ -1,6 +1,6 @@
 use Rattle.std.proofs.Common.{ℕ, List, [], ◌∷◌, ◌++◌, ◌+◌, ◌∙◌, ap, arith}
-use Rattle.cs_cert.specs.Certificate.{class_of}
-use Rattle.cs_cert.specs.Claim.{said}
+use Rattle.cs_classes.specs.Claim.{class_of}
+use Rattle.cs_classes.specs.Said.{said}
 use Rattle.cs_civil.specs.Calendar.{kind}
 use Rattle.cs_classes.proofs.Ending.{classes_more}
 use Rattle.cs_classes.proofs.last.classes_from.Goals as goal

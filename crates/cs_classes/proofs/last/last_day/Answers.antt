@@ -2,7 +2,7 @@ use Rattle.std.proofs.Common.{ℕ, ◌≡◌, ◌+◌, ◌-◌, ◌∙◌, Optio
 use Rattle.std.specs.Prelude.{unwrap_or, find}
 use Rattle.std.specs.List.{range_with_len}
 use Rattle.cs_theorem.specs.Faults.{same_list}
-use Rattle.cs_cert.specs.Claim.{said}
+use Rattle.cs_classes.specs.Said.{said}
 use Rattle.cs_classes.specs.Days.{classes_on}
 use Rattle.cs_classes.proofs.Ending.{ends, first_from, first_is, last_is, passed, found, nowhere}
 use Rattle.cs_classes.proofs.last.last_day.Goals as goal

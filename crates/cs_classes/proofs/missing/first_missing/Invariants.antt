@@ -1,6 +1,6 @@
 use Rattle.std.proofs.Common.{◌≡◌, map}
 use Rattle.cs_theorem.specs.Faults.{chains, first_of}
-use Rattle.cs_cert.specs.Claim.{said}
+use Rattle.cs_classes.specs.Said.{said}
 use Rattle.cs_classes.specs.Claim.{as_certificate}
 use Rattle.cs_classes.specs.Chains.{kinds_of}
 use Rattle.cs_classes.proofs.Missed.{missed}

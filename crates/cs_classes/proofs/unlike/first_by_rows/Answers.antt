@@ -1,6 +1,6 @@
 use Rattle.std.proofs.Common.{◌∙◌, sym, ap}
 use Rattle.cs_theorem.specs.Faults.{first_of}
-use Rattle.cs_cert.specs.Claim.{said}
+use Rattle.cs_classes.specs.Said.{said}
 use Rattle.cs_classes.proofs.Alike.{unlike, unlike_here, unlike_later}
 use Rattle.cs_classes.proofs.unlike.first_by_rows.Goals as goal
 

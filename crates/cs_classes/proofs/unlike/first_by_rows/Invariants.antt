@@ -1,7 +1,7 @@
 use Rattle.std.proofs.Common.{◌≡◌}
 use Rattle.cs_civil.specs.Order.{all_kinds}
 use Rattle.cs_theorem.specs.Faults.{first_of}
-use Rattle.cs_cert.specs.Claim.{said}
+use Rattle.cs_classes.specs.Said.{said}
 use Rattle.cs_classes.proofs.Alike.{unlike}
 use Rattle.cs_classes.proofs.unlike.first_by_rows.Given as goal
 

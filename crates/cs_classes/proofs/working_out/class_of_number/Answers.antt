@@ -1,7 +1,8 @@
 use Rattle.std.proofs.Common.{◌≡◌, ◌<◌, List, Option, length, ap, ◌∙◌, arith}
 use Rattle.std.proofs.lemmas.Result.{IfOk-weaker}
-use Rattle.cs_cert.specs.Claim.{said}
+use Rattle.cs_cert.specs.Certificate.{content}
 use Rattle.cs_cert.specs.declared.class.Class.{Class}
+use Rattle.cs_cert.proofs.Keeping.{few_classes}
 use Rattle.cs_classes.specs.WorkedOut.{first_classed}
 use Rattle.cs_classes.specs.declared.working_out.ClassedKind.{ClassedKind}
 use Rattle.cs_civil.specs.Calendar.{Kind}
@@ -11,10 +12,15 @@ use Rattle.cs_classes.proofs.Lists.{within}
 use Rattle.cs_classes.proofs.WorkedClasses.{first_of_all}
 use Rattle.cs_classes.proofs.working_out.class_of_number.Goals as goal
 
+pub overflow_cast-number : goal.overflow_cast-number
+overflow_cast-number c =
+    let k = content c.args.certificate.now in
+    omega (arith, c.requires.there, c.classes.ensures.kept.count.1, few_classes k.version)
+
 pub returns : goal.returns
 returns c =
     let d = c.args.plan.now in
-    let k = said c.args.claim.now in
+    let k = content c.args.certificate.now in
     let n = c.args.number in
     let found = c.index-classes-number.result in
     let count = ap (λ (xs : List Class). length xs) c.classes.ensures.value in

@@ -8,8 +8,8 @@ use Rattle.cs_classes.specs.StandsFor.{distinct, with_list}
 use Rattle.cs_classes.specs.ByClasses.{same_classes}
 use Rattle.cs_classes.specs.Used.{classes_in}
 use Rattle.cs_classes.specs.declared.classed.ClassedChain.{ClassedChain}
-use Rattle.cs_classes.proofs.ByClasses.{one_more, same_either_way}
-use Rattle.cs_classes.proofs.Searched.{slices_same}
+use Rattle.cs_classes.proofs.ByClasses.{same_either_way}
+use Rattle.cs_classes.proofs.Searched.{one_more, slices_same}
 use Rattle.cs_classes.proofs.working_out.distinct_lists.Goals as goal
 
 abbrev now_of : Bor (List ℕ) → List ℕ

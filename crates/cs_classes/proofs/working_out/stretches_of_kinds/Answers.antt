@@ -2,11 +2,11 @@ use Rattle.std.proofs.Common.{◌≡◌, ℕ, List, [], ◌∷◌, map, refl, ap
 use Rattle.std.specs.Prelude.{IfOk, All}
 use Rattle.std.proofs.lemmas.List.Elements.{All-head, All-tail}
 use Rattle.cs_theorem.specs.Faults.{chains}
-use Rattle.cs_cert.specs.Certificate.{class_of}
-use Rattle.cs_cert.specs.Claim.{said}
-use Rattle.cs_cert.specs.Content.{Content, stretch_of}
+use Rattle.cs_cert.specs.Certificate.{class_of, content}
+use Rattle.cs_cert.specs.Content.{Content}
+use Rattle.cs_daytree.specs.Tree.{Tree}
 use Rattle.cs_classes.specs.Planned.{due_on, planned, reach_by}
-use Rattle.cs_classes.specs.StandsFor.{bare, class_lists, days_for, distinct}
+use Rattle.cs_classes.specs.StandsFor.{class_lists, days_for, distinct}
 use Rattle.cs_decl.specs.Plan.{as_plan}
 use Rattle.cs_windows.specs.Occupied.{job_of}
 use Rattle.cs_windows.specs.declared.reach.JobReach.{JobReach}
@@ -21,7 +21,7 @@ classes_all c (x ∷ xs) h =
     ∙ ap (λ (ls : List (List ℕ)). map (class_of c) (kinds_in x) ∷ ls) (classes_all c xs (All-tail (λ chain. classes_in chain ≡ map (class_of c) (kinds_in chain)) x xs h))
 
 -- the lists of classes of all chains
-lists_are : (c : Content) (n m : ℕ) (listed lent : List ClassedChain) → lent ≡ listed → AreClassed c n listed → n ≡ m → distinct (map classes_in lent) ≡ class_lists c m
+lists_are : (c : Content) (n m : ℕ) (listed lent : List ClassedChain) → lent ≡ listed → AreClassed c.kinds n listed → n ≡ m → distinct (map classes_in lent) ≡ class_lists c m
 lists_are c n m listed lent same known e =
     ap (λ (l : List ClassedChain). distinct (map classes_in l)) same
     ∙ ap distinct (classes_all c listed known.classes ∙ ap (map (map (class_of c))) (known.all ∙ ap chains e))
@@ -32,8 +32,8 @@ classed_chains-requires c = let r = c.stretch_length-days.ensures.range in (omeg
 pub returns : goal.returns
 returns c =
     let d = c.args.plan.now in
-    let k = said c.args.claim.now in
+    let k = content c.args.certificate.now in
     let jobs : map job_of c.as_slice.result.now ≡ planned d k.reach = ap (map job_of) c.as_slice.ensures.value ∙ c.in_ok-occupied.ensures.jobs ∙ ap (λ (rs : List JobReach). planned d rs) c.reach.ensures.value in
     let days : c.stretch_length-days.result ≡ days_for d k = c.stretch_length-days.ensures.value (as_plan d) (due_on d) (reach_by d k.reach) jobs in
-    let lists = c.in_ok-lists.ensures ∙ lists_are k c.stretch_length-days.result (days_for d k) c.in_ok-chains.chains.items c.as_slice-2.result.now c.as_slice-2.ensures.value c.in_ok-chains.ensures days in
-    subst (λ (ls : List (List ℕ)). IfOk c.bare_stretches.result (λ stretches. map stretch_of stretches.items ≡ map bare ls)) lists c.bare_stretches.ensures
+    let lists = c.in_ok-lists.ensures ∙ lists_are k c.stretch_length-days.result (days_for d k) c.in_ok-chains.chains.items c.as_slice-2.result.now c.as_slice-2.ensures.value (subst (λ (tree : Tree). AreClassed tree c.stretch_length-days.result c.in_ok-chains.chains.items) c.kinds.ensures.value c.in_ok-chains.ensures) days in
+    subst (λ (ls : List (List ℕ)). IfOk c.copies_of.result (λ copies. copies.items ≡ ls)) lists c.copies_of.ensures

@@ -4,7 +4,7 @@ use Rattle.cs_draft.proofs.Loops.{one_more, to_the_end}
 use Rattle.cs_draft.proofs.added.are_new_lines.Goals as goal
 
 pub loop-line-preserved : goal.loop-line-preserved
-loop-line-preserved c = one_more (IsNewLine c.args.asked c.args.old.now c.args.new.now) c.args.lines.now c.loop-line.line-index c.line-item.result (omega arith) c.line-item.is c.loop-line.invariant (c.in_ok-is_new_line.ensures c.if-not-branch.false)
+loop-line-preserved c = one_more (IsNewLine c.args.asked c.args.places.now c.args.old.now c.args.new.now) c.args.lines.now c.loop-line.line-index c.line-item.result (omega arith) c.line-item.is c.loop-line.invariant (c.in_ok-is_new_line.ensures c.if-not-branch.false)
 
 pub returns : goal.returns
-returns c = λ _. to_the_end (IsNewLine c.args.asked c.args.old.now c.args.new.now) c.args.lines.now c.loop-line.line-index (omega arith) c.loop-line.invariant
+returns c = λ _. to_the_end (IsNewLine c.args.asked c.args.places.now c.args.old.now c.args.new.now) c.args.lines.now c.loop-line.line-index (omega arith) c.loop-line.invariant

@@ -8,7 +8,7 @@ returns c =
     let is-sound = c.if-not-are_sound.false in
     let is-kept = c.if-not-are_kept.false in
     let lines = c.in_ok-are_new_lines.ensures c.if-not-branch.false in
-    updates c.args.table.now c.args.jobs.now c.args.old.now c.args.max c.in-Ok.declarations c.args.text.now (λ fits.
+    updates c.args.table.now c.args.jobs.now c.args.places.now c.args.old.now c.args.max c.in-Ok.declarations c.args.text.now (λ fits.
     record {
       entries = c.in-Ok.declarations;
       sound = record { declared = c.in-Ok.ensures; once = rw c.entries-new.ensures.value at (sound.once is-sound); fits = fits; bound = rw (c.entries-new.ensures.value, c.lines-lines.ensures.value) at (sound.bound is-sound) };

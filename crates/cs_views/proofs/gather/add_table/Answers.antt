@@ -1,5 +1,6 @@
-use Rattle.std.proofs.Common.{ℕ, List, subst}
+use Rattle.std.proofs.Common.{◌∙◌, ℕ, is_some, List, subst}
 use Rattle.cs_table.specs.declared.limits.TheConstants.{MAX_TABLE}
+use Rattle.cs_gather.specs.declared.programs.Parts.{Parts}
 use Rattle.cs_files.specs.Reads.{IsRead}
 use Rattle.cs_views.specs.GatherAnswer.{FaultsAs}
 use Rattle.cs_views.proofs.GatherLemmas.{stops_read}
@@ -8,7 +9,13 @@ use Rattle.cs_views.proofs.gather.add_table.Goals as goal
 pub returns-clause-stops : goal.returns-clause-stops
 returns-clause-stops g c = λ fresh.
     let given = c.args.given.now in
+    let old = c.args.gathering.now in
+    let fault = c.in-Err.fault in
+    let bytes = c.in_ok-bytes.bytes.items in
+    let parts = c.in_ok-parts.parts.items in
     let left = g.I.Inputs.left c.args.inputs.now in
-    let read = subst (λ (p : List ℕ). IsRead MAX_TABLE p left c.in_ok-bytes.bytes.items) c.path-path.ensures c.in_ok-bytes.ensures.bytes in
-    let faults = subst (λ (b : List ℕ). FaultsAs given.user given.path b c.args.gathering.now c.in-Err.fault) c.as_slice.ensures.value c.in-Err.ensures.err in
-    rw c.path-path.ensures (stops_read (g.I.Inputs.whole c.args.inputs.now) left (g.I.Inputs.failed c.args.inputs.now) (g.I.Inputs.failed c.bytes_at.new.inputs) given c.in_ok-bytes.bytes.items c.args.gathering.now c.in-Err.fault fresh c.in_ok-bytes.ensures.works read faults)
+    let read = subst (λ (p : List ℕ). IsRead MAX_TABLE p left bytes) c.path-path.ensures c.in_ok-bytes.ensures.bytes in
+    let of_bytes = subst (λ (b : List ℕ). FaultsAs given.user given.path b c.as_slice-3.result.now old fault) c.as_slice-2.ensures.value c.in-Err.ensures.err in
+    let faults = subst (λ (ps : List Parts). FaultsAs given.user given.path bytes ps old fault) c.as_slice-3.ensures.value of_bytes in
+    let works = c.in_ok-parts.ensures.works ∙ c.in_ok-bytes.ensures.works in
+    rw c.path-path.ensures (stops_read (is_some c.args.front) (g.I.Inputs.whole c.args.inputs.now) left _ _ given bytes parts old fault fresh works read c.in_ok-parts.ensures.parts faults)

@@ -1,6 +1,6 @@
 use Rattle.std.proofs.Common.{◌∙◌, inl, inr}
 use Rattle.cs_args.specs.Asked.{asked_gather}
-use Rattle.cs_views.proofs.GatherLemmas.{all_read, gathers_same, honest_unlisted, root_read, tells_unlisted}
+use Rattle.cs_views.proofs.GatherLemmas.{all_read, gathers_same, honest_unlisted, root_read, some_same, tells_unlisted}
 use Rattle.cs_views.proofs.gather.answer_gather.Goals as goal
 
 pub returns-in_err-tell-in-Err-clause-turn : goal.returns-in_err-tell-in-Err-clause-turn
@@ -9,11 +9,11 @@ returns-in_err-tell-in-Err-clause-turn g c =
     root_read (asked_gather c.args.request.now) paths _ _ none turn
 
 pub returns-in-Err-clause-value : goal.returns-in-Err-clause-value
-returns-in-Err-clause-value g c = λ fresh. inr (c.in-Err.ensures.asked, tells_unlisted c.in-Err.unlisted c.in_ok-tell-in-Err.field-0 c.in_ok-tell-in-Err.ensures)
+returns-in-Err-clause-value g c = λ fresh. inr (c.in-Err.ensures.asked, tells_unlisted c.in-Err.unlisted _ c.in_ok-tell-in-Err.field-0 c.in_ok-tell-in-Err.ensures)
 
 pub returns-in-Err-clause-status : goal.returns-in-Err-clause-status
 returns-in-Err-clause-status g c =
-    honest_unlisted (g.I.Inputs.failed c.found_tables.new.inputs) (g.I.Inputs.reads c.found_tables.new.inputs) c.in-Err.unlisted c.in_ok-tell-in-Err.field-0 c.in-Err.ensures.fails c.in_ok-tell-in-Err.ensures
+    honest_unlisted (g.I.Inputs.failed c.found_tables.new.inputs) (g.I.Inputs.reads c.found_tables.new.inputs) c.in-Err.unlisted _ c.in_ok-tell-in-Err.field-0 c.in-Err.ensures.fails c.in_ok-tell-in-Err.ensures
 
 pub returns-in-Err-clause-turn : goal.returns-in-Err-clause-turn
 returns-in-Err-clause-turn g c =
@@ -35,7 +35,7 @@ pub returns-clause-value : goal.returns-clause-value
 returns-clause-value g c = λ fresh.
     let (named, is, are) = c.in_ok-push_named.ensures in
     let e = c.in-Ok.ensures in
-    inl (c.in-Ok.found.items, named, e.found, are, gathers_same _ _ _ _ _ _ _ _ e.whole e.works (c.as_slice-2.ensures.value ∙ is) (c.in_ok-gather.ensures.value (e.fresh fresh)))
+    inl (c.in-Ok.found.items, named, e.found, are, gathers_same _ _ _ _ _ _ _ _ _ _ (c.front_asked.ensures ∙ some_same c.args.request.now.root) e.whole e.works (c.as_slice-2.ensures.value ∙ is) (c.in_ok-gather.ensures.value (e.fresh fresh)))
 
 pub returns-clause-turn : goal.returns-clause-turn
 returns-clause-turn g c =

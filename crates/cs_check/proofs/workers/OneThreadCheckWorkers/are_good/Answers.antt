@@ -1,7 +1,7 @@
 use Rattle.std.proofs.Common.{subst, arith}
 use Rattle.std.proofs.lemmas.List.{take_all}
 use Rattle.std.proofs.lemmas.List.Elements.{All-more}
-use Rattle.cs_cert.specs.Claim.{said}
+use Rattle.cs_classes.specs.Said.{said}
 use Rattle.cs_classes.specs.Used.{seen}
 use Rattle.cs_classes.specs.declared.used.UsedStretch.{UsedStretch}
 use Rattle.cs_classes.specs.Claim.{as_certificate}

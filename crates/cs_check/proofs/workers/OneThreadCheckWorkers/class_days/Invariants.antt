@@ -1,6 +1,6 @@
 use Rattle.std.proofs.Common.{ℕ, ◌≡◌, length, Some}
 use Rattle.std.specs.Prelude.{slice_get}
-use Rattle.cs_cert.specs.Claim.{said}
+use Rattle.cs_classes.specs.Said.{said}
 use Rattle.cs_check.specs.ClassDays.{IsClassDay}
 use Rattle.cs_check.specs.declared.class_day.ClassDay.{ClassDay}
 use Rattle.cs_check.proofs.workers.OneThreadCheckWorkers.class_days.Given as goal

@@ -6,7 +6,7 @@ use Rattle.rayon.specs.declared.iter.min_len.MinLen.{MinLen}
 use Rattle.rayon.specs.declared.range.Iter.{Iter}
 use Rattle.cs_check.specs.declared.due.Basis.{Basis}
 use Rattle.cs_check.specs.declared.class_day.ClassDay.{ClassDay}
-use Rattle.cs_cert.specs.Claim.{said}
+use Rattle.cs_classes.specs.Said.{said}
 use Rattle.cs_cert.specs.declared.class.Class.{Class}
 use Rattle.cs_check.specs.ClassDays.{IsClassDay}
 use Rattle.rayon.specs.Numbers.{nat_range}
@@ -18,7 +18,7 @@ pub collect-requires-clause-ready : goal.collect-requires-clause-ready
 collect-requires-clause-ready g c κs within =
     let ends = c.into_par_iter.ensures in
     let classes = c.classes-classes.result.now in
-    let long = ap (λ (xs : List Class). length xs) c.classes-classes.ensures.value in
+    let long = ap (λ (xs : List Class). length xs) c.classes-classes.ensures in
     let inside = nat_range-All (λ i. i < length (said c.args.basis.now.claim.now).classes) 0 (length classes) (λ i low high. omega (arith, high, long)) in
     rw (c.map.ensures.base, c.map.ensures.f, c.with_min_len.ensures.base, ends.0, ends.1) (λ k d lt. ((inside k d lt, c.requires.basis), λ y p. tt))
 
@@ -32,6 +32,6 @@ returns g c =
     let start = ap (λ (it : MinLen (Iter ℕ)). it.base.start) c.map.ensures.base ∙ (ap (λ (it : Iter ℕ). it.start) c.with_min_len.ensures.base ∙ ends.0) in
     let end = ap (λ (it : MinLen (Iter ℕ)). it.base.end) c.map.ensures.base ∙ (ap (λ (it : Iter ℕ). it.end) c.with_min_len.ensures.base ∙ ends.1) in
     let places = chain.1 ∙ (λ i. nat_range (start i) (end i)) ∙ ap (range_with_len 0) whole in
-    let long = ap (λ (xs : List Class). length xs) c.classes-classes.ensures.value in
+    let long = ap (λ (xs : List Class). length xs) c.classes-classes.ensures in
     let zip = subst (λ (b : Bor Basis). AllZip (λ number (answer : Result ClassDay AllocError). IfOk answer (IsClassDay b.now.plan.now (said b.now.claim.now) number)) chain.0 h.0) (ap (λ f. f.1) c.map.ensures.f) chain.2 in
     days_of_numbers c.args.basis.now.plan.now (said c.args.basis.now.claim.now) n chain.0 h.0 c.in_ok-collect.field-0 long places zip h.2

@@ -1,5 +1,5 @@
 use Rattle.std.proofs.Common.{◌≡◌, ◌<◌, ℕ, [], length, slice_index_or}
-use Rattle.cs_cert.specs.Claim.{said}
+use Rattle.cs_classes.specs.Said.{said}
 use Rattle.cs_classes.specs.Claim.{class_at}
 use Rattle.cs_classes.specs.Likeness.{IsRow}
 use Rattle.cs_classes.proofs.workers.OneThreadWorkers.likenesses.Given as goal

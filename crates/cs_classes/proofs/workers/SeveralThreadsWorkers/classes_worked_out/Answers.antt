@@ -4,8 +4,8 @@ use Rattle.std.specs.Prelude.{IfOk}
 use Rattle.std.specs.declared.alloc.AllocError.{AllocError}
 use Rattle.rayon.specs.declared.iter.min_len.MinLen.{MinLen}
 use Rattle.rayon.specs.declared.range.Iter.{Iter}
-use Rattle.cs_cert.specs.Claim.{said}
-use Rattle.cs_cert.specs.declared.claim.Claim.{Claim}
+use Rattle.cs_cert.specs.Certificate.{content}
+use Rattle.cs_cert.specs.declared.certificate.Certificate.{Certificate}
 use Rattle.cs_cert.specs.declared.class.Class.{Class}
 use Rattle.cs_decl.specs.declared.plan.Plan.{Plan}
 use Rattle.cs_civil.specs.Order.{all_kinds}
@@ -20,7 +20,7 @@ use Rattle.cs_classes.proofs.workers.SeveralThreadsWorkers.classes_worked_out.Go
 pub collect-requires-clause-ready : goal.collect-requires-clause-ready
 collect-requires-clause-ready g c κs within =
     let ends = c.into_par_iter.ensures in
-    let k = said c.args.claim.now in
+    let k = content c.args.certificate.now in
     let classes = c.classes.result.now in
     let long = ap (λ (xs : List Class). length xs) c.classes.ensures.value in
     let known = subst (λ (kinds : List ClassedKind). kinds ≡ map (classed_kind k) all_kinds) (sym c.as_slice-kinds.ensures.value) c.in_ok-kinds.ensures in
@@ -30,7 +30,7 @@ collect-requires-clause-ready g c κs within =
 pub returns : goal.returns
 returns g c =
     let d = c.args.plan.now in
-    let k = said c.args.claim.now in
+    let k = content c.args.certificate.now in
     let h = c.in_ok-collect.ensures in
     let ends = c.into_par_iter.ensures in
     let n = length c.classes.result.now in
@@ -40,5 +40,5 @@ returns g c =
     let end = ap (λ (it : MinLen (Iter ℕ)). it.base.end) c.map.ensures.base ∙ (ap (λ (it : Iter ℕ). it.end) c.with_min_len.ensures.base ∙ ends.1) in
     let long = ap (λ (xs : List Class). length xs) c.classes.ensures.value in
     let places = chain.1 ∙ (λ i. nat_range (start i) (end i)) ∙ ap (range_with_len 0) (whole ∙ long) in
-    let zip = subst (λ (f : Bor Global × Bor Plan × Bor Claim × Bor (List ClassedKind)). AllZip (λ number (answer : Result Class AllocError). IfOk answer (λ worked. worked ≡ worked_of f.1.now (said f.2.now) number)) chain.0 h.0) c.map.ensures.f chain.2 in
+    let zip = subst (λ (f : Bor Global × Bor Plan × Bor Certificate × Bor (List ClassedKind)). AllZip (λ number (answer : Result Class AllocError). IfOk answer (λ worked. worked ≡ worked_of f.1.now (content f.2.now) number)) chain.0 h.0) c.map.ensures.f chain.2 in
     all_worked (worked_of d k) (length k.classes) chain.0 h.0 c.in_ok-collect.field-0 places zip h.2

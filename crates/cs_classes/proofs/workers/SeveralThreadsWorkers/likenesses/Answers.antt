@@ -6,7 +6,7 @@ use Rattle.rayon.proofs.ListFacts.{AllZip-weaken, IfOk-then}
 use Rattle.rayon.proofs.ToStd.{slice-AllZip}
 use Rattle.rayon.specs.declared.iter.min_len.MinLen.{MinLen}
 use Rattle.rayon.specs.declared.slice.Iter.{Iter}
-use Rattle.cs_cert.specs.Claim.{said}
+use Rattle.cs_classes.specs.Said.{said}
 use Rattle.cs_cert.specs.declared.class.Class.{Class}
 use Rattle.cs_decl.specs.Plan.{Declared}
 use Rattle.cs_classes.specs.declared.likeness.Likeness.{Likeness}
@@ -25,7 +25,7 @@ returns g c =
     let times = c.as_slice-times.result.now in
     let h = c.in_ok-collect.ensures in
     let chain = h.1 in
-    let shown = chain.1 ∙ ap (λ (it : MinLen (Iter Class)). it.base.slice.now) c.map.ensures.base ∙ (ap (λ (it : Iter Class). it.slice.now) c.with_min_len.ensures.base ∙ (c.par_iter.ensures ∙ c.classes.ensures.value)) in
+    let shown = chain.1 ∙ ap (λ (it : MinLen (Iter Class)). it.base.slice.now) c.map.ensures.base ∙ (ap (λ (it : Iter Class). it.slice.now) c.with_min_len.ensures.base ∙ (c.par_iter.ensures ∙ c.classes.ensures)) in
     let answered = subst (λ (b : Bor (List (List ℕ))). AllZip (λ (class : Bor Class) answer. IsAnswer b.now class.now answer) chain.0 h.0) (ap (λ f. f.1) c.map.ensures.f) chain.2 in
     let zip = slice-AllZip chain.0 classes shown (IsAnswer times) h.0 answered in
     let are = subst (AreTimes d) (sym c.as_slice-times.ensures.value) c.in_ok-times.ensures in

@@ -1,0 +1,9 @@
+-- What is claimed where a certificate is judged.
+use Rattle.cs_cert.specs.Certificate.{content}
+use Rattle.cs_classes.specs.Claim.{Claimed}
+use Rattle.cs_classes.specs.WorkedOut.{judged}
+use Rattle.cs_classes.specs.declared.claim.Claim.{Claim}
+
+-- what is claimed
+abbrev pub said : Claim → Claimed
+said c = judged (content c.certificate.now) c.worked.now

@@ -1,0 +1,59 @@
+-- The minutes of parts, and the first entry whose parts are bad.
+use Rattle.std.proofs.Common.{◌≡◌, ℕ, zero, suc, ◌+◌, ◌<◌, ◌≤◌, List, [], ◌∷◌, Bool, true, false, ◌||◌, cond, length, get_or, drop, Some, None, Option, option_map, refl, ap, sym, ◌∙◌, arith, unsigned_abs}
+use Rattle.std.specs.Prelude.{position}
+use Rattle.std.specs.List.{list_any}
+use Rattle.std.proofs.lemmas.List.{drop_more}
+use Rattle.cs_decl.specs.declared.entries.PartEntry.{PartEntry}
+use Rattle.cs_decl.specs.declared.limits.TheConstants.{MAX_MINUTES}
+use Rattle.cs_decl.specs.Faults.{is_bad_max}
+use Rattle.cs_decl.proofs.Positions.{first_at, position_is}
+use Rattle.cs_decl.proofs.Texts.{if_true, if_false}
+use Rattle.cs_decl.proofs.Validity.{within_abs, yes}
+
+-- where no time is bad, none is longer than the most
+pub none_of : (p : PartEntry → Bool) (parts : List PartEntry) (i : ℕ) (d : PartEntry) → i < length parts → list_any p parts ≡ false → p (get_or parts i d) ≡ false
+none_of p [] i d within none = absurd (omega (arith, within))
+none_of p (x ∷ xs) zero d within none = head (p x) none
+  where
+    head : (b : Bool) → (b || list_any p xs) ≡ false → b ≡ false
+    head true e = cc
+    head false e = refl
+none_of p (x ∷ xs) (suc i) d within none = none_of p xs i d (omega (arith, within)) (tail (p x) none)
+  where
+    tail : (b : Bool) → (b || list_any p xs) ≡ false → list_any p xs ≡ false
+    tail true e = cc
+    tail false e = e
+
+pub time_below : (parts : List PartEntry) (i : ℕ) (d : PartEntry) → i < length parts → list_any (λ p. is_bad_max p.max) parts ≡ false → unsigned_abs (get_or parts i d).max ≤ MAX_MINUTES
+time_below parts i d within none = (within_abs 1 MAX_MINUTES (get_or parts i d).max (yes _ (none_of (λ p. is_bad_max p.max) parts i d within none))).1
+
+-- ---- the first that passes a test, counted from a number on
+
+abbrev pub first_from : {A : Type 0} → (A → Bool) → ℕ → List A → Option ℕ
+first_from p i [] = None
+first_from p i (x ∷ xs) = cond (p x) (Some i) (first_from p (i + 1) xs)
+
+from_step : (b : Bool) (i : ℕ) (o r : Option ℕ) → r ≡ option_map (λ j. (i + 1) + j) o → cond b (Some i) r ≡ option_map (λ j. i + j) (cond b (Some 0) (option_map suc o))
+from_step true i o r e = let z : i ≡ i + 0 = omega arith in ap Some z
+from_step false i None r e = e
+from_step false i (Some j) r e = let z : (i + 1) + j ≡ i + suc j = omega arith in e ∙ ap Some z
+
+from_is : {A : Type 0} (p : A → Bool) (i : ℕ) (xs : List A) → first_from p i xs ≡ option_map (λ j. i + j) (first_at p xs)
+from_is p i [] = refl
+from_is p i (x ∷ xs) = from_step (p x) i (first_at p xs) (first_from p (i + 1) xs) (from_is p (i + 1) xs)
+
+from_none : (o : Option ℕ) → option_map (λ j. 0 + j) o ≡ o
+from_none None = refl
+from_none (Some j) = let z : 0 + j ≡ j = omega arith in ap Some z
+
+pub from_start : {A : Type 0} (p : A → Bool) (xs : List A) → first_from p 0 xs ≡ position p xs
+from_start p xs = from_is p 0 xs ∙ (from_none (first_at p xs) ∙ sym (position_is p xs))
+
+at_item : {A : Type 0} (p : A → Bool) (i : ℕ) (xs : List A) (x : A) → i < length xs → x ≡ get_or xs i x → first_from p i (drop i xs) ≡ cond (p x) (Some i) (first_from p (i + 1) (drop (i + 1) xs))
+at_item p i xs x within is = rw (drop_more xs i x within, ← is) refl
+
+pub passes_here : {A : Type 0} (p : A → Bool) (i : ℕ) (xs : List A) (x : A) (total : Option ℕ) → i < length xs → x ≡ get_or xs i x → p x ≡ true → first_from p i (drop i xs) ≡ total → Some i ≡ total
+passes_here p i xs x total within is e h = sym (at_item p i xs x within is ∙ if_true _ _ _ e) ∙ h
+
+pub passes_later : {A : Type 0} (p : A → Bool) (i : ℕ) (xs : List A) (x : A) (total : Option ℕ) → i < length xs → x ≡ get_or xs i x → p x ≡ false → first_from p i (drop i xs) ≡ total → first_from p (i + 1) (drop (i + 1) xs) ≡ total
+passes_later p i xs x total within is e h = sym (at_item p i xs x within is ∙ if_false _ _ _ e) ∙ h

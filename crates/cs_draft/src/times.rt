@@ -1,0 +1,110 @@
+//! The longest times of entries and of their parts, as they are laid out.
+
+use crate::brief::{brief_max, share_of};
+use crate::layout::Object;
+use crate::old::{Bound, items, text_of};
+use crate::parts::{has_part, minutes_left};
+use cs_civil::Bytes;
+use cs_decl::{MAX_MINUTES, PartEntry};
+use cs_schedule::Schedule;
+use serde_json::Value;
+use std::alloc::{AllocError, Global};
+
+const MOST: u128 = MAX_MINUTES as u128;
+
+fn new_part(alloc: Global, name: &[u8], share: u64) -> Result<Object, AllocError> {
+    let mut part = Object::new(alloc);
+    // the names that comments of a table tell are ASCII
+    if let Ok(name) = str::from_utf8(name) {
+        part.add_text(alloc, "name", name)?;
+    }
+    part.add_number(alloc, "max", share)?;
+    Ok(part)
+}
+
+fn old_part(alloc: Global, old: &Value) -> Result<Object, AllocError> {
+    let mut part = Object::new(alloc);
+    part.add_members(alloc, old, ["name", "max", "note"].as_slice())?;
+    Ok(part)
+}
+
+/// Adds the longest time of a new command in minutes, and its parts. The only error is want of
+/// memory.
+pub(crate) fn add_new_times(
+    alloc: Global,
+    entry: &mut Object,
+    schedule: &Schedule,
+    asked: u64,
+    names: &[Bytes],
+) -> Result<(), AllocError> {
+    if names.is_empty() {
+        return entry.add_number(alloc, "max", brief_max(schedule, asked));
+    }
+    let share = share_of(schedule, asked, names.len());
+    entry.add_number(alloc, "max", share.saturating_mul(names.len() as u64))?;
+    let mut parts = Vec::new(alloc);
+    for name in names {
+        parts.push(new_part(alloc, name.as_slice(), share)?)?;
+    }
+    entry.add_list(alloc, "parts", parts.as_slice())
+}
+
+/// Adds the longest time of an old entry, and its parts. The only error is want of memory.
+pub(crate) fn add_old_times(
+    alloc: Global,
+    entry: &mut Object,
+    old: &Value,
+) -> Result<(), AllocError> {
+    entry.add_members(alloc, old, ["max"].as_slice())?;
+    let Some(old) = items(old, "parts") else {
+        return Ok(());
+    };
+    let mut parts = Vec::new(alloc);
+    for part in old {
+        parts.push(old_part(alloc, part)?)?;
+    }
+    entry.add_list(alloc, "parts", parts.as_slice())
+}
+
+/// The longest time of the new ones among parts of those names: the asked one, or as many minutes as
+/// there is room for; none where there is no room for a minute of each.
+pub(crate) fn room_for(asked: u64, old: &[PartEntry], names: &[Bytes]) -> Option<u64> {
+    let left = minutes_left(MOST, 0, old, names)?;
+    let new = names
+        .iter()
+        .filter(|name| !has_part(old, name.as_slice()))
+        .count() as u128;
+    let share = match left.checked_div(new) {
+        Some(share) => share.min(u128::from(asked)),
+        None => u128::from(asked),
+    };
+    if share == 0 { None } else { Some(share as u64) }
+}
+
+/// The old part of that name, as its JSON has it.
+fn part_in<'v>(old: &'v Value, name: &[u8]) -> Option<&'v Value> {
+    items(old, "parts")?.iter().find(|part| text_of(part, "name").map(str::as_bytes) == Some(name))
+}
+
+/// Adds parts of those names, of which the new ones have that longest time and the others are as in
+/// an old entry, and their sum. The only error is want of memory.
+pub(crate) fn add_renewed_times(
+    alloc: Global,
+    entry: &mut Object,
+    share: u64,
+    old: Bound<'_>,
+    names: &[Bytes],
+) -> Result<(), AllocError> {
+    let left = minutes_left(MOST, share, old.parts, names).unwrap_or(0);
+    entry.add_number(alloc, "max", MOST.saturating_sub(left) as u64)?;
+    let mut parts = Vec::new(alloc);
+    for name in names {
+        let name = name.as_slice();
+        let part = match part_in(old.entry, name) {
+            Some(part) => old_part(alloc, part)?,
+            None => new_part(alloc, name, share)?,
+        };
+        parts.push(part)?;
+    }
+    entry.add_list(alloc, "parts", parts.as_slice())
+}

@@ -1,0 +1,155 @@
+//! The parts of a command that run-parts(8) runs, as an entry of `cron` declares them.
+use crate::object::{Kind, Tell};
+use crate::shape::find_in_object;
+use cs_decl::{DeclFault, MAX_MINUTES};
+use cs_diagnostics::{Done, quoted, shown};
+use cs_gather::Place;
+use cs_outline::{Object, Span, parts};
+use indexmap::{IndexMap, IndexSet};
+use serde_json::Value;
+use std::alloc::AllocError;
+
+/// What to do about a part that came or went.
+const ADVICE: &str = "as 'cronsafe draft --update' does";
+
+/// What an entry says of the parts of its command.
+#[derive(Drop)]
+pub(crate) struct Parts<'v> {
+    /// Where their list begins.
+    bracket: Span,
+    /// Their names, each with its place.
+    names: IndexMap<&'v str, Span>,
+    /// Whether it's known that there are no others.
+    has_all: bool,
+    /// How long they take together, where each has a longest time.
+    minutes: Option<i128>,
+}
+
+impl<'v> Parts<'v> {
+    /// Looks at those of the entry that is looked at, which may have none.
+    pub(crate) fn at(
+        tell: &mut Tell,
+        bytes: &'v [u8],
+        entry: &Object<'v>,
+    ) -> Result<Parts<'v>, AllocError> {
+        let (alloc, kind, index) = (tell.findings.alloc, tell.kind, tell.index);
+        let mut found = Parts {
+            bracket: entry.bracket,
+            names: IndexMap::new(alloc),
+            has_all: false,
+            minutes: None,
+        };
+        let part = entry.member("parts").filter(|_| kind == Kind::Cron);
+        let Some((value, span)) = part else {
+            return Ok(found);
+        };
+        let items = value.as_array().map_or(&[][..], |items| items.as_slice());
+        if items.is_empty() {
+            return Ok(found);
+        }
+        found.bracket = Span::of(span.from, 1);
+        found.has_all = true;
+        found.minutes = Some(0);
+        tell.look_at(Kind::Part, index);
+        let places = parts(alloc, bytes, span)?;
+        for (place, value) in places.iter().zip(items.iter()) {
+            found.look_at(tell, bytes, (value, place.value))?;
+        }
+        tell.look_at(kind, index);
+        found.find_sum(tell, entry)?;
+        Ok(found)
+    }
+
+    fn look_at(&mut self, tell: &mut Tell, bytes: &'v [u8], part: (&'v Value, Span)) -> Done {
+        if !part.0.is_object() {
+            self.has_all = false;
+            self.minutes = None;
+            return tell.no_object(part.1);
+        }
+        let entry = Object::new(tell.findings.alloc, bytes, part)?;
+        find_in_object(tell, &entry)?;
+        self.add_minutes(entry.whole("max"));
+        self.add_name(tell, bytes, entry.text("name"))
+    }
+
+    fn add_minutes(&mut self, max: Option<(i128, Span)>) {
+        let most = i128::from(MAX_MINUTES);
+        let max = max.filter(|(max, _)| 1 <= *max && *max <= most);
+        self.minutes = match (self.minutes, max) {
+            (Some(minutes), Some((max, _))) => Some(minutes.saturating_add(max)),
+            _ => None,
+        };
+    }
+
+    fn add_name(&mut self, tell: &mut Tell, bytes: &[u8], name: Option<(&'v str, Span)>) -> Done {
+        let Some((name, span)) = name else {
+            self.has_all = false;
+            return Ok(());
+        };
+        if self.names.insert(name, span)?.is_none() {
+            return Ok(());
+        }
+        let text = shown(tell.findings.alloc, span.bytes(bytes))?;
+        tell.twice(span, format_args!("the part {text}"))
+    }
+
+    /// Adds that they take another time together than the entry has.
+    fn find_sum(&self, tell: &mut Tell, entry: &Object<'v>) -> Done {
+        let (Some(minutes), Some((max, span))) = (self.minutes, entry.whole("max")) else {
+            return Ok(());
+        };
+        let fault = DeclFault::BadParts;
+        let sum = format_args!("the parts add up to {minutes}");
+        if minutes == max {
+            return Ok(());
+        }
+        if minutes > i128::from(MAX_MINUTES) {
+            let why = format_args!("{sum}, and \"max\" is at most {MAX_MINUTES}: lower theirs");
+            return tell.fault(span, fault, why);
+        }
+        let why = format_args!("{sum}: set \"max\" to {minutes}, or correct a part");
+        tell.fault(span, fault, why)
+    }
+
+    /// Adds which of them the line of a place has no more, and which it has besides.
+    pub(crate) fn find_moved(&self, tell: &mut Tell, place: &Place) -> Done {
+        if self.names.is_empty() {
+            return Ok(());
+        }
+        self.find_gone(tell, place)?;
+        if self.has_all {
+            self.find_new(tell, place)?;
+        }
+        Ok(())
+    }
+
+    fn find_gone(&self, tell: &mut Tell, place: &Place) -> Done {
+        let (alloc, line) = (tell.findings.alloc, place.line);
+        let has = place.parts.as_slice().iter().map(|part| part.as_slice());
+        let has = has.collect::<IndexSet<&[u8]>>(alloc)?;
+        for (name, span) in self.names.iter() {
+            if !has.contains(name.as_bytes()) {
+                let name = quoted(alloc, name)?;
+                let words = format_args!("line {line} has no part {name} any more: remove it");
+                tell.findings.odd(*span, format_args!("{words}, {ADVICE}"))?;
+            }
+        }
+        Ok(())
+    }
+
+    fn find_new(&self, tell: &mut Tell, place: &Place) -> Done {
+        let (alloc, line) = (tell.findings.alloc, place.line);
+        for part in place.parts.as_slice().iter() {
+            let name = str::from_utf8(part.as_slice());
+            if !name.is_ok_and(|name| self.names.contains_key(name)) {
+                let name = shown(alloc, part.as_slice())?;
+                let words = format_args!(
+                    "line {line} has a part \"{name}\" that isn't declared: add it"
+                );
+                tell.findings
+                    .odd(self.bracket, format_args!("{words}, {ADVICE}"))?;
+            }
+        }
+        Ok(())
+    }
+}

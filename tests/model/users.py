@@ -38,7 +38,7 @@ def no_users_in(table):
 
 def users_in(table):
     """Returns the number of the line and the first word of each such command, in order."""
-    found = [(it.line, *words_of(it.command)) for it in table.commands]
+    found = [(it.line, *words_of(it.text)) for it in table.commands]
     begins = {line for line, _, word in found if word in USUAL_WORDS or BEGINNING.match(word)}
     times = Counter(first for line, first, _ in found if line in begins)
 

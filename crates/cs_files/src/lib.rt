@@ -8,5 +8,7 @@ mod response;
 
 pub use fault::Fault;
 pub use ran_out::{RanOut, text_behind};
-pub use reads::{all_bytes_at, bytes_at, declared_plan_from, read_placed_tables, read_tables};
+pub use reads::{
+    all_bytes_at, are_jobs, bytes_at, declared_plan_from, read_placed_tables, read_tables,
+};
 pub use response::{Response, Status};

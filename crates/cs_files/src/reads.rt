@@ -99,8 +99,9 @@ fn are_named(jobs: &[Job]) -> bool
     !jobs.is_empty() && all_are_named(jobs)
 }
 
-/// Whether the bytes are those of an anacrontab with such jobs.
-fn are_jobs(alloc: Global, bytes: &[u8]) -> Result<bool, AllocError>
+/// Whether the bytes are those of an anacrontab that has jobs, the identifier of each with a letter.
+/// The only error is want of memory.
+pub fn are_jobs(alloc: Global, bytes: &[u8]) -> Result<bool, AllocError>
     ensures { IfOk result (HoldsJobs bytes.now) }
 {
     match read_anacrontab(alloc, bytes) {

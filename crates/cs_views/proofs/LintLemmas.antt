@@ -104,3 +104,8 @@ judged a files v table jobs declarations (tables, more) is = by_table (files a.t
       | inr short ↦ subst (λ (b : List ℕ). IfKnown files a.anacrontab (λ j. IfKnown files a.declarations (Judges v b j))) same
           (known_so files a.anacrontab (IsSomeUpTo jobs) (λ j. IfKnown files a.declarations (Judges v table j)) (λ j up. beside j short up) (tables.1 short))
     ]
+
+-- a table that reads as an anacrontab is odd at least
+pub at_least_odd : (v r : Verdict) (table : List ℕ) (jobs declarations : Option (List ℕ)) → (r ≡ v) ⊎ ((v ≡ Clean) × (r ≡ Odd)) → Judges v table jobs declarations → Judges r table jobs declarations
+at_least_odd v r table jobs declarations (inl same) judges = rw same judges
+at_least_odd v r table jobs declarations (inr (clean, odd)) judges = rw odd (rw clean at judges)

@@ -1,9 +1,10 @@
 //! The subcommand `lint`.
-ghost use Rattle.std.specs.Prelude.{◌≡◌, ◌≤◌, [], IfErr, IfOk, OnErr, OnOk, length, option_map};
+ghost use Rattle.std.specs.Prelude.{◌≡◌, ◌⊎◌, ◌≤◌, [], IfErr, IfOk, OnErr, OnOk, length, option_map};
 ghost use Rattle.cs_args.specs.Asked.{asked_lint};
 ghost use Rattle.cs_table.specs.declared.limits.TheConstants.{MAX_TABLE};
 ghost use Rattle.cs_io.specs.Files.{AreReadInTurn, IsFresh};
 ghost use Rattle.cs_lint.specs.Refused.{Judges};
+ghost use Rattle.cs_lint.specs.declared.report.Verdict.TheVariants.{Clean, Odd};
 ghost use Rattle.cs_files.specs.RanOut.{IsUnwarned};
 ghost use Rattle.cs_files.specs.Response.{status_of};
 ghost use Rattle.cs_files.specs.Trouble.{IsHonest, IsHonestOf};
@@ -13,7 +14,7 @@ ghost use Rattle.cs_views.specs.LintAnswer.{IsShort, IsSomeUpTo, IsUnreadFile, v
 
 use cs_args::LintWords;
 use cs_civil::Bytes;
-use cs_files::{Fault, RanOut, Response, Status, all_bytes_at, bytes_at};
+use cs_files::{Fault, RanOut, Response, Status, all_bytes_at, are_jobs, bytes_at};
 use cs_io::Inputs;
 use cs_lint::{File, Verdict, lint as findings};
 use cs_table::MAX_TABLE;
@@ -172,6 +173,29 @@ fn status_for(verdict: Verdict) -> Status
     }
 }
 
+/// The verdict of what was found, behind which it is told that the table reads as an anacrontab, if it
+/// does: that is odd.
+fn with_jobs(
+    alloc: Global,
+    text: &mut Vec<u8>,
+    table: &File<'_>,
+    verdict: Verdict,
+) -> Result<Verdict, AllocError>
+    ensures { IfOk result (λ r. (r ≡ verdict) ⊎ ((verdict ≡ Clean) × (r ≡ Odd))) }
+{
+    if !are_jobs(alloc, table.bytes)? {
+        return Ok(verdict);
+    }
+    text.extend_from_slice(table.path.as_bytes())?;
+    text.extend_from_slice(
+        b":1:1: odd: the table reads as an anacrontab: give it with --anacrontab\n",
+    )?;
+    match verdict {
+        Verdict::Clean => Ok(Verdict::Odd),
+        _ => Ok(verdict),
+    }
+}
+
 /// What is answered of all files.
 fn show(alloc: Global, held: &Held<'_>) -> Result<Response, AllocError>
     ensures { IfOk result (IsLinted (λ verdict. Judges verdict held.now.table.bytes.items
@@ -182,8 +206,10 @@ fn show(alloc: Global, held: &Held<'_>) -> Result<Response, AllocError>
     let jobs = some_file(&held.jobs);
     let declarations = some_file(&held.declarations);
     let report = findings(alloc, &table, jobs.as_ref(), declarations.as_ref())?;
-    let status = status_for(report.verdict);
-    Ok(Response::told(status, report.text.into_vec(), Bytes::new(alloc)))
+    let mut text = report.text.into_vec();
+    let verdict = with_jobs(alloc, &mut text, &table, report.verdict)?;
+    let status = status_for(verdict);
+    Ok(Response::told(status, text, Bytes::new(alloc)))
 }
 
 /// The answer to `lint TABLE [DECLS] [--anacrontab FILE]`.

@@ -12,6 +12,8 @@ and calls without a subcommand in 'program'. It has these sections, each once an
   --- stderr      the same of standard error; without this section it is empty
   --- then        a second call, which puts to use what the first one printed: its word 'stdout'
                   names that, 'script' the same without its first line, and it ends with status 0
+  --- then status N   the exit status of the second call, if that isn't 0
+  --- then stdout     the whole standard output of the second call, as that of the first one
 
 The text of a section is all lines up to the next one that begins with '--- '. A text that ends
 without a newline says so on its head: '--- file NAME (no newline)'. A text with a line that begins
@@ -28,13 +30,15 @@ from harness import BadUse
 FOLDER = Path(__file__).resolve().parent
 NAME = r"[^\s()/](?:[^()/]*[^\s()/])?"
 HEAD = re.compile(
-    rf"--- (call|stdin|stdout|stderr|then|status (\d{{1,3}})|file ({NAME}))"
+    rf"--- (call|stdin|stdout|stderr|then(?: stdout)?|(?:then )?status (\d{{1,3}})|file ({NAME}))"
     r"(?: \((escaped|no newline|escaped, no newline)\))?"
 )
 ESCAPE = re.compile(rb"\\(x[0-9a-f]{2}|\\|)")
 ANY = {rb"YYYY\-MM\-DD": rb"\d{4}-\d\d-\d\d", b"HH:": rb"\d\d:", b":MM": rb":\d\d"}
 # Words, names of files and texts are bytes; the words leave out `cronsafe`.
-Case = namedtuple("Case", "name words then stdin status stdout stderr files")
+Case = namedtuple(
+    "Case", "name words then then_status then_stdout stdin status stdout stderr files"
+)
 
 
 def path_of(name):
@@ -165,7 +169,7 @@ class Reader:
         if not found:
             self.fail(number, f"there is no section '{head[4:]}'")
         key, status, _, marks = found.groups("")
-        key = "status" if status else key
+        key = key.removesuffix(f" {status}") if status else key
         if key in self.heads:
             self.fail(number, "this section is there already")
         if status and (lines or marks or int(status) > 255):
@@ -197,6 +201,8 @@ class Reader:
     def case(self):
         then, outputs = self.words("then"), (b"stdout", b"script")
         texts = {key: self.texts.get(key, b"") for key in ("stdin", "status", "stdout", "stderr")}
+        texts["then_status"] = self.texts.get("then status", 0)
+        texts["then_stdout"] = self.texts.get("then stdout")
         case = Case(self.name, self.words("call"), then, **texts, files={})
         for key in [it for it in self.texts if it.startswith("file ")]:
             name = key[5:].encode()
@@ -206,6 +212,8 @@ class Reader:
         if "then" in self.texts:
             if not any(is_named(it, then) for it in outputs):
                 self.fail(self.heads["then"], "no word of this call is 'stdout' or 'script'")
+        elif any(it.startswith("then ") for it in self.texts):
+            self.fail(1, "there is no second call")
         elif set(case.stdout.split(b"\n")) - {b""} == {b"*"}:
             self.fail(self.heads["stdout"], "this takes any text")
         return case

@@ -1,8 +1,9 @@
 """What a whole call answers, as far as this reading goes.
 
-Words, files and standard input go in; out come the status and both outputs. Of `judge` and `make`
-only faults of what is read are known here: past them an answer is not told. Of `lint` it is known
-whether there is a fault, of `draft` whether there is one of the words or of a file.
+Words, files and standard input go in; out come the status and both outputs. Of `judge`, `make`,
+`advise` and `room` only faults of what is read are known here: past them an answer is not told. Of
+`lint` it is known whether there is a fault, of `draft` whether there is one of the words or of a
+file.
 """
 import re
 from collections import namedtuple
@@ -16,6 +17,7 @@ from model.declarations import GREATEST_MAX, plain_plan, read_declared, read_pla
 from model.faults import Fault
 from model.gather import gathered, shown, system_source, table_of, user_source
 from model.replay import replay_answer
+from model.story import taker_notes
 from model.users import no_users_in, users_in, words_of
 
 # The words of each subcommand and its options; those in capitals are the paths of inputs.
@@ -24,6 +26,8 @@ CALLS = {
     b"check": (("TABLE", "DECLS", "CERT"), ("ANACRONTAB",)),
     b"judge": (("TABLE", "DECLS"), ("ANACRONTAB",)),
     b"make": (("TABLE", "DECLS"), ("ANACRONTAB",)),
+    b"advise": (("TABLE", "DECLS"), ("ANACRONTAB", "within")),
+    b"room": (("TABLE", "DECLS"), ("ANACRONTAB",)),
     b"replay": (("TABLE", "SCRIPT"), ("ANACRONTAB", "DECLARATIONS", "max")),
     b"lint": (("TABLE", "DECLS"), ("ANACRONTAB",)),
     b"draft": (("TABLE",), ("ANACRONTAB", "max", "UPDATE")),
@@ -31,9 +35,11 @@ CALLS = {
 }
 # How many of the last words of a subcommand may be left out.
 LEFT_OUT = {b"lint": 1}
+# The option of a subcommand that has no value.
+FLAGS = {b"make": "compact", b"replay": "judge"}
 # The options that may be given more than once.
 LISTS = ("SYSTEM", "USER")
-NUMBERS = ("max", "from", "to")
+NUMBERS = ("max", "from", "to", "within")
 HELP = (b"help", b"-h", b"--help")
 # Settings that other programs know and this one passes over.
 WITHOUT_EFFECT = (b"CRON_TZ", b"RANDOM_DELAY", b"START_HOURS_RANGE")
@@ -53,6 +59,11 @@ class NoCall(Exception):
 
 
 JOBS_HINT = b"cronsafe: the table reads as an anacrontab: give it with --anacrontab\n"
+
+
+# What follows a longest time and hours that are words of the call.
+MAX_HINT = b"cronsafe: the longest time is from 1 to 4320 minutes\n"
+HOURS_HINT = b"cronsafe: --from is from 0 on and below --to, which is at most 1440\n"
 
 
 class Unread(Exception):
@@ -98,9 +109,8 @@ def number_of(word):
 def named(words, options):
     """Returns the words without options, and the values of the options by their names."""
     plain, found, at = [], {}, 1
-    names = {b"--" + it.lower().encode(): it for it in options}
-    if words[0] == b"make":
-        names[b"--compact"] = "compact"
+    flag = FLAGS.get(words[0])
+    names = {b"--" + it.lower().encode(): it for it in [*options, *filter(None, [flag])]}
     while at < len(words):
         option, equals, value = words[at].partition(b"=")
         at += 1
@@ -109,7 +119,7 @@ def named(words, options):
             continue
         if option not in names or names[option] in found and names[option] not in LISTS:
             raise NoCall
-        if option == b"--compact":
+        if names[option] == flag:
             if equals:
                 raise NoCall
         elif not equals:
@@ -135,7 +145,10 @@ def asked(words):
     paths = [value for name, value in found.items() if name.isupper() and name not in LISTS]
     if [*paths, *chain(*(found.get(name, []) for name in LISTS))].count(b"-") > 1:
         raise NoCall
-    return {**found, **{it: number_of(found[it]) for it in NUMBERS if it in found}}
+    found |= {it: number_of(found[it]) for it in NUMBERS if it in found}
+    if not 1 <= found.get("within", 1) < DAY:
+        raise NoCall
+    return found
 
 
 # The comments above a line of a gathered table, its place and then its parts; how a refusal names
@@ -210,10 +223,12 @@ def notes_of_lines(named, text, table, head):
     return b"".join(told % (it.line, *places[it.line], shown(it.text)) for it in placed)
 
 
-def notes_of_refusal(verdict, text):
-    """Returns the places of the lines that a refusal names, and if its certificate seems old."""
+def notes_of_refusal(verdict, text, plan):
+    """Returns the places of the lines that a refusal names, the jobs that take a lock of which it
+    names the group, and if its certificate seems old.
+    """
     places = notes_of_lines(verdict, text, crontab.read_crontab(text), b"note: ")
-    return places + (STALE_NOTE if verdict.startswith(STALE) else b"")
+    return places + taker_notes(verdict, plan) + (STALE_NOTE if verdict.startswith(STALE) else b"")
 
 
 def told_of_parts(table, path, root):
@@ -266,13 +281,19 @@ class Call:
         tables = self.read_tables(found)
         return read_plan(self.bytes_of(found["DECLS"]), *tables)
 
+    def look_at_max(self, longest):
+        if not 1 <= longest <= GREATEST_MAX:
+            self.hint = MAX_HINT
+            raise Fault("declarations", "BadMax")
+
     def day(self, found):
         day = calendar.day_of_text(found["date"])
         if day < calendar.FIRST_START_DAY:
             raise Fault("date", "OutOfRange")
-        look_at_max(found["max"])
+        self.look_at_max(found["max"])
         hours = found.get("from", 0), found.get("to", DAY)
         if not 0 <= hours[0] < hours[1] <= DAY:
+            self.hint = HOURS_HINT
             raise Fault("declarations", "BadHours")
         return 0, day_answer(*self.read_tables(found), day, found["max"], hours)
 
@@ -336,7 +357,7 @@ class Call:
             return []
 
     def draft(self, found):
-        look_at_max(found.get("max", 60))
+        self.look_at_max(found.get("max", 60))
         self.read_tables(found)
         if "UPDATE" in found:
             read_declared(self.bytes_of(found["UPDATE"]))
@@ -348,7 +369,7 @@ class Call:
         self.warned += notes_of(plan)
         return None, None
 
-    make = judge
+    make = advise = room = judge
 
     def check(self, found):
         """Notes are told beside a verdict alone, so not before a fault of the certificate."""
@@ -360,7 +381,7 @@ class Call:
         verdict = rules.verdict(plan, said)
         if verdict == b"safe\n":
             return 0, verdict
-        self.warned += notes_of_refusal(verdict, self.bytes_of(found["TABLE"]))
+        self.warned += notes_of_refusal(verdict, self.bytes_of(found["TABLE"]), plan)
         return 1, verdict
 
     def replay(self, found):
@@ -369,9 +390,12 @@ class Call:
             plan = read_plan(self.bytes_of(found["DECLARATIONS"]), *tables)
         else:
             longest = found.get("max", DAY)
-            look_at_max(longest)
+            self.look_at_max(longest)
             plan = plain_plan(longest, *tables)
-        return replay_answer(plan, script.read_script(self.bytes_of(found["SCRIPT"]), plan))
+        text = self.bytes_of(found["SCRIPT"])
+        if "judge" in found and text.startswith(b"unsafe: "):
+            text = b"#" + text[1:]
+        return replay_answer(plan, script.read_script(text, plan), "judge" in found)
 
     def answer(self):
         try:
@@ -386,11 +410,6 @@ class Call:
             return Answer(6, b"", self.warned + told)
         except NoCall:
             return Answer(4, b"", None)
-
-
-def look_at_max(longest):
-    if not 1 <= longest <= GREATEST_MAX:
-        raise Fault("declarations", "BadMax")
 
 
 def answer_of(words, files, stdin=b"", is_judged=True):

@@ -1,10 +1,12 @@
-"""The rules of histories, and what `cronsafe replay` prints: each event of a script in its turn.
+"""The rules of histories, and what `cronsafe replay` prints: each event of a script in its turn,
+and what the script breaks.
 
 The rules are those of docs/DEFINITIONS.md. Of refusals that document says only that one comes
 first; their numbers and names are those of the worked cases, and the smallest is told.
 """
 import functools
 from collections import namedtuple
+from itertools import combinations
 from typing import NamedTuple
 
 from model.anacrontab import MONTHLY
@@ -164,7 +166,47 @@ class Rules:
         raise Refused("NotRunning")
 
 
-def replay_answer(plan, script):
+def run_text(plan, job, named):
+    of = plan.jobs[job]
+    text = "{} due {}" if of.is_cron else "job {} at {}"
+    return text.format(of.name.decode(), minute_text(named))
+
+
+def may_meet(plan, one, other):
+    is_exclusive = one.group is not None and plan.groups[one.group].exclusive
+    return one.group != other.group or not is_exclusive or (one.shares and other.shares)
+
+
+def breach(plan, state, event, reply):
+    """Returns what the state that an event leaves breaks, as `judge` tells it, if anything."""
+    for one, other in combinations(state.running, 2):
+        if not may_meet(plan, plan.jobs[one.job], plan.jobs[other.job]):
+            runs = " and ".join(run_text(plan, it.job, it.named) for it in (one, other))
+            return f"unsafe: {runs} run together"
+    load = sum(plan.jobs[it.job].weight for it in state.running)
+    if load > plan.capacity:
+        return f"unsafe: load {load} of {plan.capacity}"
+    if reply == "skipped" and plan.jobs[event.job].is_never_skipped:
+        return f"unsafe: {run_text(plan, event.job, state.minute)} is skipped"
+    return ""
+
+
+def verdict_line(plan, script):
+    """Returns what is said of a script, and whether something goes wrong in it."""
+    rules, state, broken = Rules(plan), first_state(script), ""
+    for event in script.events:
+        try:
+            state, reply = rules.take(state, event)
+        except Refused:
+            return "", True
+        if rules.late_runs(state):
+            late = f"late: script line {event.line} comes when a run has passed its declared time"
+            return (broken or late) + "\n", True
+        broken = broken or breach(plan, state, event, reply)
+    return (broken or "safe so far") + "\n", bool(broken)
+
+
+def replay_answer(plan, script, is_judged):
     """Returns status and text of `replay`."""
     rules, state, lines, status = Rules(plan), first_state(script), [], 0
     for event in script.events:
@@ -177,4 +219,8 @@ def replay_answer(plan, script):
     told = "%s %s, pending %d, waiting %d, running %d\n"
     counts = [len(it) for it in (state.pending, state.waiting, state.running)]
     lines.append(told % ("up" if state.is_up else "down", minute_text(state.minute), *counts))
+    if is_judged:
+        line, is_wrong = verdict_line(plan, script)
+        lines.append(line)
+        status = int(status or is_wrong)
     return status, "".join(lines).encode()

@@ -1,10 +1,9 @@
 """What a history breaks first, and all histories of a tiny plan, tried out over some minutes."""
-from itertools import combinations
-
-from model.calendar import DAY, minute_text
+from model.calendar import DAY
 from model.faults import Fault
-from model.replay import Refused, Rules, State, first_state
+from model.replay import Refused, Rules, State, breach, first_state
 from model.script import Event, Script, Start, read_script, script_text
+from model.story import broken_by, story_text
 
 # More states than that aren't looked at.
 MOST_STATES = 300_000
@@ -16,40 +15,16 @@ class TooMany(Exception):
     """There are more states than are looked at."""
 
 
-def run_text(plan, job, named):
-    of = plan.jobs[job]
-    text = "{} due {}" if of.is_cron else "job {} at {}"
-    return text.format(of.name.decode(), minute_text(named))
-
-
-def may_meet(plan, one, other):
-    is_exclusive = one.group is not None and plan.groups[one.group].exclusive
-    return one.group != other.group or not is_exclusive or (one.shares and other.shares)
-
-
-def breach(plan, state, event, reply):
-    """Returns what the state that an event leaves breaks, as `judge` tells it, if anything."""
-    for one, other in combinations(state.running, 2):
-        if not may_meet(plan, plan.jobs[one.job], plan.jobs[other.job]):
-            runs = " and ".join(run_text(plan, it.job, it.named) for it in (one, other))
-            return f"unsafe: {runs} run together"
-    load = sum(plan.jobs[it.job].weight for it in state.running)
-    if load > plan.capacity:
-        return f"unsafe: load {load} of {plan.capacity}"
-    if reply == "skipped" and plan.jobs[event.job].is_never_skipped:
-        return f"unsafe: {run_text(plan, event.job, state.minute)} is skipped"
-    return ""
-
-
 def shown_by(plan, text):
-    """Returns what a script breaks first, as `judge` tells it, or why it shows nothing."""
+    """Returns what a script breaks first, as `judge` tells it, or why it shows nothing.
+
+    Before the script stand the comments of its story.
+    """
     try:
         script = read_script(text, plan)
     except Fault as fault:
         return f"a script with a fault: {fault.text().decode()}"
-    if script_text(plan, script).encode() != text:
-        return "a script that isn't written as scripts are"
-    rules, state, broken = Rules(plan), first_state(script), ""
+    rules, state, broken = Rules(plan), first_state(script), None
     for event in script.events:
         try:
             state, reply = rules.take(state, event)
@@ -57,8 +32,12 @@ def shown_by(plan, text):
             return f"a history in which line {event.line} is refused: {refused}"
         if rules.late_runs(state):
             return f"a history in which a run goes on beyond its time at line {event.line}"
-        broken = broken or breach(plan, state, event, reply)
-    return broken or "a history that breaks nothing"
+        broken = broken or broken_by(plan, state, event, reply)
+    if not broken:
+        return "a history that breaks nothing"
+    if text != story_text(plan, script) + script_text(plan, script).encode():
+        return "a script that isn't written as scripts are, or another story"
+    return f"unsafe: {broken.line}"
 
 
 def events_at(state):
@@ -110,7 +89,7 @@ def breaking_script(plan, first, last):
     while left:
         state = left.pop()
         for event, after, reply in next_states(rules, state, last):
-            if breach(plan, after, event, reply):
+            if broken_by(plan, after, event, reply):
                 events = [event]
                 while came[state] is not None:
                     event, state = came[state]

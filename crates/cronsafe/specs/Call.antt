@@ -2,10 +2,11 @@
 use Rattle.std.specs.Prelude.{◌≡◌, ◌⊎◌, ℕ, ℤ, List, [], Option}
 use Rattle.clap.specs.Words.{Text}
 use Rattle.cs_args.specs.CommandLine.{Asking, Asks, Chart, Check, Day, Draft, Explain, Gather, Help}
-use Rattle.cs_args.specs.CommandLine.{Judge, Lint, Make, Replay, Run}
+use Rattle.cs_args.specs.CommandLine.{Advise, Judge, Lint, Make, Replay, Room, Run}
 use Rattle.cs_args.specs.CommandLine.{AsksHelp, AsksVersion, IsNoCall}
 use Rattle.cs_args.specs.Version.{version_text}
 use Rattle.cs_io.specs.Files.{Failed}
+use Rattle.cs_advise.specs.Answer.{AnswersAdvise, AnswersRoom}
 use Rattle.cs_cli.specs.Answer.{AnswersRun, EndsAs}
 use Rattle.cs_views.specs.ChartAnswer.{AnswersChart}
 use Rattle.cs_views.specs.DayAnswer.{AnswersDay}
@@ -32,6 +33,8 @@ AnswersAsked offset (Check a) files before failed = EndsAs (IsChecked a files be
 AnswersAsked offset (Run a) files before failed = AnswersRun a files before failed
 AnswersAsked offset (Judge a) files before failed = EndsAs (AnswersJudge a files before failed)
 AnswersAsked offset (Make a) files before failed = EndsAs (AnswersMake a files before failed)
+AnswersAsked offset (Advise a) files before failed = EndsAs (AnswersAdvise a files before failed)
+AnswersAsked offset (Room a) files before failed = EndsAs (AnswersRoom a files before failed)
 AnswersAsked offset (Gather a) files before failed = EndsAs (AnswersGather a files before failed)
 AnswersAsked offset (Draft a) files before failed = EndsAs (AnswersDraft a offset files before failed)
 AnswersAsked offset (Lint a) files before failed = EndsAs (AnswersLint a files before failed)

@@ -10,6 +10,7 @@ ghost use Rattle.cs_files.specs.Trouble.{IsHonest};
 ghost use Rattle.cs_files.specs.Turn.{ReadsAsked, ReadsInTurn};
 ghost use Rattle.cronsafe.specs.Call.{Answers, AnswersAsked};
 
+use cs_advise::{answer_advise, answer_room};
 use cs_args::{Request, UsageFault, parse_words, version_text};
 use cs_civil::Bytes;
 use cs_cli::{Answer, answer_check, answer_judge, answer_make, answer_run};
@@ -48,6 +49,8 @@ fn answer_asked<'a, R: Threads + Sync, I: Folders>(
         Request::Run(request) => answer_run(rt, alloc, &request, inputs),
         Request::Judge(request) => Ok(Answer::Ends(answer_judge(rt, alloc, &request, inputs)?)),
         Request::Make(request) => Ok(Answer::Ends(answer_make(rt, alloc, &request, inputs)?)),
+        Request::Advise(request) => Ok(Answer::Ends(answer_advise(rt, alloc, &request, inputs)?)),
+        Request::Room(request) => Ok(Answer::Ends(answer_room(rt, alloc, &request, inputs)?)),
         Request::Gather(request) => Ok(Answer::Ends(answer_gather(alloc, &request, inputs)?)),
         Request::Draft(request) => Ok(Answer::Ends(answer_draft(alloc, &request, offset, inputs)?)),
         Request::Lint(request) => Ok(Answer::Ends(answer_lint(alloc, &request, inputs)?)),

@@ -7,6 +7,8 @@ use Rattle.clap.specs.declared.error.kind.ErrorKind.TheVariants as kind
 use Rattle.cs_args.specs.CommandLine.{Asked, AskedCheck, AskedReplay, Asking, Asks, AsksHelp, AsksVersion, Check, Day, Help as HelpAsking, IsNoCall, Replay, asked_by, asked_in, check_in, help_in, replay_in}
 use Rattle.cs_args.specs.CommandLine.{AskedChart, AskedDraft, AskedGather, AskedLint, Chart, Draft, Explain, Gather, Lint}
 use Rattle.cs_args.specs.CommandLine.{chart_in, draft_in, gather_in, lint_in}
+use Rattle.cs_args.specs.CommandLine.{Advise, AskedAdvise, Room, advise_in}
+use Rattle.cs_args.specs.declared.request.AdviseWords.{AdviseWords}
 use Rattle.cs_args.specs.declared.request.ChartWords.{ChartWords}
 use Rattle.cs_args.specs.declared.request.DraftWords.{DraftWords}
 use Rattle.cs_args.specs.declared.request.GatherWords.{GatherWords}
@@ -40,6 +42,7 @@ asked_replay r = record {
   max = r.max;
   anacrontab = option_map (λ path. path.now) r.anacrontab;
   declarations = option_map (λ path. path.now) r.declarations;
+  judge = r.judge;
 }
 
 abbrev pub asked_check : CheckWords → AskedCheck
@@ -62,6 +65,9 @@ asked_judge j = record {
 
 abbrev pub asked_make : MakeWords → AskedMake
 asked_make m = record { judge = asked_judge m.judge; compact = m.compact }
+
+abbrev pub asked_advise : AdviseWords → AskedAdvise
+asked_advise a = record { judge = asked_judge a.judge; within = a.within }
 
 abbrev pub asked_gather : GatherWords → AskedGather
 asked_gather g = record {
@@ -99,6 +105,8 @@ asking (request.Check c) = Check (asked_check c)
 asking (request.Run r) = Run (asked_run r)
 asking (request.Judge j) = Judge (asked_judge j)
 asking (request.Make m) = Make (asked_make m)
+asking (request.Advise a) = Advise (asked_advise a)
+asking (request.Room r) = Room (asked_judge r)
 asking (request.Gather g) = Gather (asked_gather g)
 asking (request.Draft d) = Draft (asked_draft d)
 asking (request.Lint l) = Lint (asked_lint l)
@@ -147,6 +155,9 @@ JudgeAsked rows = AnswersFor asked_judge (judge_in rows)
 
 abbrev pub MakeAsked : List Row → Result MakeWords UsageFault → Type 0
 MakeAsked rows = AnswersFor asked_make (make_in rows)
+
+abbrev pub AdviseAsked : List Row → Result AdviseWords UsageFault → Type 0
+AdviseAsked rows = AnswersFor asked_advise (advise_in rows)
 
 abbrev pub GatherAsked : List Row → Result GatherWords UsageFault → Type 0
 GatherAsked rows = AnswersFor asked_gather (gather_in rows)

@@ -55,11 +55,11 @@ with_terms app = with_rule
     (with_rule (with_rule app (option_rule (codes "max"))) (option_rule (codes "anacrontab")))
     (option_rule (codes "declarations"))
 
--- `replay TABLE SCRIPT [--max N] [--anacrontab FILE] [--declarations FILE]`
+-- `replay TABLE SCRIPT [--max N] [--anacrontab FILE] [--declarations FILE] [--judge]`
 unfoldable pub replay_app : App
-replay_app = with_terms
+replay_app = with_rule (with_terms
     (with_rule (with_rule (new_app (codes "replay")) (required_rule (codes "TABLE")))
-    (required_rule (codes "SCRIPT")))
+    (required_rule (codes "SCRIPT")))) (flag_rule (codes "judge"))
 
 -- `TABLE DECLS CERT`
 abbrev pub with_certificate : App → App
@@ -92,6 +92,14 @@ judge_app = plan_app (codes "judge")
 -- `make TABLE DECLS [--anacrontab FILE] [--compact]`
 unfoldable pub make_app : App
 make_app = with_rule (plan_app (codes "make")) (flag_rule (codes "compact"))
+
+-- `advise TABLE DECLS [--anacrontab FILE] [--within MINUTES]`
+unfoldable pub advise_app : App
+advise_app = with_rule (plan_app (codes "advise")) (option_rule (codes "within"))
+
+-- `room TABLE DECLS [--anacrontab FILE]`
+unfoldable pub room_app : App
+room_app = plan_app (codes "room")
 
 -- `gather [--root DIR] [--system FILE].. [--user FILE]..`
 unfoldable pub gather_app : App
@@ -136,15 +144,19 @@ top_app = on_top (λ s.
 unfoldable pub judge_and_check_app : App
 judge_and_check_app = with_subcommand (with_subcommand top_app judge_app.top) check_app.top
 
--- and with `make` and `run`
-unfoldable pub up_to_run_app : App
-up_to_run_app = with_subcommand (with_subcommand judge_and_check_app make_app.top) run_app.top
+-- and with `make`, `advise` and `room`
+unfoldable pub up_to_room_app : App
+up_to_room_app =
+    with_subcommand (with_subcommand (with_subcommand judge_and_check_app make_app.top)
+    advise_app.top) room_app.top
 
--- and with `gather`, `draft` and `lint`
+-- and with `run` and `gather`
+unfoldable pub up_to_gather_app : App
+up_to_gather_app = with_subcommand (with_subcommand up_to_room_app run_app.top) gather_app.top
+
+-- and with `draft` and `lint`
 unfoldable pub up_to_lint_app : App
-up_to_lint_app =
-    with_subcommand (with_subcommand (with_subcommand up_to_run_app gather_app.top) draft_app.top)
-    lint_app.top
+up_to_lint_app = with_subcommand (with_subcommand up_to_gather_app draft_app.top) lint_app.top
 
 -- and with `day` and `chart`
 unfoldable pub up_to_chart_app : App
@@ -176,14 +188,15 @@ pub record Asked : Type 0 where
   pub from : ℕ
   pub to : ℕ
 
--- what `replay` is asked: the paths of a table and a script, a longest time in minutes, and the paths of
--- an anacrontab and of declarations
+-- what `replay` is asked: the paths of a table and a script, a longest time in minutes, the paths of an
+-- anacrontab and of declarations, and whether to say what the script breaks
 pub record AskedReplay : Type 0 where
   pub table : Text
   pub script : Text
   pub max : ℕ
   pub anacrontab : Option Text
   pub declarations : Option Text
+  pub judge : Bool
 
 -- what `check` is asked: the paths of a table, of declarations, of a certificate and of an anacrontab
 pub record AskedCheck : Type 0 where
@@ -209,6 +222,11 @@ pub record AskedJudge : Type 0 where
 pub record AskedMake : Type 0 where
   pub judge : AskedJudge
   pub compact : Bool
+
+-- what `advise` is asked: what `judge` is, and by how many minutes a job may be moved at most
+pub record AskedAdvise : Type 0 where
+  pub judge : AskedJudge
+  pub within : ℕ
 
 -- what `gather` is asked: the paths of a root folder, of system tables and of users' tables
 pub record AskedGather : Type 0 where
@@ -244,6 +262,8 @@ pub data Asking : Type 0 where
   Run : AskedRun → Asking
   Judge : AskedJudge → Asking
   Make : AskedMake → Asking
+  Advise : AskedAdvise → Asking
+  Room : AskedJudge → Asking
   Gather : AskedGather → Asking
   Draft : AskedDraft → Asking
   Lint : AskedLint → Asking
@@ -320,6 +340,7 @@ replay_with rows max =
       max = max;
       anacrontab = anacrontab;
       declarations = declarations;
+      judge = has_flag (codes "judge") rows;
     })
 
 -- what the entries of `replay` ask: `--max` has to be a number, by default a day's minutes, and standard
@@ -357,7 +378,7 @@ run_in rows =
     (λ check. record { check = check; stamps = stamps; minutes = minutes }) (check_in rows))
     (minutes_of (first_of (codes "minutes") rows))
 
--- what the entries of `judge` ask: standard input is named once at most
+-- what the entries of `judge` and of `room` ask: standard input is named once at most
 abbrev pub judge_in : List Row → Option AskedJudge
 judge_in rows =
     let table = value_or [] (codes "TABLE") rows in
@@ -371,6 +392,22 @@ abbrev pub make_in : List Row → Option AskedMake
 make_in rows =
     option_map (λ judge. record { judge = judge; compact = has_flag (codes "compact") rows })
     (judge_in rows)
+
+-- so many minutes are from one to less than a day
+abbrev pub is_below_a_day : ℕ → Bool
+is_below_a_day minutes = nat_lt 0 minutes && nat_lt minutes 1440
+
+-- what the entries of `advise` ask, where those of `judge` ask this and `--within` has this number
+abbrev pub advise_with : AskedJudge → ℕ → Option AskedAdvise
+advise_with judge within =
+    if is_below_a_day within then Some (record { judge = judge; within = within }) else None
+
+-- what the entries of `advise` ask: those of `judge` ask something, and `--within` has to be a number
+-- from 1 to 1439, by default 120
+abbrev pub advise_in : List Row → Option AskedAdvise
+advise_in rows =
+    option_and_then (λ judge. option_and_then (λ within. advise_with judge within)
+    (number_of (value_or (codes "120") (codes "within") rows))) (judge_in rows)
 
 -- no path is named
 abbrev pub is_asked_nothing : AskedGather → Bool
@@ -439,7 +476,8 @@ chart_in rows =
 abbrev pub is_planned_name : Text → Bool
 is_planned_name name =
     bytes_eq name (codes "check") || (bytes_eq name (codes "run")
-    || (bytes_eq name (codes "judge") || bytes_eq name (codes "make")))
+    || (bytes_eq name (codes "judge") || (bytes_eq name (codes "make")
+    || (bytes_eq name (codes "advise") || bytes_eq name (codes "room")))))
 
 abbrev pub is_shown_name : Text → Bool
 is_shown_name name =
@@ -465,6 +503,8 @@ asked_by name rows =
     else if bytes_eq name (codes "run") then option_map Run (run_in rows)
     else if bytes_eq name (codes "judge") then option_map Judge (judge_in rows)
     else if bytes_eq name (codes "make") then option_map Make (make_in rows)
+    else if bytes_eq name (codes "advise") then option_map Advise (advise_in rows)
+    else if bytes_eq name (codes "room") then option_map Room (judge_in rows)
     else if bytes_eq name (codes "gather") then option_map Gather (gather_in rows)
     else if bytes_eq name (codes "draft") then option_map Draft (draft_in rows)
     else if bytes_eq name (codes "lint") then option_map Lint (lint_in rows)

@@ -5,14 +5,14 @@ ghost use Rattle.std.specs.List.{list_all};
 ghost use Rattle.clap.specs.Words.{first_of, found_of, rows_of};
 ghost use Rattle.cs_args.specs.CommandLine.{are_dashes, has_flag, is_dash, is_dash_in, is_twice_standard, minutes_of, number_of, value_or, values_in};
 ghost use Rattle.cs_args.specs.Asked.{CheckAsked, DayAsked, FaultOf, HelpAsked, NumberAsked, Parses, ReplayAsked, RequestAsked};
-ghost use Rattle.cs_args.specs.Asked.{JudgeAsked, MakeAsked, MinutesAsked, RunAsked};
+ghost use Rattle.cs_args.specs.Asked.{AdviseAsked, JudgeAsked, MakeAsked, MinutesAsked, RunAsked};
 ghost use Rattle.cs_args.specs.Asked.{ChartAsked, DraftAsked, GatherAsked, LintAsked};
-ghost use Rattle.cs_args.specs.CommandLine.{is_up_to_a_week};
+ghost use Rattle.cs_args.specs.CommandLine.{is_below_a_day, is_up_to_a_week};
 
 use crate::commands::{Subcommand, command};
 use crate::request::{
-    ChartWords, CheckWords, DayWords, DraftWords, GatherWords, JudgeWords, LintWords, MakeWords,
-    ReplayWords, Request, RunWords, UsageFault,
+    AdviseWords, ChartWords, CheckWords, DayWords, DraftWords, GatherWords, JudgeWords, LintWords,
+    MakeWords, ReplayWords, Request, RunWords, UsageFault,
 };
 use clap::error::ErrorKind;
 use clap::{ArgMatches, Error};
@@ -216,6 +216,7 @@ fn replay_words<'a>(alloc: Global, given: &ArgMatches<'a>) -> Result<ReplayWords
         max,
         anacrontab,
         declarations,
+        judge: has_flag(given, "judge"),
     })
 }
 
@@ -265,7 +266,7 @@ fn run_words<'a>(alloc: Global, given: &ArgMatches<'a>) -> Result<RunWords<'a>, 
     })
 }
 
-/// What the entries of `judge` ask, and of `make` the same of them.
+/// What the entries of `judge` and `room` ask, and of `make` and `advise` the same of them.
 fn judge_words<'a>(
     alloc: Global,
     subcommand: Subcommand,
@@ -293,6 +294,31 @@ fn make_words<'a>(alloc: Global, given: &ArgMatches<'a>) -> Result<MakeWords<'a>
     let judge = judge_words(alloc, Subcommand::Make, given)?;
     let compact = has_flag(given, "compact");
     Ok(MakeWords { judge, compact })
+}
+
+/// Whether so many minutes are from one to less than a day.
+fn is_below_a_day(minutes: u64) -> bool
+    ensures { result ≡ is_below_a_day minutes }
+{
+    minutes > 0 && minutes < 1440
+}
+
+/// What the entries of `advise` ask.
+fn advise_words<'a>(alloc: Global, given: &ArgMatches<'a>) -> Result<AdviseWords<'a>, UsageFault>
+    ensures { AdviseAsked (rows_of (found_of given.now)) result }
+{
+    let judge = judge_words(alloc, Subcommand::Advise, given)?;
+    let within = number(
+        alloc,
+        Subcommand::Advise,
+        "--within",
+        text_of(given, "within", "120"),
+    )?;
+    if !is_below_a_day(within) {
+        let message = "--within is from 1 to 1439";
+        return Err(UsageFault::NoCall(Subcommand::Advise.fault(alloc, message)?));
+    }
+    Ok(AdviseWords { judge, within })
 }
 
 /// How many of the paths name standard input.
@@ -444,6 +470,20 @@ fn make_request<'a>(alloc: Global, given: &ArgMatches<'a>) -> Result<Request<'a>
     Ok(Request::Make(make_words(alloc, given)?))
 }
 
+/// The request of the entries of `advise`.
+fn advise_request<'a>(alloc: Global, given: &ArgMatches<'a>) -> Result<Request<'a>, UsageFault>
+    ensures { RequestAsked (codes "advise") (rows_of (found_of given.now)) result }
+{
+    Ok(Request::Advise(advise_words(alloc, given)?))
+}
+
+/// The request of the entries of `room`.
+fn room_request<'a>(alloc: Global, given: &ArgMatches<'a>) -> Result<Request<'a>, UsageFault>
+    ensures { RequestAsked (codes "room") (rows_of (found_of given.now)) result }
+{
+    Ok(Request::Room(judge_words(alloc, Subcommand::Room, given)?))
+}
+
 /// The request of the entries of `gather`.
 fn gather_request<'a>(alloc: Global, given: &ArgMatches<'a>) -> Result<Request<'a>, UsageFault>
     ensures { RequestAsked (codes "gather") (rows_of (found_of given.now)) result }
@@ -500,6 +540,8 @@ fn asked_by<'a>(
         "run" => run_request(alloc, given),
         "judge" => judge_request(alloc, given),
         "make" => make_request(alloc, given),
+        "advise" => advise_request(alloc, given),
+        "room" => room_request(alloc, given),
         "gather" => gather_request(alloc, given),
         "draft" => draft_request(alloc, given),
         "lint" => lint_request(alloc, given),

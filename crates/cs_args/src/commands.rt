@@ -2,21 +2,23 @@
 ghost use Rattle.std.specs.Prelude.{◌≡◌, IfOk, false, is_some};
 ghost use Rattle.clap.specs.Words.{App, app_of, new_app, new_rule, rule_of, with_rule, with_subcommand};
 ghost use Rattle.cs_args.specs.CommandLine.{IsLocal, check_app, cronsafe_app, day_app, help_app, judge_and_check_app};
-ghost use Rattle.cs_args.specs.CommandLine.{judge_app, make_app, plan_app, replay_app, run_app};
-ghost use Rattle.cs_args.specs.CommandLine.{top_app, up_to_chart_app, up_to_run_app, with_certificate};
+ghost use Rattle.cs_args.specs.CommandLine.{advise_app, judge_app, make_app, plan_app, replay_app};
+ghost use Rattle.cs_args.specs.CommandLine.{room_app, run_app, with_certificate};
+ghost use Rattle.cs_args.specs.CommandLine.{top_app, up_to_chart_app, up_to_gather_app, up_to_room_app};
 ghost use Rattle.cs_args.specs.CommandLine.{chart_app, draft_app, explain_app, gather_app, lint_app};
 ghost use Rattle.cs_args.specs.CommandLine.{up_to_explain_app, up_to_lint_app};
 ghost use Rattle.cs_args.specs.CommandLine.{is_planned_name, is_shown_name};
 ghost use Rattle.cs_args.specs.CommandLine.{flag_rule, is_subcommand, list_rule, option_rule, required_rule, with_hours, with_terms, with_words};
 
 use crate::texts::{
-    ABOUT, ANACRONTAB_HELP, CERTIFICATE_HELP, CHART_ABOUT, CHART_EXAMPLE, CHECK_ABOUT,
-    CHECK_EXAMPLE, COMMAND_HELP, COMPACT_HELP, DATE_HELP, DAY_ABOUT, DAY_EXAMPLE, DAYS_HELP,
-    DECLARATIONS_HELP, DRAFT_ABOUT, DRAFT_EXAMPLE, DRAFT_MAX_HELP, EXAMPLE, EXPLAIN_ABOUT,
-    EXPLAIN_EXAMPLE, FROM_HELP, GATHER_ABOUT, GATHER_EXAMPLE, HELP_ABOUT, JUDGE_ABOUT,
-    JUDGE_EXAMPLE, LINT_ABOUT, LINT_EXAMPLE, MAKE_ABOUT, MAKE_EXAMPLE, MAX_HELP, MINUTES_HELP,
-    NAME_HELP, REPLAY_ABOUT, REPLAY_EXAMPLE, REPLAY_MAX_HELP, ROOT_HELP, RUN_ABOUT, RUN_EXAMPLE,
-    SCRIPT_HELP, STAMPS_HELP, SYSTEM_HELP, TABLE_HELP, TO_HELP, UPDATE_HELP, USER_HELP,
+    ABOUT, ADVISE_ABOUT, ADVISE_EXAMPLE, ANACRONTAB_HELP, CERTIFICATE_HELP, CHART_ABOUT,
+    CHART_EXAMPLE, CHECK_ABOUT, CHECK_EXAMPLE, COMMAND_HELP, COMPACT_HELP, DATE_HELP, DAY_ABOUT,
+    DAY_EXAMPLE, DAYS_HELP, DECLARATIONS_HELP, DRAFT_ABOUT, DRAFT_EXAMPLE, DRAFT_MAX_HELP, EXAMPLE,
+    EXPLAIN_ABOUT, EXPLAIN_EXAMPLE, FROM_HELP, GATHER_ABOUT, GATHER_EXAMPLE, HELP_ABOUT,
+    JUDGE_ABOUT, JUDGE_EXAMPLE, JUDGE_HELP, LINT_ABOUT, LINT_EXAMPLE, MAKE_ABOUT, MAKE_EXAMPLE,
+    MAX_HELP, MINUTES_HELP, NAME_HELP, REPLAY_ABOUT, REPLAY_EXAMPLE, REPLAY_MAX_HELP, ROOM_ABOUT,
+    ROOM_EXAMPLE, ROOT_HELP, RUN_ABOUT, RUN_EXAMPLE, SCRIPT_HELP, STAMPS_HELP, SYSTEM_HELP,
+    TABLE_HELP, TO_HELP, UPDATE_HELP, USER_HELP, WITHIN_HELP,
 };
 use crate::version::version_text;
 use clap::error::ErrorKind;
@@ -197,7 +199,7 @@ fn with_terms<'a>(
     with_option(alloc, command, "declarations", "FILE", DECLARATIONS_HELP)
 }
 
-/// `replay TABLE SCRIPT [--max N] [--anacrontab FILE] [--declarations FILE]`.
+/// `replay TABLE SCRIPT [--max N] [--anacrontab FILE] [--declarations FILE] [--judge]`.
 #[tactic(auto, unfolding(crate::specs::CommandLine::replay_app))]
 fn replay_command<'a>(alloc: Global) -> Result<Command<'a>, AllocError>
     ensures app { IfOk result (λ c. app_of c ≡ replay_app) }
@@ -206,7 +208,8 @@ fn replay_command<'a>(alloc: Global) -> Result<Command<'a>, AllocError>
     let command = described(alloc, "replay", REPLAY_ABOUT, REPLAY_EXAMPLE);
     let command = with_required(alloc, command, "TABLE", TABLE_HELP);
     let command = with_required(alloc, command, "SCRIPT", SCRIPT_HELP);
-    with_terms(alloc, command)
+    let command = with_terms(alloc, command);
+    with_arg(command, flag_arg(alloc, "judge", JUDGE_HELP))
 }
 
 /// A command with `TABLE DECLS CERT`.
@@ -280,6 +283,25 @@ fn make_command<'a>(alloc: Global) -> Result<Command<'a>, AllocError>
 {
     let command = plan_command(alloc, "make", MAKE_ABOUT, MAKE_EXAMPLE);
     with_arg(command, flag_arg(alloc, "compact", COMPACT_HELP))
+}
+
+/// `advise TABLE DECLS [--anacrontab FILE] [--within MINUTES]`.
+#[tactic(auto, unfolding(crate::specs::CommandLine::advise_app))]
+fn advise_command<'a>(alloc: Global) -> Result<Command<'a>, AllocError>
+    ensures app { IfOk result (λ c. app_of c ≡ advise_app) }
+    ensures local { IfOk result IsLocal }
+{
+    let command = plan_command(alloc, "advise", ADVISE_ABOUT, ADVISE_EXAMPLE);
+    with_option(alloc, command, "within", "MINUTES", WITHIN_HELP)
+}
+
+/// `room TABLE DECLS [--anacrontab FILE]`.
+#[tactic(auto, unfolding(crate::specs::CommandLine::room_app))]
+fn room_command<'a>(alloc: Global) -> Result<Command<'a>, AllocError>
+    ensures app { IfOk result (λ c. app_of c ≡ room_app) }
+    ensures local { IfOk result IsLocal }
+{
+    plan_command(alloc, "room", ROOM_ABOUT, ROOM_EXAMPLE)
 }
 
 /// `gather [--root DIR] [--system FILE].. [--user FILE]..`.
@@ -389,22 +411,31 @@ fn judge_and_check<'a>(alloc: Global) -> Result<Command<'a>, AllocError>
     with_subcommand(cronsafe, check_command(alloc))
 }
 
-/// And with `make` and `run`.
-#[tactic(auto, unfolding(crate::specs::CommandLine::up_to_run_app))]
-fn up_to_run<'a>(alloc: Global) -> Result<Command<'a>, AllocError>
-    ensures { IfOk result (λ c. app_of c ≡ up_to_run_app) }
+/// And with `make`, `advise` and `room`.
+#[tactic(auto, unfolding(crate::specs::CommandLine::up_to_room_app))]
+fn up_to_room<'a>(alloc: Global) -> Result<Command<'a>, AllocError>
+    ensures { IfOk result (λ c. app_of c ≡ up_to_room_app) }
 {
     let cronsafe = with_subcommand(judge_and_check(alloc), make_command(alloc));
-    with_subcommand(cronsafe, run_command(alloc))
+    let cronsafe = with_subcommand(cronsafe, advise_command(alloc));
+    with_subcommand(cronsafe, room_command(alloc))
 }
 
-/// And with `gather`, `draft` and `lint`.
+/// And with `run` and `gather`.
+#[tactic(auto, unfolding(crate::specs::CommandLine::up_to_gather_app))]
+fn up_to_gather<'a>(alloc: Global) -> Result<Command<'a>, AllocError>
+    ensures { IfOk result (λ c. app_of c ≡ up_to_gather_app) }
+{
+    let cronsafe = with_subcommand(up_to_room(alloc), run_command(alloc));
+    with_subcommand(cronsafe, gather_command(alloc))
+}
+
+/// And with `draft` and `lint`.
 #[tactic(auto, unfolding(crate::specs::CommandLine::up_to_lint_app))]
 fn up_to_lint<'a>(alloc: Global) -> Result<Command<'a>, AllocError>
     ensures { IfOk result (λ c. app_of c ≡ up_to_lint_app) }
 {
-    let cronsafe = with_subcommand(up_to_run(alloc), gather_command(alloc));
-    let cronsafe = with_subcommand(cronsafe, draft_command(alloc));
+    let cronsafe = with_subcommand(up_to_gather(alloc), draft_command(alloc));
     with_subcommand(cronsafe, lint_command(alloc))
 }
 
@@ -451,6 +482,8 @@ pub(crate) enum Subcommand {
     Run,
     Judge,
     Make,
+    Advise,
+    Room,
     Gather,
     Draft,
     Lint,
@@ -459,7 +492,7 @@ pub(crate) enum Subcommand {
     Help,
 }
 
-/// The subcommand of a name, if it takes declarations and wants a verdict or a run.
+/// The subcommand of a name, if it takes declarations and wants a verdict, advice or a run.
 fn planned_by(name: &str) -> Option<Subcommand>
     ensures { is_some result ≡ is_planned_name name.now }
 {
@@ -468,6 +501,8 @@ fn planned_by(name: &str) -> Option<Subcommand>
         "run" => Some(Subcommand::Run),
         "judge" => Some(Subcommand::Judge),
         "make" => Some(Subcommand::Make),
+        "advise" => Some(Subcommand::Advise),
+        "room" => Some(Subcommand::Room),
         _ => None,
     }
 }
@@ -508,6 +543,8 @@ impl Subcommand {
             Subcommand::Run => "cronsafe run",
             Subcommand::Judge => "cronsafe judge",
             Subcommand::Make => "cronsafe make",
+            Subcommand::Advise => "cronsafe advise",
+            Subcommand::Room => "cronsafe room",
             Subcommand::Gather => "cronsafe gather",
             Subcommand::Draft => "cronsafe draft",
             Subcommand::Lint => "cronsafe lint",
@@ -526,6 +563,8 @@ impl Subcommand {
             Subcommand::Run => run_command(alloc),
             Subcommand::Judge => judge_command(alloc),
             Subcommand::Make => make_command(alloc),
+            Subcommand::Advise => advise_command(alloc),
+            Subcommand::Room => room_command(alloc),
             Subcommand::Gather => gather_command(alloc),
             Subcommand::Draft => draft_command(alloc),
             Subcommand::Lint => lint_command(alloc),

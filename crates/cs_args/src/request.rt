@@ -34,6 +34,8 @@ pub struct ReplayWords<'a> {
     pub anacrontab: Option<&'a str>,
     /// The path of declarations.
     pub declarations: Option<&'a str>,
+    /// Whether the answer says what the script breaks.
+    pub judge: bool,
 }
 
 /// What `check` is asked.
@@ -78,6 +80,15 @@ pub struct MakeWords<'a> {
     pub judge: JudgeWords<'a>,
     /// Whether the certificate is to be a compact one, which says only what the tables and declarations don't.
     pub compact: bool,
+}
+
+/// What `advise` is asked.
+#[derive(Clone, Copy, Debug)]
+pub struct AdviseWords<'a> {
+    /// The paths that `judge` is asked with.
+    pub judge: JudgeWords<'a>,
+    /// By how many minutes a job may be moved at most, from 1 to 1,439.
+    pub within: u64,
 }
 
 /// What `gather` is asked.
@@ -141,6 +152,10 @@ pub enum Request<'a> {
     Judge(JudgeWords<'a>),
     /// A certificate of a plan, or a history that breaks it.
     Make(MakeWords<'a>),
+    /// Single changes that make an unsafe plan safe.
+    Advise(AdviseWords<'a>),
+    /// How long each job may take while the plan stays safe.
+    Room(JudgeWords<'a>),
     /// Many crontabs as one.
     Gather(GatherWords<'a>),
     /// Declarations to begin from.

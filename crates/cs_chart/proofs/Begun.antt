@@ -1,5 +1,5 @@
 -- How often bars begin in a picture.
-use Rattle.std.proofs.Common.{◌≡◌, ℕ, zero, suc, ◌+◌, ◌*◌, ◌%◌, ◌<◌, ◌==◌, Bool, true, false, not, ◌&&◌, List, [], ◌∷◌, ◌++◌, length, get_or, refl, append_assoc, append-nil, arith}
+use Rattle.std.proofs.Common.{◌≡◌, ℕ, zero, suc, ◌+◌, ◌%◌, ◌<◌, ◌==◌, Bool, true, false, ◌&&◌, List, [], ◌∷◌, ◌++◌, length, get_or, refl, append_assoc, append-nil, arith}
 use Rattle.std.specs.Prelude.{codes, flat_map, if◌then◌else◌, Option, None, Some}
 use Rattle.std.specs.Option.{is_some}
 use Rattle.std.specs.Fmt.{decimal}
@@ -9,8 +9,8 @@ use Rattle.cs_windows.specs.Windows.{Job}
 use Rattle.cs_chart.specs.declared.bar.Bar.{Bar}
 use Rattle.cs_chart.specs.Bars.{Days}
 use Rattle.cs_chart.specs.Begun.{begins, begun, have_windows}
-use Rattle.cs_chart.specs.Chart.{AreRowsOf, IsPictureOf, IsPlotOf, ShownJob}
-use Rattle.cs_chart.specs.Colours.{colour_at, colour_of}
+use Rattle.cs_chart.specs.Chart.{AreRowsOf, IsPictureOf, IsPlotOf, ShownJob, row_top}
+use Rattle.cs_chart.specs.Colours.{colour_of}
 use Rattle.cs_chart.specs.Picture.{agree, area_text, bar_text, bars_tag, bars_text, has_no_bars, name_text, plot_text, row_text, Draws, Plot, Row}
 use Rattle.cs_chart.proofs.Plain.{more_differs, no_bars_append, no_bars_decimal, no_bars_lines, not_true}
 
@@ -96,36 +96,36 @@ row_once days job row behind plain is = by_plot job.windows row.plot is
         rw (append_assoc, named, append_assoc, begun_behind (area_text row.top plot.minutes) _ (area_plain row.top plot.minutes))
         (bars_once plot.colour plot.bars behind bare)
 
-rows_once : (days : Days) (top : ℕ) (jobs : List ShownJob) (rows : List Row) (text : List ℕ) → AreRowsOf days top jobs rows → Draws text rows
+rows_once : (days : Days) (top place : ℕ) (jobs : List ShownJob) (rows : List Row) (text : List ℕ) → AreRowsOf days top place jobs rows → Draws text rows
     → begun text ≡ have_windows jobs
 unfolding AreRowsOf Draws
-rows_once days top [] [] text so d = begun_none text d
-rows_once days top [] (row ∷ rows) text so d = absurd so
-rows_once days top (job ∷ jobs) [] text so d = absurd so
-rows_once days top (job ∷ jobs) (row ∷ rows) text so (before, behind, parts, plain, rest) =
-    let e = rows_once days (top + 18) jobs rows behind so.2 rest in
+rows_once days top place [] [] text so d = begun_none text d
+rows_once days top place [] (row ∷ rows) text so d = absurd so
+rows_once days top place (job ∷ jobs) [] text so d = absurd so
+rows_once days top place (job ∷ jobs) (row ∷ rows) text so (before, behind, parts, plain, rest) =
+    let e = rows_once days top (place + 1) jobs rows behind so.2 rest in
     rw (parts, begun_behind before (row_text row ++ behind) plain, row_once days job row behind so.0.name.2 so.0.plot, e) refl
 
 -- bars begin in a picture as often as jobs have windows
 pub counted : (days : Days) (jobs : List ShownJob) (text : List ℕ) → IsPictureOf days jobs text → begun text ≡ have_windows jobs
-counted days jobs text p = rows_once days p.top jobs p.rows text p.of_jobs p.drawn
+counted days jobs text p = rows_once days p.top 0 jobs p.rows text p.of_jobs p.drawn
 
 -- how far down a row is
-height : (days : Days) (top : ℕ) (jobs : List ShownJob) (rows : List Row) (d : Row) (i : ℕ) → AreRowsOf days top jobs rows → i < length rows
-    → (get_or rows i d).top ≡ top + 18 * i
+height : (days : Days) (top place : ℕ) (jobs : List ShownJob) (rows : List Row) (d : Row) (i : ℕ) → AreRowsOf days top place jobs rows
+    → i < length rows → (get_or rows i d).top ≡ row_top top (place + i)
 unfolding AreRowsOf
-height days top jobs [] d i so lt = absurd (omega (arith, lt))
-height days top [] (row ∷ rows) d i so lt = absurd so
-height days top (job ∷ jobs) (row ∷ rows) d zero so lt = rw so.1 (omega arith)
-height days top (job ∷ jobs) (row ∷ rows) d (suc i) so lt =
+height days top place jobs [] d i so lt = absurd (omega (arith, lt))
+height days top place [] (row ∷ rows) d i so lt = absurd so
+height days top place (job ∷ jobs) (row ∷ rows) d zero so lt = rw so.1 (omega arith)
+height days top place (job ∷ jobs) (row ∷ rows) d (suc i) so lt =
     let less : i < length rows = omega (arith, lt) in
-    let e = height days (top + 18) jobs rows d i so.2 less in
+    let e = height days top (place + 1) jobs rows d i so.2 less in
     omega (arith, e)
 
 -- no two rows are at one height
-pub apart : (days : Days) (top : ℕ) (jobs : List ShownJob) (rows : List Row) (d : Row) (i j : ℕ) → AreRowsOf days top jobs rows
+pub apart : (days : Days) (top : ℕ) (jobs : List ShownJob) (rows : List Row) (d : Row) (i j : ℕ) → AreRowsOf days top 0 jobs rows
     → i < length rows → j < length rows → (get_or rows i d).top ≡ (get_or rows j d).top → i ≡ j
 apart days top jobs rows d i j so low high same =
-    let e = height days top jobs rows d i so low in
-    let f = height days top jobs rows d j so high in
+    let e = height days top 0 jobs rows d i so low in
+    let f = height days top 0 jobs rows d j so high in
     omega (arith, e, f, same)

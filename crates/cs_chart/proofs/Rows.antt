@@ -1,26 +1,26 @@
 -- The rows of a picture, one after another.
-use Rattle.std.proofs.Common.{◌≡◌, ℕ, zero, suc, ◌+◌, ◌*◌, ◌<◌, ◌≤◌, List, [], ◌∷◌, ◌++◌, length, true, take, get_or, map, refl, subst, ap, length-append, append_assoc, append-nil, arith}
+use Rattle.std.proofs.Common.{◌≡◌, ℕ, zero, suc, ◌+◌, ◌<◌, ◌≤◌, List, [], ◌∷◌, ◌++◌, length, true, take, get_or, map, refl, subst, ap, length-append, append_assoc, append-nil, arith}
 use Rattle.std.proofs.lemmas.List.{map-append, length-map, length-take-le, take_more}
 use Rattle.cs_chart.specs.Bars.{Days}
 use Rattle.cs_civil.specs.Calendar.{Kind}
 use Rattle.cs_windows.specs.Windows.{Job}
 use Rattle.cs_history.specs.Lists.{below}
-use Rattle.cs_chart.specs.Chart.{AreRowsOf, IsNamed, IsPictureOf, IsPlotOf, IsRowOf, ShownJob}
+use Rattle.cs_chart.specs.Chart.{AreRowsOf, IsNamed, IsPictureOf, IsPlotOf, IsRowOf, ShownJob, row_top}
 use Rattle.cs_chart.specs.Picture.{AddsRows, Draws, KeepsBars, Plot, Row, has_no_bars}
 use Rattle.cs_chart.specs.Rows.{AddsJob, AddsPlot, AddsRowOf, AddsRowsOf}
 use Rattle.cs_chart.proofs.Plain.{plain_of_none}
 use Rattle.std.specs.Prelude.{Option, Some}
 
-rows_more : (days : Days) (top : ℕ) (jobs : List ShownJob) (rows : List Row) (job : ShownJob) (row : Row)
-    → AreRowsOf days top jobs rows → IsRowOf days job row → row.top ≡ top + 18 * length jobs
-    → AreRowsOf days top (jobs ++ (job ∷ [])) (rows ++ (row ∷ []))
+rows_more : (days : Days) (top place : ℕ) (jobs : List ShownJob) (rows : List Row) (job : ShownJob) (row : Row)
+    → AreRowsOf days top place jobs rows → IsRowOf days job row → row.top ≡ row_top top (place + length jobs)
+    → AreRowsOf days top place (jobs ++ (job ∷ [])) (rows ++ (row ∷ []))
 unfolding AreRowsOf
-rows_more days top [] [] job row so is at = (is, omega (arith, at), tt)
-rows_more days top [] (r ∷ rows) job row so is at = absurd so
-rows_more days top (j ∷ jobs) [] job row so is at = absurd so
-rows_more days top (j ∷ jobs) (r ∷ rows) job row so is at =
-    let below : row.top ≡ (top + 18) + 18 * length jobs = omega (arith, at) in
-    (so.0, so.1, rows_more days (top + 18) jobs rows job row so.2 is below)
+rows_more days top place [] [] job row so is at = (is, omega (arith, at), tt)
+rows_more days top place [] (r ∷ rows) job row so is at = absurd so
+rows_more days top place (j ∷ jobs) [] job row so is at = absurd so
+rows_more days top place (j ∷ jobs) (r ∷ rows) job row so is at =
+    let below : row.top ≡ row_top top ((place + 1) + length jobs) = omega (arith, at) in
+    (so.0, so.1, rows_more days top (place + 1) jobs rows job row so.2 is below)
 
 pub none_yet : (days : Days) (top : ℕ) (text : List ℕ) → AddsRowsOf days [] top text text
 unfolding AreRowsOf
@@ -28,27 +28,33 @@ none_yet days top text = ([], tt, λ rows d. rw append-nil d)
 
 -- one row more
 pub row_more : (days : Days) (jobs : List ShownJob) (job : ShownJob) (top : ℕ) (old mid new : List ℕ)
-    → AddsRowsOf days jobs top old mid → AddsRowOf days job (top + 18 * length jobs) mid new
+    → AddsRowsOf days jobs top old mid → AddsRowOf days job (row_top top (length jobs)) mid new
     → AddsRowsOf days (jobs ++ (job ∷ [])) top old new
 row_more days jobs job top old mid new (rows, so, first) (row, is, at, next) = (
   rows ++ (row ∷ []),
-  rows_more days top jobs rows job row so is at,
+  rows_more days top 0 jobs rows job row so is (omega (arith, at)),
   λ before d. rw (← append_assoc before rows (row ∷ [])) (next (before ++ rows) (first before d)),
 )
 
--- the next row of a list
-pub next_row : {X : Type 0} (f : X → ShownJob) (days : Days) (all : List X) (i : ℕ) (x : X) (top y : ℕ) (old mid new : List ℕ)
-    → i < length all → x ≡ get_or all i x → y ≡ top + 18 * i
-    → AddsRowsOf days (map f (take i all)) top old mid → AddsRowOf days (f x) y mid new
+-- hours behind the rows
+hours_behind : (days : Days) (jobs : List ShownJob) (top : ℕ) (old mid new : List ℕ) → AddsRowsOf days jobs top old mid → KeepsBars mid new
+    → AddsRowsOf days jobs top old new
+hours_behind days jobs top old mid new (rows, so, adds) keeps = (rows, so, λ before d. keeps (before ++ rows) (adds before d))
+
+-- the next row of a list, behind hours or none
+pub next_row : {X : Type 0} (f : X → ShownJob) (days : Days) (all : List X) (i : ℕ) (x : X) (top y : ℕ) (old mid front new : List ℕ)
+    → i < length all → x ≡ get_or all i x → y ≡ row_top top i
+    → AddsRowsOf days (map f (take i all)) top old mid → KeepsBars mid front → AddsRowOf days (f x) y front new
     → AddsRowsOf days (map f (take (i + 1) all)) top old new
-next_row f days all i x top y old mid new lt is at before here =
+next_row f days all i x top y old mid front new lt is at before hours here =
     rw (take_more all i x lt, ← is, map-append)
-    (row_more days (map f (take i all)) (f x) top old mid new before (subst (λ (n : ℕ). AddsRowOf days (f x) n mid new) place here))
+    (row_more days (map f (take i all)) (f x) top old front new (hours_behind days (map f (take i all)) top old mid front before hours)
+    (subst (λ (n : ℕ). AddsRowOf days (f x) n front new) place here))
   where
     low : i ≤ length all
     low = omega (arith, lt)
 
-    place : y ≡ top + 18 * length (map f (take i all))
+    place : y ≡ row_top top (length (map f (take i all)))
     place = rw (length-map, length-take-le i all low) at
 
 -- a job that has windows

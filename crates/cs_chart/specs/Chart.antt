@@ -1,5 +1,5 @@
 -- What a picture shows of the jobs of two tables, or of a plan.
-use Rattle.std.specs.Prelude.{◌≡◌, ℕ, ◌+◌, ◌-◌, ◌*◌, ◌==◌, ◌^◌, min, true, List, [], ◌∷◌, ◌++◌, length, codes, decimal, map, Option, None, Some}
+use Rattle.std.specs.Prelude.{◌≡◌, ℕ, ◌+◌, ◌-◌, ◌*◌, ◌/◌, ◌==◌, ◌^◌, min, true, List, [], ◌∷◌, ◌++◌, length, codes, decimal, map, Option, None, Some}
 use Rattle.cs_civil.specs.Calendar.{Kind}
 use Rattle.cs_civil.specs.declared.minute.TheConstants.{MINUTES_OF_DAY}
 use Rattle.cs_schedule.specs.Times.{is_due}
@@ -51,7 +51,8 @@ shown_anacron terms group = record {
 -- the jobs of two tables, in order of line
 abbrev pub jobs_of_tables : Terms → Table → JobTable → List ShownJob
 jobs_of_tables terms table jobs =
-    map (shown_command terms.max None) table.lines ++ map (λ job. shown_anacron terms None) jobs.lines
+    map (shown_command terms.max None) table.lines
+    ++ map (λ job. shown_anacron terms None) jobs.lines
 
 -- the job of a plan with this number: its longest time, and the catch-up hours
 abbrev pub terms_at : Declared → ℕ → Terms
@@ -66,8 +67,8 @@ jobs_of_plan d =
 
 -- ---- the picture
 
--- the bars are those of the job's windows, in the group's colour; gaps of fewer minutes than two for
--- each day may be closed
+-- the bars are those of the job's windows, in the group's colour; gaps of fewer minutes than two
+-- for each day may be closed
 pub record ArePlotted (days : Days) (job : Job Kind) (group : Option ℕ) (plot : Plot) : Type 0 where
   pub minutes : plot.minutes ≡ MINUTES_OF_DAY * days.days
   pub colour : plot.colour ≡ colour_of group
@@ -89,17 +90,26 @@ pub record IsRowOf (days : Days) (job : ShownJob) (row : Row) : Type 0 where
   pub name : IsNamed job.name row.name
   pub plot : IsPlotOf days job.windows job.group row.plot
 
--- the rows are those of the jobs, each 18 below the one before
-unfoldable pub AreRowsOf : Days → ℕ → List ShownJob → List Row → Type 0
-AreRowsOf days top [] [] = Unit {0}
-AreRowsOf days top [] (row ∷ rows) = ⊥
-AreRowsOf days top (job ∷ jobs) [] = ⊥
-AreRowsOf days top (job ∷ jobs) (row ∷ rows) =
-    IsRowOf days job row × (row.top ≡ top) × AreRowsOf days (top + 18) jobs rows
+-- where a row is, so many of them below the first, which is there: each before it is 18 high, and
+-- the hours that stand again behind each 40 rows are 16 high
+abbrev pub row_top : ℕ → ℕ → ℕ
+row_top top place = top + 18 * place + 16 * (place / 40)
+
+-- how high the hours above a row are: 16 where a multiple of 40 rows stands above it
+abbrev pub hours_above : ℕ → ℕ
+hours_above place = 16 * (place / 40 - (place - 1) / 40)
+
+-- the rows are those of the jobs, each in its place, the first so many of them below a first one
+unfoldable pub AreRowsOf : Days → ℕ → ℕ → List ShownJob → List Row → Type 0
+AreRowsOf days top place [] [] = Unit {0}
+AreRowsOf days top place [] (row ∷ rows) = ⊥
+AreRowsOf days top place (job ∷ jobs) [] = ⊥
+AreRowsOf days top place (job ∷ jobs) (row ∷ rows) = IsRowOf days job row
+    × (row.top ≡ row_top top place) × AreRowsOf days top (place + 1) jobs rows
 
 -- the text is a picture of the jobs: it has their rows, and no other bars
 pub record IsPictureOf (days : Days) (jobs : List ShownJob) (text : List ℕ) : Type 0 where
   pub top : ℕ
   pub rows : List Row
-  pub of_jobs : AreRowsOf days top jobs rows
+  pub of_jobs : AreRowsOf days top 0 jobs rows
   pub drawn : Draws text rows

@@ -4,3 +4,5 @@ pub mod Colours
 pub mod Chart
 pub mod Rows
 pub mod Begun
+pub mod Program
+pub mod Meeting

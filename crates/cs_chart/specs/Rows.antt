@@ -45,4 +45,4 @@ AddsRowOf days job top old new =
 -- .. and these are the rows of the jobs
 abbrev pub AddsRowsOf : Days → List ShownJob → ℕ → List ℕ → List ℕ → Type 0
 AddsRowsOf days jobs top old new =
-    (rows : List TextRow) × AreRowsOf days top jobs rows × AddsRows rows old new
+    (rows : List TextRow) × AreRowsOf days top 0 jobs rows × AddsRows rows old new

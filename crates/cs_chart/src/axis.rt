@@ -1,8 +1,9 @@
 //! The dates and hours along a picture, and the lines below them.
-ghost use Rattle.std.specs.Prelude.{◌≡◌, ◌+◌, ◌≤◌, true, OnOk};
+ghost use Rattle.std.specs.Prelude.{◌≡◌, ◌+◌, ◌-◌, ◌^◌, ◌≤◌, min, true, OnOk};
+ghost use Rattle.cs_chart.specs.Chart.{hours_above};
 ghost use Rattle.cs_chart.specs.Picture.{KeepsBars, has_no_bars};
 
-use crate::sheet::{Sheet, place_of};
+use crate::sheet::{HOURS, PLOT_LEFT, PLOT_WIDTH, ROWS_OF_HOURS, Sheet, place_of};
 use crate::span::DaySpan;
 use crate::svg::Svg;
 use crate::text::{push_day, push_pair};
@@ -74,14 +75,40 @@ pub(crate) fn push_axis(sheet: &mut Sheet, span: DaySpan) -> Result<(), AllocErr
 /// Adds the hours once more, below what they belong to.
 #[tactic(auto, unfolding(crate::specs::Picture::has_no_bars))]
 pub(crate) fn push_foot_hours(sheet: &mut Sheet, span: DaySpan) -> Result<(), AllocError>
-    ensures { OnOk result (KeepsBars sheet.old.svg sheet.new.svg) }
+    ensures svg { OnOk result (KeepsBars sheet.old.svg sheet.new.svg) }
+    ensures y { OnOk result (sheet.new.y ≡ min (sheet.old.y + 16) (2 ^ 32 - 1)) }
 {
     let y = sheet.below(12);
     sheet.svg.push_str("<g text-anchor=\"middle\">")?;
     push_hours(&mut sheet.svg, span, y)?;
     sheet.svg.push_str("</g>\n")?;
-    sheet.down(16);
+    sheet.down(HOURS);
     Ok(())
+}
+
+/// Adds the hours above a row, by its number from 0, if 40 rows stand above it or twice as many and
+/// so on, and goes below them. The lines of the hours don't go through their numbers.
+#[tactic(auto, using(crate::proofs::Plain::no_bars_append, crate::proofs::Plain::no_bars_decimal), unfolding(crate::specs::Picture::has_no_bars))]
+pub(crate) fn push_hours_above(
+    sheet: &mut Sheet,
+    span: DaySpan,
+    place: u32,
+) -> Result<(), AllocError>
+    requires { sheet.old.y ≤ 10_000 }
+    ensures svg { OnOk result (KeepsBars sheet.old.svg sheet.new.svg) }
+    ensures y { OnOk result (sheet.new.y ≡ sheet.old.y + hours_above place) }
+{
+    if place == 0 || place % ROWS_OF_HOURS != 0 {
+        return Ok(());
+    }
+    let y = sheet.y;
+    write!(
+        sheet.svg,
+        "<g class=\"hours\" font-family=\"sans-serif\">\
+         <rect x=\"{PLOT_LEFT}\" y=\"{y}\" width=\"{PLOT_WIDTH}\" height=\"{HOURS}\" fill=\"#FFF\"/>\n"
+    )?;
+    push_foot_hours(sheet, span)?;
+    sheet.svg.push_str("</g>\n")
 }
 
 /// Adds lines from top to foot, so many hours apart.

@@ -16,7 +16,7 @@ pub(crate) struct Bar {
 }
 
 /// Adds the minutes of a bar; to the last bar, where both touch.
-fn add_bar(bars: &mut Vec<Bar>, bar: Bar) -> Result<(), AllocError>
+pub(crate) fn add_bar(bars: &mut Vec<Bar>, bar: Bar) -> Result<(), AllocError>
     ensures { OnOk result ((minute : ℕ) → is_covered bars.new.items minute
         ≡ (is_covered bars.old.items minute || covers bar minute)) }
 {

@@ -22,7 +22,7 @@ const GROUP_WIDTH: u32 = 148;
 /// How high a line of the key is.
 const KEY_LINE: u32 = 18;
 
-/// The title: the table, and the days.
+/// Adds the name of the table, and the days.
 #[tactic(auto, unfolding(crate::specs::Picture::has_no_bars))]
 fn push_subject(title: &mut Svg, subject: &[u8], span: DaySpan) -> Result<(), AllocError>
     ensures { OnOk result (KeepsBars title.old title.new) }

@@ -9,6 +9,8 @@ use crate::bar::{Bar, bars_of};
 use crate::load::Load;
 use crate::look::{colour_of, push_lines};
 use crate::marks::{Drawn, marks_of, without_gaps};
+use crate::meeting::Meeting;
+use crate::program::program_of;
 use crate::row::{Name, Row};
 use crate::sheet::{GROUP_CELLS, NAME_CELLS, PLOT_LEFT, PLOT_RIGHT, ROW, Sheet};
 use crate::span::DaySpan;
@@ -26,6 +28,27 @@ struct Place<'a> {
     span: DaySpan,
     name: &'a str,
     top: u32,
+    /// The minutes at which its windows meet others.
+    met: &'a [Bar],
+}
+
+/// What a row shows beside its job.
+#[derive(Clone, Copy, Debug)]
+pub(crate) struct Beside<'a> {
+    /// The groups that are declared.
+    pub(crate) groups: &'a [Group],
+    /// What the windows of the job meet, where that is looked for.
+    pub(crate) meeting: Option<&'a Meeting<'a>>,
+}
+
+impl<'a> Beside<'a> {
+    /// The minutes at which its windows meet others.
+    fn met(&self) -> &'a [Bar] {
+        match self.meeting {
+            Some(meeting) => meeting.bars.as_slice(),
+            None => &[],
+        }
+    }
 }
 
 /// How many cells of a name are told where a reader points at its row.
@@ -65,6 +88,24 @@ fn name_text(alloc: Global, name: Name<'_>, cells: usize) -> Result<Svg, AllocEr
     Ok(text)
 }
 
+/// The same name, of which the command is without what only prepares its run.
+fn without_fronts(name: Name<'_>) -> Name<'_>
+    ensures { start_of result ≡ start_of name.entry }
+{
+    match name {
+        Name::Line(number, command) => Name::Line(number, program_of(command)),
+        Name::Job(_) => name,
+    }
+}
+
+/// `line 5 /usr/bin/backup`, as far as there is room for it in front of the bars.
+fn label_text(alloc: Global, name: Name<'_>) -> Result<Svg, AllocError>
+    ensures { IfOk result (λ text. IsNamed (start_of name.entry) text) }
+{
+    let text = name_text(alloc, without_fronts(name), NAME_CELLS)?;
+    Ok(text)
+}
+
 /// What a mode says of a job.
 #[tactic(auto, unfolding(crate::specs::Picture::has_no_bars))]
 fn mode_text(mode: Mode) -> &'static str
@@ -100,9 +141,45 @@ fn push_origin(svg: &mut Svg, origin: Option<&Source>) -> Result<(), AllocError>
     svg.push_str(")")
 }
 
+/// Adds the name of a job that another meets: `line 5` or `job cron.weekly`.
+#[tactic(auto, using(crate::proofs::Plain::no_bars_append, crate::proofs::Plain::no_bars_decimal), unfolding(crate::specs::Picture::has_no_bars))]
+fn push_met_name(svg: &mut Svg, name: Name<'_>) -> Result<(), AllocError>
+    ensures { OnOk result (KeepsBars svg.old svg.new) }
+{
+    match name {
+        Name::Line(number, _) => write!(svg, "line {number}"),
+        Name::Job(identifier) => {
+            svg.push_str("job ")?;
+            push_cut(svg, identifier, TOLD_CELLS)
+        }
+    }
+}
+
+/// Adds which jobs it meets: `, meets line 5, line 7`.
+#[tactic(auto, unfolding(crate::specs::Picture::has_no_bars))]
+fn push_met_names(svg: &mut Svg, names: &[Name<'_>]) -> Result<(), AllocError>
+    ensures { OnOk result (KeepsBars svg.old svg.new) }
+{
+    let [first, others @ ..] = names else {
+        return Ok(());
+    };
+    svg.push_str(", meets ")?;
+    push_met_name(svg, *first)?;
+    for name in others {
+        svg.push_str(", ")?;
+        push_met_name(svg, *name)?;
+    }
+    Ok(())
+}
+
 /// Adds what a reader is told who points at the row.
 #[tactic(auto, using(crate::proofs::Plain::no_bars_append, crate::proofs::Plain::no_bars_decimal), unfolding(crate::specs::Picture::has_no_bars))]
-fn push_told(svg: &mut Svg, row: &Row<'_>, name: &str, groups: &[Group]) -> Result<(), AllocError>
+fn push_told(
+    svg: &mut Svg,
+    row: &Row<'_>,
+    name: &str,
+    beside: &Beside<'_>,
+) -> Result<(), AllocError>
     requires { has_no_bars name.now ≡ true }
     ensures { OnOk result (KeepsBars svg.old svg.new) }
 {
@@ -113,11 +190,14 @@ fn push_told(svg: &mut Svg, row: &Row<'_>, name: &str, groups: &[Group]) -> Resu
     if let Some(job) = row.declared {
         let weight = job.weight;
         write!(svg, ", weight {weight}")?;
-        if let Some(group) = group_of(row, groups) {
+        if let Some(group) = group_of(row, beside.groups) {
             svg.push_str(", group ")?;
             push_cut(svg, group.name(), TOLD_CELLS)?;
         }
         svg.push_str(mode_text(job.mode))?;
+    }
+    if let Some(meeting) = beside.meeting {
+        push_met_names(svg, meeting.names.as_slice())?;
     }
     svg.push_str("</title>\n")
 }
@@ -179,6 +259,19 @@ fn push_marks(svg: &mut Svg, span: DaySpan, marks: &Drawn) -> Result<(), AllocEr
     push_ends(svg, span, marks.bars.as_slice())
 }
 
+/// Adds over the bars where windows meet others.
+#[tactic(auto, unfolding(crate::specs::Picture::has_no_bars))]
+fn push_met(svg: &mut Svg, met: &[Bar]) -> Result<(), AllocError>
+    ensures { OnOk result (KeepsBars svg.old svg.new) }
+{
+    if met.is_empty() {
+        return Ok(());
+    }
+    svg.push_str("<path class=\"meets\" stroke=\"#D55E00\" stroke-width=\"10\" d=\"")?;
+    svg.push_path(met)?;
+    svg.push_str("\"/>")
+}
+
 /// Adds the due minutes of a cron job, and tells whether some are drawn as one.
 fn push_due(
     alloc: Global,
@@ -196,8 +289,8 @@ fn push_due(
     Ok(marks.is_coarse)
 }
 
-/// Adds the name of a job with its bars and marks, and its weight to the load. Tells whether some are
-/// drawn as one.
+/// Adds the name of a job with its bars and marks, and its weight to the load. Tells whether some
+/// are drawn as one.
 #[tactic(auto, unfolding(crate::specs::Picture::has_no_bars))]
 fn push_plot(
     alloc: Global,
@@ -227,6 +320,7 @@ fn push_plot(
         drawn.bars.as_slice(),
     )?;
     push_lines(svg, group, 0, 9, minutes)?;
+    push_met(svg, place.met)?;
     let is_coarse = push_due(alloc, svg, span, occupied)?;
     svg.push_str("</svg>\n")?;
     Ok(is_coarse || drawn.is_coarse)
@@ -242,7 +336,8 @@ fn push_job(
     load: &mut Load,
 ) -> Result<bool, AllocError>
     requires { place.now.top ≤ 10_000 }
-    ensures { OnOk result (AddsJob place.now.span (shown_of row.now) place.now.name.now place.now.top svg.old svg.new) }
+    ensures { OnOk result (AddsJob place.now.span (shown_of row.now)
+        place.now.name.now place.now.top svg.old svg.new) }
 {
     match &row.occupied {
         Some(occupied) => {
@@ -264,25 +359,27 @@ pub(crate) fn push_row(
     sheet: &mut Sheet,
     span: DaySpan,
     row: &Row<'_>,
-    groups: &[Group],
+    beside: &Beside<'_>,
     load: &mut Load,
 ) -> Result<bool, AllocError>
     requires { sheet.old.y ≤ 10_000 }
     ensures y { OnOk result (sheet.new.y ≡ sheet.old.y + 18) }
-    ensures row { OnOk result (AddsRowOf span (shown_of row.now) sheet.old.y sheet.old.svg sheet.new.svg) }
+    ensures row { OnOk result (AddsRowOf span (shown_of row.now) sheet.old.y
+        sheet.old.svg sheet.new.svg) }
 {
     let top = sheet.y;
     let told = name_text(alloc, row.name, TOLD_CELLS)?;
-    let name = name_text(alloc, row.name, NAME_CELLS)?;
+    let name = label_text(alloc, row.name)?;
     sheet.svg.push_str("<g class=\"row\">")?;
-    push_told(&mut sheet.svg, row, told.as_str(), groups)?;
+    push_told(&mut sheet.svg, row, told.as_str(), beside)?;
     let place = Place {
         span,
         name: name.as_str(),
         top,
+        met: beside.met(),
     };
     let is_coarse = push_job(alloc, &mut sheet.svg, row, &place, load)?;
-    push_group(&mut sheet.svg, row, top + 13, groups)?;
+    push_group(&mut sheet.svg, row, top + 13, beside.groups)?;
     sheet.svg.push_str("</g>\n")?;
     sheet.down(ROW);
     Ok(is_coarse)

@@ -10,13 +10,15 @@ mod laws;
 mod load;
 mod look;
 mod marks;
+mod meeting;
 mod picture;
+mod program;
 mod row;
 mod sheet;
 mod span;
 mod svg;
 mod text;
 
-pub use laws::rows_have_bars;
+pub use laws::{labels_are_programs, rows_have_bars};
 pub use picture::{Subject, chart, plan_chart};
 pub use row::Terms;

@@ -5,12 +5,13 @@ ghost use Rattle.cs_chart.specs.Chart.{IsPictureOf, jobs_of_plan, jobs_of_tables
 ghost use Rattle.cs_chart.specs.Picture.{KeepsBars, has_no_bars};
 ghost use Rattle.cs_chart.specs.Rows.{AddsRowsOf, shown_of};
 
-use crate::axis::{push_axis, push_foot_hours, push_grid};
+use crate::axis::{push_axis, push_foot_hours, push_grid, push_hours_above};
 use crate::heading::{plan_text, push_groups, push_key, push_title, terms_text, title};
-use crate::job::push_row;
+use crate::job::{Beside, push_row};
 use crate::load::Load;
+use crate::meeting::{Meeting, meetings_of};
 use crate::row::{Row, Terms, plan_rows, table_rows};
-use crate::sheet::{ROW, Sheet};
+use crate::sheet::{HOURS, ROW, ROWS_OF_HOURS, Sheet};
 use crate::span::{DaySpan, MOST_DAYS};
 use crate::svg::Svg;
 use cs_anacrontab::Anacrontab;
@@ -35,10 +36,20 @@ struct Scene<'a> {
     terms: &'a str,
     rows: &'a [Row<'a>],
     groups: &'a [Group],
+    /// What the windows of each row meet, where that is looked for.
+    meetings: &'a [Meeting<'a>],
     capacity: Option<u8>,
     span: DaySpan,
     /// How many days were asked for.
     days: u8,
+}
+
+/// How high so many rows are, with the hours between them.
+fn height_of(rows: usize) -> u32 {
+    let rows = u32::try_from(rows).unwrap_or(u32::MAX);
+    let hours = rows.saturating_sub(1) / ROWS_OF_HOURS;
+    ROW.saturating_mul(rows)
+        .saturating_add(HOURS.saturating_mul(hours))
 }
 
 /// Adds the rows, goes below them, and adds what the jobs weigh to the load. Tells whether something
@@ -46,19 +57,24 @@ struct Scene<'a> {
 fn push_rows(
     alloc: Global,
     sheet: &mut Sheet,
-    span: DaySpan,
-    rows: &[Row<'_>],
-    groups: &[Group],
+    scene: &Scene<'_>,
     load: &mut Load,
 ) -> Result<bool, AllocError>
-    requires { sheet.old.y + 18 * length rows.now ≤ 10_000 }
-    ensures { OnOk result (AddsRowsOf span (map shown_of rows.now) sheet.old.y
+    requires { sheet.old.y + 19 * length scene.now.rows.now ≤ 10_000 }
+    ensures { OnOk result (AddsRowsOf scene.now.span (map shown_of scene.now.rows.now) sheet.old.y
         sheet.old.svg sheet.new.svg) }
 {
     let mut is_coarse = false;
-    for row in rows {
-        let coarse = push_row(alloc, sheet, span, row, groups, load)?;
+    let mut place = 0;
+    for row in scene.rows {
+        push_hours_above(sheet, scene.span, place)?;
+        let beside = Beside {
+            groups: scene.groups,
+            meeting: scene.meetings.get(place as usize),
+        };
+        let coarse = push_row(alloc, sheet, scene.span, row, &beside, load)?;
         is_coarse = is_coarse || coarse;
+        place += 1;
     }
     Ok(is_coarse)
 }
@@ -79,6 +95,11 @@ fn waits(row: &Row<'_>) -> bool {
         Some(job) => job.mode.waits(),
         None => false,
     }
+}
+
+/// Whether windows of a job meet others.
+fn meets(meeting: &Meeting<'_>) -> bool {
+    !meeting.bars.is_empty()
 }
 
 /// Adds that due minutes or bars are drawn as one.
@@ -106,6 +127,13 @@ fn push_notes(sheet: &mut Sheet, scene: &Scene<'_>, is_coarse: bool) -> Result<(
     if is_coarse {
         push_coarse(sheet, scene.span)?;
     }
+    if scene.meetings.iter().any(|meeting| meets(meeting)) {
+        push_note(
+            sheet,
+            "red: a window of another job of its exclusive group holds the minute, and not both \
+             take the group's lock",
+        )?;
+    }
     if scene.rows.iter().any(|row| waits(row)) {
         push_note(
             sheet,
@@ -131,8 +159,7 @@ fn push_head(sheet: &mut Sheet, scene: &Scene<'_>) -> Result<(), AllocError>
     push_groups(sheet, scene.groups)?;
     sheet.down(4);
     push_axis(sheet, scene.span)?;
-    let height = ROW.saturating_mul(u32::try_from(scene.rows.len()).unwrap_or(u32::MAX));
-    push_grid(sheet, scene.span, height)?;
+    push_grid(sheet, scene.span, height_of(scene.rows.len()))?;
     sheet.svg.push_str("<g font-family=\"monospace\">\n")
 }
 
@@ -173,21 +200,14 @@ fn push_foot(
 fn body(alloc: Global, scene: &Scene<'_>) -> Result<Sheet, AllocError>
     requires title { has_no_bars scene.now.title.now ≡ true }
     requires terms { has_no_bars scene.now.terms.now ≡ true }
-    requires few { 18 * length scene.now.groups.now + 18 * length scene.now.rows.now ≤ 9_000 }
+    requires few { 18 * length scene.now.groups.now + 19 * length scene.now.rows.now ≤ 9_000 }
     ensures { IfOk result (λ sheet.
         IsPictureOf scene.now.span (map shown_of scene.now.rows.now) sheet.svg) }
 {
     let mut sheet = Sheet::new(alloc);
     let mut load = Load::new(alloc, scene.span.minutes())?;
     push_head(&mut sheet, scene)?;
-    let is_coarse = push_rows(
-        alloc,
-        &mut sheet,
-        scene.span,
-        scene.rows,
-        scene.groups,
-        &mut load,
-    )?;
+    let is_coarse = push_rows(alloc, &mut sheet, scene, &mut load)?;
     push_foot(&mut sheet, scene, &load, is_coarse)?;
     Ok(sheet)
 }
@@ -222,7 +242,7 @@ fn push_file(svg: &mut Svg, scene: &Scene<'_>, height: u32) -> Result<(), AllocE
 fn draw(alloc: Global, scene: &Scene<'_>) -> Result<String, AllocError>
     requires title { has_no_bars scene.now.title.now ≡ true }
     requires terms { has_no_bars scene.now.terms.now ≡ true }
-    requires few { 18 * length scene.now.groups.now + 18 * length scene.now.rows.now ≤ 9_000 }
+    requires few { 18 * length scene.now.groups.now + 19 * length scene.now.rows.now ≤ 9_000 }
     ensures { IfOk result (λ svg.
         IsPictureOf scene.now.span (map shown_of scene.now.rows.now) (string_bytes svg)) }
 {
@@ -274,6 +294,7 @@ pub fn chart(
         terms: words.as_str(),
         rows: rows.as_slice(),
         groups: &[],
+        meetings: &[],
         capacity: None,
         span,
         days,
@@ -302,11 +323,13 @@ pub fn plan_chart(
     let rows = plan_rows(alloc, plan, subject.places)?;
     let title = title(alloc, subject.name, span)?;
     let terms = plan_text(alloc, plan)?;
+    let meetings = meetings_of(alloc, rows.as_slice(), plan.groups(), span)?;
     let scene = Scene {
         title: title.as_str(),
         terms: terms.as_str(),
         rows: rows.as_slice(),
         groups: plan.groups(),
+        meetings: meetings.as_slice(),
         capacity: Some(plan.capacity()),
         span,
         days,

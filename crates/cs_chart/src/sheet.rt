@@ -27,6 +27,12 @@ pub(crate) const GROUP_CELLS: usize = 16;
 /// How high a row is.
 pub(crate) const ROW: u32 = 18;
 
+/// How many rows stand between one line of hours and the next.
+pub(crate) const ROWS_OF_HOURS: u32 = 40;
+
+/// How high a line of hours is.
+pub(crate) const HOURS: u32 = 16;
+
 /// A picture that is being drawn: what has been written of it, and how far down it has come.
 #[derive(Debug, Drop)]
 pub(crate) struct Sheet {

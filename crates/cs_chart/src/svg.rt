@@ -110,6 +110,7 @@ fn push_row(
 }
 
 impl Svg {
+    /// An empty text.
     pub(crate) fn new(alloc: Global) -> Svg
         ensures { result ≡ [] }
     {
@@ -118,12 +119,14 @@ impl Svg {
         }
     }
 
+    /// What has been written.
     pub(crate) fn as_str(&self) -> &str
         ensures { result.now ≡ self.now }
     {
         self.text.as_str()
     }
 
+    /// What has been written.
     pub(crate) fn into_string(self) -> String
         ensures { string_bytes result ≡ self }
     {
@@ -146,7 +149,8 @@ impl Svg {
     pub(crate) fn write_fmt<D: Display + Drop>(&mut self, value: D) -> Result<(), AllocError>
         requires { IsPlain (D.output value) }
         ensures keeps { OnOk result (KeepsBars self.old self.new) }
-        ensures value { OnOk result (IfSome (D.output value) (λ text. self.new ≡ self.old ++ text)) }
+        ensures value { OnOk result (IfSome (D.output value)
+            (λ text. self.new ≡ self.old ++ text)) }
     {
         self.text.write_fmt(value)?;
         Ok(())

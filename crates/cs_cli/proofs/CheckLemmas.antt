@@ -8,8 +8,7 @@ use Rattle.cs_check.specs.Checked.{certificate_in, plan_in}
 use Rattle.cs_check.specs.declared.checked.Checked.{Checked}
 use Rattle.cs_args.specs.CommandLine.{AskedCheck}
 use Rattle.cs_cli.specs.Check.{AreRead, ReadsCertificate}
-use Rattle.cs_files.specs.Reads.{PlacesIn, ReadsDeclared}
-use Rattle.cs_gather.specs.declared.places.Place.{Place}
+use Rattle.cs_files.specs.Reads.{ReadsDeclared}
 use Rattle.clap.specs.Words.{Text}
 use Rattle.cs_files.specs.Response.{Ending}
 use Rattle.cs_files.specs.Trouble.{Trouble, ends, trouble_status}
@@ -25,12 +24,6 @@ are_read files a tables before plan x (Ok checked) one two same = record {
   plan = subst (λ (p : Declared). ReadsDeclared files tables a.declarations before before (Ok p)) (sym same.0) one;
   certificate = subst (λ (d : Content). ReadsCertificate files a.certificate before before (Ok d)) (sym same.1) two;
 }
-
--- places that were read, where the files are as they were
-pub placed_on : (path : Text) (tables : Table × JobTable) (read places : List Place) (after before : List ℕ → Option (List ℕ))
-    → after ≡ before → places ≡ read → PlacesIn before path tables.0 read → PlacesIn after path tables.0 places
-placed_on path tables read places after before same is placed =
-    subst (λ (f : List ℕ → Option (List ℕ)). PlacesIn f path tables.0 places) (sym same) (subst (λ (l : List Place). PlacesIn before path tables.0 l) (sym is) placed)
 
 -- a fault never has status 0
 fails : (t : Trouble) → trouble_status t ≢ 0

@@ -261,7 +261,7 @@ judged_well given plan places (judged_as.Safe checked) found text denotes known 
   safe = known.headline;
   calm = known.calm;
 }
-judged_well given plan places (judged_as.Unsafe script shown) found text denotes known is zero = other_found found outcome.Unsafe 0 is.0 zero (λ h. omega (arith, h))
+judged_well given plan places (judged_as.Unsafe script shown breach) found text denotes known is zero = other_found found outcome.Unsafe 0 is.0 zero (λ h. omega (arith, h))
 judged_well given plan places (judged_as.Unknown reason refusal) found text denotes known is zero =
     other_found found (unknown_outcome reason) 0 is.0 zero (λ h. omega (arith, h, unknown_status reason))
 
@@ -283,10 +283,12 @@ wanted_unsafe wanted files a before after ending given hold is one =
       places = k.places;
       script = story.script;
       shown = story.shown;
+      breach = story.breach;
       printed = sym k.same_out ∙ story.told;
       legal = story.shows.breaks.unsafe.legal;
       in_time = story.shows.breaks.unsafe.in_time;
       unsafe = story.shows.breaks.unsafe.unsafe;
+      told = story.shows.running;
     }
 
 pub judged_unsafe : (files : List ℕ → Option (List ℕ)) (a : AskedJudge) (before after : Failed) (ending : Ending) (given : Given)
@@ -294,7 +296,7 @@ pub judged_unsafe : (files : List ℕ → Option (List ℕ)) (a : AskedJudge) (b
 judged_unsafe = wanted_unsafe Verdict
 
 refusal_behind : (plan : Declared) (places : List Place) (reason : Reason) (refusal : Option CheckFault) (text : List ℕ) → IfRefused (judged_as.Unknown reason refusal) (IsRefusal plan)
-    → text ≡ judged_text plan places (judged_as.Unknown reason refusal) → (text ≡ unknown_text reason) ⊎ IsRefused plan reason text
+    → text ≡ judged_text plan places (judged_as.Unknown reason refusal) → (text ≡ unknown_text plan reason) ⊎ IsRefused plan reason text
 unfolding refusal_text verdict_text
 refusal_behind plan places reason None text known is = inl is
 refusal_behind plan places reason (Some fault) text (content, compact, first) is = inr (record { content = content; compact = compact; fault = told fault; first = first; printed = is })
@@ -302,7 +304,7 @@ refusal_behind plan places reason (Some fault) text (content, compact, first) is
 not_known : (given : Given) (plan : Declared) (places : List Place) (judged : Judged) (found : Outcome) (text : List ℕ) → DenotesPlan given plan
     → IsJudgement plan judged → IsAnswer Verdict plan places judged found text → outcome_status found ≡ 2 → IsJudgedUnknown given text
 not_known given plan places (judged_as.Safe checked) found text denotes known is two = other_found found outcome.Safe 2 is.0 two (λ h. omega (arith, h))
-not_known given plan places (judged_as.Unsafe script shown) found text denotes known is two = other_found found outcome.Unsafe 2 is.0 two (λ h. omega (arith, h))
+not_known given plan places (judged_as.Unsafe script shown breach) found text denotes known is two = other_found found outcome.Unsafe 2 is.0 two (λ h. omega (arith, h))
 not_known given plan places (judged_as.Unknown reason refusal) found text denotes known is two = record {
   plan = plan;
   is_plan = denotes;
@@ -334,7 +336,7 @@ made_well given plan places (judged_as.Safe checked) found text denotes known (i
   };
 }
 made_well given plan places (judged_as.Safe checked) found text denotes known (inr (unknown, long)) zero = other_found found outcome.Unknown 0 unknown zero (λ h. omega (arith, h))
-made_well given plan places (judged_as.Unsafe script shown) found text denotes known is zero = other_found found outcome.Unsafe 0 is.0 zero (λ h. omega (arith, h))
+made_well given plan places (judged_as.Unsafe script shown breach) found text denotes known is zero = other_found found outcome.Unsafe 0 is.0 zero (λ h. omega (arith, h))
 made_well given plan places (judged_as.Unknown reason refusal) found text denotes known is zero =
     other_found found (unknown_outcome reason) 0 is.0 zero (λ h. omega (arith, h, unknown_status reason))
 

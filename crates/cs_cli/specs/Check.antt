@@ -17,6 +17,7 @@ use Rattle.cs_cert.specs.declared.certificate.Certificate.{Certificate}
 use Rattle.cs_check.specs.Case.{fault_of}
 use Rattle.cs_check.specs.Checked.{certificate_in, plan_in}
 use Rattle.cs_check.specs.declared.checked.Checked.{Checked}
+use Rattle.cs_judge.specs.Waiters.{taker_notes}
 use Rattle.cs_report.specs.Refused.{fault_text}
 use Rattle.cs_report.specs.Warning.{plan_notes}
 use Rattle.cs_args.specs.CommandLine.{AskedCheck}
@@ -51,11 +52,23 @@ jobs_of (Collision at one other) = one.job ∷ other.job ∷ []
 jobs_of (OverCapacity at load) = []
 jobs_of (SkipBlocked at skip other) = skip.job ∷ other.job ∷ []
 
+-- beside a bound that rises, the jobs that take the lock of its group
+abbrev pub fault_takers : Declared → Fault → List ℕ
+fault_takers plan (ClassNotDue kind) = []
+fault_takers plan (Missing kinds) = []
+fault_takers plan (BacklogRises group at) = taker_notes plan group at 0 plan.crontab.lines
+fault_takers plan (ReachTooShort job) = []
+fault_takers plan (WindowMissing window at) = []
+fault_takers plan (Collision at one other) = []
+fault_takers plan (OverCapacity at load) = []
+fault_takers plan (SkipBlocked at skip other) = []
+
 -- `note: line 14 is /etc/cron.d/munin:12 (munin): COMMAND` for each line that a fault names and
--- that has a place
+-- that has a place, and what is told of jobs that it concerns without their names
 unfoldable pub fault_places : Declared → List Place → Fault → List ℕ
 fault_places plan places fault =
     places_told (codes "note: ") places (jobs_of fault) 0 plan.crontab.lines
+    ++ fault_takers plan fault
 
 -- beside a fault that the certificate of other tables or declarations has
 unfoldable pub stale_text : List ℕ

@@ -32,7 +32,7 @@ outcome_status outcome.NoMemory = 5
 -- the places of the lines that a refusal behind `unknown` names
 abbrev pub refusal_places : Declared → List Place → Judged → List ℕ
 refusal_places plan places (Safe checked) = []
-refusal_places plan places (Unsafe script shown) = []
+refusal_places plan places (Unsafe script shown breach) = []
 refusal_places plan places (Unknown reason None) = []
 refusal_places plan places (Unknown reason (Some fault)) = fault_places plan places (told fault)
 

@@ -23,6 +23,8 @@ use Rattle.cs_check.specs.Checked.{certificate_in, plan_in}
 use Rattle.cs_counterexample.specs.declared.shown.Shown.{Shown}
 use Rattle.cs_maker.specs.declared.reason.Reason.{Reason}
 use Rattle.cs_judge.specs.Answer.{unknown_text, unsafe_text}
+use Rattle.cs_judge.specs.Breach.{IsBreach}
+use Rattle.cs_judge.specs.declared.breach.Breach.{Breach}
 use Rattle.cs_args.specs.CommandLine.{AskedRun}
 use Rattle.cs_files.specs.Response.{Ending}
 use Rattle.cs_cli.specs.Check.{verdict_text}
@@ -121,18 +123,21 @@ pub record IsJudgedSafe (given : Given) : Type 0 where
   pub safe : IsSafePlan plan
   pub calm : IsCalmPlan plan content
 
--- what is given denotes a plan, and the text is a line, the places of lines, and the script of a legal
--- history of it, in which each run ends within its declared time, and which isn't safe
+-- what is given denotes a plan, and the text is a line, comments, and the script of a legal history
+-- of it, in which each run ends within its declared time, and which isn't safe; the comments tell
+-- what runs when it first breaks the plan, and the places of lines
 pub record IsJudgedUnsafe (given : Given) (text : List ℕ) : Type 0 where
   pub plan : Declared
   pub is_plan : DenotesPlan given plan
   pub places : List Place
   pub script : Script
   pub shown : Shown
-  pub printed : text ≡ unsafe_text plan places script shown
+  pub breach : Breach
+  pub printed : text ≡ unsafe_text plan places script shown breach
   pub legal : IsLegal (as_plan plan) (history script.start script.events)
   pub in_time : IsInTime (as_plan plan) (history script.start script.events)
   pub unsafe : IsSafe (as_plan plan) (history script.start script.events) → ⊥
+  pub told : IsBreach (as_plan plan) script shown breach
 
 -- behind the reason stands what `check` would print of a certificate of version 3 of the plan: the
 -- first rule that it doesn't meet
@@ -141,11 +146,12 @@ pub record IsRefused (plan : Declared) (reason : Reason) (text : List ℕ) : Typ
   pub compact : content.version ≡ 3
   pub fault : Fault
   pub first : fault_of plan content ≡ Some fault
-  pub printed : text ≡ unknown_text reason ++ verdict_text plan (Some fault)
+  pub printed : text ≡ unknown_text plan reason ++ verdict_text plan (Some fault)
 
--- what is given denotes a plan, and the text is a reason, alone or with such a refusal behind it
+-- what is given denotes a plan, and the text is a reason and what is told of it, alone or with such
+-- a refusal behind it
 pub record IsJudgedUnknown (given : Given) (text : List ℕ) : Type 0 where
   pub plan : Declared
   pub is_plan : DenotesPlan given plan
   pub reason : Reason
-  pub printed : (text ≡ unknown_text reason) ⊎ IsRefused plan reason text
+  pub printed : (text ≡ unknown_text plan reason) ⊎ IsRefused plan reason text

@@ -17,3 +17,4 @@ pub mod Commands
 pub mod Parted
 pub mod JobTerms
 pub mod Firsts
+pub mod Changes

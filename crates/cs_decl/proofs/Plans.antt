@@ -16,7 +16,7 @@ use Rattle.cs_decl.specs.Job.{DeclaredJob, IsPossible}
 use Rattle.cs_decl.specs.Plan.{Declared, IsWhole, IsListed, crons, places_of, no_job, no_line, job_at, line_of, as_plan}
 
 -- what holds of each and of the default holds at each place
-at_or : {X : Type 0} (P : X → Type 0) (xs : List X) (j : ℕ) (d : X) → All P xs → P d → P (get_or xs j d)
+pub at_or : {X : Type 0} (P : X → Type 0) (xs : List X) (j : ℕ) (d : X) → All P xs → P d → P (get_or xs j d)
 at_or P [] j d each base = base
 at_or P (x ∷ xs) zero d each base = All-head P x xs each
 at_or P (x ∷ xs) (suc j) d each base = at_or P xs j d (All-tail P x xs each) base
@@ -26,7 +26,7 @@ count d w =
     sym (length-map d.jobs (λ job. job.place)) ∙ ap length w.places ∙ length-append (places_of d.crontab.lines) (places_of d.anacrontab.lines)
     ∙ rw (length-range_with_len, length-range_with_len) refl
 
-possible : (d : Declared) → IsWhole d → (j : ℕ) → IsPossible (job_at d j)
+pub possible : (d : Declared) → IsWhole d → (j : ℕ) → IsPossible (job_at d j)
 possible d w j = at_or IsPossible d.jobs j no_job w.possible (record { max = (omega arith, omega arith); weight = (omega arith, omega arith); lock = λ e. absurd cc })
 
 listed_is : (o : Option ℕ) (n g : ℕ) → IfSome o (λ k. k < n) → o ≡ Some g → g < n
@@ -37,7 +37,7 @@ there : (o : Option ℕ) → IsSome o → (g : ℕ) × (o ≡ Some g)
 there (Some g) some = (g, refl)
 there None some = absurd cc
 
-plain_at : (d : Declared) → IsWhole d → (j : ℕ) → crons d ≤ j → (job_at d j).mode ≡ Plain
+pub plain_at : (d : Declared) → IsWhole d → (j : ℕ) → crons d ≤ j → (job_at d j).mode ≡ Plain
 plain_at d w j behind =
     let e : crons d + (j - crons d) ≡ j = omega arith in
     let here : (get_or (drop (crons d) d.jobs) (j - crons d) no_job).mode ≡ Plain = at_or (λ job. job.mode ≡ Plain) (drop (crons d) d.jobs) (j - crons d) no_job w.plain refl in

@@ -1,5 +1,6 @@
 pub mod Job
 pub mod Plan
+pub mod Changed
 pub mod JobNames
 pub mod Printed
 pub mod Shape

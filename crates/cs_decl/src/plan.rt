@@ -1,6 +1,6 @@
 ghost use Rattle.std.specs.Prelude.{All, ◌≡◌, ℕ, ◌+◌, ◌<◌, ◌≤◌, length, false, Some, IfOk, IfSome};
-ghost use Rattle.std.specs.Prelude.{unsigned_abs};
-ghost use Rattle.cs_history.specs.Plan.{IsPlan, exclusive_group};
+ghost use Rattle.std.specs.Prelude.{IsSome, set, true, unsigned_abs};
+ghost use Rattle.cs_history.specs.Plan.{IsPlan, exclusive_group, takes};
 ghost use Rattle.cs_civil.specs.declared.minute.TheConstants.{MINUTES_OF_DAY};
 ghost use Rattle.cs_decl.specs.declared.limits.TheConstants.{MAX_MINUTES, MAX_CAPACITY, MAX_OFFSET};
 ghost use Rattle.cs_decl.specs.declared.limits.TheConstants.{MAX_GROUPS};
@@ -89,7 +89,23 @@ pub(crate) fn copy_name(alloc: Global, name: &Option<Bytes>) -> Result<Option<By
     }
 }
 
+/// Copies jobs with another one at a place, which is one of them.
+fn with_job_at(
+    alloc: Global,
+    jobs: &[Job],
+    place: usize,
+    job: Job,
+) -> Result<Sequence<Job>, AllocError>
+    requires { place < length jobs.now }
+    ensures { IfOk result (λ changed. changed ≡ set jobs.now place job) }
+{
+    let mut changed = Vec::from_slice(alloc, jobs)?;
+    changed[place] = job;
+    Ok(Sequence::from_vec(changed))
+}
+
 impl Plan {
+    ghost use Rattle.cs_decl.specs.Changed.{with_capacity, with_hours, with_jobs, with_max, with_mode};
     ghost use Rattle.cs_decl.specs.Plan.{IsTimed, IsWhole, crons, as_plan, job_at};
 
     pub(crate) fn new(
@@ -165,6 +181,61 @@ impl Plan {
             defaulted: self.defaulted,
             doubled: copy_name(alloc, &self.doubled)?,
         })
+    }
+
+    /// Copies the plan with another longest time of one of its jobs, in minutes from 1 to
+    /// [`MAX_MINUTES`](crate::MAX_MINUTES). The only error is out of memory.
+    pub fn with_max(&self, alloc: Global, number: u16, max: u16) -> Result<Plan, AllocError>
+        requires there { number < length self.now.jobs }
+        requires in_range { (1 ≤ max) × (max ≤ MAX_MINUTES) }
+        ensures { IfOk result (λ plan. plan ≡ with_max self.now number max) }
+    {
+        let job = self.job_at(number);
+        let changed = Job::new(job.place(), max, job.weight(), job.group(), job.mode());
+        let jobs = with_job_at(alloc, self.jobs(), usize::from(number), changed)?;
+        self.with_jobs(alloc, jobs)
+    }
+
+    /// Copies the plan with another mode of one of its cron jobs, which has a group if that mode
+    /// takes a lock. The only error is out of memory.
+    pub fn with_mode(&self, alloc: Global, number: u16, mode: Mode) -> Result<Plan, AllocError>
+        requires cron { number < crons self.now }
+        requires lock { takes mode ≡ true → IsSome (job_at self.now number).group }
+        ensures { IfOk result (λ plan. plan ≡ with_mode self.now number mode) }
+    {
+        let job = self.job_at(number);
+        let changed = Job::new(job.place(), job.max(), job.weight(), job.group(), mode);
+        let jobs = with_job_at(alloc, self.jobs(), usize::from(number), changed)?;
+        self.with_jobs(alloc, jobs)
+    }
+
+    fn with_jobs(&self, alloc: Global, jobs: Sequence<Job>) -> Result<Plan, AllocError>
+        requires { IsWhole (with_jobs self.now jobs) }
+        ensures { IfOk result (λ plan. plan ≡ with_jobs self.now jobs) }
+    {
+        let mut plan = self.copy(alloc)?;
+        plan.jobs = jobs;
+        Ok(plan)
+    }
+
+    /// Copies the plan with another capacity, from 1 to [`MAX_CAPACITY`](crate::MAX_CAPACITY). The
+    /// only error is out of memory.
+    pub fn with_capacity(&self, alloc: Global, capacity: u8) -> Result<Plan, AllocError>
+        requires { (1 ≤ capacity) × (capacity ≤ MAX_CAPACITY) }
+        ensures { IfOk result (λ plan. plan ≡ with_capacity self.now capacity) }
+    {
+        let mut plan = self.copy(alloc)?;
+        plan.capacity = capacity;
+        Ok(plan)
+    }
+
+    /// Copies the plan with other catch-up hours. The only error is out of memory.
+    pub fn with_hours(&self, alloc: Global, hours: Hours) -> Result<Plan, AllocError>
+        ensures { IfOk result (λ plan. plan ≡ with_hours self.now hours) }
+    {
+        let mut plan = self.copy(alloc)?;
+        plan.hours = hours;
+        Ok(plan)
     }
 
     /// Returns the crontab, which has no `@reboot`.

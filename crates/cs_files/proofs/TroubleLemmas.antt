@@ -25,7 +25,7 @@ use Rattle.cs_cert.specs.declared.limits.TheConstants.{MAX_CERTIFICATE}
 use Rattle.cs_report.specs.Warning.{warnings as warnings_text}
 use Rattle.cs_io.specs.Files.{Failed, IsFresh, IsReadOut, IsTooLong, IsUpTo, Reads}
 use Rattle.cs_io.specs.declared.inputs.TheConstants.{MOST_READS}
-use Rattle.cs_files.specs.Reads.{AndThen, Answered, IsRead, IsUnreadWhole, MeansIt, MeansTable, PlacesIn, ReadsAs, ReadsDeclared}
+use Rattle.cs_files.specs.Reads.{DeclaredIn, TextIn, AndThen, Answered, IsRead, IsUnreadWhole, MeansIt, MeansTable, PlacesIn, ReadsAs, ReadsDeclared}
 use Rattle.cs_files.specs.Response.{Ending, complaint}
 use Rattle.cs_files.specs.Trouble.{CameTo, IsHonest, IsHonestOf, IsUnread, TellsPath, Trouble, ends, trouble, trouble_status, trouble_text}
 use Rattle.cs_files.specs.declared.fault.Fault.{Fault}
@@ -61,18 +61,40 @@ meant_whole means m bytes (Some text) left fresh read is =
     let e : bytes ≡ text = subst (λ o. IfSome o (λ t. bytes ≡ t)) fresh read in
     subst (λ b. means b m) e is
 
--- places that were read are those of the file
-pub placed : (files left : List ℕ → Option (List ℕ)) (path : Text) (bytes : List ℕ) (table : Table) (places : List Place) → IsFresh files left → IsRead MAX_TABLE path left bytes
-    → IsCrontab bytes table → places ≡ places_of bytes table → PlacesIn files path table places
-placed files left path bytes table places fresh read is listed = by_file (files path) (left path) (fresh path) read
+-- the text of a table that was read is that of the file
+pub texted : (files left : List ℕ → Option (List ℕ)) (path : Text) (text : List ℕ) (table : Table) → IsFresh files left → IsRead MAX_TABLE path left text → IsCrontab text table → TextIn files path table text
+texted files left path text table fresh read is = (is, by_file (files path) (left path) (fresh path) read)
   where
-    same : (text : List ℕ) → IsUpTo MAX_TABLE text bytes → places ≡ places_of text table
-    same text (inl e) = subst (λ (b : List ℕ). places ≡ places_of b table) e listed
-    same text (inr long) = absurd (let l = long.0 in omega (arith, is.short, l))
+    same : (bytes : List ℕ) → IsUpTo MAX_TABLE bytes text → text ≡ bytes
+    same bytes (inl e) = e
+    same bytes (inr long) = absurd (let l = long.0 in omega (arith, is.short, l))
 
-    by_file : (whole rest : Option (List ℕ)) → IfSome whole (λ text. rest ≡ Some text) → IfSome rest (λ text. IsUpTo MAX_TABLE text bytes) → IfSome whole (λ text. places ≡ places_of text table)
+    by_file : (whole rest : Option (List ℕ)) → IfSome whole (λ bytes. rest ≡ Some bytes) → IfSome rest (λ bytes. IsUpTo MAX_TABLE bytes text) → IfSome whole (λ bytes. text ≡ bytes)
     by_file None rest same_rest up = same_rest
-    by_file (Some text) rest same_rest up = same text (subst (λ (o : Option (List ℕ)). IfSome o (λ t. IsUpTo MAX_TABLE t bytes)) same_rest up)
+    by_file (Some bytes) rest same_rest up = same bytes (subst (λ (o : Option (List ℕ)). IfSome o (λ t. IsUpTo MAX_TABLE t text)) same_rest up)
+
+-- and so its places are those in the file
+pub placed : (files : List ℕ → Option (List ℕ)) (path : Text) (table : Table) (text : List ℕ) (places : List Place) → TextIn files path table text → places ≡ places_of text table → PlacesIn files path table places
+placed files path table text places (is, same) listed = by_file (files path) same
+  where
+    by_file : (whole : Option (List ℕ)) → IfSome whole (λ bytes. text ≡ bytes) → IfSome whole (λ bytes. places ≡ places_of bytes table)
+    by_file None none = none
+    by_file (Some bytes) e = subst (λ (b : List ℕ). places ≡ places_of b table) e listed
+
+-- places that were read, where the files are as they were
+pub placed_on : (path : Text) (tables : Table × JobTable) (read places : List Place) (after before : List ℕ → Option (List ℕ))
+    → after ≡ before → places ≡ read → PlacesIn before path tables.0 read → PlacesIn after path tables.0 places
+placed_on path tables read places after before same is placed =
+    subst (λ (f : List ℕ → Option (List ℕ)). PlacesIn f path tables.0 places) (sym same) (subst (λ (l : List Place). PlacesIn before path tables.0 l) (sym is) placed)
+
+-- the bytes of declarations that were read are those of the file
+pub declared : (files left : List ℕ → Option (List ℕ)) (path : Text) (bytes : List ℕ) (tables : Table × JobTable) (d : Entries) (plan : Declared) → IsFresh files left → IfSome (left path) (λ text. bytes ≡ text)
+    → declared_by bytes ≡ Ok d → joined tables.0 tables.1 d ≡ Ok plan → DeclaredIn files path tables plan bytes
+declared files left path bytes tables d plan fresh read is joins = ((d, is, joins), by_file (files path) (left path) (fresh path) read)
+  where
+    by_file : (whole rest : Option (List ℕ)) → IfSome whole (λ text. rest ≡ Some text) → IfSome rest (λ text. bytes ≡ text) → IfSome whole (λ text. bytes ≡ text)
+    by_file None rest same_rest up = same_rest
+    by_file (Some text) rest same_rest up = subst (λ (o : Option (List ℕ)). IfSome o (λ t. bytes ≡ t)) same_rest up
 
 -- declarations, and the plan that they make
 pub plan_read : (files left : List ℕ → Option (List ℕ)) (path : Text) (bytes : List ℕ) (tables : Table × JobTable) (d : Entries) (plan : Declared) (before after : Failed)

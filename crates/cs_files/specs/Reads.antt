@@ -7,7 +7,7 @@ use Rattle.clap.specs.Words.{Text}
 use Rattle.cs_table.specs.Table.{Found as FoundIn}
 use Rattle.cs_crontab.specs.Crontab.{Table}
 use Rattle.cs_crontab.specs.declared.fault.LineFault.{LineFault}
-use Rattle.cs_crontab.specs.Faults.{Means}
+use Rattle.cs_crontab.specs.Faults.{IsCrontab, Means}
 use Rattle.cs_anacrontab.specs.Anacrontab.{JobLine, Table as JobTable, no_lines as no_jobs}
 use Rattle.cs_anacrontab.specs.Faults.{Means as MeansJobs}
 use Rattle.cs_gather.specs.Places.{places_of}
@@ -87,9 +87,13 @@ abbrev pub ReadsTables : (List ℕ → Option (List ℕ)) → Text → Option Te
 ReadsTables files table anacrontab = AndThen (ReadsAs files table MeansTable InCrontab)
     (λ t. AndThen (ReadsJobs files anacrontab) (λ jobs. Gives (Ok (t, jobs))))
 
--- what was read, without the places of its lines
-abbrev pub without_places : {X P E : Type 0} → Result (X × P) E → Result X E
-without_places found = result_map_both (λ x. x.0) (λ e. e) found
+-- what was read, without what comes beside it
+abbrev pub without_rest : {X R E : Type 0} → Result (X × R) E → Result X E
+without_rest found = result_map_both (λ x. x.0) (λ e. e) found
+
+-- this text denotes the table, and the file at a path holds it
+abbrev pub TextIn : (List ℕ → Option (List ℕ)) → Text → Table → List ℕ → Type 0
+TextIn files path table text = IsCrontab text table × IfSome (files path) (λ bytes. text ≡ bytes)
 
 -- these are the places of the table that the file at a path holds
 abbrev pub PlacesIn : (List ℕ → Option (List ℕ)) → Text → Table → List Place → Type 0
@@ -99,6 +103,11 @@ PlacesIn files path table places = IfSome (files path) (λ bytes. places ≡ pla
 abbrev pub planned : Result Declared DeclaredFault → Result Declared Trouble
 planned plan = result_map_both (λ p. p) InDeclarations plan
 
+-- bytes are declarations, by which both tables make the plan
+abbrev pub Declares : List ℕ → Table × JobTable → Declared → Type 0
+Declares bytes tables plan =
+    (d : Entries) × (declared_by bytes ≡ Ok d) × (joined tables.0 tables.1 d ≡ Ok plan)
+
 -- the declarations at a path: of any length, but of no more reads than a path may take
 abbrev pub ReadsEntries : (List ℕ → Option (List ℕ)) → Text → Failed → Failed
     → Result Entries Trouble → Type 0
@@ -106,6 +115,12 @@ ReadsEntries files path before after r =
     ReadsAs files path (λ bytes d. declared_by bytes ≡ d) InDeclarations before after r
     ⊎ ((after ≡ before) × IsTooLong path files
     × ((t : Trouble) × TellsPath path t × (r ≡ Err t)))
+
+-- these bytes are declarations by which both tables make the plan, and the file at a path holds them
+abbrev pub DeclaredIn : (List ℕ → Option (List ℕ)) → Text → Table × JobTable → Declared → List ℕ
+    → Type 0
+DeclaredIn files path tables plan text =
+    Declares text tables plan × IfSome (files path) (λ bytes. text ≡ bytes)
 
 -- the plan of both tables as the declarations at a path have it
 abbrev pub ReadsDeclared : (List ℕ → Option (List ℕ)) → Table × JobTable → Text → Failed → Failed

@@ -25,6 +25,7 @@ use Rattle.cs_cert.specs.declared.fault.CertError.{CertError}
 use Rattle.cs_cert.specs.declared.fault.CertError.TheVariants as cert_error
 use Rattle.cs_args.specs.Words.{word_fault}
 use Rattle.cs_args.specs.declared.question.WordFault.{WordFault}
+use Rattle.cs_args.specs.declared.question.WordFault.TheVariants.{BadHours, BadMax, Date}
 use Rattle.cs_io.specs.Files.{Failed, IsReadOut, Reads}
 use Rattle.cs_io.specs.Reasons.{reason_text}
 use Rattle.cs_io.specs.declared.reason.Reason.{Reason}
@@ -79,9 +80,16 @@ abbrev pub script_line : ScriptFault → List ℕ
 script_line fault =
     codes "script line " ++ (decimal fault.0 ++ (codes ": " ++ script_fault_text fault.1))
 
+-- behind a fault of the words: what they may be
+abbrev pub word_hint : WordFault → List ℕ
+word_hint (Date fault) = []
+word_hint BadMax = codes "\ncronsafe: the longest time is from 1 to 4320 minutes"
+word_hint BadHours =
+    codes "\ncronsafe: --from is from 0 on and below --to, which is at most 1440"
+
 -- what is told of it
 abbrev pub trouble_text : Trouble → List ℕ
-trouble_text (InWords fault) = word_fault fault
+trouble_text (InWords fault) = word_fault fault ++ word_hint fault
 trouble_text (Unread path reason) = codes "can't read " ++ (path ++ reason_text reason)
 trouble_text (InCrontab found) = crontab_line found.0 ++ jobs_hint found.1
 trouble_text (InAnacrontab fault) = anacrontab_line fault

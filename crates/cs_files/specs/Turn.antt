@@ -3,7 +3,7 @@ use Rattle.std.specs.Prelude.{◌≡◌, ◌⊎◌, ◌++◌, List, [], ◌∷�
 use Rattle.clap.specs.Words.{Text}
 use Rattle.cs_io.specs.Files.{AreReadInTurn, Reads}
 use Rattle.cs_args.specs.CommandLine.{Asking, Asks, Chart, Check, Day, Draft, Explain, Gather, Help}
-use Rattle.cs_args.specs.CommandLine.{Judge, Lint, Make, Replay, Run}
+use Rattle.cs_args.specs.CommandLine.{Advise, Judge, Lint, Make, Replay, Room, Run}
 use Rattle.cs_args.specs.CommandLine.{AskedChart, AskedCheck, AskedDraft, AskedGather, AskedJudge}
 use Rattle.cs_args.specs.CommandLine.{AskedLint, AskedReplay}
 
@@ -52,6 +52,8 @@ ReadsAsked (Check a) = AreReadInTurn (check_paths a)
 ReadsAsked (Run a) = AreReadInTurn (check_paths a.check)
 ReadsAsked (Judge a) = AreReadInTurn (judge_paths a)
 ReadsAsked (Make a) = AreReadInTurn (judge_paths a.judge)
+ReadsAsked (Advise a) = AreReadInTurn (judge_paths a.judge)
+ReadsAsked (Room a) = AreReadInTurn (judge_paths a)
 ReadsAsked (Gather a) = AreReadToGather a
 ReadsAsked (Draft a) = AreReadInTurn (draft_paths a)
 ReadsAsked (Lint a) = AreReadInTurn (lint_paths a)

@@ -7,7 +7,7 @@ ghost use Rattle.cs_files.specs.Response.{status_of};
 ghost use Rattle.cs_files.specs.Trouble.{Says, certificate_trouble, declared_trouble, ends};
 ghost use Rattle.cs_files.specs.Trouble.{gathered_trouble, jobs_hint};
 ghost use Rattle.cs_files.specs.Trouble.{jobs_trouble, script_trouble, table_trouble, trouble};
-ghost use Rattle.cs_files.specs.Trouble.{trouble_status};
+ghost use Rattle.cs_files.specs.Trouble.{trouble_status, word_hint};
 ghost use Rattle.cs_files.specs.declared.fault.Fault.TheVariants.{Anacrontab, Crontab, Declarations};
 ghost use Rattle.cs_files.specs.declared.fault.Fault.TheVariants.{OutOfMemory, Words};
 
@@ -210,16 +210,24 @@ fn declared_text(alloc: Global, fault: &DeclError) -> Result<Vec<u8>, AllocError
     }
 }
 
-/// What is told of a fault of the words.
+/// What is told of a fault of the words, and what they may be.
 fn word_text(alloc: Global, fault: WordFault) -> Result<Vec<u8>, AllocError>
-    ensures { IfOk result (λ text. text.items ≡ word_fault fault) }
+    ensures { IfOk result (λ text. text.items ≡ word_fault fault ++ word_hint fault) }
 {
     match fault {
         WordFault::Date(fault) => {
             named_text(alloc, b"date: ".as_slice(), fault.text().as_bytes())
         }
-        WordFault::BadMax => Vec::from_slice(alloc, b"declarations: 6 BadMax".as_slice()),
-        WordFault::BadHours => Vec::from_slice(alloc, b"declarations: 12 BadHours".as_slice()),
+        WordFault::BadMax => named_text(
+            alloc,
+            b"declarations: 6 BadMax".as_slice(),
+            b"\ncronsafe: the longest time is from 1 to 4320 minutes",
+        ),
+        WordFault::BadHours => named_text(
+            alloc,
+            b"declarations: 12 BadHours".as_slice(),
+            b"\ncronsafe: --from is from 0 on and below --to, which is at most 1440",
+        ),
     }
 }
 

@@ -3,11 +3,12 @@ ghost use Rattle.std.specs.Prelude.{◌≡◌, ◌≤◌, IfErr, IfOk, IfSome, O
 ghost use Rattle.std.specs.List.{list_all, list_any};
 ghost use Rattle.cs_table.specs.declared.limits.TheConstants.{MAX_TABLE};
 ghost use Rattle.cs_anacrontab.specs.Faults.{Means as MeansJobs};
+ghost use Rattle.cs_crontab.specs.Faults.{IsCrontab};
 ghost use Rattle.cs_decl.specs.Meaning.{declared_by};
 ghost use Rattle.cs_io.specs.Files.{AreReadInTurn, IsFresh, IsReadAlone};
 ghost use Rattle.cs_files.specs.Reads.{HoldsJobs, IsRead, IsUnreadAt, IsUnreadWhole, MeansIt};
-ghost use Rattle.cs_files.specs.Reads.{MeansTable, PlacesIn, ReadsAs, are_named, is_letter};
-ghost use Rattle.cs_files.specs.Reads.{ReadsDeclared, ReadsEntries, ReadsJobs, ReadsTables, without_places};
+ghost use Rattle.cs_files.specs.Reads.{DeclaredIn, MeansTable, PlacesIn, ReadsAs, TextIn, are_named, is_letter};
+ghost use Rattle.cs_files.specs.Reads.{ReadsDeclared, ReadsEntries, ReadsJobs, ReadsTables, without_rest};
 ghost use Rattle.cs_files.specs.Turn.{some_path, table_paths};
 ghost use Rattle.cs_files.specs.Trouble.{CameTo, InAnacrontab, InCrontab, InDeclarations, IsHonestOf};
 ghost use Rattle.cs_files.specs.Trouble.{IsOfContent};
@@ -123,17 +124,18 @@ fn table_in<'a>(alloc: Global, bytes: &[u8]) -> Result<Crontab, Fault<'a>>
     }
 }
 
-/// The crontab at a path, and the places of its lines.
+/// The crontab at a path, and its text.
 fn table_from<'a, I: Inputs>(
     alloc: Global,
     inputs: &mut I,
     path: &'a str,
-) -> Result<(Crontab, Sequence<Place>), Fault<'a>>
+) -> Result<(Crontab, Vec<u8>), Fault<'a>>
     ensures step { IsFresh (I.whole inputs.old) (I.left inputs.old)
         → CameTo (ReadsAs (I.whole inputs.old) path.now MeansTable InCrontab
-        (I.failed inputs.old) (I.failed inputs.new)) (without_places result) }
-    ensures places { IsFresh (I.whole inputs.old) (I.left inputs.old)
-        → IfOk result (λ found. PlacesIn (I.whole inputs.old) path.now found.0 found.1) }
+        (I.failed inputs.old) (I.failed inputs.new)) (without_rest result) }
+    ensures text { IsFresh (I.whole inputs.old) (I.left inputs.old)
+        → IfOk result (λ found. TextIn (I.whole inputs.old) path.now found.0 found.1.items) }
+    ensures means { IfOk result (λ found. IsCrontab found.1.items found.0) }
     ensures works { OnOk result (I.failed inputs.new ≡ I.failed inputs.old) }
     ensures whole { I.whole inputs.new ≡ I.whole inputs.old }
     ensures fresh { OnOk result (IsFresh (I.whole inputs.old) (I.left inputs.old)
@@ -141,10 +143,9 @@ fn table_from<'a, I: Inputs>(
     ensures status { IfErr result (IsHonestOf (I.failed inputs.new) (I.reads inputs.new)) }
     ensures alone { IsReadAlone path.now (I.reads inputs.old) (I.reads inputs.new) }
 {
-    let bytes = bytes_at(alloc, inputs, path, MAX_TABLE as u32)?;
-    let table = table_in(alloc, bytes.as_slice())?;
-    let places = read_places(alloc, bytes.as_slice(), &table)?;
-    Ok((table, places))
+    let text = bytes_at(alloc, inputs, path, MAX_TABLE as u32)?;
+    let table = table_in(alloc, text.as_slice())?;
+    Ok((table, text))
 }
 
 /// The anacrontab at a path.
@@ -190,6 +191,34 @@ fn some_jobs_from<'a, I: Inputs>(
     }
 }
 
+/// Both tables, and the text of the crontab.
+pub fn read_tables_and_text<'a, I: Inputs>(
+    alloc: Global,
+    inputs: &mut I,
+    table: &'a str,
+    anacrontab: Option<&'a str>,
+) -> Result<((Crontab, Anacrontab), Vec<u8>), Fault<'a>>
+    ensures step { IsFresh (I.whole inputs.old) (I.left inputs.old)
+        → CameTo (ReadsTables (I.whole inputs.old) table.now
+        (option_map (λ path. path.now) anacrontab.entry)
+        (I.failed inputs.old) (I.failed inputs.new)) (without_rest result) }
+    ensures text { IsFresh (I.whole inputs.old) (I.left inputs.old)
+        → IfOk result (λ found. TextIn (I.whole inputs.old) table.now found.0.0 found.1.items) }
+    ensures means { IfOk result (λ found. IsCrontab found.1.items found.0.0) }
+    ensures works { OnOk result (I.failed inputs.new ≡ I.failed inputs.old) }
+    ensures whole { I.whole inputs.new ≡ I.whole inputs.old }
+    ensures fresh { OnOk result (IsFresh (I.whole inputs.old) (I.left inputs.old)
+        → IsFresh (I.whole inputs.new) (I.left inputs.new)) }
+    ensures status { IfErr result (IsHonestOf (I.failed inputs.new) (I.reads inputs.new)) }
+    ensures turn { AreReadInTurn
+        (table_paths table.now (option_map (λ path. path.now) anacrontab.entry))
+        (I.reads inputs.old) (I.reads inputs.new) }
+{
+    let (table, text) = table_from(alloc, inputs, table)?;
+    let jobs = some_jobs_from(alloc, inputs, anacrontab)?;
+    Ok(((table, jobs), text))
+}
+
 /// Both tables, and the places of the crontab's lines, which a gathered table has.
 pub fn read_placed_tables<'a, I: Inputs>(
     alloc: Global,
@@ -200,7 +229,7 @@ pub fn read_placed_tables<'a, I: Inputs>(
     ensures step { IsFresh (I.whole inputs.old) (I.left inputs.old)
         → CameTo (ReadsTables (I.whole inputs.old) table.now
         (option_map (λ path. path.now) anacrontab.entry)
-        (I.failed inputs.old) (I.failed inputs.new)) (without_places result) }
+        (I.failed inputs.old) (I.failed inputs.new)) (without_rest result) }
     ensures places { IsFresh (I.whole inputs.old) (I.left inputs.old)
         → IfOk result (λ found. PlacesIn (I.whole inputs.old) table.now found.0.0 found.1) }
     ensures works { OnOk result (I.failed inputs.new ≡ I.failed inputs.old) }
@@ -212,9 +241,9 @@ pub fn read_placed_tables<'a, I: Inputs>(
         (table_paths table.now (option_map (λ path. path.now) anacrontab.entry))
         (I.reads inputs.old) (I.reads inputs.new) }
 {
-    let (table, places) = table_from(alloc, inputs, table)?;
-    let jobs = some_jobs_from(alloc, inputs, anacrontab)?;
-    Ok(((table, jobs), places))
+    let (tables, text) = read_tables_and_text(alloc, inputs, table, anacrontab)?;
+    let places = read_places(alloc, text.as_slice(), &tables.0)?;
+    Ok((tables, places))
 }
 
 /// Both tables.
@@ -237,8 +266,35 @@ pub fn read_tables<'a, I: Inputs>(
         (table_paths table.now (option_map (λ path. path.now) anacrontab.entry))
         (I.reads inputs.old) (I.reads inputs.new) }
 {
-    let (tables, _) = read_placed_tables(alloc, inputs, table, anacrontab)?;
+    let (tables, _) = read_tables_and_text(alloc, inputs, table, anacrontab)?;
     Ok(tables)
+}
+
+/// The plan of both tables as the declarations at a path have it, and the bytes of the declarations.
+pub fn declared_plan_and_text<'a, I: Inputs>(
+    alloc: Global,
+    inputs: &mut I,
+    path: &'a str,
+    table: Crontab,
+    jobs: Anacrontab,
+) -> Result<(Plan, Vec<u8>), Fault<'a>>
+    ensures step { IsFresh (I.whole inputs.old) (I.left inputs.old)
+        → CameTo (ReadsDeclared (I.whole inputs.old) (table, jobs) path.now
+        (I.failed inputs.old) (I.failed inputs.new)) (without_rest result) }
+    ensures text { IsFresh (I.whole inputs.old) (I.left inputs.old)
+        → IfOk result (λ found. DeclaredIn (I.whole inputs.old) path.now (table, jobs) found.0
+        found.1.items) }
+    ensures works { OnOk result (I.failed inputs.new ≡ I.failed inputs.old) }
+    ensures whole { I.whole inputs.new ≡ I.whole inputs.old }
+    ensures fresh { OnOk result (IsFresh (I.whole inputs.old) (I.left inputs.old)
+        → IsFresh (I.whole inputs.new) (I.left inputs.new)) }
+    ensures status { IfErr result (IsHonestOf (I.failed inputs.new) (I.reads inputs.new)) }
+    ensures alone { IsReadAlone path.now (I.reads inputs.old) (I.reads inputs.new) }
+{
+    let bytes = all_bytes_at(alloc, inputs, path)?;
+    let declarations = read_declarations(alloc, bytes.as_slice())?;
+    let plan = join(alloc, table, jobs, declarations)?;
+    Ok((plan, bytes))
 }
 
 /// The plan of both tables as the declarations at a path have it.
@@ -259,7 +315,6 @@ pub fn declared_plan_from<'a, I: Inputs>(
     ensures status { IfErr result (IsHonestOf (I.failed inputs.new) (I.reads inputs.new)) }
     ensures alone { IsReadAlone path.now (I.reads inputs.old) (I.reads inputs.new) }
 {
-    let bytes = all_bytes_at(alloc, inputs, path)?;
-    let declarations = read_declarations(alloc, bytes.as_slice())?;
-    Ok(join(alloc, table, jobs, declarations)?)
+    let (plan, _) = declared_plan_and_text(alloc, inputs, path, table, jobs)?;
+    Ok(plan)
 }

@@ -1,2 +1,5 @@
+pub mod Breaches
 pub mod Outcomes
 pub mod Starts
+pub mod Texts
+pub mod Called

@@ -24,6 +24,9 @@ use Rattle.cs_counterexample.specs.ShownText.{shown_text}
 use Rattle.cs_counterexample.specs.declared.shown.Shown.{Shown}
 use Rattle.cs_judge.specs.Form.{IsJudgedBy}
 use Rattle.cs_judge.specs.Judged.{Shows}
+use Rattle.cs_judge.specs.Story.{story_lines}
+use Rattle.cs_judge.specs.Waiters.{reason_lines}
+use Rattle.cs_judge.specs.declared.breach.Breach.{Breach}
 use Rattle.cs_judge.specs.declared.judged.Judged.{Judged}
 use Rattle.cs_judge.specs.declared.judged.Judged.TheVariants.{Safe, Unsafe, Unknown}
 use Rattle.cs_judge.specs.declared.answers.Outcome.{Outcome}
@@ -47,15 +50,17 @@ unfoldable pub story_places : Declared → List Place → Script → List ℕ
 story_places plan places script =
     places_told (codes "# ") places (filter_map job_of script.events) 0 plan.crontab.lines
 
--- `unsafe: ` and what is broken first, a line, the places of the lines that the script names, and
--- then the script
-unfoldable pub unsafe_text : Declared → List Place → Script → Shown → List ℕ
-unsafe_text plan places script shown =
-    shown_text plan shown ++ 10 ∷ (story_places plan places script ++ script_text plan script)
+-- `unsafe: ` and what is broken first, a line, the story of that, the places of the lines that the
+-- script names, and then the script
+unfoldable pub unsafe_text : Declared → List Place → Script → Shown → Breach → List ℕ
+unsafe_text plan places script shown breach = shown_text plan shown
+    ++ 10 ∷ (story_lines plan script shown breach
+    ++ (story_places plan places script ++ script_text plan script))
 
--- `unknown: REASON`, a line
-unfoldable pub unknown_text : Reason → List ℕ
-unknown_text reason = codes "unknown: " ++ (reason_name reason ++ 10 ∷ [])
+-- `unknown: REASON`, a line, and what is told of that reason
+unfoldable pub unknown_text : Declared → Reason → List ℕ
+unknown_text plan reason =
+    codes "unknown: " ++ (reason_name reason ++ 10 ∷ reason_lines plan reason)
 
 -- the line of a refusal
 unfoldable pub refusal_text : Declared → Fault → List ℕ
@@ -74,16 +79,16 @@ unknown_outcome NoMemory = outcome.NoMemory
 -- how a plan was found
 abbrev pub outcome_of : Judged → Outcome
 outcome_of (Safe checked) = outcome.Safe
-outcome_of (Unsafe script shown) = outcome.Unsafe
+outcome_of (Unsafe script shown breach) = outcome.Unsafe
 outcome_of (Unknown reason refusal) = unknown_outcome reason
 
 -- what `judge` prints
 abbrev pub verdict_text : Declared → List Place → Judged → List ℕ
 verdict_text plan places (Safe checked) = codes "safe\n"
-verdict_text plan places (Unsafe script shown) = unsafe_text plan places script shown
-verdict_text plan places (Unknown reason None) = unknown_text reason
+verdict_text plan places (Unsafe script shown breach) = unsafe_text plan places script shown breach
+verdict_text plan places (Unknown reason None) = unknown_text plan reason
 verdict_text plan places (Unknown reason (Some fault)) =
-    unknown_text reason ++ refusal_text plan (told fault)
+    unknown_text plan reason ++ refusal_text plan (told fault)
 
 -- the text of a certificate, a line of a file that may be read again
 abbrev pub IsCertificate : Content → List ℕ → Type 0
@@ -92,17 +97,17 @@ IsCertificate c text = (written : List ℕ) × (written ≡ compact_text (certif
     × (text ≡ written ++ 10 ∷ [])
 
 -- what `make` prints for a plan accepted with this certificate: it, or that no file can hold it
-abbrev pub IsSafeMade : Content → Outcome → List ℕ → Type 0
-IsSafeMade c found text = ((found ≡ outcome.Safe) × IsCertificate c text)
-    ⊎ ((found ≡ outcome.Unknown) × (text ≡ unknown_text LeafTooLong))
+abbrev pub IsSafeMade : Declared → Content → Outcome → List ℕ → Type 0
+IsSafeMade plan c found text = ((found ≡ outcome.Safe) × IsCertificate c text)
+    ⊎ ((found ≡ outcome.Unknown) × (text ≡ unknown_text plan LeafTooLong))
 
 -- what `make` prints
 abbrev pub IsMade : Declared → List Place → Judged → Outcome → List ℕ → Type 0
-IsMade plan places (Safe checked) found text = IsSafeMade (certificate_in checked) found text
-IsMade plan places (Unsafe script shown) found text =
-    (found ≡ outcome.Unsafe) × (text ≡ unsafe_text plan places script shown)
+IsMade plan places (Safe checked) found text = IsSafeMade plan (certificate_in checked) found text
+IsMade plan places (Unsafe script shown breach) found text =
+    (found ≡ outcome.Unsafe) × (text ≡ unsafe_text plan places script shown breach)
 IsMade plan places (Unknown reason refusal) found text =
-    (found ≡ unknown_outcome reason) × (text ≡ unknown_text reason)
+    (found ≡ unknown_outcome reason) × (text ≡ unknown_text plan reason)
 
 -- what is printed of a plan that was judged, by what is wanted of it
 abbrev pub IsAnswer : Wanted → Declared → List Place → Judged → Outcome → List ℕ → Type 0
@@ -112,10 +117,11 @@ IsAnswer Certificate plan places judged found text = IsMade plan places judged f
 IsAnswer Compact plan places judged found text =
     IsJudgedBy Compact judged × IsMade plan places judged found text
 
--- the text says what a script breaks first, where its lines come from, and then has the script,
--- which shows the plan unsafe
+-- the text says what a script breaks first and tells the story of that, where its lines come from,
+-- and then has the script, which shows the plan unsafe
 pub record IsStory (plan : Declared) (places : List Place) (text : List ℕ) : Type 0 where
   pub script : Script
   pub shown : Shown
-  pub shows : Shows plan script shown
-  pub told : text ≡ unsafe_text plan places script shown
+  pub breach : Breach
+  pub shows : Shows plan script shown breach
+  pub told : text ≡ unsafe_text plan places script shown breach

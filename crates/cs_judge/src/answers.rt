@@ -10,7 +10,10 @@ ghost use Rattle.cs_judge.specs.Form.{IsJudgedBy};
 ghost use Rattle.cs_judge.specs.Judged.{IfUnsafe, Shows};
 ghost use Rattle.cs_report.specs.Told.{told};
 
+use crate::breach::Breach;
 use crate::judged::Judged;
+use crate::story::push_story;
+use crate::waiters::push_reason_lines;
 use cs_cert::{Certificate, MAX_CERTIFICATE, least_text, write_certificate};
 use cs_check::Checked;
 use cs_counterexample::{Shown, shown_text};
@@ -54,14 +57,15 @@ fn unknown_outcome(reason: Reason) -> Outcome
     }
 }
 
-/// `unknown: REASON`, a line.
+/// `unknown: REASON`, a line, and what is told of that reason.
 #[tactic(auto, unfolding(crate::specs::Answer::unknown_text))]
-fn unknown_text(alloc: Global, reason: Reason) -> Result<Vec<u8>, AllocError>
-    ensures { IfOk result (λ text. text.items ≡ unknown_text reason) }
+fn unknown_text(alloc: Global, plan: &Plan, reason: Reason) -> Result<Vec<u8>, AllocError>
+    ensures { IfOk result (λ text. text.items ≡ unknown_text plan.now reason) }
 {
     let mut text = Vec::from_slice(alloc, b"unknown: ".as_slice())?;
     text.extend_from_slice(reason.name().as_bytes())?;
     text.extend_from_slice(b"\n")?;
+    push_reason_lines(alloc, &mut text, plan, reason)?;
     Ok(text)
 }
 
@@ -112,7 +116,7 @@ fn push_story_places(
     )
 }
 
-/// A line for what the script breaks first, the places of its lines, and the script.
+/// A line for what the script breaks first, its story, the places of its lines, and the script.
 #[tactic(auto, unfolding(crate::specs::Answer::unsafe_text))]
 fn unsafe_text(
     alloc: Global,
@@ -120,13 +124,15 @@ fn unsafe_text(
     places: &[Place],
     script: &Script,
     shown: &Shown,
+    breach: &Breach,
 ) -> Result<Vec<u8>, AllocError>
-    requires { Shows plan.now script.now shown.now }
+    requires { Shows plan.now script.now shown.now breach.now }
     ensures { IfOk result
-        (λ text. text.items ≡ unsafe_text plan.now places.now script.now shown.now) }
+        (λ text. text.items ≡ unsafe_text plan.now places.now script.now shown.now breach.now) }
 {
     let mut text = Vec::from_slice(alloc, shown_text(alloc, plan, shown)?.as_slice())?;
     text.extend_from_slice(b"\n")?;
+    push_story(alloc, &mut text, plan, script, *shown, breach)?;
     push_story_places(alloc, &mut text, plan, places, script)?;
     text.extend_from_slice(script_text(alloc, plan, script)?.as_slice())?;
     Ok(text)
@@ -137,7 +143,7 @@ fn outcome_of(judged: &Judged) -> Outcome
 {
     match judged {
         Judged::Safe(_) => Outcome::Safe,
-        Judged::Unsafe(_, _) => Outcome::Unsafe,
+        Judged::Unsafe(_, _, _) => Outcome::Unsafe,
         Judged::Unknown(reason, _) => unknown_outcome(*reason),
     }
 }
@@ -151,9 +157,9 @@ fn refused_text(
     refusal: &CheckFault,
 ) -> Result<Vec<u8>, AllocError>
     ensures { IfOk result (λ text.
-        text.items ≡ unknown_text reason ++ refusal_text plan.now (told refusal.now)) }
+        text.items ≡ unknown_text plan.now reason ++ refusal_text plan.now (told refusal.now)) }
 {
-    let mut text = unknown_text(alloc, reason)?;
+    let mut text = unknown_text(alloc, plan, reason)?;
     text.extend_from_slice(fault_text(alloc, plan, refusal)?.as_slice())?;
     text.extend_from_slice(b"\n")?;
     Ok(text)
@@ -171,8 +177,10 @@ fn verdict_text(
 {
     match judged {
         Judged::Safe(_) => Vec::from_slice(alloc, b"safe\n".as_slice()),
-        Judged::Unsafe(script, shown) => unsafe_text(alloc, plan, places, script, shown),
-        Judged::Unknown(reason, None) => unknown_text(alloc, *reason),
+        Judged::Unsafe(script, shown, breach) => {
+            unsafe_text(alloc, plan, places, script, shown, breach)
+        }
+        Judged::Unknown(reason, None) => unknown_text(alloc, plan, *reason),
         Judged::Unknown(reason, Some(refusal)) => refused_text(alloc, plan, *reason, refusal),
     }
 }
@@ -194,13 +202,20 @@ fn certificate_line(alloc: Global, certificate: &Certificate) -> Result<Option<V
 }
 
 /// What `make` prints for a plan that is safe.
-fn safe_made(alloc: Global, checked: &Checked) -> Result<(Outcome, Vec<u8>), AllocError>
+fn safe_made(
+    alloc: Global,
+    plan: &Plan,
+    checked: &Checked,
+) -> Result<(Outcome, Vec<u8>), AllocError>
     ensures { IfOk result (λ told.
-        IsSafeMade (certificate_in checked.now) told.0 told.1.items) }
+        IsSafeMade plan.now (certificate_in checked.now) told.0 told.1.items) }
 {
     match certificate_line(alloc, checked.certificate())? {
         Some(text) => Ok((Outcome::Safe, text)),
-        None => Ok((Outcome::Unknown, unknown_text(alloc, Reason::LeafTooLong)?)),
+        None => Ok((
+            Outcome::Unknown,
+            unknown_text(alloc, plan, Reason::LeafTooLong)?,
+        )),
     }
 }
 
@@ -215,15 +230,18 @@ fn made(
     ensures { IfOk result (λ told. IsMade plan.now places.now judged.now told.0 told.1.items) }
 {
     match judged {
-        Judged::Safe(checked) => safe_made(alloc, checked),
-        Judged::Unsafe(script, shown) => {
+        Judged::Safe(checked) => safe_made(alloc, plan, checked),
+        Judged::Unsafe(script, shown, breach) => {
             Ok((
                 Outcome::Unsafe,
-                unsafe_text(alloc, plan, places, script, shown)?,
+                unsafe_text(alloc, plan, places, script, shown, breach)?,
             ))
         }
         Judged::Unknown(reason, _) => {
-            Ok((unknown_outcome(*reason), unknown_text(alloc, *reason)?))
+            Ok((
+                unknown_outcome(*reason),
+                unknown_text(alloc, plan, *reason)?,
+            ))
         }
     }
 }
@@ -232,10 +250,10 @@ fn made(
 ///
 /// A verdict is `safe`, a line; or what a history breaks first and its script, lines; or `unknown:
 /// REASON` and, if the checker refused a certificate, a line for that refusal. Between the first
-/// line and the script stands a comment for each line of the crontab that the script names and that
-/// has a place. If a certificate is
-/// asked for, the accepted one replaces `safe`, and no refusal follows `unknown`; a certificate
-/// above 16 MiB is `unknown: LeafTooLong`. The only error is out of memory.
+/// line and the script stand comments: the story of what is broken, and the place of each line of
+/// the crontab that the script names and that has one. Comments follow `unknown: NoReach`. If a
+/// certificate is asked for, the accepted one replaces `safe`, and no refusal follows `unknown`; a
+/// certificate above 16 MiB is `unknown: LeafTooLong`. The only error is out of memory.
 pub fn answer(
     alloc: Global,
     plan: &Plan,

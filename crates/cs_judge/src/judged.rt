@@ -1,3 +1,4 @@
+use crate::breach::Breach;
 use cs_check::Checked;
 use cs_counterexample::Shown;
 use cs_history::Script;
@@ -9,8 +10,9 @@ use cs_report::CheckFault;
 pub enum Judged {
     /// It is safe, whatever happens: the checker has accepted it with this certificate.
     Safe(Checked),
-    /// It is unsafe: this script is a history in which each run ends in time, and breaks this.
-    Unsafe(Script, Shown),
+    /// It is unsafe: this script is a history in which each run ends in time, and first breaks
+    /// this, while this runs.
+    Unsafe(Script, Shown, Breach),
     /// Neither, and why; and why the checker refuses the maker's certificate, if there was one.
     Unknown(Reason, Option<CheckFault>),
 }

@@ -1,11 +1,13 @@
-ghost use Rattle.std.specs.Prelude.{IfErr, IfOk, IfSome};
+ghost use Rattle.std.specs.Prelude.{◌≡◌, IfErr, IfOk, IfSome, true};
 ghost use Rattle.cs_cert.specs.Certificate.{content};
 ghost use Rattle.cs_check.specs.Checked.{certificate_in};
+ghost use Rattle.cs_report.specs.ScriptText.{is_nameable};
 ghost use Rattle.cs_judge.specs.Form.{IsJudgedBy};
 ghost use Rattle.cs_judge.specs.Judged.{IsCompact, IsJudgement, IsRefusal, Shows};
 ghost use Rattle.cs_judge.specs.declared.judged.Judged.TheVariants.{Safe};
 
 use crate::answers::Wanted;
+use crate::breach::{Breach, first_breach};
 use crate::judged::Judged;
 use cs_cert::Certificate;
 use cs_check::{CheckError, Checked, check_parallel};
@@ -19,7 +21,7 @@ use std::thread::Threads;
 
 /// The plan checked with a certificate of the maker, or why the checker refuses that, if there is
 /// one.
-fn check<R: Threads + Sync>(
+pub(crate) fn check<R: Threads + Sync>(
     rt: &R,
     alloc: Global,
     plan: &Plan,
@@ -66,35 +68,46 @@ fn accept<R: Threads + Sync>(
     }
 }
 
-/// What a script breaks first, if it can be written and shows the plan unsafe.
-fn show(alloc: Global, plan: &Plan, script: &Script) -> Result<Option<Shown>, AllocError>
-    ensures { IfOk result (λ shown. IfSome shown (Shows plan.now script.now)) }
+/// What a script breaks first and what runs then, if it shows the plan unsafe.
+fn proved_breach(alloc: Global, plan: &Plan, script: &Script) -> Result<(Shown, Breach), NotShown>
+    requires { is_nameable plan.now script.now ≡ true }
+    ensures { IfOk result (λ found. Shows plan.now script.now found.0 found.1) }
+{
+    let shown = prove_unsafe(alloc, plan, script)?;
+    let breach = first_breach(alloc, plan, script)?;
+    Ok((shown, breach))
+}
+
+/// The same, if the script can be written too.
+fn show(alloc: Global, plan: &Plan, script: &Script) -> Result<Option<(Shown, Breach)>, AllocError>
+    ensures { IfOk result
+        (λ found. IfSome found (λ it. Shows plan.now script.now it.0 it.1)) }
 {
     if !is_nameable(plan, script) {
         return Ok(None);
     }
-    match prove_unsafe(alloc, plan, script) {
-        Ok(shown) => Ok(Some(shown)),
+    match proved_breach(alloc, plan, script) {
+        Ok(found) => Ok(Some(found)),
         Err(NotShown::OutOfMemory) => Err(AllocError),
         Err(_) => Ok(None),
     }
 }
 
-/// The maker's counterexample and what it breaks first, or why there is none that shows the plan
-/// unsafe.
+/// The maker's counterexample, what it breaks first and what runs then, or why there is none that
+/// shows the plan unsafe.
 fn refute(
     alloc: Global,
     plan: &Plan,
     maker: &Maker<'_>,
-) -> Result<Result<(Script, Shown), Reason>, AllocError>
-    ensures { IfOk result (λ found. IfOk found (λ it. Shows plan.now it.0 it.1)) }
+) -> Result<Result<(Script, Shown, Breach), Reason>, AllocError>
+    ensures { IfOk result (λ found. IfOk found (λ it. Shows plan.now it.0 it.1 it.2)) }
 {
     let script = match maker.counterexample(alloc)? {
         Ok(script) => script,
         Err(reason) => return Ok(Err(reason)),
     };
     match show(alloc, plan, &script)? {
-        Some(shown) => Ok(Ok((script, shown))),
+        Some((shown, breach)) => Ok(Ok((script, shown, breach))),
         None => Ok(Err(Reason::NotChecked)),
     }
 }
@@ -113,7 +126,7 @@ fn decide<R: Threads + Sync>(
     match check(rt, alloc, plan, maker.compact(alloc)?)? {
         Ok(compact) => accept(rt, alloc, plan, &maker, wanted, compact),
         Err(refusal) => match refute(alloc, plan, &maker)? {
-            Ok((script, shown)) => Ok(Judged::Unsafe(script, shown)),
+            Ok((script, shown, breach)) => Ok(Judged::Unsafe(script, shown, breach)),
             Err(reason) => Ok(Judged::Unknown(reason, refusal)),
         },
     }

@@ -3,11 +3,18 @@
 #![tactic(auto)]
 
 mod answers;
+mod breach;
+mod calling;
 mod judged;
 mod judging;
 mod laws;
+mod story;
+mod waiters;
 
 pub use answers::{Outcome, Wanted, answer};
+pub use breach::Breach;
+pub use calling::is_called_safe;
 pub use judged::Judged;
 pub use judging::judge;
 pub use laws::outcomes_hold;
+pub use waiters::push_taker_notes;

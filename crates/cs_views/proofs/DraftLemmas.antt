@@ -1,5 +1,5 @@
 -- What is answered to `draft`.
-use Rattle.std.proofs.Common.{◌≡◌, ◌⊎◌, ◌≤◌, ℕ, ℤ, true, List, Option, Some, None, IfSome, Ok, Err, inl, inr, length, refl, subst, sym}
+use Rattle.std.proofs.Common.{◌≡◌, ◌⊎◌, ◌≤◌, ℕ, ℤ, true, List, Option, Some, None, IfSome, Ok, Err, inl, inr, length, refl, subst}
 use Rattle.clap.specs.Words.{Text}
 use Rattle.cs_crontab.specs.Crontab.{Table}
 use Rattle.cs_anacrontab.specs.Anacrontab.{Table as JobTable}
@@ -21,12 +21,6 @@ declared d bytes None left fresh read is = fresh
 declared d bytes (Some text) left fresh read is =
     let e : bytes ≡ text = subst (λ o. IfSome o (λ t. bytes ≡ t)) fresh read in
     subst (λ b. declared_by b ≡ Ok d) e is
-
--- places that were read, where the files are as they were
-pub placed_on : (path : Text) (tables : Table × JobTable) (read places : List Place) (after before : List ℕ → Option (List ℕ))
-    → after ≡ before → places ≡ read → PlacesIn before path tables.0 read → PlacesIn after path tables.0 places
-placed_on path tables read places after before same is placed =
-    subst (λ (f : List ℕ → Option (List ℕ)). PlacesIn f path tables.0 places) (sym same) (subst (λ (l : List Place). PlacesIn before path tables.0 l) (sym is) placed)
 
 -- an update of declarations that were read
 pub updated : (files left : List ℕ → Option (List ℕ)) (table path : Text) (bytes : List ℕ) (max : ℕ) (offset : ℤ) (tables : Table × JobTable) (places : List Place) (old : Entries) (r : Ending) (before after : Failed)

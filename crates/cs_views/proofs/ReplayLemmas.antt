@@ -1,5 +1,12 @@
--- An event more of a script.
-use Rattle.std.proofs.Common.{◌≡◌, ◌≢◌, Option, Some, None, Ok, Err, refl, sym, ap}
+-- A script and its events.
+use Rattle.std.proofs.Common.{◌≡◌, ◌≢◌, ℕ, Bool, true, false, if◌then◌else◌, List, length, set, Option, Some, None, Result, Ok, Err, refl, sym, ap, subst, inl, inr, length-set}
+use Rattle.cs_io.specs.Files.{IsUpTo}
+use Rattle.cs_decl.specs.Plan.{Declared}
+use Rattle.cs_report.specs.Grammar.{Numbered}
+use Rattle.cs_report.specs.Script.{Fault as ScriptFault}
+use Rattle.cs_report.specs.declared.script.TheConstants.{MAX_SCRIPT}
+use Rattle.cs_files.proofs.TroubleLemmas.{same_script}
+use Rattle.cs_views.specs.Verdict.{MeansPart, as_script}
 use Rattle.cs_history.specs.Plan.{Plan}
 use Rattle.cs_history.specs.Step.{State, Steps, IsFirst, refusal}
 use Rattle.cs_history.specs.declared.event.Event.{Event}
@@ -20,3 +27,20 @@ pub step_refused : (p : Plan) (s : State) (e : Event) (f : Refusal) (n : State) 
 step_refused p s e f n other (first, behind) =
     let is = first_is f (refusal p s e) other first in
     (rw is refl, rw is behind)
+
+-- a first line that is made a comment is as long as it was
+comment_length : (b : Bool) (text : List ℕ) → length (if b then set text 0 35 else text) ≡ length text
+comment_length true text = length-set text 0 35
+comment_length false text = refl
+
+part_length : (judge : Bool) (text : List ℕ) → length (as_script judge text) ≡ length text
+unfolding as_script
+part_length judge text = comment_length _ text
+
+-- scripts that are too long have one fault, whatever their first line is
+pub same_part : (d : Declared) (judge : Bool) (bytes : List ℕ) (m : Result Numbered ScriptFault) (text : List ℕ) → IsUpTo MAX_SCRIPT text bytes → MeansPart d judge bytes m → MeansPart d judge text m
+same_part d judge bytes m text (inl e) means = subst (λ (b : List ℕ). MeansPart d judge b m) e means
+same_part d judge bytes m text (inr long) means =
+    let one = part_length judge bytes in
+    let other = part_length judge text in
+    same_script d (as_script judge bytes) m (as_script judge text) (inr (rw one long.0, rw other long.1)) means

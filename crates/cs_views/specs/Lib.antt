@@ -1,6 +1,7 @@
 pub mod DayText
 pub mod Replay
 pub mod DayAnswer
+pub mod Verdict
 pub mod Replayed
 pub mod DraftAnswer
 pub mod LintAnswer

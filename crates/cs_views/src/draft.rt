@@ -22,7 +22,7 @@ use cs_report::warnings;
 use std::alloc::{AllocError, Global};
 
 /// Whether a job may declare this longest time.
-fn is_possible_max(max: u64) -> bool
+pub(crate) fn is_possible_max(max: u64) -> bool
     ensures { result ≡ is_possible_max max }
 {
     max >= 1 && max <= u64::from(MAX_MINUTES)

@@ -176,42 +176,34 @@ fn push_parts<I: Folders>(
     Ok(())
 }
 
-/// The parts of the commands of a system table.
-fn system_parts<I: Folders>(
+/// The commands of a system table, each with its line.
+fn system_commands<'t>(
     alloc: Global,
-    inputs: &mut I,
-    front: &str,
-    table: &str,
-    lines: &[SystemLine],
-    notes: &mut Vec<u8>,
-) -> Result<Vec<Parts>, Unlisted>
-    ensures parts { IfOk result (λ parts. All HavePartNames parts.items) }
-    ensures stays { (I.whole inputs.new ≡ I.whole inputs.old)
-        × (I.left inputs.new ≡ I.left inputs.old) × (I.reads inputs.new ≡ I.reads inputs.old) }
-    ensures works { OnOk result (I.failed inputs.new ≡ I.failed inputs.old) }
-    ensures fails { IfErr result (IsUnlisted (I.failed inputs.new) (I.reads inputs.new)) }
-{
-    let mut parts = Vec::new(alloc);
+    lines: &'t [SystemLine],
+) -> Result<Vec<(u32, &'t [u8])>, AllocError> {
+    let mut commands = Vec::new(alloc);
     for line in lines {
-        let (line, command) = (line.number(), line.command());
-        let at = Placed {
-            front,
-            table,
-            line,
-            command,
-        };
-        push_parts(alloc, inputs, &at, &mut parts, notes)?;
+        commands.push((line.number(), line.command()))?;
     }
-    Ok(parts)
+    Ok(commands)
 }
 
-/// The parts of the commands of a user's table.
-fn user_parts<I: Folders>(
+/// The commands of a user's table, each with its line.
+fn user_commands<'t>(alloc: Global, lines: &'t [Line]) -> Result<Vec<(u32, &'t [u8])>, AllocError> {
+    let mut commands = Vec::new(alloc);
+    for line in lines {
+        commands.push((line.number(), line.command()))?;
+    }
+    Ok(commands)
+}
+
+/// The parts of these commands of a table.
+fn parts_of_commands<I: Folders>(
     alloc: Global,
     inputs: &mut I,
     front: &str,
     table: &str,
-    lines: &[Line],
+    commands: &[(u32, &[u8])],
     notes: &mut Vec<u8>,
 ) -> Result<Vec<Parts>, Unlisted>
     ensures parts { IfOk result (λ parts. All HavePartNames parts.items) }
@@ -221,13 +213,12 @@ fn user_parts<I: Folders>(
     ensures fails { IfErr result (IsUnlisted (I.failed inputs.new) (I.reads inputs.new)) }
 {
     let mut parts = Vec::new(alloc);
-    for line in lines {
-        let (line, command) = (line.number(), line.command());
+    for (line, command) in commands {
         let at = Placed {
             front,
             table,
-            line,
-            command,
+            line: *line,
+            command: *command,
         };
         push_parts(alloc, inputs, &at, &mut parts, notes)?;
     }
@@ -252,13 +243,19 @@ fn parts_below<I: Folders>(
     let path = given.path();
     if given.owner().is_none() {
         return match read_system_crontab(alloc, bytes) {
-            Ok(table) => system_parts(alloc, inputs, front, path, table.lines(), notes),
+            Ok(table) => {
+                let commands = system_commands(alloc, table.lines())?;
+                parts_of_commands(alloc, inputs, front, path, commands.as_slice(), notes)
+            }
             Err(TableFault::OutOfMemory) => Err(Unlisted::OutOfMemory),
             Err(TableFault::At { .. }) => Ok(Vec::new(alloc)),
         };
     }
     match read_crontab(alloc, bytes) {
-        Ok(table) => user_parts(alloc, inputs, front, path, table.lines(), notes),
+        Ok(table) => {
+            let commands = user_commands(alloc, table.lines())?;
+            parts_of_commands(alloc, inputs, front, path, commands.as_slice(), notes)
+        }
         Err(TableFault::OutOfMemory) => Err(Unlisted::OutOfMemory),
         Err(TableFault::At { .. }) => Ok(Vec::new(alloc)),
     }

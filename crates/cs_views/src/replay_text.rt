@@ -1,14 +1,15 @@
 //! What `replay` tells of the events of a script.
-ghost use Rattle.std.specs.Prelude.{◌≡◌, ◌++◌, IfOk, OnOk, decimal, is_err};
+ghost use Rattle.std.specs.Prelude.{◌≡◌, ◌≤◌, ◌++◌, IfOk, OnOk, decimal, is_err};
 ghost use Rattle.cs_civil.specs.Text.{minute_text};
 ghost use Rattle.cs_decl.specs.Plan.{as_plan};
+ghost use Rattle.cs_history.specs.Plan.{first_start};
 ghost use Rattle.cs_views.specs.Replay.{event_line, event_lines, has_refusal, is_any_refused, last_state, next, replay_text, side, state_line, tried};
 
 use cs_civil::{date_text, push_number};
 use cs_core::Core;
 use cs_decl::Plan;
-use cs_history::{Event, Refusal, Reply};
-use cs_report::{NumberedScript, push_reply};
+use cs_history::{Event, Refusal, Reply, Start};
+use cs_report::push_reply;
 use std::alloc::{AllocError, Global};
 
 /// Tries an event. The only error is want of memory.
@@ -127,20 +128,24 @@ fn push_state(alloc: Global, text: &mut Vec<u8>, core: &Core) -> Result<(), Allo
     text.extend_from_slice(b"\n")
 }
 
-/// What is told of a script under a plan, and whether an event was refused.
+/// What is told of a script under a plan, and whether an event was refused. The script has these
+/// events, each with the number of its line, and starts at 1970-01-04 00:00 or later.
 #[tactic(auto, unfolding(crate::specs::Replay::replay_text, crate::specs::Replay::has_refusal))]
 pub fn replay_text(
     alloc: Global,
     plan: &Plan,
-    script: NumberedScript,
+    start: Start,
+    events: &[(u32, Event)],
 ) -> Result<(Vec<u8>, bool), AllocError>
-    ensures text { IfOk result (λ told. told.0.items ≡ replay_text plan.now script) }
-    ensures refused { IfOk result (λ told. told.1 ≡ has_refusal plan.now script) }
+    requires { first_start ≤ start.now }
+    ensures text { IfOk result (λ told. told.0.items
+        ≡ replay_text plan.now (record { start = start; events = events.now })) }
+    ensures refused { IfOk result (λ told. told.1
+        ≡ has_refusal plan.now (record { start = start; events = events.now })) }
 {
-    let (start, events) = script.into_parts();
     let mut core = Core::open(alloc, plan, start)?;
     let mut text = Vec::new(alloc);
-    let refused = push_events(alloc, &mut text, &mut core, events.as_slice())?;
+    let refused = push_events(alloc, &mut text, &mut core, events)?;
     push_state(alloc, &mut text, &core)?;
     Ok((text, refused))
 }

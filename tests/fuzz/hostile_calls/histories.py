@@ -2,7 +2,7 @@
 
 Events that get on with a history are likelier: what is pending, waits or runs is known from the
 second reading, which plays each script as it is made. What comes of an event comes up often. In
-the week no event is refused.
+the week no event is refused, and neither is one in the beginnings of histories that are judged.
 """
 import json
 from collections import Counter
@@ -18,6 +18,8 @@ PLANS = 400
 EVENTS = 150
 # Of one plan in so many the history is longer.
 LONG_ONE_IN, EVENTS_OF_A_LONG_ONE = 20, 3_000
+# Fewer events than that are judged, so that often no run is late.
+JUDGED = 60
 # 2024-09-13 00:00.
 MIDNIGHT = 28_769_760
 WEIGHTS = {"begin": 22, "minute": 12, "end": 14, "got": 6, "catch": 5, "down": 1, "up": 1}
@@ -85,7 +87,7 @@ class History:
         jobs = [job for job, it in enumerate(plan.jobs) if not it.is_cron and chance.randrange(4)]
         # Days around midnight, for some of the jobs of the anacrontab.
         stamps = {job: MIDNIGHT // DAY + chance.randint(-3, 2) for job in jobs}
-        self.script = Script(start, stamps, [])
+        self.script, self.taken = Script(start, stamps, []), []
         self.state = first_state(self.script)
 
     def any_of(self, runs):
@@ -124,6 +126,8 @@ class History:
             self.state, outcome = self.rules.take(self.state, event)
         except Refused as refused:
             outcome = str(refused)
+        else:
+            self.taken.append(event)
         self.counts[event.kind, outcome] += 1
         if event.kind == "begin":
             self.counts[f"begin {self.plan.jobs[event.job].mode}", outcome] += 1
@@ -173,6 +177,10 @@ def histories(chance):
             history.add_event()
         text = script_text(history.plan, history.script).encode()
         yield call_of(f"history {number}", b"script", text, files)
+        judged = history.script._replace(events=history.taken[: chance.randrange(JUDGED)])
+        text = script_text(history.plan, judged).encode()
+        call = call_of(f"judged history {number}", b"script", text, files)
+        yield call._replace(words=[*call.words, b"--judge"])
     pairs = [(kind, outcome) for kind, all_of in OUTCOMES.items() for outcome in all_of]
     if rare := [it for it in pairs if counts[it] < LEAST]:
         raise ValueError(f"random histories hardly try {rare}")

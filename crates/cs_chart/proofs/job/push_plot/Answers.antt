@@ -20,5 +20,5 @@ returns c =
             c.in_ok-drawn.drawn.bars.items c.as_slice-3.result.now _ _ c.as_slice-2.ensures.value gap c.as_slice-3.ensures.value
             c.in_ok-bars.ensures c.in_ok-drawn.ensures;
       },
-      λ rows d. c.in_ok-push_str.ensures.keeps _ (c.in_ok-is_coarse.ensures _ (c.in_ok-push_lines.ensures _ (c.in_ok-push_bars.ensures rows d))),
+      λ rows d. c.in_ok-push_str.ensures.keeps _ (c.in_ok-is_coarse.ensures _ (c.in_ok-push_met.ensures _ (c.in_ok-push_lines.ensures _ (c.in_ok-push_bars.ensures rows d)))),
     )

@@ -8,8 +8,8 @@ use Rattle.cs_report.specs.Warning.{plan_notes}
 use Rattle.cs_files.specs.Response.{Ending, done}
 use Rattle.cs_files.specs.Reads.{ReadsTables}
 use Rattle.cs_files.specs.Trouble.{CameTo, ends, trouble}
-use Rattle.cs_cli.proofs.CheckLemmas.{fault_fails, placed_on}
-use Rattle.cs_files.proofs.TroubleLemmas.{answered, answered_fault, answered_stop, honest_fault, moved}
+use Rattle.cs_files.proofs.TroubleLemmas.{answered, answered_fault, answered_stop, honest_fault, moved, placed_on}
+use Rattle.cs_cli.proofs.CheckLemmas.{fault_fails}
 use Rattle.cs_io.specs.Files.{Failed}
 use Rattle.cs_files.specs.Turn.{table_paths}
 use Rattle.cs_files.proofs.WarnedLemmas.{behind_warned}

@@ -4,10 +4,9 @@ use Rattle.cs_args.specs.Asked.{asked_judge}
 use Rattle.cs_cli.specs.Judge.{JudgesPlan}
 use Rattle.cs_files.specs.Reads.{ReadsTables}
 use Rattle.cs_files.specs.Trouble.{CameTo, ends, trouble}
-use Rattle.cs_files.proofs.TroubleLemmas.{answered, answered_fault, answered_stop, honest_answer, honest_fault, moved}
+use Rattle.cs_files.proofs.TroubleLemmas.{answered, answered_fault, answered_stop, honest_answer, honest_fault, moved, placed_on}
 use Rattle.cs_io.specs.Files.{Failed}
 use Rattle.cs_files.specs.Turn.{table_paths}
-use Rattle.cs_cli.proofs.CheckLemmas.{placed_on}
 use Rattle.cs_files.proofs.WarnedLemmas.{behind_warned}
 use Rattle.cs_files.proofs.TurnLemmas.{first_read, some_read, then_read}
 use Rattle.cs_cli.proofs.judge.answer_wanted.Goals as goal

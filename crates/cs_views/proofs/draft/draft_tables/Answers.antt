@@ -5,12 +5,11 @@ use Rattle.cs_args.specs.Asked.{asked_draft}
 use Rattle.cs_views.specs.DraftAnswer.{Drafts}
 use Rattle.cs_files.specs.Reads.{ReadsTables}
 use Rattle.cs_files.specs.Trouble.{CameTo, ends, trouble}
-use Rattle.cs_files.proofs.TroubleLemmas.{answered, answered_fault, answered_stop, honest_answer, honest_fault, moved}
+use Rattle.cs_files.proofs.TroubleLemmas.{answered, answered_fault, answered_stop, honest_answer, honest_fault, moved, placed_on}
 use Rattle.cs_io.specs.Files.{Failed}
 use Rattle.cs_files.specs.Turn.{some_path, table_paths}
 use Rattle.cs_files.proofs.WarnedLemmas.{behind_warned}
 use Rattle.cs_files.proofs.TurnLemmas.{some_read, then_read}
-use Rattle.cs_views.proofs.DraftLemmas.{placed_on}
 use Rattle.cs_views.proofs.draft.draft_tables.Goals as goal
 
 pub returns-in-Ok-drawn-clause-value : goal.returns-in-Ok-drawn-clause-value

@@ -1,0 +1,4 @@
+pub mod Own
+pub mod Lines
+pub mod Changes
+pub mod Texts

@@ -1,0 +1,96 @@
+use Rattle.std.proofs.Common.{◌≡◌, ◌++◌, [], ◌∷◌, Ok, Err, Some, option_map, subst}
+use Rattle.std.proofs.lemmas.Result.{IfErr-weaker, IfOk-weaker}
+use Rattle.cs_args.specs.Asked.{asked_judge}
+use Rattle.cs_advise.specs.Answer.{AdvisesPlan}
+use Rattle.cs_advise.proofs.Texts.{text_on}
+use Rattle.cs_files.specs.Reads.{ReadsTables}
+use Rattle.cs_files.specs.Trouble.{CameTo, ends, trouble}
+use Rattle.cs_files.proofs.TroubleLemmas.{answered, answered_fault, answered_stop, honest_answer, honest_fault, moved}
+use Rattle.cs_io.specs.Files.{Failed}
+use Rattle.cs_files.specs.Turn.{table_paths}
+use Rattle.cs_files.proofs.WarnedLemmas.{behind_warned}
+use Rattle.cs_files.proofs.TurnLemmas.{first_read, some_read, then_read}
+use Rattle.cs_advise.proofs.answering.answer_question.Goals as goal
+
+pub returns-in-Ok-told-clause-value : goal.returns-in-Ok-told-clause-value
+returns-in-Ok-told-clause-value g c = λ fresh.
+    let files = g.I.Inputs.whole c.args.inputs.now in
+    let before = g.I.Inputs.failed c.args.inputs.now in
+    let after = g.I.Inputs.failed c.told.new.inputs in
+    let a = asked_judge c.args.request.now in
+    let question = c.args.question in
+    let both = c.in-Ok.found.0 in
+    let one = subst (λ (f : Failed). ReadsTables files a.table a.anacrontab before f (Ok both)) c.in-Ok.ensures.works (c.in-Ok.ensures.step fresh) in
+    let other = moved (λ w f. AdvisesPlan question w a both f after (Ok c.in-Ok-told.answer)) (g.I.Inputs.whole c.read_tables_and_text-read.new.inputs) files (g.I.Inputs.failed c.read_tables_and_text-read.new.inputs) before c.read_tables_and_text-read.ensures.whole c.in-Ok.ensures.works (c.in-Ok-told.ensures.step (c.in-Ok.ensures.fresh fresh) (text_on a.table both.0 c.in-Ok.found.1.items (g.I.Inputs.whole c.read_tables_and_text-read.new.inputs) files c.read_tables_and_text-read.ensures.whole (c.in-Ok.ensures.text fresh))) in
+    IfOk-weaker c.behind.result _ _ (λ r is. answered (ReadsTables files a.table a.anacrontab) (λ b. AdvisesPlan question files a b) before after both c.in_ok-warnings.warnings c.in-Ok-told.answer r one c.in_ok-warnings.ensures other is) c.behind.ensures.told
+
+pub returns-in-Err-told-clause-value : goal.returns-in-Err-told-clause-value
+returns-in-Err-told-clause-value g c = λ fresh.
+    let files = g.I.Inputs.whole c.args.inputs.now in
+    let before = g.I.Inputs.failed c.args.inputs.now in
+    let after = g.I.Inputs.failed c.told.new.inputs in
+    let a = asked_judge c.args.request.now in
+    let question = c.args.question in
+    let both = c.in-Ok.found.0 in
+    let fault = c.in-Err-told.fault in
+    let one = subst (λ (f : Failed). ReadsTables files a.table a.anacrontab before f (Ok both)) c.in-Ok.ensures.works (c.in-Ok.ensures.step fresh) in
+    let other = moved (λ w f. CameTo (AdvisesPlan question w a both f after) (Err fault)) (g.I.Inputs.whole c.read_tables_and_text-read.new.inputs) files (g.I.Inputs.failed c.read_tables_and_text-read.new.inputs) before c.read_tables_and_text-read.ensures.whole c.in-Ok.ensures.works (c.in-Err-told.ensures.step (c.in-Ok.ensures.fresh fresh) (text_on a.table both.0 c.in-Ok.found.1.items (g.I.Inputs.whole c.read_tables_and_text-read.new.inputs) files c.read_tables_and_text-read.ensures.whole (c.in-Ok.ensures.text fresh))) in
+    IfOk-weaker c.response_behind.result _ _ (λ r is. answered_fault (ReadsTables files a.table a.anacrontab) (λ b. AdvisesPlan question files a b) before after both c.in_ok-warnings.warnings fault r one c.in_ok-warnings.ensures other is) c.response_behind.ensures.told
+
+pub returns-in_err-response-in-Err-clause-turn : goal.returns-in_err-response-in-Err-clause-turn
+returns-in_err-response-in-Err-clause-turn g c =
+    let a = asked_judge c.args.request.now in
+    some_read (table_paths a.table a.anacrontab) (a.declarations ∷ []) (g.I.Inputs.reads c.args.inputs.now) (g.I.Inputs.reads c.read_tables_and_text-read.new.inputs) c.read_tables_and_text-read.ensures.turn
+
+pub returns-in-Err-clause-turn : goal.returns-in-Err-clause-turn
+returns-in-Err-clause-turn g c =
+    let a = asked_judge c.args.request.now in
+    some_read (table_paths a.table a.anacrontab) (a.declarations ∷ []) (g.I.Inputs.reads c.args.inputs.now) (g.I.Inputs.reads c.read_tables_and_text-read.new.inputs) c.read_tables_and_text-read.ensures.turn
+
+pub returns-in_err-warnings-clause-turn : goal.returns-in_err-warnings-clause-turn
+returns-in_err-warnings-clause-turn g c =
+    let a = asked_judge c.args.request.now in
+    some_read (table_paths a.table a.anacrontab) (a.declarations ∷ []) (g.I.Inputs.reads c.args.inputs.now) (g.I.Inputs.reads c.read_tables_and_text-read.new.inputs) c.read_tables_and_text-read.ensures.turn
+
+pub returns-in-Ok-told-clause-turn : goal.returns-in-Ok-told-clause-turn
+returns-in-Ok-told-clause-turn g c =
+    let a = asked_judge c.args.request.now in
+    then_read (table_paths a.table a.anacrontab) (a.declarations ∷ []) (g.I.Inputs.reads c.args.inputs.now) (g.I.Inputs.reads c.read_tables_and_text-read.new.inputs) (g.I.Inputs.reads c.told.new.inputs) c.read_tables_and_text-read.ensures.turn (first_read a.declarations [] _ _ c.told.ensures.alone)
+
+pub returns-in-Err-told-clause-turn : goal.returns-in-Err-told-clause-turn
+returns-in-Err-told-clause-turn g c =
+    let a = asked_judge c.args.request.now in
+    then_read (table_paths a.table a.anacrontab) (a.declarations ∷ []) (g.I.Inputs.reads c.args.inputs.now) (g.I.Inputs.reads c.read_tables_and_text-read.new.inputs) (g.I.Inputs.reads c.told.new.inputs) c.read_tables_and_text-read.ensures.turn (first_read a.declarations [] _ _ c.told.ensures.alone)
+
+pub returns-in-Ok-told-clause-warned : goal.returns-in-Ok-told-clause-warned
+returns-in-Ok-told-clause-warned g c = λ fresh.
+    let a = asked_judge c.args.request.now in
+    IfErr-weaker c.behind.result _ _ (λ e is. behind_warned (g.I.Inputs.whole c.args.inputs.now) a.table a.anacrontab (g.I.Inputs.failed c.args.inputs.now) (g.I.Inputs.failed c.read_tables_and_text-read.new.inputs)
+    (g.I.Inputs.reads c.args.inputs.now) (g.I.Inputs.reads c.told.new.inputs) c.in-Ok.found.0 c.in_ok-warnings.warnings e.warnings is (c.in-Ok.ensures.step fresh) c.in-Ok.ensures.works c.in_ok-warnings.ensures) c.behind.ensures.warned
+
+pub returns-in-Err-told-clause-warned : goal.returns-in-Err-told-clause-warned
+returns-in-Err-told-clause-warned g c = λ fresh.
+    let a = asked_judge c.args.request.now in
+    IfErr-weaker c.response_behind.result _ _ (λ e is. behind_warned (g.I.Inputs.whole c.args.inputs.now) a.table a.anacrontab (g.I.Inputs.failed c.args.inputs.now) (g.I.Inputs.failed c.read_tables_and_text-read.new.inputs)
+    (g.I.Inputs.reads c.args.inputs.now) (g.I.Inputs.reads c.told.new.inputs) c.in-Ok.found.0 c.in_ok-warnings.warnings e.warnings is (c.in-Ok.ensures.step fresh) c.in-Ok.ensures.works c.in_ok-warnings.ensures) c.response_behind.ensures.warned
+
+pub returns-in-Ok-told-clause-status : goal.returns-in-Ok-told-clause-status
+returns-in-Ok-told-clause-status g c = IfOk-weaker c.behind.result _ _ (λ r is. honest_answer (g.I.Inputs.failed c.told.new.inputs) (g.I.Inputs.reads c.told.new.inputs) c.in-Ok-told.answer r (c.in_ok-warnings.warnings ++ c.in-Ok-told.answer.err) c.in-Ok-told.ensures.done is) c.behind.ensures.told
+
+pub returns-in-Err-told-clause-status : goal.returns-in-Err-told-clause-status
+returns-in-Err-told-clause-status g c = IfOk-weaker c.response_behind.result _ _ (λ r is. honest_fault (g.I.Inputs.failed c.told.new.inputs) (g.I.Inputs.reads c.told.new.inputs) c.in_ok-warnings.warnings c.in-Err-told.fault r c.in-Err-told.ensures.status is) c.response_behind.ensures.told
+
+pub returns-in-Err-clause-value : goal.returns-in-Err-clause-value
+returns-in-Err-clause-value g c = λ fresh.
+    let files = g.I.Inputs.whole c.args.inputs.now in
+    let before = g.I.Inputs.failed c.args.inputs.now in
+    let after = g.I.Inputs.failed c.read_tables_and_text-read.new.inputs in
+    let a = asked_judge c.args.request.now in
+    let fault = c.in-Err.fault in
+    let r = c.in_ok-response-in-Err.field-0 in
+    answered_stop (ReadsTables files a.table a.anacrontab) (λ b. AdvisesPlan c.args.question files a b) before after fault r (c.in-Err.ensures.step fresh)
+    (subst (λ v. option_map (ends v) (trouble fault) ≡ Some r) c.as_slice.ensures c.in_ok-response-in-Err.ensures)
+
+pub returns-in-Err-clause-status : goal.returns-in-Err-clause-status
+returns-in-Err-clause-status g c =
+    honest_fault (g.I.Inputs.failed c.read_tables_and_text-read.new.inputs) (g.I.Inputs.reads c.read_tables_and_text-read.new.inputs) c.as_slice.result.now c.in-Err.fault c.in_ok-response-in-Err.field-0 c.in-Err.ensures.status c.in_ok-response-in-Err.ensures

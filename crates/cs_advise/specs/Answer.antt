@@ -1,0 +1,120 @@
+-- What is answered to `room` and to `advise`.
+use Rattle.std.specs.Prelude.{◌≡◌, ◌≢◌, ◌⊎◌, ℕ, List, [], ◌++◌, ◌∷◌, codes, Option, Result}
+use Rattle.clap.specs.Words.{Text}
+use Rattle.cs_anacrontab.specs.Anacrontab.{Table as JobTable}
+use Rattle.cs_args.specs.CommandLine.{AskedAdvise, AskedJudge}
+use Rattle.cs_counterexample.specs.ShownText.{shown_text}
+use Rattle.cs_counterexample.specs.declared.shown.Shown.{Shown}
+use Rattle.cs_crontab.specs.Crontab.{Table}
+use Rattle.cs_decl.specs.Plan.{Declared}
+use Rattle.cs_files.specs.Reads.{AndThen, Answered, DeclaredIn, GivesSome, ReadsDeclared}
+use Rattle.cs_files.specs.Reads.{ReadsTables, TextIn}
+use Rattle.cs_files.specs.Response.{Ending}
+use Rattle.cs_files.specs.Trouble.{Trouble}
+use Rattle.cs_gather.specs.Places.{places_of}
+use Rattle.cs_gather.specs.declared.places.Place.{Place}
+use Rattle.cs_io.specs.Files.{Failed}
+use Rattle.cs_judge.specs.Answer.{unknown_outcome, verdict_text}
+use Rattle.cs_judge.specs.Judged.{IsJudgement}
+use Rattle.cs_judge.specs.declared.answers.Outcome.{Outcome}
+use Rattle.cs_judge.specs.declared.answers.Outcome.TheVariants as outcome
+use Rattle.cs_judge.specs.declared.judged.Judged.{Judged}
+use Rattle.cs_judge.specs.declared.judged.Judged.TheVariants.{Safe, Unknown, Unsafe}
+use Rattle.cs_report.specs.Warning.{plan_notes}
+use Rattle.cs_advise.specs.Advice.{IsAdvice}
+use Rattle.cs_advise.specs.Room.{AreRooms, room_text}
+use Rattle.cs_advise.specs.declared.answers.Question.{Question}
+use Rattle.cs_advise.specs.declared.answers.Question.TheVariants.{Advice, Rooms}
+use Rattle.cs_advise.specs.declared.change.Change.{Change}
+use Rattle.cs_advise.specs.declared.room.Room.{Room}
+use Rattle.cs_advise.specs.declared.source.Source.{Source}
+
+-- a line for the room of each job, behind what stands before them
+pub record TellsRooms (plan : Declared) (head out : List ℕ) : Type 0 where
+  pub rooms : List Room
+  pub each : AreRooms plan rooms
+  pub told : out ≡ head ++ room_text plan rooms
+
+-- the line of what is broken first
+abbrev pub shown_line : Declared → Shown → List ℕ
+shown_line plan shown = shown_text plan shown ++ 10 ∷ []
+
+-- A line for each change that makes the plan safe, and status 0; or there is none, and the line of
+-- what is broken first, and status 1.
+pub record TellsAdvice (source : Source) (plan : Declared) (shown : Shown) (status : ℕ)
+    (out : List ℕ) : Type 0 where
+  pub changes : List Change
+  pub told : ((status ≡ 0) × (changes ≢ []) × IsAdvice source plan changes out)
+      ⊎ ((status ≡ 1) × (changes ≡ []) × (out ≡ shown_line plan shown))
+
+-- what stands before the rooms of a safe plan
+abbrev pub head_of : Question → List ℕ
+head_of Rooms = []
+head_of (Advice within) = codes "safe\n"
+
+-- what is printed of an unsafe plan: advice, or what it breaks first
+abbrev pub IsTold : Question → Source → Declared → Shown → ℕ → List ℕ → Type 0
+IsTold Rooms source plan shown status out = (status ≡ 1) × (out ≡ shown_line plan shown)
+IsTold (Advice within) source plan shown status out = TellsAdvice source plan shown status out
+
+-- nothing is known, and whether that is since memory ran out
+abbrev pub unknown_status : Outcome → ℕ
+unknown_status outcome.NoMemory = 5
+unknown_status outcome.Safe = 2
+unknown_status outcome.Unsafe = 2
+unknown_status outcome.Unknown = 2
+
+-- What is printed of a plan that was judged: the room of each job of a safe one, what is told of an
+-- unsafe one, and what `judge` prints where nothing is known.
+abbrev pub IsPrinted : Question → Source → Declared → List Place → Judged → ℕ → List ℕ → Type 0
+IsPrinted question source plan places (Safe checked) status out =
+    (status ≡ 0) × TellsRooms plan (head_of question) out
+IsPrinted question source plan places (Unsafe script shown breach) status out =
+    IsTold question source plan shown status out
+IsPrinted question source plan places (Unknown reason refusal) status out =
+    (status ≡ unknown_status (unknown_outcome reason))
+    × (out ≡ verdict_text plan places (Unknown reason refusal))
+
+-- That is printed, beside the notes on the plan.
+pub record IsAdvised (question : Question) (source : Source) (plan : Declared) (places : List Place)
+    (ending : Ending) : Type 0 where
+  pub judged : Judged
+  pub known : IsJudgement plan judged
+  pub printed : IsPrinted question source plan places judged ending.status ending.out
+  pub err : ending.err ≡ plan_notes plan
+
+-- the texts are those of the files at these paths, which denote the table and make the plan
+pub record AreTexts (files : List ℕ → Option (List ℕ)) (a : AskedJudge) (tables : Table × JobTable)
+    (plan : Declared) (source : Source) : Type 0 where
+  pub table : TextIn files a.table tables.0 source.table
+  pub declarations : DeclaredIn files a.declarations tables plan source.declarations
+
+-- and so with the texts of the files, and the places of the table
+abbrev pub IsAdvisedAt : Question → (List ℕ → Option (List ℕ)) → AskedJudge → Table × JobTable
+    → Declared → Ending → Type 0
+IsAdvisedAt question files a tables plan ending =
+    (source : Source) × AreTexts files a tables plan source
+    × IsAdvised question source plan (places_of source.table tables.0) ending
+
+-- the declarations are read, and the plan is judged
+abbrev pub AdvisesPlan : Question → (List ℕ → Option (List ℕ)) → AskedJudge → Table × JobTable
+    → Failed → Failed → Result Ending Trouble → Type 0
+AdvisesPlan question files a tables =
+    AndThen (ReadsDeclared files tables a.declarations)
+    (λ plan. GivesSome (IsAdvisedAt question files a tables plan))
+
+-- what is answered to a question: that, or the first fault of a file, and no file is read before its
+-- own turn
+abbrev pub AnswersQuestion : Question → AskedJudge → (List ℕ → Option (List ℕ)) → Failed → Failed
+    → Ending → Type 0
+AnswersQuestion question a files =
+    Answered (ReadsTables files a.table a.anacrontab) (λ both. AdvisesPlan question files a both)
+
+-- `room` prints the room of each job
+abbrev pub AnswersRoom : AskedJudge → (List ℕ → Option (List ℕ)) → Failed → Failed → Ending → Type 0
+AnswersRoom a files = AnswersQuestion Rooms a files
+
+-- `advise` prints changes, with starts that are shifted by so many minutes at most
+abbrev pub AnswersAdvise : AskedAdvise → (List ℕ → Option (List ℕ)) → Failed → Failed → Ending
+    → Type 0
+AnswersAdvise a files = AnswersQuestion (Advice a.within) a.judge files

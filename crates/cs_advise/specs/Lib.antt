@@ -1,0 +1,6 @@
+pub mod Names
+pub mod Room
+pub mod Change
+pub mod Told
+pub mod Advice
+pub mod Answer

@@ -1,0 +1,12 @@
+-- How a job is named.
+use Rattle.std.specs.Prelude.{ℕ, List, ◌++◌, codes, flat_map, nat_lt, if◌then◌else◌}
+use Rattle.cs_decl.specs.JobNames.{command_name, identifier_of}
+use Rattle.cs_decl.specs.Plan.{Declared, crons}
+use Rattle.cs_gather.specs.Gathered.{shown}
+
+-- `line N` of a cron job, and `job ID` of an anacron job, the bytes of its identifier as a terminal
+-- may show them
+unfoldable pub job_label : Declared → ℕ → List ℕ
+job_label d j =
+    if nat_lt j (crons d) then command_name d j
+    else codes "job " ++ flat_map shown (identifier_of d j)

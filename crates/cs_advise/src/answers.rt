@@ -1,0 +1,190 @@
+//! What is answered of a plan that was judged.
+ghost use Rattle.std.specs.Prelude.{◌≡◌, ◌++◌, IfOk};
+ghost use Rattle.cs_files.specs.Response.{status_of};
+ghost use Rattle.cs_judge.specs.Called.{IsCalledSafe};
+ghost use Rattle.cs_counterexample.specs.Shown.{IsTellable};
+ghost use Rattle.cs_decl.specs.Plan.{as_plan};
+ghost use Rattle.cs_judge.specs.Judged.{IsJudgement};
+ghost use Rattle.cs_advise.specs.Advice.{IsAdvice};
+ghost use Rattle.cs_advise.specs.Answer.{IsAdvised, IsPrinted, IsTold, TellsAdvice, TellsRooms};
+ghost use Rattle.cs_advise.specs.Answer.{head_of, shown_line, unknown_status};
+
+use crate::advice::{Advice, told_changes};
+use crate::breach::jobs_of;
+use crate::rooms::{push_rooms, rooms_of};
+use crate::search::Search;
+use crate::source::Source;
+use cs_counterexample::{Shown, shown_text};
+use cs_decl::Plan;
+use cs_files::{Response, Status};
+use cs_gather::Place;
+use cs_judge::{Breach, Judged, Outcome, Wanted, answer, judge};
+use cs_report::plan_notes;
+use std::alloc::{AllocError, Global};
+use std::thread::Threads;
+
+/// What is asked of a plan.
+#[derive(Clone, Copy, Debug, PartialEq, Eq)]
+pub enum Question {
+    /// How long the runs of each job may take.
+    Rooms,
+    /// Which changes make it safe, with starts that are shifted by so many minutes at most.
+    Advice(u64),
+}
+
+/// A line for the room of each job of a safe plan, behind what stands before them.
+fn rooms_text<R: Threads + Sync>(
+    rt: &R,
+    alloc: Global,
+    plan: &Plan,
+    head: &[u8],
+) -> Result<Vec<u8>, AllocError>
+    requires { IsCalledSafe plan.now }
+    ensures { IfOk result (λ out. TellsRooms plan.now head.now out.items) }
+{
+    let rooms = rooms_of(rt, alloc, plan)?;
+    let mut text = Vec::from_slice(alloc, head)?;
+    push_rooms(alloc, &mut text, plan, rooms.as_slice())?;
+    Ok(text)
+}
+
+/// The line of what is broken first.
+fn shown_line(alloc: Global, plan: &Plan, shown: &Shown) -> Result<Vec<u8>, AllocError>
+    requires { IsTellable (as_plan plan.now) shown.now }
+    ensures { IfOk result (λ text. text.items ≡ shown_line plan.now shown.now) }
+{
+    let mut text = Vec::from_slice(alloc, shown_text(alloc, plan, shown)?.as_slice())?;
+    text.extend_from_slice(b"\n")?;
+    Ok(text)
+}
+
+/// Changes of an unsafe plan that make it safe.
+fn advice_on<R: Threads + Sync>(
+    rt: &R,
+    alloc: Global,
+    source: &Source,
+    plan: &Plan,
+    jobs: &[u16],
+    within: u64,
+) -> Result<Advice, AllocError>
+    ensures { IfOk result
+        (λ advice. IsAdvice source.now plan.now advice.changes.items advice.text.items) }
+{
+    let search = Search {
+        rt,
+        alloc,
+        source,
+        plan,
+    };
+    let changes = search.changes(jobs, within)?;
+    told_changes(rt, alloc, source, plan, changes)
+}
+
+/// A line for each change that makes an unsafe plan safe; or the line of what it breaks first,
+/// where none was found.
+fn advice_text<R: Threads + Sync>(
+    rt: &R,
+    alloc: Global,
+    source: &Source,
+    plan: &Plan,
+    broken: (&Shown, &Breach),
+    within: u64,
+) -> Result<(Status, Vec<u8>), AllocError>
+    requires { IsTellable (as_plan plan.now) broken.0.now }
+    ensures { IfOk result
+        (λ told. TellsAdvice source.now plan.now broken.entry.0.now (status_of told.0) told.1.items) }
+{
+    let (shown, breach) = broken;
+    let jobs = jobs_of(alloc, plan, shown, breach)?;
+    let advice = advice_on(rt, alloc, source, plan, jobs.as_slice(), within)?;
+    if advice.changes.is_empty() {
+        return Ok((Status::Refused, shown_line(alloc, plan, shown)?));
+    }
+    Ok((Status::Done, advice.text))
+}
+
+/// What stands before the rooms of a safe plan.
+fn head_of(question: Question) -> &'static [u8]
+    ensures { result.now ≡ head_of question }
+{
+    match question {
+        Question::Rooms => b"",
+        Question::Advice(_) => b"safe\n",
+    }
+}
+
+/// What is printed of an unsafe plan, and the status.
+fn told<R: Threads + Sync>(
+    rt: &R,
+    alloc: Global,
+    source: &Source,
+    plan: &Plan,
+    question: Question,
+    broken: (&Shown, &Breach),
+) -> Result<(Status, Vec<u8>), AllocError>
+    requires { IsTellable (as_plan plan.now) broken.0.now }
+    ensures { IfOk result (λ told. IsTold question source.now plan.now broken.entry.0.now
+        (status_of told.0) told.1.items) }
+{
+    match question {
+        Question::Rooms => Ok((Status::Refused, shown_line(alloc, plan, broken.0)?)),
+        Question::Advice(within) => advice_text(rt, alloc, source, plan, broken, within),
+    }
+}
+
+/// The status where nothing is known.
+fn unknown_status(outcome: Outcome) -> Status
+    ensures { status_of result ≡ unknown_status outcome }
+{
+    match outcome {
+        Outcome::NoMemory => Status::NoMemory,
+        Outcome::Safe | Outcome::Unsafe | Outcome::Unknown => Status::Unknown,
+    }
+}
+
+/// What is printed of a plan that was judged, and the status.
+fn printed<R: Threads + Sync>(
+    rt: &R,
+    alloc: Global,
+    source: &Source,
+    plan: &Plan,
+    places: &[Place],
+    question: Question,
+    judged: &Judged,
+) -> Result<(Status, Vec<u8>), AllocError>
+    requires { IsJudgement plan.now judged.now }
+    ensures { IfOk result (λ told. IsPrinted question source.now plan.now places.now judged.now
+        (status_of told.0) told.1.items) }
+{
+    match judged {
+        Judged::Safe(_) => {
+            let text = rooms_text(rt, alloc, plan, head_of(question))?;
+            Ok((Status::Done, text))
+        }
+        Judged::Unsafe(_, shown, breach) => {
+            told(rt, alloc, source, plan, question, (shown, breach))
+        }
+        Judged::Unknown(_, _) => {
+            let (outcome, text) = answer(alloc, plan, places, Wanted::Verdict, judged)?;
+            Ok((unknown_status(outcome), text))
+        }
+    }
+}
+
+/// What is answered of a plan that comes from these texts, beside the notes on it. The only error
+/// is want of memory.
+pub(crate) fn advised<R: Threads + Sync>(
+    rt: &R,
+    alloc: Global,
+    source: &Source,
+    plan: &Plan,
+    places: &[Place],
+    question: Question,
+) -> Result<Response, AllocError>
+    ensures { IfOk result (IsAdvised question source.now plan.now places.now) }
+{
+    let judged = judge(rt, alloc, plan, Wanted::Verdict);
+    let notes = plan_notes(alloc, plan)?;
+    let (status, text) = printed(rt, alloc, source, plan, places, question, &judged)?;
+    Ok(Response::told(status, text, notes))
+}

@@ -1,0 +1,25 @@
+//! Helps an operator with a plan: changes that make an unsafe plan safe, and how long the runs of a
+//! safe one may take.
+#![tactic(auto)]
+
+mod advice;
+mod answering;
+mod answers;
+mod breach;
+mod change;
+mod changing;
+mod entry;
+mod label;
+mod room;
+mod rooms;
+mod search;
+mod shifting;
+mod source;
+mod text;
+mod told;
+
+pub use answering::{answer_advise, answer_room};
+pub use answers::Question;
+pub use change::{Change, Shift, Start};
+pub use room::Room;
+pub use source::Source;

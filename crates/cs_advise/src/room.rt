@@ -1,0 +1,87 @@
+//! How long the runs of a job may take while the plan stays safe.
+ghost use Rattle.std.specs.Prelude.{◌≡◌, ◌≤◌, ◌<◌, ◌+◌, IfOk, length, true};
+ghost use Rattle.cs_decl.specs.Changed.{with_max};
+ghost use Rattle.cs_decl.specs.declared.limits.TheConstants.{MAX_MINUTES};
+ghost use Rattle.cs_judge.specs.Called.{IsCalledSafe};
+ghost use Rattle.cs_advise.specs.Room.{IsRoom};
+
+use cs_decl::{MAX_MINUTES, Plan};
+use cs_judge::is_called_safe;
+use std::alloc::{AllocError, Global};
+use std::thread::Threads;
+
+/// How long the runs of a job may take while the plan stays safe, in minutes.
+#[derive(Clone, Copy, Debug, PartialEq, Eq)]
+pub struct Room {
+    /// The number of the job.
+    pub job: u16,
+    /// The longest time that is declared.
+    pub max: u16,
+    /// The greatest longest time that was judged safe, all else as it is declared.
+    pub most: u16,
+}
+
+/// Whether the plan is called safe with another longest time of a job.
+pub(crate) fn is_safe_with<R: Threads + Sync>(
+    rt: &R,
+    alloc: Global,
+    plan: &Plan,
+    job: u16,
+    max: u16,
+) -> Result<bool, AllocError>
+    requires there { job < length plan.now.jobs }
+    requires in_range { (1 ≤ max) × (max ≤ MAX_MINUTES) }
+    ensures { IfOk result (λ safe. safe ≡ true → IsCalledSafe (with_max plan.now job max)) }
+{
+    let changed = plan.with_max(alloc, job, max)?;
+    is_called_safe(rt, alloc, &changed)
+}
+
+/// The longest time at the end of a safe stretch, by halving: `low` is safe, and `high` is past the
+/// greatest or isn't known to be safe, as the minute above the answer then.
+fn halved<R: Threads + Sync>(
+    rt: &R,
+    alloc: Global,
+    plan: &Plan,
+    job: u16,
+    mut low: u16,
+) -> Result<u16, AllocError>
+    requires there { job < length plan.now.jobs }
+    requires in_range { (1 ≤ low) × (low ≤ MAX_MINUTES) }
+    requires safe { IsCalledSafe (with_max plan.now job low) }
+    ensures more { IfOk result (λ most. low ≤ most) }
+    ensures safe { IfOk result (λ most. IsCalledSafe (with_max plan.now job most)) }
+{
+    let mut high = MAX_MINUTES + 1;
+    while high - low > 1 {
+        let middle = low + (high - low) / 2;
+        if is_safe_with(rt, alloc, plan, job, middle)? {
+            low = middle;
+        } else {
+            high = middle;
+        }
+    }
+    Ok(low)
+}
+
+/// The room of a job of a safe plan. The greatest time is tried first, since many jobs have it.
+#[tactic(auto, using(crate::proofs::Own::safe_with_own))]
+pub(crate) fn room_of<R: Threads + Sync>(
+    rt: &R,
+    alloc: Global,
+    plan: &Plan,
+    job: u16,
+) -> Result<Room, AllocError>
+    requires there { job < length plan.now.jobs }
+    requires safe { IsCalledSafe plan.now }
+    ensures job { IfOk result (λ room. room.job ≡ job) }
+    ensures room { IfOk result (IsRoom plan.now) }
+{
+    let max = plan.job_at(job).max();
+    let most = if is_safe_with(rt, alloc, plan, job, MAX_MINUTES)? {
+        MAX_MINUTES
+    } else {
+        halved(rt, alloc, plan, job, max)?
+    };
+    Ok(Room { job, max, most })
+}

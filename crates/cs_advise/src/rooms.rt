@@ -1,0 +1,106 @@
+//! The room of each job of a plan.
+ghost use Rattle.std.specs.Prelude.{◌≡◌, ◌++◌, All, IfOk, OnOk, flat_map, length, map};
+ghost use Rattle.std.specs.List.{range_with_len};
+ghost use Rattle.cs_judge.specs.Called.{IsCalledSafe};
+ghost use Rattle.cs_advise.specs.Room.{AreRooms, IsRoom, declared_text, limit_mark, most_text};
+ghost use Rattle.cs_advise.specs.Room.{room_line, room_text, safe_up_to};
+
+use crate::label::push_label;
+use crate::room::{Room, room_of};
+use cs_civil::push_number;
+use cs_decl::{MAX_MINUTES, Plan};
+use std::alloc::{AllocError, Global};
+use std::thread::Threads;
+
+/// The room of each job, in the order of jobs.
+#[tactic(auto, using(crate::proofs::Own::next))]
+fn each_room<R: Threads + Sync>(rt: &R, alloc: Global, plan: &Plan) -> Result<Vec<Room>, AllocError>
+    requires { IsCalledSafe plan.now }
+    ensures jobs { IfOk result
+        (λ rooms. map (λ room. room.job) rooms.items ≡ range_with_len 0 (length plan.now.jobs)) }
+    ensures each { IfOk result (λ rooms. All (IsRoom plan.now) rooms.items) }
+{
+    let mut rooms = Vec::new(alloc);
+    for job in 0..plan.jobs().len() as u16 {
+        rooms.push(room_of(rt, alloc, plan, job)?)?;
+    }
+    Ok(rooms)
+}
+
+/// The room of each job of a safe plan, first those that have the least to spare, and among those
+/// the first job first. The only error is want of memory.
+pub(crate) fn rooms_of<R: Threads + Sync>(
+    rt: &R,
+    alloc: Global,
+    plan: &Plan,
+) -> Result<Vec<Room>, AllocError>
+    requires { IsCalledSafe plan.now }
+    ensures { IfOk result (λ rooms. AreRooms plan.now rooms.items) }
+{
+    let mut rooms = each_room(rt, alloc, plan)?;
+    rooms.sort_by_key(|room| room.most.saturating_sub(room.max))?;
+    Ok(rooms)
+}
+
+/// Adds the end of a line.
+#[tactic(auto, unfolding(crate::specs::Room::limit_mark))]
+fn push_limit_mark(text: &mut Vec<u8>, most: u16) -> Result<(), AllocError>
+    ensures { OnOk result (text.new.items ≡ text.old.items ++ limit_mark most) }
+{
+    if most == MAX_MINUTES {
+        text.extend_from_slice(b" (the most)\n")
+    } else {
+        text.extend_from_slice(b"\n")
+    }
+}
+
+/// Adds `: max MAX`.
+#[tactic(auto, unfolding(crate::specs::Room::declared_text))]
+fn push_declared(alloc: Global, text: &mut Vec<u8>, max: u16) -> Result<(), AllocError>
+    ensures { OnOk result (text.new.items ≡ text.old.items ++ declared_text max) }
+{
+    text.extend_from_slice(b": max ")?;
+    push_number(alloc, text, u128::from(max))
+}
+
+#[tactic(auto, unfolding(crate::specs::Room::safe_up_to))]
+fn push_safe_up_to(text: &mut Vec<u8>) -> Result<(), AllocError>
+    ensures { OnOk result (text.new.items ≡ text.old.items ++ safe_up_to) }
+{
+    text.extend_from_slice(b", safe up to ")
+}
+
+/// Adds `, safe up to MOST` and the end of a line.
+#[tactic(auto, unfolding(crate::specs::Room::most_text))]
+fn push_most(alloc: Global, text: &mut Vec<u8>, most: u16) -> Result<(), AllocError>
+    ensures { OnOk result (text.new.items ≡ text.old.items ++ most_text most) }
+{
+    push_safe_up_to(text)?;
+    push_number(alloc, text, u128::from(most))?;
+    push_limit_mark(text, most)
+}
+
+/// Adds `JOB: max MAX, safe up to MOST`, a line.
+#[tactic(auto, unfolding(crate::specs::Room::room_line))]
+fn push_room(alloc: Global, text: &mut Vec<u8>, plan: &Plan, room: Room) -> Result<(), AllocError>
+    ensures { OnOk result (text.new.items ≡ text.old.items ++ room_line plan.now room) }
+{
+    push_label(alloc, text, plan, room.job)?;
+    push_declared(alloc, text, room.max)?;
+    push_most(alloc, text, room.most)
+}
+
+/// Adds a line for each room.
+pub(crate) fn push_rooms(
+    alloc: Global,
+    text: &mut Vec<u8>,
+    plan: &Plan,
+    rooms: &[Room],
+) -> Result<(), AllocError>
+    ensures { OnOk result (text.new.items ≡ text.old.items ++ room_text plan.now rooms.now) }
+{
+    for room in rooms {
+        push_room(alloc, text, plan, *room)?;
+    }
+    Ok(())
+}

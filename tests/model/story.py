@@ -7,7 +7,7 @@ from typing import NamedTuple
 
 from model.calendar import DAY, LAST_DAY, due_minutes, kind_of, minute_of_text, minute_text
 from model.gather import shown
-from model.replay import Rules, first_state
+from model.replay import Rules, first_state, may_meet, run_text
 
 LAST_MINUTE = DAY * LAST_DAY + DAY - 1
 # How many bytes of a command a line shows.
@@ -33,17 +33,6 @@ class Broken(NamedTuple):
     below: int = None
     # What is told of each run: that it holds a lock.
     held: bytes = b""
-
-
-def run_text(plan, job, named):
-    of = plan.jobs[job]
-    text = "{} due {}" if of.is_cron else "job {} at {}"
-    return text.format(of.name.decode(), minute_text(named))
-
-
-def may_meet(plan, one, other):
-    is_exclusive = one.group is not None and plan.groups[one.group].exclusive
-    return one.group != other.group or not is_exclusive or (one.shares and other.shares)
 
 
 def group_text(plan, job):

@@ -16,6 +16,7 @@ from model.day import day_answer
 from model.declarations import GREATEST_MAX, plain_plan, read_declared, read_plan
 from model.faults import Fault
 from model.gather import gathered, shown, system_source, table_of, user_source
+from model.overload import overload_notes
 from model.replay import replay_answer
 from model.story import taker_notes
 from model.users import no_users_in, users_in, words_of
@@ -64,10 +65,20 @@ JOBS_HINT = b"cronsafe: the table reads as an anacrontab: give it with --anacron
 # What follows a longest time and hours that are words of the call.
 MAX_HINT = b"cronsafe: the longest time is from 1 to 4320 minutes\n"
 HOURS_HINT = b"cronsafe: --from is from 0 on and below --to, which is at most 1440\n"
+# What follows a fault of declarations whose line and column only `lint` tells.
+LINT_HINT = b"cronsafe: cronsafe lint TABLE DECLS tells where\n"
 
 
 class Unread(Exception):
     """A path can't be read, and why."""
+
+
+def hint_of(fault):
+    """Returns what follows a fault: of declarations who tells where it is, unless the fault itself
+    tells a line or a job of a table.
+    """
+    is_told = fault.of != "declarations" or fault.place.startswith((b"line ", b"job "))
+    return b"" if is_told else LINT_HINT
 
 
 def has_jobs(text):
@@ -382,6 +393,7 @@ class Call:
         if verdict == b"safe\n":
             return 0, verdict
         self.warned += notes_of_refusal(verdict, self.bytes_of(found["TABLE"]), plan)
+        self.warned += overload_notes(verdict, plan, said)
         return 1, verdict
 
     def replay(self, found):
@@ -404,7 +416,7 @@ class Call:
             return Answer(status, out, self.warned)
         except Fault as fault:
             told = b"cronsafe: %s\n" % fault.text()
-            return Answer(3, b"", self.warned + told + self.hint)
+            return Answer(3, b"", self.warned + told + (self.hint or hint_of(fault)))
         except Unread as unread:
             told = b"cronsafe: can't read %s: %s\n" % unread.args
             return Answer(6, b"", self.warned + told)

@@ -16,6 +16,10 @@ MARK_NAME = b"CRONSAFE_TABLE"
 PLACE = re.compile(rb"#@ [^\x00-\x1f\x7f]*:[^\x00-\x1f\x7f]* [^\x00-\x20\x7f]+")
 PART = re.compile(rb"#@ part ([A-Za-z0-9_-]+)")
 
+# What may be the name of a program or a path to it, and the programs that lock files.
+PATH = re.compile(rb"[A-Za-z0-9/._+-]+")
+LOCKERS = {b"flock", b"setlock", b"lckdo", b"lockfile", b"dotlockfile", b"with-lock-ex"}
+
 # A longest time is three days at most, so that only due minutes of so many days matter.
 DAYS_LOOKED_AT = 4
 
@@ -110,6 +114,21 @@ def is_draft(text, files, asked):
         and all(it.max == longest_time(it.of, asked, names_of(it, told)) for it in plan.jobs)
         and all(has_shares(it, told.get(line, [])) for line, it in entries.items())
     )
+
+
+def unlocked_lines(text, files):
+    """Returns which lines name a program that locks files, and have an entry in no group."""
+    crontab = read_crontab(files[b"crontab"])
+    entries = entries_by_line(read_declared(text), crontab)
+    return [
+        it.line
+        for it in crontab.commands
+        if it.line in entries and entries[it.line].group is None and names_locker(it.text)
+    ]
+
+
+def names_locker(command):
+    return any(it.rpartition(b"/")[2] in LOCKERS for it in PATH.findall(command))
 
 
 def names_of(job, told):

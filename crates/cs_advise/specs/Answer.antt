@@ -103,8 +103,8 @@ AdvisesPlan question files a tables =
     AndThen (ReadsDeclared files tables a.declarations)
     (λ plan. GivesSome (IsAdvisedAt question files a tables plan))
 
--- what is answered to a question: that, or the first fault of a file, and no file is read before its
--- own turn
+-- what is answered to a question: that, or the first fault of a file, and no file is read before
+-- its own turn
 abbrev pub AnswersQuestion : Question → AskedJudge → (List ℕ → Option (List ℕ)) → Failed → Failed
     → Ending → Type 0
 AnswersQuestion question a files =

@@ -1,18 +1,21 @@
 -- Changes of a table or of declarations.
-use Rattle.std.specs.Prelude.{◌≡◌, ◌==◌, ◌-◌, ◌&&◌, ℕ, Bool, false, true, List, ◌∷◌, ◌++◌, []}
-use Rattle.std.specs.Prelude.{⊤, Ok, bytes_eq, flat_map, set}
+use Rattle.std.specs.Prelude.{◌≡◌, ◌≢◌, ◌==◌, ◌+◌, ◌-◌, ◌<◌, ℕ, List, ◌∷◌, ◌++◌, [], length}
+use Rattle.std.specs.Prelude.{⊤, Ok, flat_map, if◌then◌else◌, set, slice_index_or}
 use Rattle.cs_crontab.specs.Crontab.{CommandLine, Table}
 use Rattle.cs_crontab.specs.Faults.{IsCrontab}
+use Rattle.cs_crontab.specs.declared.table.When.{When}
 use Rattle.cs_decl.specs.Changed.{with_capacity, with_hours, with_max, with_mode}
 use Rattle.cs_decl.specs.Join.{joined}
 use Rattle.cs_decl.specs.Meaning.{declared_by}
-use Rattle.cs_decl.specs.Plan.{Declared, command_of}
+use Rattle.cs_decl.specs.Plan.{Declared, command_of, is_due, no_command}
 use Rattle.cs_decl.specs.declared.entries.Entries.{Entries}
 use Rattle.cs_judge.specs.Called.{IsCalledSafe}
 use Rattle.cs_table.specs.Text.{lines_of}
 use Rattle.cs_advise.specs.declared.change.Change.{Change}
 use Rattle.cs_advise.specs.declared.change.Change.TheVariants.{Both, Capacity, Hours, Max, Mode}
 use Rattle.cs_advise.specs.declared.change.Change.TheVariants.{Start as Alone}
+use Rattle.cs_advise.specs.declared.change.Shift.{Shift}
+use Rattle.cs_advise.specs.declared.change.Shift.TheVariants.{Earlier, Later}
 use Rattle.cs_advise.specs.declared.change.Start.{Start}
 use Rattle.cs_advise.specs.declared.source.Source.{Source}
 
@@ -28,43 +31,68 @@ with_line text place line = flat_map ended (set (lines_of text) place line)
 abbrev pub place_of : Declared → ℕ → ℕ
 place_of plan job = (command_of plan job).number - 1
 
--- the same command, on the same line
-abbrev pub is_same : CommandLine → CommandLine → Bool
-is_same one other = one.number == other.number && bytes_eq one.command other.command
+-- so many minutes after each minute the other is due exactly where the one is due at the minute:
+-- minute 0 is 1970-01-01 00:00
+abbrev pub IsLater : ℕ → When → When → Type 0
+IsLater minutes one other = (t : ℕ) → is_due other (t + minutes) ≡ is_due one t
 
--- as many commands, and each is the same
-unfoldable pub are_same : List CommandLine → List CommandLine → Bool
-are_same [] [] = true
-are_same [] (other ∷ others) = false
-are_same (one ∷ more) [] = false
-are_same (one ∷ more) (other ∷ others) = is_same one other && are_same more others
+-- the starts are shifted so
+abbrev pub IsShifted : Shift → When → When → Type 0
+IsShifted (Later minutes) old new = IsLater minutes old new
+IsShifted (Earlier minutes) old new = IsLater minutes new old
+
+-- how a change shifts the starts of a cron job: by no minute where it says nothing of them
+abbrev pub shift_of : Change → ℕ → Shift
+shift_of (Alone start) job = if start.job == job then start.shift else Later 0
+shift_of (Both one other) job =
+    if one.job == job then one.shift else (if other.job == job then other.shift else Later 0)
+shift_of (Max changed max) job = Later 0
+shift_of (Mode changed mode) job = Later 0
+shift_of (Capacity capacity) job = Later 0
+shift_of (Hours hours) job = Later 0
+
+-- the same command, on the same line, and its starts are shifted so
+pub record IsMovedLine (shift : Shift) (old new : CommandLine) : Type 0 where
+  pub number : old.number ≡ new.number
+  pub command : old.command ≡ new.command
+  pub when : IsShifted shift old.when new.when
+
+-- as many commands, and the starts of each are shifted as the change says
+pub record AreMoved (change : Change) (old new : List CommandLine) : Type 0 where
+  pub many : length old ≡ length new
+  pub each : (j : ℕ) → j < length old
+      → IsMovedLine (shift_of change j)
+      (slice_index_or old j no_command) (slice_index_or new j no_command)
 
 -- the text of a table in which the line of the job is another one
 abbrev pub with_start : Declared → List ℕ → Start → List ℕ
 with_start plan text start = with_line text (place_of plan start.job) start.line
 
--- The text of a table is read, and joined with the same declarations. No command is another one.
-pub record IsMoved (source : Source) (plan : Declared) (text : List ℕ) (moved : Declared) : Type 0
-  where
-    pub table : Table
-    pub read : IsCrontab text table
-    pub entries : Entries
-    pub declared : declared_by source.declarations ≡ Ok entries
-    pub joined : joined table plan.anacrontab entries ≡ Ok moved
-    pub commands : are_same plan.crontab.lines moved.crontab.lines ≡ true
+-- The text of a table is read, and joined with the same declarations. Its commands are those of the
+-- plan, with their starts shifted as the change says.
+pub record IsMoved (source : Source) (plan : Declared) (change : Change) (text : List ℕ)
+    (moved : Declared) : Type 0 where
+  pub table : Table
+  pub read : IsCrontab text table
+  pub entries : Entries
+  pub declared : declared_by source.declarations ≡ Ok entries
+  pub joined : joined table plan.anacrontab entries ≡ Ok moved
+  pub commands : AreMoved change plan.crontab.lines moved.crontab.lines
 
--- the plan is that one with the change
+-- the plan is that one with the change; two starts that are moved are of two jobs
 abbrev pub IsChanged : Source → Declared → Change → Declared → Type 0
 IsChanged source plan (Alone start) changed =
-    IsMoved source plan (with_start plan source.table start) changed
+    IsMoved source plan (Alone start) (with_start plan source.table start) changed
 IsChanged source plan (Both one other) changed =
-    IsMoved source plan (with_start plan (with_start plan source.table one) other) changed
+    (one.job ≢ other.job)
+    × IsMoved source plan (Both one other)
+    (with_start plan (with_start plan source.table one) other) changed
 IsChanged source plan (Max job max) changed = changed ≡ with_max plan job max
 IsChanged source plan (Mode job mode) changed = changed ≡ with_mode plan job mode
 IsChanged source plan (Capacity capacity) changed = changed ≡ with_capacity plan capacity
 IsChanged source plan (Hours hours) changed = changed ≡ with_hours plan hours
 
--- with that change, the plan is called safe
+-- with that change the plan is called safe
 pub record MakesSafe (source : Source) (plan : Declared) (change : Change) : Type 0 where
   pub changed : Declared
   pub is : IsChanged source plan change changed

@@ -11,8 +11,8 @@ use Rattle.cs_judge.specs.Called.{IsCalledSafe}
 use Rattle.cs_advise.specs.Names.{job_label}
 use Rattle.cs_advise.specs.declared.room.Room.{Room}
 
--- The plan is called safe with this longest time of the job, which isn't below the declared one, and
--- with all else as it is declared.
+-- The plan is called safe with this longest time of the job, which isn't below the declared one,
+-- and with all else as it is declared.
 pub record IsRoom (plan : Declared) (room : Room) : Type 0 where
   pub declared : room.max ≡ (job_at plan room.job).max
   pub more : room.max ≤ room.most

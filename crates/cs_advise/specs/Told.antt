@@ -1,12 +1,11 @@
 -- The line that tells a change.
-use Rattle.std.specs.Prelude.{ℕ, List, ◌∷◌, ◌++◌, [], codes, map, nat_lt, not, slice_index_or}
+use Rattle.std.specs.Prelude.{ℕ, List, ◌++◌, [], codes, map, nat_lt, not, slice_index_or}
 use Rattle.std.specs.Prelude.{◌==◌, ◌&&◌, ◌||◌, Option, None, Some, if◌then◌else◌}
 use Rattle.std.specs.Fmt.{decimal}
 use Rattle.serde_json.specs.Data.{string}
 use Rattle.serde_json.specs.Written.{compact_text}
 use Rattle.cs_civil.specs.Hours.{CatchUpHours}
 use Rattle.cs_decl.specs.Changed.{with_max, with_mode}
-use Rattle.cs_decl.specs.Job.{DeclaredJob}
 use Rattle.cs_decl.specs.JobNames.{identifier_of}
 use Rattle.cs_decl.specs.Plan.{Declared, command_of, crons, job_at, no_group}
 use Rattle.cs_history.specs.declared.mode.Mode.{Mode as LockMode}

@@ -91,8 +91,8 @@ fn advice_text<R: Threads + Sync>(
     within: u64,
 ) -> Result<(Status, Vec<u8>), AllocError>
     requires { IsTellable (as_plan plan.now) broken.0.now }
-    ensures { IfOk result
-        (λ told. TellsAdvice source.now plan.now broken.entry.0.now (status_of told.0) told.1.items) }
+    ensures { IfOk result (λ told. TellsAdvice source.now plan.now broken.entry.0.now
+        (status_of told.0) told.1.items) }
 {
     let (shown, breach) = broken;
     let jobs = jobs_of(alloc, plan, shown, breach)?;

@@ -51,8 +51,8 @@ fn running(alloc: Global, plan: &Plan, breach: &Breach) -> Result<Vec<u16>, Allo
     Ok(jobs)
 }
 
-/// The jobs of which a change may mend a breach, in order: both that run together, a skipped one with
-/// its group, or those that weigh too much. The only error is want of memory.
+/// The jobs of which a change may mend a breach, in order: both that run together, a skipped one
+/// with its group, or those that weigh too much. The only error is want of memory.
 pub(crate) fn jobs_of(
     alloc: Global,
     plan: &Plan,

@@ -1,17 +1,20 @@
 //! The plan with a single change.
-ghost use Rattle.std.specs.Prelude.{◌≡◌, ◌-◌, IfOk, IfSome, Ok};
+ghost use Rattle.std.specs.Prelude.{◌≡◌, ◌-◌, IfOk, IfSome, IsTrue, Ok, slice_index_or};
 ghost use Rattle.cs_crontab.specs.Faults.{IsCrontab};
+ghost use Rattle.cs_crontab.specs.declared.table.When.TheVariants.{At};
 ghost use Rattle.cs_decl.specs.Changed.{with_capacity, with_max, with_mode};
 ghost use Rattle.cs_decl.specs.Join.{joined};
 ghost use Rattle.cs_decl.specs.Meaning.{declared_by};
-ghost use Rattle.cs_advise.specs.Change.{IsChanged, IsMoved, are_same, is_same, place_of};
-ghost use Rattle.cs_advise.specs.Change.{with_start};
+ghost use Rattle.cs_decl.specs.Plan.{no_command};
+ghost use Rattle.cs_advise.specs.Change.{AreMoved, IsChanged, IsMoved, IsMovedLine, IsShifted};
+ghost use Rattle.cs_advise.specs.Change.{place_of, shift_of, with_start};
 
-use crate::change::{Change, Start};
+use crate::change::{Change, Shift, Start};
+use crate::later::is_later;
 use crate::source::Source;
 use crate::text::with_line;
 use cs_anacrontab::Anacrontab;
-use cs_crontab::{Crontab, Line, TableFault, read_crontab};
+use cs_crontab::{Crontab, Line, Schedule, TableFault, When, read_crontab};
 use cs_decl::{DeclError, Declarations, MAX_CAPACITY, MAX_MINUTES, Plan, join, read_declarations};
 use cs_history::Mode;
 use std::alloc::{AllocError, Global};
@@ -89,27 +92,77 @@ fn plan_of(
     }
 }
 
-fn is_same(one: &Line, other: &Line) -> bool
-    ensures { result ≡ is_same one.now other.now }
+/// Whether the starts of a schedule are shifted so.
+fn are_starts_shifted(shift: Shift, old: &Schedule, new: &Schedule) -> bool
+    ensures { IsTrue result → IsShifted shift (At old.now) (At new.now) }
 {
-    one.number() == other.number() && one.command() == other.command()
+    match shift {
+        Shift::Later(minutes) => is_later(old, new, minutes),
+        Shift::Earlier(minutes) => is_later(new, old, minutes),
+    }
 }
 
-/// Whether the commands are the same, on the same lines.
-#[tactic(auto, unfolding(crate::specs::Change::are_same))]
-fn are_same(one: &[Line], other: &[Line]) -> bool
-    ensures { result ≡ are_same one.now other.now }
+/// Whether the starts are shifted so.
+fn is_shifted(shift: Shift, old: &When, new: &When) -> bool
+    ensures { IsTrue result → IsShifted shift old.now new.now }
 {
-    match one {
-        [] => match other {
-            [] => true,
-            [_, ..] => false,
-        },
-        [first, more @ ..] => match other {
-            [] => false,
-            [second, others @ ..] => is_same(first, second) && are_same(more, others),
-        },
+    let When::At(old) = old else {
+        return false;
+    };
+    let When::At(new) = new else {
+        return false;
+    };
+    are_starts_shifted(shift, old, new)
+}
+
+/// Whether it is the same command, on the same line, and its starts are shifted so.
+fn is_moved_line(shift: Shift, old: &Line, new: &Line) -> bool
+    ensures { IsTrue result → IsMovedLine shift old.now new.now }
+{
+    old.number() == new.number()
+        && old.command() == new.command()
+        && is_shifted(shift, old.when(), new.when())
+}
+
+/// How a change shifts the starts of a cron job.
+fn shift_of(change: &Change, job: usize) -> Shift
+    ensures { result ≡ shift_of change.now job }
+{
+    match change {
+        Change::Start(start) if usize::from(start.job) == job => start.shift,
+        Change::Both(one, _) if usize::from(one.job) == job => one.shift,
+        Change::Both(_, other) if usize::from(other.job) == job => other.shift,
+        _ => Shift::Later(0),
     }
+}
+
+/// Whether a change moves a command so.
+fn is_moved_at(change: &Change, old: &[Line], new: &[Line], job: usize) -> bool
+    ensures { IsTrue result → IsMovedLine (shift_of change.now job)
+        (slice_index_or old.now job no_command) (slice_index_or new.now job no_command) }
+{
+    let Some(old) = old.get(job) else {
+        return false;
+    };
+    let Some(new) = new.get(job) else {
+        return false;
+    };
+    is_moved_line(shift_of(change, job), old, new)
+}
+
+/// Whether a change moves the commands so.
+fn are_moved(change: &Change, old: &[Line], new: &[Line]) -> bool
+    ensures { IsTrue result → AreMoved change.now old.now new.now }
+{
+    if old.len() != new.len() {
+        return false;
+    }
+    for job in 0..old.len() {
+        if !is_moved_at(change, old, new, job) {
+            return false;
+        }
+    }
+    true
 }
 
 /// Where the line of a cron job stands in the text of the table, counted from 0.
@@ -130,15 +183,17 @@ fn with_start(alloc: Global, plan: &Plan, text: &[u8], start: &Start) -> Result<
     with_line(alloc, text, place, start.line.as_slice())
 }
 
-/// The plan of another text of the table, if that can be read, fits the declarations, and has no
-/// other commands.
+/// The plan of another text of the table, if that can be read, fits the declarations, and moves the
+/// commands as the change says.
 fn moved_plan(
     alloc: Global,
     source: &Source,
     plan: &Plan,
+    change: &Change,
     text: &[u8],
 ) -> Result<Option<Plan>, AllocError>
-    ensures { IfOk result (λ found. IfSome found (IsMoved source.now plan.now text.now)) }
+    ensures { IfOk result
+        (λ found. IfSome found (IsMoved source.now plan.now change.now text.now)) }
 {
     let Some(table) = table_in(alloc, text)? else {
         return Ok(None);
@@ -150,7 +205,7 @@ fn moved_plan(
     let Some(moved) = plan_of(alloc, table, anacrontab, declarations)? else {
         return Ok(None);
     };
-    if are_same(plan.crontab().lines(), moved.crontab().lines()) {
+    if are_moved(change, plan.crontab().lines(), moved.crontab().lines()) {
         return Ok(Some(moved));
     }
     Ok(None)
@@ -169,12 +224,15 @@ pub(crate) fn changed_plan(
     match change {
         Change::Start(start) => {
             let text = with_start(alloc, plan, source.table.as_slice(), start)?;
-            moved_plan(alloc, source, plan, text.as_slice())
+            moved_plan(alloc, source, plan, change, text.as_slice())
         }
         Change::Both(one, other) => {
+            if one.job == other.job {
+                return Ok(None);
+            }
             let first = with_start(alloc, plan, source.table.as_slice(), one)?;
             let both = with_start(alloc, plan, first.as_slice(), other)?;
-            moved_plan(alloc, source, plan, both.as_slice())
+            moved_plan(alloc, source, plan, change, both.as_slice())
         }
         Change::Max(job, max) => with_max(alloc, plan, *job, *max),
         Change::Mode(job, mode) => with_mode(alloc, plan, *job, *mode),

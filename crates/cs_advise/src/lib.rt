@@ -10,6 +10,7 @@ mod change;
 mod changing;
 mod entry;
 mod label;
+mod later;
 mod room;
 mod rooms;
 mod search;

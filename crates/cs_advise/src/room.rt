@@ -10,6 +10,12 @@ use cs_judge::is_called_safe;
 use std::alloc::{AllocError, Global};
 use std::thread::Threads;
 
+/// The first stride up from a declared longest time, in minutes.
+const FIRST_STRIDE: u16 = 4;
+
+/// How many times as long the next stride is.
+const GROWTH: u16 = 8;
+
 /// How long the runs of a job may take while the plan stays safe, in minutes.
 #[derive(Clone, Copy, Debug, PartialEq, Eq)]
 pub struct Room {
@@ -37,23 +43,52 @@ pub(crate) fn is_safe_with<R: Threads + Sync>(
     is_called_safe(rt, alloc, &changed)
 }
 
-/// The longest time at the end of a safe stretch, by halving: `low` is safe, and `high` is past the
-/// greatest or isn't known to be safe, as the minute above the answer then.
+/// A longest time that is safe, and one that isn't known to be, by strides from a safe one, short
+/// of the greatest.
+fn by_strides<R: Threads + Sync>(
+    rt: &R,
+    alloc: Global,
+    plan: &Plan,
+    job: u16,
+    max: u16,
+) -> Result<(u16, u16), AllocError>
+    requires there { job < length plan.now.jobs }
+    requires in_range { (1 ≤ max) × (max ≤ MAX_MINUTES) }
+    requires safe { IsCalledSafe (with_max plan.now job max) }
+    ensures more { IfOk result (λ found. (max ≤ found.0) × (found.0 ≤ MAX_MINUTES)) }
+    ensures end { IfOk result (λ found. found.1 ≤ MAX_MINUTES) }
+    ensures safe { IfOk result (λ found. IsCalledSafe (with_max plan.now job found.0)) }
+{
+    let mut low = max;
+    let mut stride = FIRST_STRIDE;
+    while low + stride < MAX_MINUTES {
+        let next = low + stride;
+        if !is_safe_with(rt, alloc, plan, job, next)? {
+            return Ok((low, next));
+        }
+        low = next;
+        stride *= GROWTH;
+    }
+    Ok((low, MAX_MINUTES))
+}
+
+/// The longest time at the end of a safe stretch, by halving: `low` is safe, and `high` isn't known
+/// to be, as the minute above the answer then.
 fn halved<R: Threads + Sync>(
     rt: &R,
     alloc: Global,
     plan: &Plan,
     job: u16,
     mut low: u16,
+    mut high: u16,
 ) -> Result<u16, AllocError>
     requires there { job < length plan.now.jobs }
-    requires in_range { (1 ≤ low) × (low ≤ MAX_MINUTES) }
+    requires in_range { (1 ≤ low) × (low ≤ MAX_MINUTES) × (high ≤ MAX_MINUTES) }
     requires safe { IsCalledSafe (with_max plan.now job low) }
     ensures more { IfOk result (λ most. low ≤ most) }
     ensures safe { IfOk result (λ most. IsCalledSafe (with_max plan.now job most)) }
 {
-    let mut high = MAX_MINUTES + 1;
-    while high - low > 1 {
+    while low + 1 < high {
         let middle = low + (high - low) / 2;
         if is_safe_with(rt, alloc, plan, job, middle)? {
             low = middle;
@@ -64,7 +99,29 @@ fn halved<R: Threads + Sync>(
     Ok(low)
 }
 
-/// The room of a job of a safe plan. The greatest time is tried first, since many jobs have it.
+/// The greatest longest time that is found for a job: that which may be declared is tried first,
+/// since many jobs have it, and then strides from the declared one, of which the last is halved.
+fn greatest<R: Threads + Sync>(
+    rt: &R,
+    alloc: Global,
+    plan: &Plan,
+    job: u16,
+    max: u16,
+) -> Result<u16, AllocError>
+    requires there { job < length plan.now.jobs }
+    requires in_range { (1 ≤ max) × (max ≤ MAX_MINUTES) }
+    requires safe { IsCalledSafe (with_max plan.now job max) }
+    ensures more { IfOk result (λ most. max ≤ most) }
+    ensures safe { IfOk result (λ most. IsCalledSafe (with_max plan.now job most)) }
+{
+    if is_safe_with(rt, alloc, plan, job, MAX_MINUTES)? {
+        return Ok(MAX_MINUTES);
+    }
+    let (low, high) = by_strides(rt, alloc, plan, job, max)?;
+    halved(rt, alloc, plan, job, low, high)
+}
+
+/// The room of a job of a safe plan.
 #[tactic(auto, using(crate::proofs::Own::safe_with_own))]
 pub(crate) fn room_of<R: Threads + Sync>(
     rt: &R,
@@ -78,10 +135,6 @@ pub(crate) fn room_of<R: Threads + Sync>(
     ensures room { IfOk result (IsRoom plan.now) }
 {
     let max = plan.job_at(job).max();
-    let most = if is_safe_with(rt, alloc, plan, job, MAX_MINUTES)? {
-        MAX_MINUTES
-    } else {
-        halved(rt, alloc, plan, job, max)?
-    };
+    let most = greatest(rt, alloc, plan, job, max)?;
     Ok(Room { job, max, most })
 }

@@ -1,5 +1,5 @@
 //! The room of each job of a plan.
-ghost use Rattle.std.specs.Prelude.{◌≡◌, ◌++◌, All, IfOk, OnOk, flat_map, length, map};
+ghost use Rattle.std.specs.Prelude.{◌≡◌, ◌<◌, ◌≤◌, ◌++◌, All, IfOk, OnOk, flat_map, length, map};
 ghost use Rattle.std.specs.List.{range_with_len};
 ghost use Rattle.cs_judge.specs.Called.{IsCalledSafe};
 ghost use Rattle.cs_advise.specs.Room.{AreRooms, IsRoom, declared_text, limit_mark, most_text};
@@ -9,22 +9,29 @@ use crate::label::push_label;
 use crate::room::{Room, room_of};
 use cs_civil::push_number;
 use cs_decl::{MAX_MINUTES, Plan};
+use rayon::prelude::*;
 use std::alloc::{AllocError, Global};
 use std::thread::Threads;
 
-/// The room of each job, in the order of jobs.
-#[tactic(auto, using(crate::proofs::Own::next))]
+/// The room of each job, in the order of jobs. Several threads look for them.
 fn each_room<R: Threads + Sync>(rt: &R, alloc: Global, plan: &Plan) -> Result<Vec<Room>, AllocError>
     requires { IsCalledSafe plan.now }
     ensures jobs { IfOk result
         (λ rooms. map (λ room. room.job) rooms.items ≡ range_with_len 0 (length plan.now.jobs)) }
     ensures each { IfOk result (λ rooms. All (IsRoom plan.now) rooms.items) }
 {
-    let mut rooms = Vec::new(alloc);
-    for job in 0..plan.jobs().len() as u16 {
-        rooms.push(room_of(rt, alloc, plan, job)?)?;
-    }
-    Ok(rooms)
+    (0..plan.jobs().len())
+        .into_par_iter()
+        .with_min_len(1)
+        .map(
+            |job: usize| -> Result<Room, AllocError>
+                requires { (job < length plan.now.jobs) × (length plan.now.jobs ≤ 320)
+                    × IsCalledSafe plan.now }
+                ensures { IfOk result
+                    (λ room. (room.job ≡ job) × IsRoom plan.entry.now room) }
+            { room_of(rt, alloc, plan, job as u16) },
+        )
+        .collect::<Result<Vec<Room>, AllocError>>(rt, alloc)?
 }
 
 /// The room of each job of a safe plan, first those that have the least to spare, and among those

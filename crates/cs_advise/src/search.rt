@@ -159,8 +159,8 @@ impl<R: Threads + Sync> Search<'_, R> {
         Ok(None)
     }
 
-    /// The start of a job later or earlier, by up to four minutes less if that does too, if the plan
-    /// is safe with it.
+    /// The start of a job later or earlier, by up to four minutes less if that does too, if the
+    /// plan is safe with it.
     fn nearest(&self, job: u16, shift: Shift) -> Result<Option<Change>, AllocError> {
         let Some(found) = self.start(job, shift)? else {
             return Ok(None);
@@ -227,8 +227,8 @@ impl<R: Threads + Sync> Search<'_, R> {
         Ok(())
     }
 
-    /// The least greater capacity with which the plan is safe. The greatest one is tried first: where
-    /// that doesn't help, none does.
+    /// The least greater capacity with which the plan is safe. The greatest one is tried first:
+    /// where that doesn't help, none does.
     fn capacity(&self) -> Result<Option<Change>, AllocError> {
         let mut low = self.plan.capacity();
         let mut high = MAX_CAPACITY;

@@ -2,12 +2,10 @@
 //! table is read again and judged.
 
 use crate::change::Shift;
-use cs_civil::{Bytes, push_number};
+use cs_civil::{Bytes, MINUTES_OF_DAY, push_number};
 use cs_crontab::{Part, Schedule};
 use cs_table::text::{first_line, skip_blanks, word};
 use std::alloc::{AllocError, Global};
-
-const MINUTES_OF_DAY: u16 = 1_440;
 
 /// The numbers of a field, with those that the field can have: a `*` where these are all.
 #[derive(Drop)]

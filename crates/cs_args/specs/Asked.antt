@@ -1,10 +1,11 @@
 -- What `parse_words` answers, as what the words ask.
 use Rattle.std.specs.Prelude.{◌≡◌, ◌≢◌, ℕ, List, Option, map, option_map, Some, None, Result, Ok, Err, ⊤}
+use Rattle.std.specs.Borrow.{Bor}
 use Rattle.clap.specs.Words.{Row, Text, kind_of}
 use Rattle.clap.specs.declared.error.Error.{Error}
 use Rattle.clap.specs.declared.error.kind.ErrorKind.TheVariants.{DisplayHelp, DisplayVersion}
 use Rattle.clap.specs.declared.error.kind.ErrorKind.TheVariants as kind
-use Rattle.cs_args.specs.CommandLine.{Asked, AskedCheck, AskedReplay, Asking, Asks, AsksHelp, AsksVersion, Check, Day, Help as HelpAsking, IsNoCall, Replay, asked_by, asked_in, check_in, help_in, replay_in}
+use Rattle.cs_args.specs.CommandLine.{Asked, AskedCheck, AskedReplay, Asking, Asks, AsksHelp, AsksVersion, Check, Day, Help as HelpAsking, IsNoCall, Replay, asked_by, asked_in, asked_up_to, check_in, help_in, replay_in}
 use Rattle.cs_args.specs.CommandLine.{AskedChart, AskedDraft, AskedGather, AskedLint, Chart, Draft, Explain, Gather, Lint}
 use Rattle.cs_args.specs.CommandLine.{chart_in, draft_in, gather_in, lint_in}
 use Rattle.cs_args.specs.CommandLine.{Advise, AskedAdvise, Room, advise_in}
@@ -137,7 +138,14 @@ NumberAsked = AnswersFor (λ n. n)
 abbrev pub MinutesAsked : Option (Option ℕ) → Result (Option ℕ) UsageFault → Type 0
 MinutesAsked = AnswersFor (λ n. n)
 
+-- and of the text of one that may be left out beside declarations
+abbrev pub MaxAsked : Option Text → Result (Bor Text) UsageFault → Type 0
+MaxAsked = AnswersFor (λ text. text.now)
+
 -- and of the entries that follow a subcommand
+abbrev pub DayAskedUpTo : Text → List Row → Result DayWords UsageFault → Type 0
+DayAskedUpTo max rows = AnswersFor asked (asked_up_to max rows)
+
 abbrev pub DayAsked : List Row → Result DayWords UsageFault → Type 0
 DayAsked rows = AnswersFor asked (asked_in rows)
 

@@ -33,11 +33,10 @@ list_rule id = record (option_rule id) { action = Some Append }
 abbrev pub flag_rule : Text → Rule
 flag_rule id = record (new_rule id) { long = Some id; action = Some SetTrue }
 
--- `TABLE DATE MAX`
+-- `TABLE DATE`
 abbrev pub with_words : App → App
-with_words app = with_rule
-    (with_rule (with_rule app (required_rule (codes "TABLE"))) (required_rule (codes "DATE")))
-    (required_rule (codes "MAX"))
+with_words app =
+    with_rule (with_rule app (required_rule (codes "TABLE"))) (required_rule (codes "DATE"))
 
 -- `[--anacrontab FILE] [--from M] [--to M]`
 abbrev pub with_hours : App → App
@@ -47,7 +46,7 @@ with_hours app = with_rule
 
 -- `day TABLE DATE MAX [--anacrontab FILE] [--from M] [--to M]`
 unfoldable pub day_app : App
-day_app = with_hours (with_words (new_app (codes "day")))
+day_app = with_hours (with_rule (with_words (new_app (codes "day"))) (required_rule (codes "MAX")))
 
 -- `[--max N] [--anacrontab FILE] [--declarations FILE]`
 abbrev pub with_terms : App → App
@@ -120,10 +119,11 @@ lint_app =
     with_rule (with_rule (with_rule (new_app (codes "lint")) (required_rule (codes "TABLE")))
     (new_rule (codes "DECLS"))) (option_rule (codes "anacrontab"))
 
--- `chart TABLE DATE MAX [--anacrontab FILE] [--from M] [--to M] [--days N] [--declarations FILE]`
+-- `chart TABLE DATE [MAX] [--anacrontab FILE] [--from M] [--to M] [--days N] [--declarations FILE]`
 unfoldable pub chart_app : App
 chart_app =
-    with_rule (with_rule (with_hours (with_words (new_app (codes "chart"))))
+    with_rule (with_rule (with_hours
+    (with_rule (with_words (new_app (codes "chart"))) (new_rule (codes "MAX"))))
     (option_rule (codes "days"))) (option_rule (codes "declarations"))
 
 -- `explain [NAME]`
@@ -134,7 +134,8 @@ explain_app = with_rule (new_app (codes "explain")) (new_rule (codes "NAME"))
 unfoldable pub help_app : App
 help_app = with_rule (new_app (codes "help")) (new_rule (codes "COMMAND"))
 
--- what `cronsafe` says of itself: it has a version, and wants a subcommand, of which `help` is its own
+-- what `cronsafe` says of itself: it has a version, and wants a subcommand, of which `help` is its
+-- own
 unfoldable pub top_app : App
 top_app = on_top (λ s.
     record s { disable_help_subcommand = true; subcommand_required = true; has_version = true })
@@ -178,8 +179,8 @@ number_of text =
     then Some (digits_value 10 text) else None)
     else None
 
--- what `day` is asked: a table's path, the text of a date, a longest time in minutes, the path of an
--- anacrontab, and the catch-up hours, by their first minute of the day and the first behind them
+-- what `day` is asked: a table's path, the text of a date, a longest time in minutes, the path of
+-- an anacrontab, and the catch-up hours, by their first minute of the day and the first behind them
 pub record Asked : Type 0 where
   pub table : Text
   pub date : Text
@@ -188,8 +189,8 @@ pub record Asked : Type 0 where
   pub from : ℕ
   pub to : ℕ
 
--- what `replay` is asked: the paths of a table and a script, a longest time in minutes, the paths of an
--- anacrontab and of declarations, and whether to say what the script breaks
+-- what `replay` is asked: the paths of a table and a script, a longest time in minutes, the paths
+-- of an anacrontab and of declarations, and whether to say what the script breaks
 pub record AskedReplay : Type 0 where
   pub table : Text
   pub script : Text
@@ -198,15 +199,16 @@ pub record AskedReplay : Type 0 where
   pub declarations : Option Text
   pub judge : Bool
 
--- what `check` is asked: the paths of a table, of declarations, of a certificate and of an anacrontab
+-- what `check` is asked: the paths of a table, of declarations, of a certificate and of an
+-- anacrontab
 pub record AskedCheck : Type 0 where
   pub table : Text
   pub declarations : Text
   pub certificate : Text
   pub anacrontab : Option Text
 
--- what `run` is asked: what `check` is, the path of a folder of stamps, and after how many minutes the
--- clock stops, if it does
+-- what `run` is asked: what `check` is, the path of a folder of stamps, and after how many minutes
+-- the clock stops, if it does
 pub record AskedRun : Type 0 where
   pub check : AskedCheck
   pub stamps : Text
@@ -234,8 +236,8 @@ pub record AskedGather : Type 0 where
   pub system : List Text
   pub user : List Text
 
--- what `draft` is asked: the paths of a table, of an anacrontab and of declarations to update, and a
--- longest time in minutes
+-- what `draft` is asked: the paths of a table, of an anacrontab and of declarations to update, and
+-- a longest time in minutes
 pub record AskedDraft : Type 0 where
   pub table : Text
   pub max : ℕ
@@ -305,15 +307,19 @@ asked_with rows max from to =
       to = to;
     })
 
--- what the entries of `day` ask: MAX and the hours have to be numbers, the hours are by default the
--- whole day, and standard input is named once at most
-abbrev pub asked_in : List Row → Option Asked
-asked_in rows =
+-- what the entries of `day` ask, where MAX is this text: it and the hours have to be numbers, the
+-- hours are by default the whole day, and standard input is named once at most
+abbrev pub asked_up_to : Text → List Row → Option Asked
+asked_up_to max rows =
     option_and_then
     (λ max. option_and_then (λ from. option_and_then (λ to. asked_with rows max from to)
     (number_of (value_or (codes "1440") (codes "to") rows)))
     (number_of (value_or (codes "0") (codes "from") rows)))
-    (number_of (value_or [] (codes "MAX") rows))
+    (number_of max)
+
+-- what the entries of `day` ask
+abbrev pub asked_in : List Row → Option Asked
+asked_in rows = asked_up_to (value_or [] (codes "MAX") rows) rows
 
 -- whether an option names standard input
 abbrev pub is_dash_in : Option Text → Bool
@@ -343,8 +349,8 @@ replay_with rows max =
       judge = has_flag (codes "judge") rows;
     })
 
--- what the entries of `replay` ask: `--max` has to be a number, by default a day's minutes, and standard
--- input is named once at most
+-- what the entries of `replay` ask: `--max` has to be a number, by default a day's minutes, and
+-- standard input is named once at most
 abbrev pub replay_in : List Row → Option AskedReplay
 replay_in rows = option_and_then (λ max. replay_with rows max)
     (number_of (value_or (codes "1440") (codes "max") rows))
@@ -369,8 +375,8 @@ abbrev pub minutes_of : Option Text → Option (Option ℕ)
 minutes_of None = Some None
 minutes_of (Some text) = option_map Some (number_of text)
 
--- what the entries of `run` ask: `--minutes` has to be a number where it is given, and standard input is
--- named once at most among the paths of `check`
+-- what the entries of `run` ask: `--minutes` has to be a number where it is given, and standard
+-- input is named once at most among the paths of `check`
 abbrev pub run_in : List Row → Option AskedRun
 run_in rows =
     let stamps = value_or [] (codes "STAMPS") rows in
@@ -402,8 +408,8 @@ abbrev pub advise_with : AskedJudge → ℕ → Option AskedAdvise
 advise_with judge within =
     if is_below_a_day within then Some (record { judge = judge; within = within }) else None
 
--- what the entries of `advise` ask: those of `judge` ask something, and `--within` has to be a number
--- from 1 to 1439, by default 120
+-- what the entries of `advise` ask: those of `judge` ask something, and `--within` has to be a
+-- number from 1 to 1439, by default 120
 abbrev pub advise_in : List Row → Option AskedAdvise
 advise_in rows =
     option_and_then (λ judge. option_and_then (λ within. advise_with judge within)
@@ -436,8 +442,8 @@ draft_with rows max =
     if are_dashes table [] anacrontab update then None
     else Some (record { table = table; max = max; anacrontab = anacrontab; update = update })
 
--- what the entries of `draft` ask: `--max` has to be a number, by default 60, and standard input is named
--- once at most
+-- what the entries of `draft` ask: `--max` has to be a number, by default 60, and standard input is
+-- named once at most
 abbrev pub draft_in : List Row → Option AskedDraft
 draft_in rows =
     option_and_then (λ max. draft_with rows max)
@@ -465,12 +471,25 @@ chart_with rows day days =
     then Some (record { day = day; days = days; declarations = declarations })
     else None
 
--- what the entries of `chart` ask: those of `day` ask something, `--days` has to be a number from 1 to 7,
--- by default 1, and standard input is named once at most
-abbrev pub chart_in : List Row → Option AskedChart
-chart_in rows =
+-- MAX of `chart` may be left out beside declarations, which have the longest time of each job: then
+-- it is a day's minutes, and nothing comes of it
+abbrev pub max_beside : Option Text → Option Text → Option Text
+max_beside (Some max) declarations = Some max
+max_beside None (Some path) = Some (codes "1440")
+max_beside None None = None
+
+-- what the entries of `chart` ask, where MAX is this text
+abbrev pub chart_up_to : Text → List Row → Option AskedChart
+chart_up_to max rows =
     option_and_then (λ day. option_and_then (λ days. chart_with rows day days)
-    (number_of (value_or (codes "1") (codes "days") rows))) (asked_in rows)
+    (number_of (value_or (codes "1") (codes "days") rows))) (asked_up_to max rows)
+
+-- what the entries of `chart` ask: MAX is given or left out beside declarations, those of `day` ask
+-- something, `--days` has to be a number from 1 to 7, by default 1, and standard input is named
+-- once at most
+abbrev pub chart_in : List Row → Option AskedChart
+chart_in rows = option_and_then (λ max. chart_up_to max rows)
+    (max_beside (first_of (codes "MAX") rows) (first_of (codes "declarations") rows))
 
 -- the names of the subcommands
 abbrev pub is_planned_name : Text → Bool
@@ -529,8 +548,8 @@ AsksHelp words = IsAmong DisplayHelp (fault_of cronsafe_app words) ⊎ Asks word
 abbrev pub AsksVersion : List Text → Type 0
 AsksVersion words = IsAmong DisplayVersion (fault_of cronsafe_app words)
 
--- the words are no call: `clap` refuses them; or a number is none, standard input is named twice, or
--- help is asked of what is no subcommand
+-- the words are no call: `clap` refuses them; or a number is none, standard input is named twice,
+-- or help is asked of what is no subcommand
 abbrev pub IsNoCall : List Text → Type 0
 IsNoCall words =
     ((fault : ErrorKind) × IsAmong fault (fault_of cronsafe_app words) × (fault ≢ DisplayHelp)

@@ -3,9 +3,9 @@ ghost use Rattle.std.specs.Prelude.{◌≡◌, ◌++◌, IfOk, codes, count_by, 
 ghost use Rattle.std.specs.Char.{is_ascii_digit};
 ghost use Rattle.std.specs.List.{list_all};
 ghost use Rattle.clap.specs.Words.{first_of, found_of, rows_of};
-ghost use Rattle.cs_args.specs.CommandLine.{are_dashes, has_flag, is_dash, is_dash_in, is_twice_standard, minutes_of, number_of, value_or, values_in};
-ghost use Rattle.cs_args.specs.Asked.{CheckAsked, DayAsked, FaultOf, HelpAsked, NumberAsked, Parses, ReplayAsked, RequestAsked};
-ghost use Rattle.cs_args.specs.Asked.{AdviseAsked, JudgeAsked, MakeAsked, MinutesAsked, RunAsked};
+ghost use Rattle.cs_args.specs.CommandLine.{are_dashes, has_flag, is_dash, is_dash_in, is_twice_standard, max_beside, minutes_of, number_of, value_or, values_in};
+ghost use Rattle.cs_args.specs.Asked.{CheckAsked, DayAsked, DayAskedUpTo, FaultOf, HelpAsked, NumberAsked, Parses, ReplayAsked, RequestAsked};
+ghost use Rattle.cs_args.specs.Asked.{AdviseAsked, JudgeAsked, MakeAsked, MaxAsked, MinutesAsked, RunAsked};
 ghost use Rattle.cs_args.specs.Asked.{ChartAsked, DraftAsked, GatherAsked, LintAsked};
 ghost use Rattle.cs_args.specs.CommandLine.{is_below_a_day, is_up_to_a_week};
 
@@ -139,15 +139,16 @@ fn twice_standard(alloc: Global, subcommand: Subcommand) -> Result<String, Alloc
     subcommand.fault(alloc, "only one path can be - for standard input")
 }
 
-/// What the entries of `day` ask, and of `chart` the same of them.
-fn day_words<'a>(
+/// What the entries of `day` ask, and of `chart` the same of them, where MAX is this text.
+fn words_up_to<'a>(
     alloc: Global,
     subcommand: Subcommand,
+    max: &str,
     given: &ArgMatches<'a>,
 ) -> Result<DayWords<'a>, UsageFault>
-    ensures { DayAsked (rows_of (found_of given.now)) result }
+    ensures { DayAskedUpTo max.now (rows_of (found_of given.now)) result }
 {
-    let max = number(alloc, subcommand, "MAX", text_of(given, "MAX", ""))?;
+    let max = number(alloc, subcommand, "MAX", max)?;
     let from = number(alloc, subcommand, "--from", text_of(given, "from", "0"))?;
     let to = number(alloc, subcommand, "--to", text_of(given, "to", "1440"))?;
     let table = text_of(given, "TABLE", "");
@@ -163,6 +164,13 @@ fn day_words<'a>(
         from,
         to,
     })
+}
+
+/// What the entries of `day` ask.
+fn day_words<'a>(alloc: Global, given: &ArgMatches<'a>) -> Result<DayWords<'a>, UsageFault>
+    ensures { DayAsked (rows_of (found_of given.now)) result }
+{
+    words_up_to(alloc, Subcommand::Day, text_of(given, "MAX", ""), given)
 }
 
 /// Whether the path is given, and names standard input.
@@ -393,18 +401,38 @@ fn is_up_to_a_week(days: u64) -> bool
     days > 0 && days < 8
 }
 
+/// MAX of `chart`, which may be left out beside declarations.
+fn max_beside<'a>(
+    alloc: Global,
+    max: Option<&'a str>,
+    declarations: Option<&str>,
+) -> Result<&'a str, UsageFault>
+    ensures { MaxAsked (max_beside (option_map (λ text. text.now) max.entry)
+        (option_map (λ path. path.now) declarations.entry)) result }
+{
+    match max {
+        Some(max) => Ok(max),
+        None if declarations.is_some() => Ok("1440"),
+        None => {
+            let message = "MAX is required without --declarations";
+            Err(UsageFault::NoCall(Subcommand::Chart.fault(alloc, message)?))
+        }
+    }
+}
+
 /// What the entries of `chart` ask.
 fn chart_words<'a>(alloc: Global, given: &ArgMatches<'a>) -> Result<ChartWords<'a>, UsageFault>
     ensures { ChartAsked (rows_of (found_of given.now)) result }
 {
-    let day = day_words(alloc, Subcommand::Chart, given)?;
+    let declarations = value_of(given, "declarations");
+    let max = max_beside(alloc, value_of(given, "MAX"), declarations)?;
+    let day = words_up_to(alloc, Subcommand::Chart, max, given)?;
     let days = number(
         alloc,
         Subcommand::Chart,
         "--days",
         text_of(given, "days", "1"),
     )?;
-    let declarations = value_of(given, "declarations");
     if are_dashes(day.table, "", day.anacrontab, declarations) {
         return Err(UsageFault::NoCall(twice_standard(alloc, Subcommand::Chart)?));
     }
@@ -516,7 +544,7 @@ fn chart_request<'a>(alloc: Global, given: &ArgMatches<'a>) -> Result<Request<'a
 fn day_request<'a>(alloc: Global, given: &ArgMatches<'a>) -> Result<Request<'a>, UsageFault>
     ensures { RequestAsked (codes "day") (rows_of (found_of given.now)) result }
 {
-    Ok(Request::Day(day_words(alloc, Subcommand::Day, given)?))
+    Ok(Request::Day(day_words(alloc, given)?))
 }
 
 /// The help of the entries of `help`.

@@ -12,13 +12,13 @@ ghost use Rattle.cs_args.specs.CommandLine.{flag_rule, is_subcommand, list_rule,
 
 use crate::texts::{
     ABOUT, ADVISE_ABOUT, ADVISE_EXAMPLE, ANACRONTAB_HELP, CERTIFICATE_HELP, CHART_ABOUT,
-    CHART_EXAMPLE, CHECK_ABOUT, CHECK_EXAMPLE, COMMAND_HELP, COMPACT_HELP, DATE_HELP, DAY_ABOUT,
-    DAY_EXAMPLE, DAYS_HELP, DECLARATIONS_HELP, DRAFT_ABOUT, DRAFT_EXAMPLE, DRAFT_MAX_HELP, EXAMPLE,
-    EXPLAIN_ABOUT, EXPLAIN_EXAMPLE, FROM_HELP, GATHER_ABOUT, GATHER_EXAMPLE, HELP_ABOUT,
-    JUDGE_ABOUT, JUDGE_EXAMPLE, JUDGE_HELP, LINT_ABOUT, LINT_EXAMPLE, MAKE_ABOUT, MAKE_EXAMPLE,
-    MAX_HELP, MINUTES_HELP, NAME_HELP, REPLAY_ABOUT, REPLAY_EXAMPLE, REPLAY_MAX_HELP, ROOM_ABOUT,
-    ROOM_EXAMPLE, ROOT_HELP, RUN_ABOUT, RUN_EXAMPLE, SCRIPT_HELP, STAMPS_HELP, SYSTEM_HELP,
-    TABLE_HELP, TO_HELP, UPDATE_HELP, USER_HELP, WITHIN_HELP,
+    CHART_EXAMPLE, CHART_MAX_HELP, CHECK_ABOUT, CHECK_EXAMPLE, COMMAND_HELP, COMPACT_HELP,
+    DATE_HELP, DAY_ABOUT, DAY_EXAMPLE, DAYS_HELP, DECLARATIONS_HELP, DRAFT_ABOUT, DRAFT_EXAMPLE,
+    DRAFT_MAX_HELP, EXAMPLE, EXPLAIN_ABOUT, EXPLAIN_EXAMPLE, FROM_HELP, GATHER_ABOUT,
+    GATHER_EXAMPLE, HELP_ABOUT, JUDGE_ABOUT, JUDGE_EXAMPLE, JUDGE_HELP, LINT_ABOUT, LINT_EXAMPLE,
+    MAKE_ABOUT, MAKE_EXAMPLE, MAX_HELP, MINUTES_HELP, NAME_HELP, REPLAY_ABOUT, REPLAY_EXAMPLE,
+    REPLAY_MAX_HELP, ROOM_ABOUT, ROOM_EXAMPLE, ROOT_HELP, RUN_ABOUT, RUN_EXAMPLE, SCRIPT_HELP,
+    STAMPS_HELP, SYSTEM_HELP, TABLE_HELP, TO_HELP, UPDATE_HELP, USER_HELP, WITHIN_HELP,
 };
 use crate::version::version_text;
 use clap::error::ErrorKind;
@@ -146,7 +146,7 @@ fn with_list<'a>(
     with_arg(command, list_arg(alloc, name, help))
 }
 
-/// A command with `TABLE DATE MAX`.
+/// A command with `TABLE DATE`.
 fn with_words<'a>(
     alloc: Global,
     command: Result<Command<'a>, AllocError>,
@@ -156,8 +156,7 @@ fn with_words<'a>(
     ensures local { IfOk command.entry IsLocal → IfOk result IsLocal }
 {
     let command = with_required(alloc, command, "TABLE", TABLE_HELP);
-    let command = with_required(alloc, command, "DATE", DATE_HELP);
-    with_required(alloc, command, "MAX", MAX_HELP)
+    with_required(alloc, command, "DATE", DATE_HELP)
 }
 
 /// A command with `[--anacrontab FILE] [--from M] [--to M]`.
@@ -182,6 +181,7 @@ fn day_command<'a>(alloc: Global) -> Result<Command<'a>, AllocError>
 {
     let command = described(alloc, "day", DAY_ABOUT, DAY_EXAMPLE);
     let command = with_words(alloc, command);
+    let command = with_required(alloc, command, "MAX", MAX_HELP);
     with_hours(alloc, command)
 }
 
@@ -341,7 +341,8 @@ fn lint_command<'a>(alloc: Global) -> Result<Command<'a>, AllocError>
     with_option(alloc, command, "anacrontab", "FILE", ANACRONTAB_HELP)
 }
 
-/// `chart TABLE DATE MAX [--anacrontab FILE] [--from M] [--to M] [--days N] [--declarations FILE]`.
+/// `chart TABLE DATE [MAX] [--anacrontab FILE] [--from M] [--to M] [--days N] [--declarations
+/// FILE]`.
 #[tactic(auto, unfolding(crate::specs::CommandLine::chart_app))]
 fn chart_command<'a>(alloc: Global) -> Result<Command<'a>, AllocError>
     ensures app { IfOk result (λ c. app_of c ≡ chart_app) }
@@ -349,6 +350,7 @@ fn chart_command<'a>(alloc: Global) -> Result<Command<'a>, AllocError>
 {
     let command = described(alloc, "chart", CHART_ABOUT, CHART_EXAMPLE);
     let command = with_words(alloc, command);
+    let command = with_optional(alloc, command, "MAX", CHART_MAX_HELP);
     let command = with_hours(alloc, command);
     let command = with_option(alloc, command, "days", "N", DAYS_HELP);
     with_option(alloc, command, "declarations", "FILE", DECLARATIONS_HELP)

@@ -6,3 +6,4 @@ pub mod Begun
 pub mod Passed
 pub mod Example
 pub mod Others
+pub mod Marked

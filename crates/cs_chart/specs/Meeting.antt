@@ -1,6 +1,7 @@
 -- Windows of one exclusive group that meet.
-use Rattle.std.specs.Prelude.{ℕ, ◌==◌, Bool, true, false, not, ◌&&◌, ◌||◌, List, slice_index_or, Option, None, Some}
+use Rattle.std.specs.Prelude.{ℕ, ◌/◌, ◌%◌, ◌==◌, Bool, true, false, not, ◌&&◌, ◌||◌, List, slice_index_or, Option, None, Some}
 use Rattle.std.specs.List.{list_any}
+use Rattle.cs_schedule.specs.Numbers.{has_bit}
 use Rattle.cs_history.specs.Plan.{takes}
 use Rattle.cs_decl.specs.Plan.{DeclaredGroup, no_group}
 use Rattle.cs_windows.specs.Occupied.{job_of}
@@ -45,9 +46,9 @@ clash groups row other =
 
 -- ---- minutes
 
--- the minute is one of those that are marked
-abbrev pub is_marked : List Bool → ℕ → Bool
-is_marked marks minute = slice_index_or marks minute false
+-- the minute is one of those that are marked, a bit each
+abbrev pub is_marked : List ℕ → ℕ → Bool
+is_marked marks minute = has_bit (slice_index_or marks (minute / 64) 0) (minute % 64)
 
 -- a window of the row's job holds the minute
 abbrev pub row_holds : Days → Option Occupied → ℕ → Bool

@@ -3,6 +3,7 @@ use Rattle.std.specs.Prelude.{ℕ, zero, suc, List, [], ◌∷◌, length, codes
 use Rattle.std.specs.Char.{is_ascii_alphanumeric}
 use Rattle.std.specs.List.{ends_with, list_any}
 use Rattle.cs_table.specs.Text.{after, begins_with, front, is_blank, is_digit, is_nothing, is_solid}
+use Rattle.cs_gather.specs.RunParts.{is_among, is_of}
 use Rattle.cs_chart.specs.declared.program.Runner.{Runner}
 use Rattle.cs_chart.specs.declared.program.Runner.TheVariants.{Nice, Flock}
 
@@ -14,12 +15,6 @@ first_word text = front is_solid text
 
 abbrev pub behind_word : List ℕ → List ℕ
 behind_word text = after is_blank (after is_solid text)
-
-abbrev pub is_of : List ℕ → ℕ → Bool
-is_of bytes byte = list_any (λ b. b == byte) bytes
-
-abbrev pub is_among : List (List ℕ) → List ℕ → Bool
-is_among words word = list_any (λ w. bytes_eq w word) words
 
 -- The byte quotes others or ends the words of a program (sh(1)), or the text of the shell
 -- (crontab(5)).

@@ -1,5 +1,5 @@
 //! Windows of one exclusive group that meet.
-ghost use Rattle.std.specs.Prelude.{◌≡◌, ◌*◌, ◌<◌, ◌≤◌, ◌&&◌, ◌||◌, ◌∷◌, [], ℕ, IfOk, OnOk, length, nat_lt};
+ghost use Rattle.std.specs.Prelude.{◌≡◌, ◌+◌, ◌*◌, ◌/◌, ◌<◌, ◌≤◌, ◌&&◌, ◌||◌, ◌∷◌, [], ℕ, IfOk, OnOk, false, length, nat_eq, nat_lt, slice_index_or};
 ghost use Rattle.cs_civil.specs.declared.minute.TheConstants.{MINUTES_OF_DAY};
 ghost use Rattle.cs_chart.specs.Bars.{covers, is_covered};
 ghost use Rattle.cs_chart.specs.Meeting.{are_of_one_group, clash, is_cron, is_exclusive, is_marked};
@@ -81,33 +81,58 @@ fn clash(groups: &[Group], row: &Row<'_>, other: &Row<'_>) -> bool
 
 // ---- minutes
 
-fn is_marked(marks: &[bool], minute: usize) -> bool
-    ensures { result ≡ is_marked marks.now minute }
+/// So many minutes, none of which is marked.
+#[tactic(auto, using(crate::proofs::Marked::none_marked))]
+fn no_marks(alloc: Global, minutes: u32) -> Result<Vec<u64>, AllocError>
+    ensures length { IfOk result (λ marks. length marks.items ≡ (minutes + 63) / 64) }
+    ensures none { IfOk result (λ marks. (minute : ℕ) → is_marked marks.items minute ≡ false) }
 {
-    match marks.get(minute) {
-        Some(mark) => *mark,
-        None => false,
+    vec![in alloc; 0; minutes.div_ceil(64) as usize]
+}
+
+/// The marks of the 64 minutes at this place.
+fn word_at(marks: &[u64], place: usize) -> u64
+    ensures { result ≡ slice_index_or marks.now place 0 }
+{
+    match marks.get(place) {
+        Some(word) => *word,
+        None => 0,
     }
 }
 
-/// Marks the minutes of a bar.
-fn mark_bar(marks: &mut [bool], bar: Bar)
+fn is_marked(marks: &[u64], minute: usize) -> bool
+    ensures { result ≡ is_marked marks.now minute }
+{
+    (word_at(marks, minute / 64) >> (minute % 64)) & 1 == 1
+}
+
+/// Marks a minute.
+fn mark(marks: &mut [u64], minute: usize)
+    requires { minute / 64 < length marks.old }
     ensures length { length marks.new ≡ length marks.old }
-    ensures marks { (minute : ℕ) → minute < length marks.old
+    ensures marks { (k : ℕ) → is_marked marks.new k ≡ (nat_eq k minute || is_marked marks.old k) }
+{
+    marks[minute / 64] |= 1u64 << (minute % 64);
+}
+
+/// Marks the minutes of a bar.
+fn mark_bar(marks: &mut [u64], bar: Bar)
+    ensures length { length marks.new ≡ length marks.old }
+    ensures marks { (minute : ℕ) → minute / 64 < length marks.old
         → is_marked marks.new minute ≡ (is_marked marks.old minute || covers bar minute) }
 {
     for count in 0..bar.to.saturating_sub(bar.from) {
         let minute = (bar.from + count) as usize;
-        if minute < marks.len() {
-            marks[minute] = true;
+        if minute / 64 < marks.len() {
+            mark(marks, minute);
         }
     }
 }
 
 /// Marks the minutes of bars.
-fn mark_bars(marks: &mut [bool], bars: &[Bar])
+fn mark_bars(marks: &mut [u64], bars: &[Bar])
     ensures length { length marks.new ≡ length marks.old }
-    ensures marks { (minute : ℕ) → minute < length marks.old
+    ensures marks { (minute : ℕ) → minute / 64 < length marks.old
         → is_marked marks.new minute ≡ (is_marked marks.old minute || is_covered bars.now minute) }
 {
     for bar in bars {
@@ -116,11 +141,11 @@ fn mark_bars(marks: &mut [bool], bars: &[Bar])
 }
 
 /// Marks the minutes of the picture that the windows of a row hold.
-fn held_minutes(alloc: Global, row: &Row<'_>, span: DaySpan) -> Result<Vec<bool>, AllocError>
+fn held_minutes(alloc: Global, row: &Row<'_>, span: DaySpan) -> Result<Vec<u64>, AllocError>
     ensures { IfOk result (λ marks. (minute : ℕ) → minute < MINUTES_OF_DAY * span.days
         → is_marked marks.items minute ≡ row_holds span row.now.occupied minute) }
 {
-    let mut marks = vec![in alloc; false; span.minutes() as usize]?;
+    let mut marks = no_marks(alloc, span.minutes())?;
     if let Some(occupied) = row.occupied {
         let bars = bars_of(alloc, occupied, span)?;
         mark_bars(marks.as_mut_slice(), bars.as_slice());
@@ -128,30 +153,23 @@ fn held_minutes(alloc: Global, row: &Row<'_>, span: DaySpan) -> Result<Vec<bool>
     Ok(marks)
 }
 
-fn are_marked(one: &[bool], other: &[bool], minute: usize) -> bool
-    ensures { result ≡ (is_marked one.now minute && is_marked other.now minute) }
-{
-    is_marked(one, minute) && is_marked(other, minute)
-}
-
-/// Marks the minutes that both have, and tells whether there are any.
-fn mark_common(marks: &mut [bool], one: &[bool], other: &[bool]) -> bool
+/// Marks the minutes that both have, 64 at a time, and tells whether there are any.
+fn mark_common(marks: &mut [u64], one: &[u64], other: &[u64]) -> bool
     ensures length { length marks.new ≡ length marks.old }
-    ensures marks { (minute : ℕ) → minute < length marks.old → is_marked marks.new minute
+    ensures marks { (minute : ℕ) → minute / 64 < length marks.old → is_marked marks.new minute
         ≡ (is_marked marks.old minute || (is_marked one.now minute && is_marked other.now minute)) }
 {
     let mut is_found = false;
-    for minute in 0..marks.len() {
-        if are_marked(one, other, minute) {
-            marks[minute] = true;
-            is_found = true;
-        }
+    for place in 0..marks.len() {
+        let both = word_at(one, place) & word_at(other, place);
+        marks[place] |= both;
+        is_found = is_found || both != 0;
     }
     is_found
 }
 
 /// The bars of the marked minutes below this one.
-fn bars_of_marks(alloc: Global, marks: &[bool], minutes: u32) -> Result<Vec<Bar>, AllocError>
+fn bars_of_marks(alloc: Global, marks: &[u64], minutes: u32) -> Result<Vec<Bar>, AllocError>
     requires { minutes ≤ 100_000 }
     ensures { IfOk result (λ bars. (minute : ℕ) → is_covered bars.items minute
         ≡ (nat_lt minute minutes && is_marked marks.now minute)) }
@@ -175,13 +193,13 @@ fn bars_of_marks(alloc: Global, marks: &[bool], minutes: u32) -> Result<Vec<Bar>
 #[derive(Debug, Drop)]
 struct Holder<'a> {
     row: Row<'a>,
-    held: Vec<bool>,
+    held: Vec<u64>,
 }
 
 /// Marks the minutes at which windows of two rows meet, and tells whether there are any.
-fn mark_meeting(marks: &mut [bool], own: &Holder<'_>, other: &Holder<'_>, groups: &[Group]) -> bool
+fn mark_meeting(marks: &mut [u64], own: &Holder<'_>, other: &Holder<'_>, groups: &[Group]) -> bool
     ensures length { length marks.new ≡ length marks.old }
-    ensures marks { (minute : ℕ) → minute < length marks.old → is_marked marks.new minute
+    ensures marks { (minute : ℕ) → minute / 64 < length marks.old → is_marked marks.new minute
         ≡ (is_marked marks.old minute || meets groups.now own.now (other.now ∷ []) minute) }
 {
     clash(groups, &own.row, &other.row)
@@ -190,14 +208,14 @@ fn mark_meeting(marks: &mut [bool], own: &Holder<'_>, other: &Holder<'_>, groups
 
 /// Marks the minutes at which windows of others meet those of a row, and adds the names of these.
 fn mark_meetings<'a>(
-    marks: &mut [bool],
+    marks: &mut [u64],
     names: &mut Vec<Name<'a>>,
     own: &Holder<'a>,
     others: &[Holder<'a>],
     groups: &[Group],
 ) -> Result<(), AllocError>
     ensures length { OnOk result (length marks.new ≡ length marks.old) }
-    ensures marks { OnOk result ((minute : ℕ) → minute < length marks.old
+    ensures marks { OnOk result ((minute : ℕ) → minute / 64 < length marks.old
         → is_marked marks.new minute
         ≡ (is_marked marks.old minute || meets groups.now own.now others.now minute)) }
 {
@@ -225,7 +243,7 @@ fn meeting_of<'a>(
         ≡ (meets groups.now own.now before.now minute
         || meets groups.now own.now behind.now minute)) }
 {
-    let mut marks = vec![in alloc; false; minutes as usize]?;
+    let mut marks = no_marks(alloc, minutes)?;
     let mut names = Vec::new(alloc);
     mark_meetings(marks.as_mut_slice(), &mut names, own, before, groups)?;
     mark_meetings(marks.as_mut_slice(), &mut names, own, behind, groups)?;
@@ -249,8 +267,8 @@ fn holders_of<'a>(
     Ok(holders)
 }
 
-/// What the windows of each row meet, in the order of rows; nothing where no group is exclusive. The
-/// only error is want of memory.
+/// What the windows of each row meet, in the order of rows; nothing where no group is exclusive.
+/// The only error is want of memory.
 pub(crate) fn meetings_of<'a>(
     alloc: Global,
     rows: &[Row<'a>],

@@ -2,10 +2,11 @@
 ghost use Rattle.std.specs.Prelude.{◌≡◌, ◌||◌, ◌∷◌, [], codes, length, option_map};
 ghost use Rattle.std.specs.List.{list_any};
 ghost use Rattle.cs_table.specs.Text.{after, begins_with};
+ghost use Rattle.cs_gather.specs.RunParts.{is_among};
 ghost use Rattle.cs_chart.specs.Program.{behind_file, behind_front, behind_guard, behind_mark};
 ghost use Rattle.cs_chart.specs.Program.{behind_option, behind_options, behind_simple};
 ghost use Rattle.cs_chart.specs.Program.{behind_start, behind_word, first_word};
-ghost use Rattle.cs_chart.specs.Program.{is_among, is_called, is_name_byte, is_option};
+ghost use Rattle.cs_chart.specs.Program.{is_called, is_name_byte, is_option};
 ghost use Rattle.cs_chart.specs.Program.{is_setting, is_sign, is_simple, is_valued, may_begin};
 ghost use Rattle.cs_chart.specs.Program.{passed, program_of};
 

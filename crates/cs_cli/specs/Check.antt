@@ -18,6 +18,8 @@ use Rattle.cs_check.specs.Case.{fault_of}
 use Rattle.cs_check.specs.Checked.{certificate_in, plan_in}
 use Rattle.cs_check.specs.declared.checked.Checked.{Checked}
 use Rattle.cs_judge.specs.Waiters.{taker_notes}
+use Rattle.cs_windows.specs.declared.reach.JobReach.{JobReach}
+use Rattle.cs_cli.specs.Overload.{overload_notes}
 use Rattle.cs_report.specs.Refused.{fault_text}
 use Rattle.cs_report.specs.Warning.{plan_notes}
 use Rattle.cs_args.specs.CommandLine.{AskedCheck}
@@ -86,14 +88,15 @@ stale_note (OverCapacity at load) = []
 stale_note (SkipBlocked at skip other) = []
 
 -- what is answered of a certificate by its first fault: 0 where it is safe, 1 where it is refused,
--- beside the notes on the plan, the places of the lines that the fault names, and a note where the
--- certificate may be of other files
-abbrev pub verdict : Declared → List Place → Option Fault → Ending
-verdict plan places None = done (verdict_text plan None) (plan_notes plan)
-verdict plan places (Some fault) = record {
+-- beside the notes on the plan, the places of the lines that the fault names, the jobs that may run
+-- at a minute that is over the capacity, and a note where the certificate may be of other files
+abbrev pub verdict : Declared → List Place → List JobReach → Option Fault → Ending
+verdict plan places reach None = done (verdict_text plan None) (plan_notes plan)
+verdict plan places reach (Some fault) = record {
   status = 1;
   out = verdict_text plan (Some fault);
-  err = plan_notes plan ++ (fault_places plan places fault ++ stale_note fault);
+  err = plan_notes plan
+      ++ (fault_places plan places fault ++ (overload_notes plan reach fault ++ stale_note fault));
 }
 
 -- the certificate at a path
@@ -105,7 +108,7 @@ ReadsCertificate files path = ReadsAs files path (λ bytes c. certificate_by byt
 abbrev pub IsVerdict : (List ℕ → Option (List ℕ)) → Text → Table → Declared → Content → Ending
     → Type 0
 IsVerdict files path table plan c ending = (places : List Place)
-    × PlacesIn files path table places × (ending ≡ verdict plan places (fault_of plan c))
+    × PlacesIn files path table places × (ending ≡ verdict plan places c.reach (fault_of plan c))
 
 -- the declarations and the certificate are read, and the checker says of the two
 abbrev pub Judges : (List ℕ → Option (List ℕ)) → AskedCheck → Table × JobTable → Failed → Failed
@@ -140,8 +143,8 @@ abbrev pub AnswersCheck : AskedCheck → (List ℕ → Option (List ℕ)) → Fa
 AnswersCheck a files =
     Answered (ReadsTables files a.table a.anacrontab) (λ both. Judges files a both)
 
--- the answer to `check` by what the files come to: `safe`, with what is to be warned of and then the
--- notes on the plan, or another
+-- the answer to `check` by what the files come to: `safe`, with what is to be warned of and then
+-- the notes on the plan, or another
 abbrev pub ending_of : Examined → Ending
 ending_of (Accepted checked warnings) =
     done safe_text (warnings ++ plan_notes (plan_in checked))

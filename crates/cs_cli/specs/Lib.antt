@@ -4,3 +4,4 @@ pub mod Answer
 pub mod Judge
 pub mod Theorem
 pub mod Loads
+pub mod Overload

@@ -11,6 +11,7 @@ ghost use Rattle.cs_io.specs.Files.{AreReadInTurn, IsFresh, IsReadAlone};
 ghost use Rattle.cs_cli.specs.Check.{AnswersCheck, AreRead, IfAccepted, IfEnded, Judges};
 ghost use Rattle.cs_cli.specs.Check.{ReadsCertificate, answer_of, ending_of, fault_places, safe_text};
 ghost use Rattle.cs_cli.specs.Check.{said, stale_note, verdict};
+ghost use Rattle.cs_cli.specs.Overload.{overload_notes};
 ghost use Rattle.cs_files.specs.RanOut.{IsWarned};
 ghost use Rattle.cs_files.specs.Response.{done};
 ghost use Rattle.cs_files.specs.Reads.{MeansIt, PlacesIn};
@@ -19,10 +20,11 @@ ghost use Rattle.cs_files.specs.Trouble.{CameTo, InCertificate, IsHonest, IsHone
 ghost use Rattle.cs_files.specs.Turn.{check_paths};
 ghost use Rattle.cs_cert.specs.Denoted.{certificate_by};
 
+use crate::overload::push_overload_notes;
 use crate::places::{push_fault_places, push_stale_note};
 use cs_anacrontab::Anacrontab;
 use cs_args::CheckWords;
-use cs_cert::{Certificate, MAX_CERTIFICATE, read_certificate};
+use cs_cert::{Certificate, JobReach, MAX_CERTIFICATE, read_certificate};
 use cs_check::{CheckError, CheckFault, Checked, check_parallel};
 use cs_civil::Bytes;
 use cs_crontab::Crontab;
@@ -70,13 +72,16 @@ fn refusal_notes(
     alloc: Global,
     plan: &Plan,
     places: &[Place],
+    reach: &[JobReach],
     fault: &CheckFault,
 ) -> Result<Bytes, AllocError>
     ensures { IfOk result (λ notes. notes ≡ plan_notes plan.now
-        ++ (fault_places plan.now places.now (told fault.now) ++ stale_note (told fault.now))) }
+        ++ (fault_places plan.now places.now (told fault.now)
+        ++ (overload_notes plan.now reach.now (told fault.now) ++ stale_note (told fault.now)))) }
 {
     let mut notes = plan_notes(alloc, plan)?.into_vec();
     push_fault_places(alloc, &mut notes, plan, places, fault)?;
+    push_overload_notes(alloc, &mut notes, plan, reach, fault)?;
     push_stale_note(&mut notes, fault)?;
     Ok(Bytes::from_vec(notes))
 }
@@ -87,13 +92,16 @@ fn refusal(
     alloc: Global,
     plan: &Plan,
     places: &[Place],
+    reach: &[JobReach],
     fault: &CheckFault,
 ) -> Result<Response, AllocError>
-    ensures { IfOk result (λ answer. answer ≡ verdict plan.now places.now (Some (told fault.now))) }
+    ensures { IfOk result (λ answer.
+        answer ≡ verdict plan.now places.now reach.now (Some (told fault.now))) }
 {
     let mut text = Vec::from_slice(alloc, fault_text(alloc, plan, fault)?.as_slice())?;
     text.extend_from_slice(b"\n")?;
-    Ok(Response::refused(text, refusal_notes(alloc, plan, places, fault)?))
+    let notes = refusal_notes(alloc, plan, places, reach, fault)?;
+    Ok(Response::refused(text, notes))
 }
 
 /// What the checker rules, by as many threads as the machine has processors: the plan and the
@@ -106,19 +114,22 @@ fn ruling<R: Threads + Sync>(
     places: &[Place],
     certificate: Certificate,
 ) -> Result<Result<Checked, Response>, AllocError>
-    ensures answer { IfOk result (λ found.
-        answer_of found ≡ verdict plan places.now (fault_of plan (content certificate))) }
+    ensures answer { IfOk result (λ found. answer_of found ≡ verdict plan places.now
+        (content certificate).reach (fault_of plan (content certificate))) }
     ensures same { IfOk result (λ found. IfOk found
         (λ checked. (plan_in checked ≡ plan) × (certificate_in checked ≡ content certificate))) }
     ensures safe { IfOk result (λ found. IfOk found IsSafe) }
     ensures refused { IfOk result (λ found. IfErr found (λ answer. answer.status ≡ 1)) }
 {
+    let reach = Vec::from_slice(alloc, certificate.reach())?;
     match check_parallel(rt, alloc, &plan, certificate) {
         Ok(checked) => {
             checked.is_safe();
             Ok(Ok(checked))
         }
-        Err(CheckError::Fault(fault)) => Ok(Err(refusal(alloc, &plan, places, &fault)?)),
+        Err(CheckError::Fault(fault)) => {
+            Ok(Err(refusal(alloc, &plan, places, reach.as_slice(), &fault)?))
+        }
         Err(CheckError::OutOfMemory) => Err(AllocError),
     }
 }

@@ -7,6 +7,7 @@ mod judge;
 mod laws;
 mod loads;
 mod order;
+mod overload;
 mod places;
 
 pub use answer::{Answer, Order};
@@ -17,3 +18,4 @@ pub use laws::{
 };
 pub use loads::what_a_minute_needs;
 pub use order::answer_run;
+pub use overload::what_an_overload_tells;

@@ -1,9 +1,9 @@
-ghost use Rattle.std.specs.Prelude.{◌≡◌, ◌<◌, length, true, false, OnOk};
+ghost use Rattle.std.specs.Prelude.{◌≡◌, ◌<◌, ◌==◌, length, not, true, false, OnOk};
 ghost use Rattle.std.specs.List.{list_any};
 ghost use Rattle.cs_diagnostics.specs.Told.{is_full, is_told, tells, Keeps};
 ghost use Rattle.cs_diagnostics.specs.declared.findings.TheConstants.{MAX_TOLD};
 
-use cs_outline::Span;
+use crate::span::Span;
 use std::alloc::{AllocError, Global};
 use std::fmt::Display;
 
@@ -147,7 +147,9 @@ impl Findings {
         rank(self.faults.as_slice(), from)
     }
 
-    fn add(&mut self, is_odd: bool, place: Span, words: impl Display + Drop) -> Done {
+    fn add(&mut self, is_odd: bool, place: Span, words: impl Display + Drop) -> Done
+        ensures { OnOk result (self.new.has_oddities ≡ self.old.has_oddities) }
+    {
         if self.faults.len().saturating_add(self.oddities.len()) >= MAX_TOLD {
             self.more = self.more.saturating_add(1);
         }
@@ -175,7 +177,9 @@ impl Findings {
     }
 
     /// Adds something that is odd.
-    pub fn odd(&mut self, place: Span, words: impl Display + Drop) -> Done {
+    pub fn odd(&mut self, place: Span, words: impl Display + Drop) -> Done
+        ensures { OnOk result (self.new.has_oddities ≡ true) }
+    {
         self.has_oddities = true;
         self.add(true, place, words)
     }
@@ -185,6 +189,13 @@ impl Findings {
         ensures { result ≡ is_told fault.now self.now }
     {
         self.faults.iter().any(|found| found.tells(fault))
+    }
+
+    /// Whether anything wrong was found.
+    pub fn has_faults(&self) -> bool
+        ensures { result ≡ not (length self.now.faults.items == 0) }
+    {
+        !self.faults.is_empty()
     }
 
     /// Whether as many faults are kept as are told.
@@ -199,6 +210,7 @@ impl Findings {
         ensures told { OnOk result (is_told fault.now self.new ≡ true) }
         // Each fault that was told is told still, unless a hundred were.
         ensures kept { OnOk result (is_full self.old ≡ false → Keeps self.old self.new) }
+        ensures odd { OnOk result (self.new.has_oddities ≡ self.old.has_oddities) }
     {
         if self.tells(fault) {
             return Ok(());
@@ -217,7 +229,8 @@ impl Findings {
         Ok(())
     }
 
-    /// Whether something that is wrong here would be told, by what was added so far; else counts it.
+    /// Whether something that is wrong here would be told, by what was added so far; else counts
+    /// it.
     pub fn takes_fault(&mut self, place: Span) -> bool {
         let takes = self.rank(false, place.from) < MAX_TOLD;
         if !takes {

@@ -8,7 +8,7 @@ ghost use Rattle.cs_diagnostics.specs.declared.findings.FirstFault.{FirstFault};
 
 use crate::findings::{Done, Finding, Findings, MAX_TOLD, Note, Words};
 use crate::names::is_control;
-use cs_outline::Span;
+use crate::span::Span;
 use std::alloc::{AllocError, Global};
 
 /// The bytes of a line that are shown in front of a place at most.

@@ -19,3 +19,8 @@ module _ (crontab : Crontab) (anacrontab : Anacrontab) (places : List Place) (ol
   pub updates : {E : Type 0} (r : Result Bool E) → IfOk r (λ b. IsTrue b → first_fault (join_faults crontab anacrontab d) ≡ None) → IfOk r (λ b. IsTrue b → IsUpdate crontab anacrontab places old max bytes)
   updates (Ok b) fits = λ yes. update (fits yes)
   updates (Err e) fits = fits
+
+-- what holds anyway
+pub always : {E P : Type 0} (r : Result Bool E) → P → IfOk r (λ b. IsTrue b → P)
+always (Ok b) p = λ _. p
+always (Err e) p = tt

@@ -4,4 +4,6 @@ pub mod Flags
 pub mod Joins
 pub mod Loops
 pub mod Parted
+pub mod Longer
+pub mod Passed
 pub mod Words

@@ -9,8 +9,7 @@ use Rattle.cs_table.specs.Text.{after, front, is_blank, is_solid, StopsAt}
 use Rattle.cs_table.proofs.Fronts.{length-parts}
 use Rattle.cs_table.proofs.Spans.{after_stops, front_some, some_to}
 use Rattle.cs_history.specs.declared.mode.Mode.{Mode}
-use Rattle.cs_draft.specs.Locks.{before_percent, call_lock, is_filled, is_flock, is_path, is_under_flock, lock_of, words_lock, words_of}
-use Rattle.cs_draft.specs.Shell.{is_one_program, shell_text}
+use Rattle.cs_draft.specs.Locks.{before_percent, call_lock, is_filled, is_flock, is_path, words_lock, words_of}
 
 -- ---- up to the first `%`
 
@@ -82,21 +81,17 @@ shorter xs some stop =
 
 -- ---- the first word of a command
 
--- the lock of a call, if the shell runs nothing besides it, and takes its first word as a path
-abbrev lock_if : Bool → Bool → Option (List ℕ × Mode) → Option (List ℕ × Mode)
-lock_if alone path lock = cond alone (cond path lock None) None
+-- the lock of a call, if the shell takes its first word as a path
+abbrev lock_if : Bool → Option (List ℕ × Mode) → Option (List ℕ × Mode)
+lock_if path lock = cond path lock None
 
-pub refused : (alone path : Bool) (lock : Option (List ℕ × Mode)) → (path ≡ false) ⊎ (lock ≡ None) → lock_if alone path lock ≡ None
-refused false path lock other = refl
-refused true false lock other = refl
-refused true true lock (inl e) = absurd cc
-refused true true lock (inr e) = e
+pub refused : (path : Bool) (lock : Option (List ℕ × Mode)) → (path ≡ false) ⊎ (lock ≡ None) → lock_if path lock ≡ None
+refused false lock other = refl
+refused true lock (inl e) = absurd cc
+refused true lock (inr e) = e
 
-pub not_alone : (alone path : Bool) (lock : Option (List ℕ × Mode)) → alone ≡ false → lock_if alone path lock ≡ None
-not_alone alone path lock other = rw other refl
-
-pub taken : (alone path : Bool) (lock : Option (List ℕ × Mode)) (l : List ℕ × Mode) → alone ≡ true → path ≡ true → lock ≡ Some l → lock_if alone path lock ≡ Some l
-taken alone path lock l one is some = rw (one, is) some
+pub taken : (path : Bool) (lock : Option (List ℕ × Mode)) (l : List ℕ × Mode) → path ≡ true → lock ≡ Some l → lock_if path lock ≡ Some l
+taken path lock l is some = rw is some
 
 module _ (command text : List ℕ) (is : text ≡ after is_blank (before_percent command)) where
   words_are : words_of (before_percent command) ≡ words_of text
@@ -105,29 +100,23 @@ module _ (command text : List ℕ) (is : text ≡ after is_blank (before_percent
   stops : StopsAt is_blank text
   stops = rw is (after_stops is_blank (before_percent command))
 
-  absent_words : (xs : List ℕ) → StopsAt is_blank xs → is_flock (front is_solid xs) ≡ false → (is_under_flock (words_of xs) ≡ false) × (words_lock (words_of xs) ≡ None)
-  absent_words [] stop other = (refl, refl)
-  absent_words (x ∷ xs) stop other = rw (words_solid (x ∷ xs) (λ e. cc) stop) (other, rw other refl)
+  absent_words : (xs : List ℕ) → StopsAt is_blank xs → is_flock (front is_solid xs) ≡ false → words_lock (words_of xs) ≡ None
+  absent_words [] stop other = refl
+  absent_words (x ∷ xs) stop other = rw (words_solid (x ∷ xs) (λ e. cc) stop) (rw other refl)
 
   under_words : (xs : List ℕ) → StopsAt is_blank xs → is_flock (front is_solid xs) ≡ true
-      → (is_under_flock (words_of xs) ≡ true) × (words_lock (words_of xs) ≡ cond (is_path (front is_solid xs)) (call_lock (words_of (after is_solid xs))) None)
+      → words_lock (words_of xs) ≡ cond (is_path (front is_solid xs)) (call_lock (words_of (after is_solid xs))) None
   unfolding front is_flock
   under_words [] stop flock = absurd cc
-  under_words (x ∷ xs) stop flock = rw (words_solid (x ∷ xs) (λ e. cc) stop) (flock, rw flock refl)
+  under_words (x ∷ xs) stop flock = rw (words_solid (x ∷ xs) (λ e. cc) stop) (rw flock refl)
 
-  none_still : (t : Bool) (lock : Option (List ℕ × Mode)) → lock ≡ None → cond t lock None ≡ None
-  none_still true lock none = none
-  none_still false lock none = refl
-
-  pub not_under : is_flock (front is_solid text) ≡ false → (is_under_flock (words_of (before_percent command)) ≡ false) × (lock_of command ≡ None)
-  unfolding lock_of
-  not_under other = rw words_are (let none = absent_words text stops other in (none.0, none_still (is_one_program (shell_text command)) (words_lock (words_of text)) none.1))
+  pub not_under : is_flock (front is_solid text) ≡ false → words_lock (words_of (before_percent command)) ≡ None
+  not_under other = rw words_are (absent_words text stops other)
 
   -- by the words of the code
   module _ (first : List ℕ) (words : List (List ℕ)) (first-is : first ≡ front is_solid text) (words-are : words ≡ words_of (after is_solid text)) where
-    pub under : is_flock first ≡ true → (is_under_flock (words_of (before_percent command)) ≡ true) × (lock_of command ≡ lock_if (is_one_program (shell_text command)) (is_path first) (call_lock words))
-    unfolding lock_of
-    under flock = rw (words_are, first-is, words-are) (let found = under_words text stops (sym (ap is_flock first-is) ∙ flock) in (found.0, ap (λ l. cond (is_one_program (shell_text command)) l None) found.1))
+    pub under : is_flock first ≡ true → words_lock (words_of (before_percent command)) ≡ lock_if (is_path first) (call_lock words)
+    under flock = rw (words_are, first-is, words-are) (under_words text stops (sym (ap is_flock first-is) ∙ flock))
 
 -- ---- the text of the shell
 

@@ -8,6 +8,7 @@ use Rattle.std.proofs.lemmas.Bool.{false_from_ne_true}
 use Rattle.cs_table.specs.Text.{begins_with}
 use Rattle.cs_draft.specs.Locks.{after_options, is_file, is_option, is_shell_word, options_in, options_of}
 use Rattle.cs_draft.specs.Locking.{texts_of}
+use Rattle.cs_draft.specs.Paths.{is_direct}
 
 module _ (word : List ℕ) (words : List (List ℕ)) where
   pub options_more : is_option word ≡ true → options_of (word ∷ words) ≡ options_in word ++ options_of words
@@ -65,15 +66,16 @@ module _ (words : List (Bor (List ℕ))) (i : ℕ) where
 -- ---- the file
 
 module _ (word : List ℕ) where
-  pub good_file : begins_with 47 word ≡ true → is_shell_word word ≡ false → IsUtf8 word → is_file word ≡ true
+  pub good_file : begins_with 47 word ≡ true → is_shell_word word ≡ false → is_direct (drop 1 word) ≡ true → IsUtf8 word → is_file word ≡ true
   unfolding is_file
-  good_file root shell utf8 = rw (root, shell) (is_utf8-from_IsUtf8 word utf8)
+  good_file root shell direct utf8 = rw (root, shell, direct) (is_utf8-from_IsUtf8 word utf8)
 
   pub file_not_utf8 : ¬ (IsUtf8 word) → is_file word ≡ false
   unfolding is_file
-  file_not_utf8 other = let e : is_utf8 word ≡ false = false_from_ne_true (is_utf8 word) (λ u. other (IsUtf8-from_is_utf8 word u)) in rw e (by_tests (begins_with 47 word) (is_shell_word word))
+  file_not_utf8 other = let e : is_utf8 word ≡ false = false_from_ne_true (is_utf8 word) (λ u. other (IsUtf8-from_is_utf8 word u)) in rw e (by_tests (begins_with 47 word) (is_shell_word word) (is_direct (drop 1 word)))
     where
-      by_tests : (a b : Bool) → (a && (not b && false)) ≡ false
-      by_tests false b = refl
-      by_tests true true = refl
-      by_tests true false = refl
+      by_tests : (a b c : Bool) → (a && (not b && (c && false))) ≡ false
+      by_tests false b c = refl
+      by_tests true true c = refl
+      by_tests true false true = refl
+      by_tests true false false = refl

@@ -62,8 +62,8 @@ abbrev pub have_own : List (List ℕ) → Bool
 have_own [] = true
 have_own (name ∷ names) = not (has_name name names) && have_own names
 
--- All of them; or none where declarations can't have them: two have one name, or there are more than
--- a job may have minutes.
+-- All of them; or none where declarations can't have them: two have one name, or there are more
+-- than a job may have minutes.
 abbrev pub declarable : List (List ℕ) → List (List ℕ)
 declarable names =
     if nat_le (length names) MAX_MINUTES && have_own names then names else []
@@ -166,8 +166,8 @@ abbrev pub IsDraftedJob : ℕ → Entries → JobLine → Type 0
 IsDraftedJob max d line = IsSomeAnd (find (is_of_job line.identifier) d.anacron)
     (λ e. (e.max ≡ pos max) × (e.weight ≡ pos 1) × (e.group ≡ None))
 
--- The capacity is the greatest, clocks are ahead of UTC by so many minutes, catch-up is at all hours
--- and has no pass minute, and no job has a default.
+-- The capacity is the greatest, clocks are ahead of UTC by so many minutes, catch-up is at all
+-- hours and has no pass minute, and no job has a default.
 pub record AreFresh (east : ℤ) (d : Entries) : Type 0 where
   pub capacity : d.capacity ≡ pos MAX_CAPACITY
   pub offset : d.offset ≡ east
@@ -175,8 +175,8 @@ pub record AreFresh (east : ℤ) (d : Entries) : Type 0 where
   pub pass : d.pass ≡ None
   pub default : d.default ≡ None
 
--- Each job has an entry of its own, which has the lock of its command; `@reboot` lines alone are left
--- out; and each group is exclusive, and that of an entry.
+-- Each job has an entry of its own, which has the lock of its command; `@reboot` lines alone are
+-- left out; and each group is exclusive, and that of an entry.
 pub record IsDraft (crontab : Crontab) (anacrontab : Anacrontab) (places : List Place) (max : ℕ)
     (east : ℤ) (bytes : List ℕ) : Type 0 where
   pub entries : Entries
@@ -197,7 +197,8 @@ tells command name = is_text command name.command
 abbrev pub times_told : List ℕ → Entries → ℕ
 times_told command old = count_by (tells command) (names_of old)
 
--- one line alone has the line's command, it isn't an `@reboot`, and one entry alone tells its command
+-- one line alone has the line's command, it isn't an `@reboot`, and one entry alone tells its
+-- command
 abbrev pub is_lone : List CommandLine → Entries → CommandLine → Bool
 is_lone lines old line = not (is_reboot line.when)
     && (count_by (λ l. bytes_eq l.command line.command) lines == 1
@@ -262,7 +263,8 @@ IsKeptJob old new line =
     IsKept AreAlikeJobs (find (is_of_job line.identifier) old.anacron)
     (find (is_of_job line.identifier) new.anacron)
 
--- Capacity, offset, hours, pass minute and default are the old ones, and the groups begin with them.
+-- Capacity, offset, hours, pass minute and default are the old ones, and the groups begin with
+-- them.
 pub record AreTerms (old new : Entries) : Type 0 where
   pub capacity : new.capacity ≡ old.capacity
   pub offset : new.offset ≡ old.offset

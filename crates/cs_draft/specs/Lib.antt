@@ -1,6 +1,10 @@
 pub mod Texts
 pub mod Shell
+pub mod Named
+pub mod Fronts
+pub mod Paths
 pub mod Locks
 pub mod Locking
+pub mod Notices
 pub mod Draft
 pub mod Drawing

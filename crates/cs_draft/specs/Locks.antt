@@ -1,12 +1,15 @@
 -- Which lock a command takes by flock(1), as util-linux has it: `flock [options] file command`.
-use Rattle.std.specs.Prelude.{ℕ, List, [], ◌∷◌, ◌++◌, length, map, codes, bytes_eq, Option, None, Some, is_some, option_map, Bool, true, false, not, ◌&&◌, ◌||◌, ◌==◌, if◌then◌else◌}
+use Rattle.std.specs.Prelude.{ℕ, List, [], ◌∷◌, ◌++◌, length, drop, map, codes, bytes_eq, Option, None, Some, is_some, option_map, Bool, true, false, not, ◌&&◌, ◌||◌, ◌==◌, if◌then◌else◌}
 use Rattle.std.specs.List.{before_first, ends_with, filter, filter_map, fold, list_all, list_any, slice_split}
 use Rattle.std.specs.Str.{is_utf8}
-use Rattle.cs_table.specs.Text.{begins_with, is_blank}
+use Rattle.cs_table.specs.Text.{after, begins_with, is_blank, is_digit}
 use Rattle.cs_history.specs.declared.mode.Mode.{Mode}
 use Rattle.cs_history.specs.declared.mode.Mode.TheVariants as modes
 use Rattle.cs_json.specs.Shape.{is_among}
-use Rattle.cs_draft.specs.Shell.{is_of, is_one_program, shell_text}
+use Rattle.cs_draft.specs.Fronts.{behind_fronts}
+use Rattle.cs_draft.specs.Named.{locks_in}
+use Rattle.cs_draft.specs.Paths.{is_direct, real_path}
+use Rattle.cs_draft.specs.Shell.{has_lone_ampersand, is_of, is_one_program, shell_text}
 use Rattle.cs_draft.specs.declared.flock.Flag.{Flag}
 use Rattle.cs_draft.specs.declared.flock.Flag.TheVariants.{Shared, Exclusive, AtOnce, Unseen}
 
@@ -118,14 +121,17 @@ is_shell_byte byte = is_of (codes "\"'\\$`*?[{|&;<>()") byte
 unfoldable pub is_shell_word : List ℕ → Bool
 is_shell_word word = begins_among (codes "~#") word || list_any is_shell_byte word
 
--- The word is the path of a file from the root: another one is of a file in the folder of the run.
+-- The word is the path of a file from the root, and leads there without a way back: another one is
+-- of a file in the folder of the run, or one of several paths of a file.
 unfoldable pub is_file : List ℕ → Bool
-is_file word = begins_with 47 word && (not (is_shell_word word) && is_utf8 word)
+is_file word =
+    begins_with 47 word && (not (is_shell_word word) && (is_direct (drop 1 word) && is_utf8 word))
 
--- a word of a command is at the front, and nothing that ends a command or redirects its output
+-- a word of a command is at the front, and nothing that ends a command or redirects its output,
+-- also that of a descriptor with a number
 unfoldable pub has_word : List (List ℕ) → Bool
 has_word [] = false
-has_word (word ∷ words) = not (begins_among (codes "|&;<>()#") word)
+has_word (word ∷ words) = not (begins_among (codes "|&;<>()#") (after is_digit word))
 
 -- a command, or `-c` and one
 unfoldable pub is_command : List (List ℕ) → Bool
@@ -156,18 +162,36 @@ called options (file ∷ command) =
 abbrev pub call_lock : List (List ℕ) → Option (List ℕ × Mode)
 call_lock words = called (options_of words) (behind_options words)
 
--- whether the words are run under flock(1), `flock` or a path to it, and the lock that they take
-abbrev pub is_under_flock : List (List ℕ) → Bool
-is_under_flock [] = false
-is_under_flock (word ∷ words) = is_flock word
-
+-- the lock of words that begin with `flock`, or a path to it
 abbrev pub words_lock : List (List ℕ) → Option (List ℕ × Mode)
 words_lock [] = None
 words_lock (word ∷ words) = if is_flock word && is_path word then call_lock words else None
 
--- The file whose lock the command takes, and the mode; none where it takes no lock, or one that no
--- mode is like, or where the shell does more than to run flock(1).
-unfoldable pub lock_of : List ℕ → Option (List ℕ × Mode)
+-- a shell is handed its text by such a word: `-c`, `-lc` or `--command`
+unfoldable pub hands_text : List ℕ → Bool
+hands_text word =
+    begins_with 45 word && ends_with (λ a b. a == b) word (codes "c")
+    || bytes_eq word (codes "--command")
+
+-- a shell that is handed a text may not wait for the end of all that it starts
+abbrev pub may_run_on : List ℕ → Bool
+may_run_on text = list_any hands_text (words_of (before_percent text)) && has_lone_ampersand 32 text
+
+-- the shell runs one program for the text, and waits for the end of all that this runs
+unfoldable pub is_whole : List ℕ → Bool
+is_whole text = is_one_program (shell_text text) && not (may_run_on text)
+
+-- The lock of a text that begins with a call of flock(1); none where no mode is like it, or where
+-- the shell does more than to run it.
+unfoldable pub flock_lock : List ℕ → Option (List ℕ × Mode)
+flock_lock text = if is_whole text then words_lock (words_of (before_percent text)) else None
+
+-- .. or where another program that locks files is named in it
+unfoldable pub text_lock : List ℕ → Option (List ℕ × Mode)
+text_lock text = if locks_in text == 1 then flock_lock text else None
+
+-- The file whose lock the command takes, and the mode; none where it takes no lock, or one that
+-- isn't of the whole command, or that no mode is like.
+abbrev pub lock_of : List ℕ → Option (List ℕ × Mode)
 lock_of command =
-    if is_one_program (shell_text command) then words_lock (words_of (before_percent command))
-    else None
+    option_map (λ lock. (real_path lock.0, lock.1)) (text_lock (behind_fronts command))

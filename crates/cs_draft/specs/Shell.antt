@@ -4,6 +4,7 @@ use Rattle.std.specs.Prelude.{ℕ, List, [], ◌∷◌, codes, Option, None, Som
 use Rattle.std.specs.Char.{is_ascii_alphanumeric}
 use Rattle.std.specs.List.{find, list_any}
 use Rattle.cs_crontab.specs.Command.{parts_from, pieces_of}
+use Rattle.cs_table.specs.Text.{begins_with}
 
 -- the shell is given what stands before the first `%` that no backslash escapes (crontab(5))
 abbrev pub shell_text : List ℕ → List ℕ
@@ -61,3 +62,11 @@ are_plain quote before (byte ∷ bytes) =
 -- the shell runs one program for the text, waits for its end, and does nothing besides
 abbrev pub is_one_program : List ℕ → Bool
 is_one_program text = are_plain None 32 text
+
+-- A `&` that belongs to none of `&&`, `>&` and `<&`. A shell that is handed the text doesn't wait
+-- for the end of what stands before it.
+unfoldable pub has_lone_ampersand : ℕ → List ℕ → Bool
+has_lone_ampersand before [] = false
+has_lone_ampersand before (byte ∷ bytes) =
+    (byte == 38 && (not (is_of (codes "&<>") before) && not (begins_with 38 bytes)))
+    || has_lone_ampersand byte bytes

@@ -13,8 +13,8 @@ use cs_gap::{MAX_GAP, least_gap};
 use cs_gather::Place;
 use cs_schedule::Schedule;
 
-/// The longest time of a new command in minutes: the asked one, or the time to its next due minute if
-/// that is shorter.
+/// The longest time of a new command in minutes: the asked one, or the time to its next due minute
+/// if that is shorter.
 #[tactic(auto, using(crate::proofs::Apart::still_apart))]
 pub(crate) fn brief_max(schedule: &Schedule, asked: u64) -> u64
     ensures most { result ≤ asked }

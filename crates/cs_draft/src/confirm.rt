@@ -3,13 +3,16 @@ ghost use Rattle.std.specs.Prelude.{◌≡◌, All, IfOk, IsTrue, None, drop, le
 ghost use Rattle.cs_decl.specs.Faults.{first_fault};
 ghost use Rattle.cs_decl.specs.Join.{join_faults};
 ghost use Rattle.cs_draft.specs.Draft.{AreFresh, AreTerms, IsBound, IsDraft, IsDrafted, IsDraftedGroup, IsDraftedJob, IsKeptJob, IsKeptLine, IsNewJob, IsUpdate, is_lone};
+ghost use Rattle.cs_draft.specs.Notices.{AreTold, AreToldNew};
 
 use crate::added::{are_new_jobs, are_new_lines};
 use crate::bound::are_bound;
 use crate::brief::are_drafted;
 use crate::kept::{are_kept_jobs, are_kept_lines, are_terms};
 use crate::locked::{are_drafted_groups, have_locks};
+use crate::notice::Notice;
 use crate::terms::{are_drafted_jobs, are_fresh};
+use crate::warned::{tell, tell_new};
 use cs_anacrontab::{Anacrontab, Job};
 use cs_crontab::{Crontab, Line};
 use cs_decl::{DeclError, Declarations, Entries, join, read_declarations};
@@ -93,7 +96,8 @@ fn are_new_groups(old: &Entries, new: &Entries) -> bool
     count <= groups.len() && are_drafted_groups(new, &groups[count..])
 }
 
-/// Whether the text is a draft of the tables. The only error is want of memory.
+/// Whether the text is a draft of the tables, and the locks that it lacks are told. The only error
+/// is want of memory.
 pub(crate) fn is_draft(
     alloc: Global,
     table: &Crontab,
@@ -102,9 +106,12 @@ pub(crate) fn is_draft(
     max: u64,
     offset: i16,
     text: &[u8],
+    notices: &[Notice],
 ) -> Result<bool, AllocError>
-    ensures { IfOk result
+    ensures draft { IfOk result
         (λ b. IsTrue b → IsDraft table.now jobs.now places.now max offset text.now) }
+    ensures warned { IfOk result
+        (λ b. IsTrue b → AreTold table.now jobs.now text.now notices.now) }
 {
     let declarations = match read_declarations(alloc, text) {
         Ok(declarations) => declarations,
@@ -118,10 +125,14 @@ pub(crate) fn is_draft(
     if !have_locks(alloc, entries, table.lines())? {
         return Ok(false);
     }
+    if !tell(alloc, table, jobs, entries, notices)? {
+        return Ok(false);
+    }
     is_fitting(alloc, table, jobs, declarations)
 }
 
-/// Whether the text is an update of the declarations. The only error is want of memory.
+/// Whether the text is an update of the declarations, and the locks that it lacks are told. The
+/// only error is want of memory.
 pub(crate) fn is_update(
     alloc: Global,
     table: &Crontab,
@@ -130,9 +141,12 @@ pub(crate) fn is_update(
     old: &Entries,
     max: u64,
     text: &[u8],
+    notices: &[Notice],
 ) -> Result<bool, AllocError>
-    ensures { IfOk result
+    ensures update { IfOk result
         (λ b. IsTrue b → IsUpdate table.now jobs.now places.now old.now max text.now) }
+    ensures warned { IfOk result
+        (λ b. IsTrue b → AreToldNew table.now jobs.now old.now text.now notices.now) }
 {
     let declarations = match read_declarations(alloc, text) {
         Ok(declarations) => declarations,
@@ -148,6 +162,9 @@ pub(crate) fn is_update(
         return Ok(false);
     }
     if !are_new_lines(alloc, max, places, old, new, lines)? {
+        return Ok(false);
+    }
+    if !tell_new(alloc, table, jobs, old, new, notices)? {
         return Ok(false);
     }
     is_fitting(alloc, table, jobs, declarations)

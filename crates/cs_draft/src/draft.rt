@@ -3,9 +3,10 @@ ghost use Rattle.cs_decl.specs.Plain.{is_possible_max};
 ghost use Rattle.cs_draft.specs.Drawing.{IsDrawing, IsUpdating};
 
 use crate::confirm::{is_draft, is_update};
-use crate::fresh::fresh_texts;
+use crate::fresh::fresh_text;
+use crate::notice::{Notice, notices_text};
 use crate::old::Old;
-use crate::updated::updated_texts;
+use crate::updated::updated_text;
 use cs_anacrontab::Anacrontab;
 use cs_civil::Bytes;
 use cs_crontab::Crontab;
@@ -77,14 +78,15 @@ fn is_possible_max(max: u64) -> bool
 /// are ahead of UTC by `offset` minutes.
 ///
 /// Each job has that longest time, or a command the time to its own next due minute if that is
-/// shorter, and the capacity is the greatest. A command that has parts, as the places tell, has them
-/// in its entry: each has an equal share of the time to the next due minute, but at most `max`
-/// minutes and at least one, and the longest time is their sum. A command that is run under flock(1)
-/// has the group of the lock file, which is exclusive and has the file's name, and the mode that the
-/// options ask for: `try` for `-n`, `shared` for `-s`, else `wait`. Where no mode or no group is like
-/// it, it has no lock, and a warning tells why. `@reboot` lines are left out, each with a warning. What
-/// is drawn up was read back, compared with the commands and joined with the tables. The only error is
-/// want of memory.
+/// shorter, and the capacity is the greatest. A command that has parts, as the places tell, has
+/// them in its entry: each has an equal share of the time to the next due minute, but at most `max`
+/// minutes and at least one, and the longest time is their sum. A command that is run under
+/// flock(1) as a whole, behind guards and programs that wait for it, has the group of the lock
+/// file, which is exclusive and has the file's name, and the mode that the options ask for: `try`
+/// for `-n`, `shared` for `-s`, else `wait`. Each other command that names a program that locks
+/// files has no lock, and a warning tells why. `@reboot` lines are left out, each with a warning.
+/// What is drawn up was read back, compared with the commands and joined with the tables. The only
+/// error is want of memory.
 pub fn draw_up(
     alloc: Global,
     table: &Crontab,
@@ -98,18 +100,31 @@ pub fn draw_up(
     if !is_possible_max(max) {
         return Ok(Drawing::BadMax);
     }
-    let (text, warnings) = fresh_texts(alloc, table, jobs, places, max, offset)?;
-    if !is_draft(alloc, table, jobs, places, max, offset, text.as_slice())? {
+    let (text, notices) = fresh_text(alloc, table, jobs, places, max, offset)?;
+    let notices = notices.as_slice();
+    if !is_draft(
+        alloc,
+        table,
+        jobs,
+        places,
+        max,
+        offset,
+        text.as_slice(),
+        notices,
+    )? {
         return Ok(Drawing::NotConfirmed);
     }
+    let warnings = notices_text(alloc, notices)?;
     Ok(Drawing::Drawn(Draft {
         text: Bytes::from_vec(text),
         warnings: Bytes::from_vec(warnings),
     }))
 }
 
-/// The texts of an update of the declarations in the bytes, or none where they aren't JSON.
-fn texts_of(
+/// The text of an update of the declarations in the bytes, and what is told, or none where they
+/// aren't
+/// JSON.
+fn text_of(
     alloc: Global,
     table: &Crontab,
     jobs: &Anacrontab,
@@ -117,14 +132,14 @@ fn texts_of(
     entries: &Entries,
     bytes: &[u8],
     max: u64,
-) -> Result<Option<(Vec<u8>, Vec<u8>)>, AllocError> {
+) -> Result<Option<(Vec<u8>, Vec<Notice>)>, AllocError> {
     match parse(alloc, bytes) {
         Ok(value) => {
             let old = Old {
                 value: &value,
                 entries,
             };
-            Ok(Some(updated_texts(alloc, table, jobs, places, old, max)?))
+            Ok(Some(updated_text(alloc, table, jobs, places, old, max)?))
         }
         Err(Misread::Memory) => Err(AllocError),
         Err(Misread::Fault(_)) => Ok(None),
@@ -154,10 +169,11 @@ pub fn update(
     if !is_possible_max(max) {
         return Ok(Drawing::BadMax);
     }
-    let Some((text, warnings)) = texts_of(alloc, table, jobs, places, old.entries(), bytes, max)?
+    let Some((text, notices)) = text_of(alloc, table, jobs, places, old.entries(), bytes, max)?
     else {
         return Ok(Drawing::NotConfirmed);
     };
+    let notices = notices.as_slice();
     if !is_update(
         alloc,
         table,
@@ -166,9 +182,11 @@ pub fn update(
         old.entries(),
         max,
         text.as_slice(),
+        notices,
     )? {
         return Ok(Drawing::NotConfirmed);
     }
+    let warnings = notices_text(alloc, notices)?;
     Ok(Drawing::Drawn(Draft {
         text: Bytes::from_vec(text),
         warnings: Bytes::from_vec(warnings),

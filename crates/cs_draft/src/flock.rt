@@ -1,13 +1,16 @@
 //! The words of a call of flock(1), as util-linux has it: options, a lock file, and a command.
-ghost use Rattle.std.specs.Prelude.{◌≡◌, ◌∷◌, [], ◌&&◌, ◌==◌, ◌⊎◌, MatchResult, None, Some, codes, false, is_none, true};
+ghost use Rattle.std.specs.Prelude.{◌≡◌, ◌∷◌, [], ◌&&◌, ◌==◌, ◌⊎◌, MatchResult, None, Some, codes, drop, false, is_none, true};
 ghost use Rattle.std.specs.List.{list_any};
 ghost use Rattle.cs_json.specs.Shape.{is_among};
-ghost use Rattle.cs_table.specs.Text.{begins_with};
+ghost use Rattle.cs_table.specs.Text.{after, begins_with, is_digit};
 ghost use Rattle.cs_draft.specs.Locks.{and_at_once, and_shared, are_known, at_once_by, begins_among, behind_options, call_lock, flag_of, has_word, is_command, is_file, is_option, is_path, is_shell_byte, is_shell_word, mode_of, options_in, options_of, shared_by, short_options, unmarked};
 ghost use Rattle.cs_draft.specs.Locking.{texts_of};
+ghost use Rattle.cs_draft.specs.Paths.{is_direct};
 
+use crate::paths::is_direct;
 use crate::unlocked::Unlocked;
 use cs_history::Mode;
+use cs_table::text::digits;
 
 /// What an option asks for.
 #[derive(Clone, Copy)]
@@ -312,6 +315,16 @@ fn reason_of_word(word: &[u8]) -> Unlocked {
     Unlocked::Relative
 }
 
+/// Whether each part of the path behind its first byte leads on.
+fn is_direct_path(word: &[u8]) -> bool
+    ensures { result ≡ is_direct (drop 1 word.now) }
+{
+    match word {
+        [_, behind @ ..] => is_direct(behind),
+        [] => is_direct(&[]),
+    }
+}
+
 /// The path of the file that the word stands for.
 #[tactic(auto, unfolding(crate::specs::Locks::is_file))]
 fn file_path(word: &[u8]) -> Result<&str, Unlocked>
@@ -321,9 +334,30 @@ fn file_path(word: &[u8]) -> Result<&str, Unlocked>
     if is_shell_word(word) || !is_from_root(word) {
         return Err(reason_of_word(word));
     }
+    if !is_direct_path(word) {
+        return Err(Unlocked::Indirect);
+    }
     match str::from_utf8(word) {
         Ok(file) => Ok(file),
         Err(_) => Err(Unlocked::NotUtf8),
+    }
+}
+
+/// What stands behind the digits at the front: the number of a descriptor, before `<` or `>`.
+fn behind_digits(word: &[u8]) -> &[u8]
+    ensures { result.now ≡ after is_digit word.now }
+{
+    let (_, rest) = digits(word);
+    rest
+}
+
+/// Whether the word ends a command, or turns its output.
+fn ends_command(word: &[u8]) -> bool
+    ensures { result ≡ begins_among (codes "|&;<>()#") word.now }
+{
+    match word {
+        [b'|' | b'&' | b';' | b'<' | b'>' | b'(' | b')' | b'#', ..] => true,
+        _ => false,
     }
 }
 
@@ -334,11 +368,7 @@ fn has_word(words: &[&[u8]]) -> bool
     ensures { result ≡ has_word (texts_of words.now) }
 {
     match words {
-        [
-            [b'|' | b'&' | b';' | b'<' | b'>' | b'(' | b')' | b'#', ..],
-            ..
-        ] => false,
-        [_, ..] => true,
+        [word, ..] => !ends_command(behind_digits(*word)),
         [] => false,
     }
 }

@@ -1,6 +1,7 @@
 //! The draft of tables of which nothing is declared yet.
 
 use crate::layout::Front;
+use crate::notice::Notice;
 use crate::sheet::Sheet;
 use cs_anacrontab::Anacrontab;
 use cs_crontab::{Crontab, Line, When};
@@ -13,22 +14,22 @@ fn add_line<'a>(alloc: Global, sheet: &mut Sheet<'a>, line: &'a Line) -> Result<
     match line.when() {
         When::At(schedule) => sheet.add_new(alloc, line, schedule),
         When::Reboot => {
-            sheet.told.reboot(alloc, line.number())?;
+            sheet.told.reboot(line.number())?;
             sheet.leave_out(alloc, line, None, true)
         }
     }
 }
 
-/// The texts of declarations and of what is told, for a longest time in minutes and an offset, which
+/// The text of declarations, and what is told, for a longest time in minutes and an offset, which
 /// is told unless it is 0. The only error is want of memory.
-pub(crate) fn fresh_texts(
+pub(crate) fn fresh_text(
     alloc: Global,
     table: &Crontab,
     jobs: &Anacrontab,
     places: &[Place],
     max: u64,
     offset: i16,
-) -> Result<(Vec<u8>, Vec<u8>), AllocError> {
+) -> Result<(Vec<u8>, Vec<Notice>), AllocError> {
     let mut sheet = Sheet::new(alloc, places, max);
     for line in table.lines() {
         add_line(alloc, &mut sheet, line)?;
@@ -36,7 +37,7 @@ pub(crate) fn fresh_texts(
     for job in jobs.lines() {
         // the identifiers of a table that was read are UTF-8
         if let Ok(identifier) = str::from_utf8(job.identifier()) {
-            sheet.add_job(alloc, identifier, None)?;
+            sheet.add_job(alloc, job, identifier, None)?;
         }
     }
     let mut front = Front::new(alloc);
@@ -46,5 +47,5 @@ pub(crate) fn fresh_texts(
         let offset = format!(in alloc; "{offset}")?;
         front.add("offset", offset.as_str())?;
     }
-    sheet.into_texts(alloc, &front)
+    sheet.into_text(alloc, &front)
 }

@@ -1,5 +1,5 @@
-//! The declarations that an operator begins from, with a group for each file that a command locks by
-//! flock(1), and their update for tables that have changed.
+//! The declarations that an operator begins from, with a group for each file that a command locks
+//! by flock(1), and their update for tables that have changed.
 #![tactic(auto)]
 
 mod added;
@@ -9,13 +9,17 @@ mod confirm;
 mod draft;
 mod flock;
 mod fresh;
+mod fronts;
 mod kept;
 mod layout;
 mod lock;
 mod locked;
+mod named;
 mod names;
+mod notice;
 mod old;
 mod parts;
+mod paths;
 mod sheet;
 mod shell;
 mod terms;
@@ -23,5 +27,6 @@ mod times;
 mod told;
 mod unlocked;
 mod updated;
+mod warned;
 
 pub use draft::{Draft, Drawing, draw_up, update};

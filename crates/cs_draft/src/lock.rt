@@ -1,11 +1,17 @@
 //! The lock that a command of a crontab takes.
-ghost use Rattle.std.specs.Prelude.{◌≡◌, ◌==◌, IfOk, position};
-ghost use Rattle.cs_draft.specs.Locks.{before_percent, is_flock, words_of};
+ghost use Rattle.std.specs.Prelude.{◌≡◌, ◌==◌, IfOk, MatchResult, None, Some, false, position, true};
+ghost use Rattle.std.specs.List.{list_any};
+ghost use Rattle.cs_table.specs.Text.{begins_with};
+ghost use Rattle.cs_draft.specs.Locks.{before_percent, flock_lock, hands_text, is_flock, is_whole, may_run_on, text_lock, words_lock, words_of};
 ghost use Rattle.cs_draft.specs.Locking.{IsLock, texts_of};
-ghost use Rattle.cs_draft.specs.Shell.{shell_text};
+ghost use Rattle.cs_draft.specs.Named.{locks_in};
+ghost use Rattle.cs_draft.specs.Shell.{is_one_program, shell_text};
 
 use crate::flock::call_of;
-use crate::shell::one_program;
+use crate::fronts::behind_fronts;
+use crate::named::{locks_in, names_lock};
+use crate::paths::real_path;
+use crate::shell::{has_lone_ampersand, one_program};
 use crate::unlocked::Unlocked;
 use cs_civil::Bytes;
 use cs_crontab::command_parts;
@@ -14,12 +20,13 @@ use cs_table::text::{is_blank, skip_blanks, word};
 use std::alloc::{AllocError, Global};
 
 /// Whether a command takes a lock.
-pub(crate) enum Lock<'a> {
-    /// It isn't run under flock(1).
+#[derive(Drop)]
+pub(crate) enum Lock {
+    /// It names no program that locks files.
     Absent,
     /// It takes the lock of the file, in that mode.
-    Of(&'a str, Mode),
-    /// It is run under flock(1), but no mode and no group is like it.
+    Of(Bytes, Mode),
+    /// It names one, but no mode and no group is like what it does.
     Unlike(Unlocked),
 }
 
@@ -71,22 +78,142 @@ fn shell_text(alloc: Global, command: &[u8]) -> Result<Bytes, AllocError>
     Ok(text)
 }
 
-/// The lock that the command takes. The only error is want of memory.
-pub(crate) fn lock_of(alloc: Global, command: &[u8]) -> Result<Lock<'_>, AllocError>
-    ensures { IfOk result (IsLock command.now) }
+fn begins_with_dash(word: &[u8]) -> bool
+    ensures { result ≡ begins_with 45 word.now }
 {
-    let (first, rest) = word(skip_blanks(before_percent(command)));
+    match word {
+        [b'-', ..] => true,
+        _ => false,
+    }
+}
+
+/// Whether a shell is handed its text behind the word.
+#[tactic(auto, unfolding(crate::specs::Locks::hands_text))]
+fn hands_text(word: &[u8]) -> bool
+    ensures { result ≡ hands_text word.now }
+{
+    begins_with_dash(word) && word.ends_with(b"c".as_slice()) || word == b"--command".as_slice()
+}
+
+/// Whether a shell is handed its text behind one of the words.
+fn hand_text(words: &[&[u8]]) -> bool
+    ensures { result ≡ list_any hands_text (texts_of words.now) }
+{
+    let mut rest = words;
+    while let [word, others @ ..] = rest {
+        if hands_text(*word) {
+            return true;
+        }
+        rest = others;
+    }
+    false
+}
+
+/// Whether a shell that is handed a text may not wait for the end of all that it starts. The only
+/// error is want of memory.
+fn may_run_on(alloc: Global, text: &[u8]) -> Result<bool, AllocError>
+    ensures { IfOk result (λ b. b ≡ may_run_on text.now) }
+{
+    let words = words_of(alloc, before_percent(text))?;
+    Ok(hand_text(words.as_slice()) && has_lone_ampersand(text))
+}
+
+/// Whether the shell runs one program for the text, and waits for the end of all that this runs; or
+/// why it may do more. The only error is want of memory.
+#[tactic(auto, unfolding(crate::specs::Locks::is_whole))]
+fn whole(alloc: Global, text: &[u8]) -> Result<Result<(), Unlocked>, AllocError>
+    ensures { IfOk result (λ r. MatchResult r (λ done. is_whole text.now ≡ true)
+        (λ e. is_whole text.now ≡ false)) }
+{
+    let read = shell_text(alloc, text)?;
+    if let Err(reason) = one_program(read.as_slice()) {
+        return Ok(Err(reason));
+    }
+    if may_run_on(alloc, text)? {
+        return Ok(Err(Unlocked::Further));
+    }
+    Ok(Ok(()))
+}
+
+/// The lock of the first words of a text; or why they are none. The only error is want of memory.
+fn words_lock<'a>(
+    alloc: Global,
+    text: &'a [u8],
+) -> Result<Result<(&'a str, Mode), Unlocked>, AllocError>
+    ensures { IfOk result (λ r. MatchResult r
+        (λ lock. words_lock (words_of (before_percent text.now)) ≡ Some (lock.0.now, lock.1))
+        (λ e. words_lock (words_of (before_percent text.now)) ≡ None)) }
+{
+    let (first, rest) = word(skip_blanks(before_percent(text)));
     if !is_flock(first) {
-        return Ok(Lock::Absent);
+        return Ok(Err(Unlocked::Unread));
     }
     let words = words_of(alloc, rest)?;
-    let (file, mode) = match call_of(first, words.as_slice()) {
+    match call_of(first, words.as_slice()) {
+        Ok(lock) => Ok(Ok(lock)),
+        Err(reason) => Ok(Err(reason)),
+    }
+}
+
+/// The lock of a text that begins with a call of flock(1); or why there is none. The only error is
+/// want of memory.
+#[tactic(auto, unfolding(crate::specs::Locks::flock_lock))]
+fn flock_lock<'a>(
+    alloc: Global,
+    text: &'a [u8],
+) -> Result<Result<(&'a str, Mode), Unlocked>, AllocError>
+    ensures { IfOk result (λ r. MatchResult r
+        (λ lock. flock_lock text.now ≡ Some (lock.0.now, lock.1))
+        (λ e. flock_lock text.now ≡ None)) }
+{
+    let lock = match words_lock(alloc, text)? {
         Ok(lock) => lock,
-        Err(reason) => return Ok(Lock::Unlike(reason)),
+        Err(reason) => return Ok(Err(reason)),
     };
-    let text = shell_text(alloc, command)?;
-    match one_program(text.as_slice()) {
-        Ok(()) => Ok(Lock::Of(file, mode)),
-        Err(reason) => Ok(Lock::Unlike(reason)),
+    match whole(alloc, text)? {
+        Ok(()) => Ok(Ok(lock)),
+        Err(reason) => Ok(Err(reason)),
+    }
+}
+
+fn has_one_lock(text: &[u8]) -> bool
+    ensures { result ≡ (locks_in text.now == 1) }
+{
+    locks_in(text) == 1
+}
+
+/// The lock of such a text in which no other program that locks files is named. The only error is
+/// want of memory.
+#[tactic(auto, unfolding(crate::specs::Locks::text_lock))]
+fn text_lock<'a>(
+    alloc: Global,
+    text: &'a [u8],
+) -> Result<Result<(&'a str, Mode), Unlocked>, AllocError>
+    ensures { IfOk result (λ r. MatchResult r
+        (λ lock. text_lock text.now ≡ Some (lock.0.now, lock.1))
+        (λ e. text_lock text.now ≡ None)) }
+{
+    match flock_lock(alloc, text)? {
+        Ok(lock) if has_one_lock(text) => Ok(Ok(lock)),
+        Ok(_) => Ok(Err(Unlocked::Two)),
+        Err(reason) => Ok(Err(reason)),
+    }
+}
+
+/// The lock that the command takes, or none and why. The only error is want of memory.
+pub(crate) fn lock_of(alloc: Global, command: &[u8]) -> Result<Lock, AllocError>
+    ensures { IfOk result (IsLock command.now) }
+{
+    let reason = match text_lock(alloc, behind_fronts(command))? {
+        Ok((file, mode)) => {
+            let file = real_path(alloc, file.as_bytes())?;
+            return Ok(Lock::Of(Bytes::from_vec(file), mode));
+        }
+        Err(reason) => reason,
+    };
+    if names_lock(command) {
+        Ok(Lock::Unlike(reason))
+    } else {
+        Ok(Lock::Absent)
     }
 }

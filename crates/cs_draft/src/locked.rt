@@ -62,7 +62,7 @@ fn is_locked(
         → IsLocked groups.now (lock_of command.now) entry.now) }
 {
     match lock_of(alloc, command)? {
-        Lock::Of(file, mode) => Ok(takes_lock_if_any(groups, file.as_bytes(), mode, entry)),
+        Lock::Of(file, mode) => Ok(takes_lock_if_any(groups, file.as_slice(), mode, entry)),
         Lock::Absent | Lock::Unlike(_) => Ok(takes_none(entry)),
     }
 }

@@ -1,5 +1,5 @@
-//! Declarations that are updated, as their JSON has them, and the lines that their entries are bound
-//! to.
+//! Declarations that are updated, as their JSON has them, and the lines that their entries are
+//! bound to.
 
 use crate::names::is_reboot;
 use crate::told::Told;
@@ -74,8 +74,8 @@ fn add_bound<'v>(
     Ok(())
 }
 
-/// The entries of the declarations that tell a command, in the order of the lines that they name. The
-/// only error is want of memory.
+/// The entries of the declarations that tell a command, in the order of the lines that they name.
+/// The only error is want of memory.
 pub(crate) fn bound_in<'v>(
     alloc: Global,
     told: &mut Told,
@@ -96,8 +96,8 @@ pub(crate) fn count_lines(lines: &[Line], command: &[u8], reboot: bool) -> usize
         .count()
 }
 
-/// Whether an entry can be that of a line with this command. An entry of `left_out` is that of a line
-/// that is started at startup, if there is one with its command.
+/// Whether an entry can be that of a line with this command. An entry of `left_out` is that of a
+/// line that is started at startup, if there is one with its command.
 fn is_candidate(entry: &Bound<'_>, command: &[u8], reboot: bool, has_reboot: bool) -> bool {
     entry.command.as_bytes() == command
         && (if reboot {

@@ -2,18 +2,20 @@
 
 use crate::layout::{Front, Listing, Object};
 use crate::lock::{Lock, lock_of};
+use crate::named::names_lock;
+use crate::notice::Notice;
 use crate::old::Bound;
 use crate::parts::{declarable, has_name, has_part, have_changed, is_placed, names_at};
 use crate::times::{add_new_times, add_old_times, add_renewed_times, room_for};
 use crate::told::Told;
 use crate::unlocked::Unlocked;
+use cs_anacrontab::Job;
 use cs_civil::Bytes;
 use cs_crontab::Line;
 use cs_decl::{MAX_GROUPS, MAX_MINUTES, PartEntry};
 use cs_gather::Place;
 use cs_history::Mode;
 use cs_schedule::Schedule;
-use indexmap::IndexSet;
 use serde_json::Value;
 use std::alloc::{AllocError, Global};
 
@@ -22,7 +24,7 @@ use std::alloc::{AllocError, Global};
 pub(crate) struct Sheet<'a> {
     places: &'a [Place],
     max: u64,
-    names: IndexSet<&'a str>,
+    names: Vec<String>,
     groups: Listing,
     cron: Listing,
     anacron: Listing,
@@ -62,7 +64,7 @@ impl<'a> Sheet<'a> {
         Sheet {
             places,
             max,
-            names: IndexSet::new(alloc),
+            names: Vec::new(alloc),
             groups: Listing::new(alloc),
             cron: Listing::new(alloc),
             anacron: Listing::new(alloc),
@@ -75,19 +77,19 @@ impl<'a> Sheet<'a> {
     pub(crate) fn add_group(
         &mut self,
         alloc: Global,
-        name: &'a str,
+        name: &str,
         group: &Value,
     ) -> Result<(), AllocError> {
         let mut entry = Object::new(alloc);
         entry.add_members(alloc, group, ["name", "exclusive", "note"].as_slice())?;
         self.groups.add(alloc, &entry)?;
-        self.names.insert(name)?;
+        self.names.push(name.to_string(alloc)?)?;
         Ok(())
     }
 
     /// Whether the file has a group now. The only error is want of memory.
-    fn takes(&mut self, alloc: Global, file: &'a str) -> Result<bool, AllocError> {
-        if self.names.contains(file) {
+    fn takes(&mut self, alloc: Global, file: &str) -> Result<bool, AllocError> {
+        if self.names.iter().any(|name| name.as_str() == file) {
             return Ok(true);
         }
         if self.names.len() >= MAX_GROUPS {
@@ -97,7 +99,7 @@ impl<'a> Sheet<'a> {
         entry.add_text(alloc, "name", file)?;
         entry.add("exclusive", "true")?;
         self.groups.add(alloc, &entry)?;
-        self.names.insert(file)?;
+        self.names.push(file.to_string(alloc)?)?;
         Ok(true)
     }
 
@@ -112,6 +114,9 @@ impl<'a> Sheet<'a> {
         let reason = match lock_of(alloc, line.command())? {
             Lock::Absent => return Ok(()),
             Lock::Of(file, mode) => {
+                let Ok(file) = str::from_utf8(file.as_slice()) else {
+                    return self.told.unlocked(line.number(), Unlocked::NotUtf8);
+                };
                 if self.takes(alloc, file)? {
                     return add_lock(alloc, entry, file, mode);
                 }
@@ -119,11 +124,11 @@ impl<'a> Sheet<'a> {
             }
             Lock::Unlike(reason) => reason,
         };
-        self.told.unlocked(alloc, line.number(), reason)
+        self.told.unlocked(line.number(), reason)
     }
 
-    /// The names of the parts of a line; none where declarations can't have them, which is told. The
-    /// only error is want of memory.
+    /// The names of the parts of a line; none where declarations can't have them, which is told.
+    /// The only error is want of memory.
     fn parts_of(&mut self, alloc: Global, line: &Line) -> Result<&'a [Bytes], AllocError> {
         let names = names_at(self.places, line.number());
         let parts = declarable(names);
@@ -135,7 +140,7 @@ impl<'a> Sheet<'a> {
         } else {
             "two parts of one name: they aren't declared"
         };
-        self.told.undeclared(alloc, line.number(), reason)?;
+        self.told.undeclared(line.number(), reason)?;
         Ok(parts)
     }
 
@@ -185,7 +190,8 @@ impl<'a> Sheet<'a> {
         Ok(())
     }
 
-    /// Adds the longest time and the parts of an old entry, which has some: those that the table has.
+    /// Adds the longest time and the parts of an old entry, which has some: those that the table
+    /// has.
     /// The only error is want of memory.
     fn add_parts(
         &mut self,
@@ -202,7 +208,7 @@ impl<'a> Sheet<'a> {
         }
         let Some(share) = room_for(self.max, old.parts, names) else {
             let reason = "more parts than a job may have minutes: its entry is kept";
-            self.told.undeclared(alloc, number, reason)?;
+            self.told.undeclared(number, reason)?;
             return add_old_times(alloc, entry, old.entry);
         };
         self.tell_parts(alloc, number, old.parts, names)?;
@@ -252,11 +258,12 @@ impl<'a> Sheet<'a> {
         self.left_out.add(alloc, &entry)
     }
 
-    /// Adds the entry of an anacron job: as it was declared, or that of a new one. The only error is
-    /// want of memory.
+    /// Adds the entry of an anacron job: as it was declared, or that of a new one. The only error
+    /// is want of memory.
     pub(crate) fn add_job(
         &mut self,
         alloc: Global,
+        job: &Job,
         identifier: &str,
         old: Option<&Value>,
     ) -> Result<(), AllocError> {
@@ -267,18 +274,23 @@ impl<'a> Sheet<'a> {
                 let names = ["max", "weight", "group", "note"];
                 entry.add_members(alloc, old, names.as_slice())?;
             }
-            None => entry.add_number(alloc, "max", self.max)?,
+            None => {
+                entry.add_number(alloc, "max", self.max)?;
+                if names_lock(job.command()) {
+                    self.told.unlocked_job(job.number())?;
+                }
+            }
         }
         self.anacron.add(alloc, &entry)
     }
 
     /// The text of the declarations behind a front, and what is told. The only error is want of
     /// memory.
-    pub(crate) fn into_texts(
+    pub(crate) fn into_text(
         self,
         alloc: Global,
         front: &Front,
-    ) -> Result<(Vec<u8>, Vec<u8>), AllocError> {
+    ) -> Result<(Vec<u8>, Vec<Notice>), AllocError> {
         let mut text = Vec::from_slice(alloc, b"{".as_slice())?;
         text.extend_from_slice(front.as_bytes())?;
         self.groups.push_to(&mut text, "groups")?;
@@ -286,6 +298,6 @@ impl<'a> Sheet<'a> {
         self.anacron.push_to(&mut text, "anacron")?;
         self.left_out.push_to(&mut text, "left_out")?;
         text.extend_from_slice(b"\n}\n")?;
-        Ok((text, self.told.into_text()))
+        Ok((text, self.told.into_notices()))
     }
 }

@@ -2,7 +2,8 @@
 //! besides (sh(1)).
 ghost use Rattle.std.specs.Prelude.{◌≡◌, MatchResult, false, not, option_map, true};
 ghost use Rattle.std.specs.List.{find};
-ghost use Rattle.cs_draft.specs.Shell.{are_plain, is_closing, is_harmless, is_inner, is_name_byte, is_one_program, is_plain, is_variable, quote_behind};
+ghost use Rattle.cs_table.specs.Text.{begins_with};
+ghost use Rattle.cs_draft.specs.Shell.{are_plain, has_lone_ampersand, is_closing, is_harmless, is_inner, is_name_byte, is_one_program, is_plain, is_variable, quote_behind};
 
 use crate::unlocked::Unlocked;
 
@@ -18,7 +19,7 @@ fn quote_behind(quote: Option<u8>, byte: u8) -> Option<u8>
     }
 }
 
-fn is_name_byte(byte: u8) -> bool
+pub(crate) fn is_name_byte(byte: u8) -> bool
     ensures { result ≡ is_name_byte byte }
 {
     byte.is_ascii_alphanumeric() || byte == b'_'
@@ -119,4 +120,33 @@ pub(crate) fn one_program(text: &[u8]) -> Result<(), Unlocked>
         Some(_) => Err(Unlocked::OpenQuote),
         None => Ok(()),
     }
+}
+
+fn begins_with_ampersand(text: &[u8]) -> bool
+    ensures { result ≡ begins_with 38 text.now }
+{
+    match text {
+        [b'&', ..] => true,
+        _ => false,
+    }
+}
+
+/// Whether a `&` in the text belongs to none of `&&`, `>&` and `<&`.
+#[tactic(auto, unfolding(crate::specs::Shell::has_lone_ampersand))]
+pub(crate) fn has_lone_ampersand(text: &[u8]) -> bool
+    ensures { result ≡ has_lone_ampersand 32 text.now }
+{
+    let mut before = b' ';
+    let mut rest = text;
+    while let [byte, others @ ..] = rest {
+        if *byte == b'&'
+            && !matches!(before, b'&' | b'<' | b'>')
+            && !begins_with_ampersand(others)
+        {
+            return true;
+        }
+        before = *byte;
+        rest = others;
+    }
+    false
 }

@@ -66,8 +66,8 @@ pub(crate) fn add_old_times(
     entry.add_list(alloc, "parts", parts.as_slice())
 }
 
-/// The longest time of the new ones among parts of those names: the asked one, or as many minutes as
-/// there is room for; none where there is no room for a minute of each.
+/// The longest time of the new ones among parts of those names: the asked one, or as many minutes
+/// as there is room for; none where there is no room for a minute of each.
 pub(crate) fn room_for(asked: u64, old: &[PartEntry], names: &[Bytes]) -> Option<u64> {
     let left = minutes_left(MOST, 0, old, names)?;
     let new = names

@@ -1,72 +1,69 @@
-//! What an operator has to know of a draft, a line each.
+//! What an operator has to know of a draft, as it is gathered.
 
+use crate::notice::Notice;
 use crate::unlocked::Unlocked;
+use cs_civil::Bytes;
 use cs_diagnostics::shown;
 use std::alloc::{AllocError, Global};
 
-/// Lines that each end with a newline.
+/// Notices, in the order in which they are told.
 #[derive(Drop)]
 pub(crate) struct Told {
-    text: Vec<u8>,
+    notices: Vec<Notice>,
 }
 
 impl Told {
     pub(crate) fn new(alloc: Global) -> Told {
         Told {
-            text: Vec::new(alloc),
+            notices: Vec::new(alloc),
         }
     }
 
-    fn add(&mut self, line: &str) -> Result<(), AllocError> {
-        self.text.extend_from_slice(line.as_bytes())
+    fn note(&mut self, note: String) -> Result<(), AllocError> {
+        let note = Bytes::from_vec(note.into_bytes());
+        self.notices.push(Notice::Note(note))?;
+        Ok(())
     }
 
     /// The line of that number is started at startup, and so left out. The only error is want of
     /// memory.
-    pub(crate) fn reboot(&mut self, alloc: Global, number: u32) -> Result<(), AllocError> {
-        let line = format!(in alloc;
-            "warning: @reboot on line {number} of the crontab is left out: no plan has startup jobs\n"
-        )?;
-        self.add(line.as_str())
+    pub(crate) fn reboot(&mut self, number: u32) -> Result<(), AllocError> {
+        self.notices.push(Notice::Reboot(number))?;
+        Ok(())
     }
 
     /// The command of that line takes a lock that isn't declared. The only error is want of memory.
-    pub(crate) fn unlocked(
-        &mut self,
-        alloc: Global,
-        number: u32,
-        reason: Unlocked,
-    ) -> Result<(), AllocError> {
-        let reason = reason.text();
-        let line = format!(in alloc;
-            "warning: the command on line {number} of the crontab is declared without a lock: {reason}\n"
-        )?;
-        self.add(line.as_str())
+    pub(crate) fn unlocked(&mut self, number: u32, reason: Unlocked) -> Result<(), AllocError> {
+        self.notices.push(Notice::Unlocked(number, reason.text()))?;
+        Ok(())
+    }
+
+    /// So does the command of the anacron job on that line. The only error is want of memory.
+    pub(crate) fn unlocked_job(&mut self, number: u32) -> Result<(), AllocError> {
+        self.notices.push(Notice::UnlockedJob(number))?;
+        Ok(())
     }
 
     /// The parts of that line's command aren't declared. The only error is want of memory.
     pub(crate) fn undeclared(
         &mut self,
-        alloc: Global,
         number: u32,
-        reason: &str,
+        reason: &'static str,
     ) -> Result<(), AllocError> {
-        let line = format!(in alloc;
-            "warning: the command on line {number} of the crontab has {reason}\n"
-        )?;
-        self.add(line.as_str())
+        self.notices.push(Notice::Undeclared(number, reason))?;
+        Ok(())
     }
 
-    /// That line's command has no parts in the table, and its entry has some. The only error is want
-    /// of memory.
+    /// That line's command has no parts in the table, and its entry has some. The only error is
+    /// want of memory.
     pub(crate) fn no_parts(&mut self, alloc: Global, number: u32) -> Result<(), AllocError> {
-        let line = format!(in alloc;
-            "note: line {number} has no parts in the crontab: those of its entry are kept\n"
-        )?;
-        self.add(line.as_str())
+        self.note(format!(in alloc;
+            "line {number} has no parts in the crontab: those of its entry are kept"
+        )?)
     }
 
-    /// That line's command has a part that its entry doesn't have. The only error is want of memory.
+    /// That line's command has a part that its entry doesn't have. The only error is want of
+    /// memory.
     pub(crate) fn new_part(
         &mut self,
         alloc: Global,
@@ -74,8 +71,7 @@ impl Told {
         name: &[u8],
     ) -> Result<(), AllocError> {
         let name = shown(alloc, name)?;
-        let line = format!(in alloc; "note: line {number} has a new part: {name}\n")?;
-        self.add(line.as_str())
+        self.note(format!(in alloc; "line {number} has a new part: {name}")?)
     }
 
     /// That line's command has no such part any more. The only error is want of memory.
@@ -86,14 +82,12 @@ impl Told {
         name: &[u8],
     ) -> Result<(), AllocError> {
         let name = shown(alloc, name)?;
-        let line = format!(in alloc; "note: line {number} has no part {name} any more\n")?;
-        self.add(line.as_str())
+        self.note(format!(in alloc; "line {number} has no part {name} any more")?)
     }
 
     /// The line of that number is left out, as before. The only error is want of memory.
     pub(crate) fn left_out(&mut self, alloc: Global, number: u32) -> Result<(), AllocError> {
-        let line = format!(in alloc; "note: line {number} is left out of the plan\n")?;
-        self.add(line.as_str())
+        self.note(format!(in alloc; "line {number} is left out of the plan")?)
     }
 
     /// No entry is bound to that line's command. The only error is want of memory.
@@ -104,15 +98,13 @@ impl Told {
         command: &[u8],
     ) -> Result<(), AllocError> {
         let command = shown(alloc, command)?;
-        let line = format!(in alloc; "note: line {number} is new: {command}\n")?;
-        self.add(line.as_str())
+        self.note(format!(in alloc; "line {number} is new: {command}")?)
     }
 
     /// No line has that command any more. The only error is want of memory.
     pub(crate) fn gone(&mut self, alloc: Global, command: &str) -> Result<(), AllocError> {
         let command = shown(alloc, command.as_bytes())?;
-        let line = format!(in alloc; "note: gone: {command}\n")?;
-        self.add(line.as_str())
+        self.note(format!(in alloc; "gone: {command}")?)
     }
 
     /// The entry of that number in a list tells no command. The only error is want of memory.
@@ -122,8 +114,7 @@ impl Told {
         list: &str,
         number: usize,
     ) -> Result<(), AllocError> {
-        let line = format!(in alloc; "note: {list} {number} is not kept: it tells no command\n")?;
-        self.add(line.as_str())
+        self.note(format!(in alloc; "{list} {number} is not kept: it tells no command")?)
     }
 
     /// No entry is of that job, or none is left. The only error is want of memory.
@@ -134,25 +125,19 @@ impl Told {
         what: &str,
     ) -> Result<(), AllocError> {
         let identifier = shown(alloc, identifier.as_bytes())?;
-        let line = format!(in alloc; "note: job {identifier} is {what}\n")?;
-        self.add(line.as_str())
+        self.note(format!(in alloc; "job {identifier} is {what}")?)
     }
 
     /// So many jobs have the default. The only error is want of memory.
     pub(crate) fn defaulted(&mut self, alloc: Global, jobs: usize) -> Result<(), AllocError> {
         match jobs {
             0 => Ok(()),
-            1 => self.add("note: 1 job without an entry has the default\n"),
-            _ => {
-                let line = format!(in alloc;
-                    "note: {jobs} jobs without an entry have the default\n"
-                )?;
-                self.add(line.as_str())
-            }
+            1 => self.note(format!(in alloc; "1 job without an entry has the default")?),
+            _ => self.note(format!(in alloc; "{jobs} jobs without an entry have the default")?),
         }
     }
 
-    pub(crate) fn into_text(self) -> Vec<u8> {
-        self.text
+    pub(crate) fn into_notices(self) -> Vec<Notice> {
+        self.notices
     }
 }

@@ -1,4 +1,4 @@
-/// Why a command that begins with flock(1) is declared without a lock.
+/// Why a command that names a program that locks files is declared without a lock.
 #[derive(Clone, Copy)]
 pub(crate) enum Unlocked {
     /// The option `-w`: no mode waits for a limited time.
@@ -21,6 +21,8 @@ pub(crate) enum Unlocked {
     ShellWord,
     /// The file's path doesn't begin with `/`: which file it is depends on the folder of the run.
     Relative,
+    /// The file's path has an empty part, `.` or `..`: other paths would be of the same file.
+    Indirect,
     /// The file's name isn't UTF-8, so no declarations can name it.
     NotUtf8,
     /// No command stands behind the file.
@@ -29,6 +31,10 @@ pub(crate) enum Unlocked {
     OtherProgram,
     /// A shell may run a part of the command without flock(1), or not wait for its end.
     Further,
+    /// Another program that locks files is named behind flock(1).
+    Two,
+    /// A program that locks files is named elsewhere than where flock(1) is read.
+    Unread,
     /// A backslash stands outside single quotes: what the next byte stands for isn't read.
     Backslash,
     /// A quote is open at the end.
@@ -52,10 +58,13 @@ impl Unlocked {
             Unlocked::Descriptor => "its flock has a number in place of a lock file",
             Unlocked::ShellWord => "the shell expands the name of its lock file",
             Unlocked::Relative => "the path of its lock file doesn't begin with /",
+            Unlocked::Indirect => "the path of its lock file has an empty part, . or .. in it",
             Unlocked::NotUtf8 => "the name of its lock file isn't UTF-8",
             Unlocked::NoCommand => "its flock runs no command",
             Unlocked::OtherProgram => "the shell doesn't take its first word as a path to flock",
             Unlocked::Further => "its flock may run only a part of it, or in the background",
+            Unlocked::Two => "it names more than one program that locks files",
+            Unlocked::Unread => "draft can't tell what its lock covers",
             Unlocked::Backslash => "a backslash is outside its single quotes",
             Unlocked::OpenQuote => "a quote in it is not closed",
             Unlocked::TooManyGroups => "its lock file would be group 65 of at most 64",

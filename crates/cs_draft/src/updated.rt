@@ -1,6 +1,7 @@
 //! The draft of tables of which something is declared already.
 
 use crate::layout::{Front, Object, value_text};
+use crate::notice::Notice;
 use crate::old::{Bound, Old, bound_in, count_lines, entry_of, items, text_of};
 use crate::sheet::Sheet;
 use crate::told::Told;
@@ -81,7 +82,7 @@ impl<'a> Update<'a> {
         line: &Line,
         entry: Option<Bound<'a>>,
     ) -> Result<(), AllocError> {
-        self.sheet.told.reboot(alloc, line.number())?;
+        self.sheet.told.reboot(line.number())?;
         match entry {
             Some(old) => {
                 let is_numbered = is_numbered(&old, lines);
@@ -153,7 +154,13 @@ impl<'a> Update<'a> {
     }
 
     /// Adds an anacron job: as it was declared, or as a new one, unless there is a default.
-    fn add_job(&mut self, alloc: Global, old: &Value, identifier: &str) -> Result<(), AllocError> {
+    fn add_job(
+        &mut self,
+        alloc: Global,
+        old: &Value,
+        job: &Job,
+        identifier: &str,
+    ) -> Result<(), AllocError> {
         let entry = job_entry(old, identifier);
         if entry.is_none() && self.has_default {
             self.defaulted = self.defaulted.saturating_add(1);
@@ -162,7 +169,7 @@ impl<'a> Update<'a> {
         if entry.is_none() {
             self.sheet.told.job(alloc, identifier, "new")?;
         }
-        self.sheet.add_job(alloc, identifier, entry)
+        self.sheet.add_job(alloc, job, identifier, entry)
     }
 }
 
@@ -198,7 +205,8 @@ fn tell_gone_jobs(
     Ok(())
 }
 
-/// The members that stand before the lists, as they were declared. The only error is want of memory.
+/// The members that stand before the lists, as they were declared. The only error is want of
+/// memory.
 fn front(alloc: Global, old: &Value) -> Result<Front, AllocError> {
     let mut front = Front::new(alloc);
     for name in ["note", "capacity", "offset", "hours", "pass"] {
@@ -214,16 +222,16 @@ fn front(alloc: Global, old: &Value) -> Result<Front, AllocError> {
     Ok(front)
 }
 
-/// The texts of declarations and of what is told, where a new job has a longest time in minutes. The
+/// The text of declarations, and what is told, where a new job has a longest time in minutes. The
 /// only error is want of memory.
-pub(crate) fn updated_texts(
+pub(crate) fn updated_text(
     alloc: Global,
     table: &Crontab,
     jobs: &Anacrontab,
     places: &[Place],
     old: Old<'_>,
     max: u64,
-) -> Result<(Vec<u8>, Vec<u8>), AllocError> {
+) -> Result<(Vec<u8>, Vec<Notice>), AllocError> {
     let lines = table.lines();
     let mut update = Update::of(alloc, places, old, max)?;
     for (place, line) in lines.iter().enumerate() {
@@ -233,7 +241,7 @@ pub(crate) fn updated_texts(
     for job in jobs.lines() {
         // the identifiers of a table that was read are UTF-8
         if let Ok(identifier) = str::from_utf8(job.identifier()) {
-            update.add_job(alloc, old.value, identifier)?;
+            update.add_job(alloc, old.value, job, identifier)?;
         }
     }
     let Update {
@@ -243,5 +251,5 @@ pub(crate) fn updated_texts(
     } = update;
     tell_gone_jobs(alloc, &mut sheet.told, jobs.lines(), old.value)?;
     sheet.told.defaulted(alloc, defaulted)?;
-    sheet.into_texts(alloc, &front(alloc, old.value)?)
+    sheet.into_text(alloc, &front(alloc, old.value)?)
 }

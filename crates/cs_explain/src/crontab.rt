@@ -49,7 +49,9 @@ right:
         name: "BadNumber",
         short: "no number, name, comma or end of the field where one should be",
         text: "Often a field was left out, and the command's first word is read as the fifth. A
-field has no blanks, and names have three letters: jan to dec, sun to sat.
+field has no blanks, and names have three letters: jan to dec, sun to sat. Nor
+are 5#2 and 0~59 read, which other daemons know. Debian's cron reads them as 5
+and as 0.
 wrong:
   30 23 * * /usr/bin/backup
 right:
@@ -69,7 +71,8 @@ right:
         name: "Reversed",
         short: "a > b in a range a-b",
         text: "A range doesn't wrap over midnight or the end of a week, as it does for some
-other daemons. Write it as two.
+other daemons. Debian's cron takes 22-2 as no hour at all, so that the line
+never runs. Write it as two.
 wrong:
   0 22-2 * * * /usr/bin/watch
 right:
@@ -87,7 +90,8 @@ right:
     Meaning {
         name: "StepOnNumber",
         short: "/ follows a single number",
-        text: "A step follows * or a range. Some other daemons read 5/10 as 5-59/10.
+        text: "A step follows * or a range. Some other daemons read 5/10 as 5-59/10; Debian's
+cron refuses it.
 wrong:
   5/10 * * * * /usr/bin/poll
 right:

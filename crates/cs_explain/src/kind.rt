@@ -1,7 +1,8 @@
 //! The kinds of inputs and answers that have names of their own.
 use crate::meaning::Meaning;
 use crate::{
-    anacrontab, call, certificate, crontab, declarations, event, refused, script, system, unknown,
+    anacrontab, call, certificate, crontab, declarations, event, odd, refused, script, system,
+    unknown,
 };
 
 /// A kind of input or answer. Each has names of its own; some of them other kinds have too.
@@ -17,10 +18,11 @@ pub(crate) enum Kind {
     Refused,
     Event,
     Unknown,
+    Odd,
 }
 
 /// All kinds, in the order in which they are told.
-pub(crate) const KINDS: [Kind; 10] = [
+pub(crate) const KINDS: [Kind; 11] = [
     Kind::Crontab,
     Kind::System,
     Kind::Anacrontab,
@@ -31,6 +33,7 @@ pub(crate) const KINDS: [Kind; 10] = [
     Kind::Refused,
     Kind::Event,
     Kind::Unknown,
+    Kind::Odd,
 ];
 
 impl Kind {
@@ -47,6 +50,7 @@ impl Kind {
             Kind::Refused => "Of a refused certificate:",
             Kind::Event => "Of a refused event:",
             Kind::Unknown => "Of an answer 'unknown':",
+            Kind::Odd => "Of what 'lint' calls odd:",
         }
     }
 
@@ -63,6 +67,7 @@ impl Kind {
             Kind::Refused => refused::MEANINGS.as_slice(),
             Kind::Event => event::MEANINGS.as_slice(),
             Kind::Unknown => unknown::MEANINGS.as_slice(),
+            Kind::Odd => odd::MEANINGS.as_slice(),
         }
     }
 }

@@ -10,6 +10,7 @@ mod event;
 mod guess;
 mod kind;
 mod meaning;
+mod odd;
 mod refused;
 mod script;
 mod system;

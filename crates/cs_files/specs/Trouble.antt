@@ -15,6 +15,8 @@ use Rattle.cs_decl.specs.Faults.{Fault as DeclaredFault}
 use Rattle.cs_decl.specs.Printed.{error_text}
 use Rattle.cs_decl.specs.declared.fault.DeclError.{DeclError}
 use Rattle.cs_decl.specs.declared.fault.DeclError.TheVariants as decl_error
+use Rattle.cs_decl.specs.declared.fault.Place.{Place}
+use Rattle.cs_decl.specs.declared.fault.Place.TheVariants.{Anacron, Cron, Group, Job, LeftOut, Line}
 use Rattle.cs_report.specs.Printed.{fault_text as script_fault_text}
 use Rattle.cs_report.specs.Script.{Fault as ScriptFault}
 use Rattle.cs_report.specs.declared.script_fault.ScriptError.{ScriptError}
@@ -75,6 +77,19 @@ certificate_line fault = codes "certificate: " ++ certificate_fault_text fault
 abbrev pub declared_line : DeclaredFault → List ℕ
 declared_line fault = codes "declarations: " ++ error_text (decl_error.At fault.0 fault.1)
 
+unfoldable pub lint_text : List ℕ
+lint_text = codes "\ncronsafe: cronsafe lint TABLE DECLS tells where"
+
+-- behind it, unless it tells the line or the job of a table: what tells its line and column
+abbrev pub lint_hint : Option Place → List ℕ
+lint_hint (Some (Line number)) = []
+lint_hint (Some (Job identifier)) = []
+lint_hint (Some (Group i)) = lint_text
+lint_hint (Some (Cron i)) = lint_text
+lint_hint (Some (Anacron i)) = lint_text
+lint_hint (Some (LeftOut i)) = lint_text
+lint_hint None = lint_text
+
 -- `script line 3: 2 BadLine`
 abbrev pub script_line : ScriptFault → List ℕ
 script_line fault =
@@ -94,7 +109,7 @@ trouble_text (Unread path reason) = codes "can't read " ++ (path ++ reason_text 
 trouble_text (InCrontab found) = crontab_line found.0 ++ jobs_hint found.1
 trouble_text (InAnacrontab fault) = anacrontab_line fault
 trouble_text (InGathered path fault) = gathered_line path fault
-trouble_text (InDeclarations fault) = declared_line fault
+trouble_text (InDeclarations fault) = declared_line fault ++ lint_hint fault.1
 trouble_text (InScript fault) = script_line fault
 trouble_text (InCertificate fault) = certificate_line fault
 

@@ -5,7 +5,7 @@ ghost use Rattle.cs_args.specs.Words.{word_fault};
 ghost use Rattle.cs_io.specs.Reasons.{reason_text};
 ghost use Rattle.cs_files.specs.Response.{status_of};
 ghost use Rattle.cs_files.specs.Trouble.{Says, certificate_trouble, declared_trouble, ends};
-ghost use Rattle.cs_files.specs.Trouble.{gathered_trouble, jobs_hint};
+ghost use Rattle.cs_files.specs.Trouble.{gathered_trouble, jobs_hint, lint_hint, lint_text};
 ghost use Rattle.cs_files.specs.Trouble.{jobs_trouble, script_trouble, table_trouble, trouble};
 ghost use Rattle.cs_files.specs.Trouble.{trouble_status, word_hint};
 ghost use Rattle.cs_files.specs.declared.fault.Fault.TheVariants.{Anacrontab, Crontab, Declarations};
@@ -18,7 +18,7 @@ use cs_args::WordFault;
 use cs_cert::CertError;
 use cs_civil::{Bytes, push_number};
 use cs_crontab::TableFault as CrontabFault;
-use cs_decl::DeclError;
+use cs_decl::{DeclError, Place};
 use cs_io::Reason;
 use cs_report::ScriptError;
 use cs_system::SystemFault;
@@ -199,13 +199,37 @@ fn certificate_text(alloc: Global, fault: CertError) -> Result<Vec<u8>, AllocErr
     }
 }
 
+/// Adds which call tells the line and the column.
+#[tactic(auto, unfolding(crate::specs::Trouble::lint_text))]
+fn push_lint_text(text: &mut Vec<u8>) -> Result<(), AllocError>
+    ensures { OnOk result (text.new.items ≡ text.old.items ++ lint_text) }
+{
+    text.extend_from_slice(b"\ncronsafe: cronsafe lint TABLE DECLS tells where")
+}
+
+/// Adds which call tells where a fault is, unless its place is a line or a job of a table.
+fn push_lint_hint(text: &mut Vec<u8>, place: &Option<Place>) -> Result<(), AllocError>
+    ensures { OnOk result (text.new.items ≡ text.old.items ++ lint_hint place.now) }
+{
+    match place {
+        Some(Place::Line(_) | Place::Job(_)) => Ok(()),
+        Some(Place::Group(_) | Place::Cron(_) | Place::Anacron(_) | Place::LeftOut(_)) | None => {
+            push_lint_text(text)
+        }
+    }
+}
+
 /// What is told of a fault of declarations or of a plan.
 fn declared_text(alloc: Global, fault: &DeclError) -> Result<Vec<u8>, AllocError>
     ensures { IfOk result (λ text. Says (declared_trouble fault.now) text.items) }
 {
-    let text = fault.text(alloc)?;
     match fault {
-        DeclError::At { .. } => named_text(alloc, b"declarations: ".as_slice(), text.as_slice()),
+        DeclError::At { place, .. } => {
+            let line = fault.text(alloc)?;
+            let mut text = named_text(alloc, b"declarations: ".as_slice(), line.as_slice())?;
+            push_lint_hint(&mut text, place)?;
+            Ok(text)
+        }
         DeclError::OutOfMemory => Err(AllocError),
     }
 }

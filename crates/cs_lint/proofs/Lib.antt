@@ -1,3 +1,4 @@
 pub mod FirstLemmas
 pub mod EachLemmas
 pub mod PlacesLemmas
+pub mod OddLemmas

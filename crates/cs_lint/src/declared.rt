@@ -6,8 +6,9 @@ use crate::parts::Parts;
 use crate::shape::{find_in_object, has_meant};
 use crate::table::Table;
 use cs_decl::{DeclFault, MAX_GROUPS};
-use cs_diagnostics::{Done, Findings, Words, nearest, quoted, shown};
-use cs_outline::{Object, Span, no_json, parts, trimmed};
+use cs_diagnostics::{
+    Done, Findings, Object, Span, Words, nearest, no_json, parts, quoted, shown, trimmed,
+};
 use indexmap::IndexSet;
 use serde_json::{Error, Value};
 use std::alloc::{AllocError, Global};
@@ -18,6 +19,9 @@ pub(crate) struct Declared<'v> {
     pub(crate) tell: Tell,
     bytes: &'v [u8],
     groups: IndexSet<&'v str>,
+    /// Where they are named, and those that entries are in.
+    group_names: Vec<(&'v str, Span)>,
+    named_groups: IndexSet<&'v str>,
     identifiers: IndexSet<&'v str>,
     pub(crate) names: Vec<Name<'v>>,
     /// What the entries of `cron` that have parts say of them.
@@ -53,6 +57,8 @@ impl<'v> Declared<'v> {
             },
             bytes,
             groups: IndexSet::new(alloc),
+            group_names: Vec::new(alloc),
+            named_groups: IndexSet::new(alloc),
             identifiers: IndexSet::new(alloc),
             names: Vec::new(alloc),
             parts: Vec::new(alloc),
@@ -108,6 +114,21 @@ impl<'v> Declared<'v> {
         self.has_all_left_out = self.look_at_list(&whole, Kind::LeftOut, jobs)?;
         self.has_all_lines = has_all_cron && self.has_all_left_out && !has_default;
         self.has_all_identifiers = has_all_jobs && !has_default;
+        if has_all_cron && has_all_jobs && !self.tell.findings.has_faults() {
+            self.find_unused_groups()?;
+        }
+        Ok(())
+    }
+
+    /// Adds which groups no entry is in: nothing else is wrong, which a slip in an entry may be.
+    fn find_unused_groups(&mut self) -> Done {
+        for (name, span) in self.group_names.iter() {
+            if !self.named_groups.contains(*name) {
+                let why = "no entry is in this group: remove it, or set an entry's \"group\"";
+                let words = format_args!("UnusedGroup: {why}");
+                self.tell.findings.odd(*span, words)?;
+            }
+        }
         Ok(())
     }
 
@@ -175,18 +196,23 @@ impl<'v> Declared<'v> {
             self.tell
                 .fault(entry.bracket, DeclFault::TooManyGroups, why)?;
         }
-        match entry.text("name") {
-            Some((name, span)) if !self.groups.insert(name)? => {
-                let text = shown(self.tell.findings.alloc, span.bytes(self.bytes))?;
-                self.tell.twice(span, format_args!("the group {text}"))
-            }
-            _ => Ok(()),
+        let Some((name, span)) = entry.text("name") else {
+            return Ok(());
+        };
+        if self.groups.insert(name)? {
+            self.group_names.push((name, span))?;
+            return Ok(());
         }
+        let text = shown(self.tell.findings.alloc, span.bytes(self.bytes))?;
+        self.tell.twice(span, format_args!("the group {text}"))
     }
 
     /// Adds that an entry has a group that isn't listed, or a mode without a group.
     fn find_group(&mut self, entry: &Object<'v>) -> Done {
         let kind = self.tell.kind;
+        if let Some((name, _)) = entry.text("group").filter(|_| kind != Kind::LeftOut) {
+            self.named_groups.insert(name)?;
+        }
         match (entry.text("group"), entry.text("mode")) {
             _ if kind == Kind::LeftOut => Ok(()),
             (Some((name, span)), _) if self.has_all_groups && !self.groups.contains(name) => {

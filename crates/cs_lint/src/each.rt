@@ -42,6 +42,7 @@ fn own_fault(kind: Kind, number: u32, line: &[u8]) -> Option<FirstFault<'static>
 pub(crate) fn keep_lines(findings: &mut Findings, kind: Kind, table: &[u8]) -> Done
     ensures each { OnOk result (KeepsLines kind table.now findings.new) }
     ensures kept { OnOk result (Keeps findings.old findings.new) }
+    ensures odd { OnOk result (findings.new.has_oddities ≡ findings.old.has_oddities) }
 {
     if table.len() > MAX_TABLE {
         return Ok(());

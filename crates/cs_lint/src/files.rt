@@ -1,5 +1,5 @@
 //! What is found in the files of a call.
-ghost use Rattle.std.specs.Prelude.{◌≡◌, ℕ, List, Option, Some, true, IfOk, OnOk};
+ghost use Rattle.std.specs.Prelude.{◌≡◌, ◌≢◌, ℕ, List, Option, Some, true, IfOk, OnOk};
 ghost use Rattle.std.specs.Option.{option_map};
 ghost use Rattle.cs_diagnostics.specs.Told.{IsFull, IsToldIn, is_full};
 ghost use Rattle.cs_diagnostics.specs.declared.findings.FirstFault.{FirstFault};
@@ -8,18 +8,20 @@ ghost use Rattle.cs_lint.specs.Each.{KeepsJobLines, KeepsLines, TellsEachLine};
 ghost use Rattle.cs_lint.specs.declared.refusal.Refusal.{Refusal};
 ghost use Rattle.cs_lint.specs.declared.table.Kind.TheVariants.{Crontab};
 ghost use Rattle.cs_lint.specs.Kept.{Keeps, KeepsSome, is_found};
+ghost use Rattle.cs_lint.specs.Odd.{is_odd_table};
+ghost use Rattle.cs_lint.specs.declared.report.Verdict.TheVariants.{Clean};
 ghost use Rattle.cs_lint.specs.Refused.{Finds, Judges, TellsFirst};
 
 use crate::declared::Declared;
 use crate::each::keep_lines;
+use crate::odd_lines::find_odd_lines;
 use crate::places::{notes_on, places_in};
 use crate::refusal::{Refusal, first_refusal};
 use crate::report::{Report, Verdict};
 use crate::table::{Kind, Table};
 use cs_civil::Bytes;
-use cs_diagnostics::{Done, File, Findings, Note};
+use cs_diagnostics::{Done, File, Findings, Note, parsed};
 use cs_gather::Place;
-use cs_outline::parsed;
 use std::alloc::{AllocError, Global};
 
 fn bytes_of<'a>(file: Option<&File<'a>>) -> Option<&'a [u8]>
@@ -79,9 +81,20 @@ impl Found {
         })
     }
 
+    /// The same with what is odd in each line of the crontab.
+    fn with_odd_lines(self, table: &[u8]) -> Result<Found, AllocError>
+        ensures { IfOk result (λ found. is_odd_table table.now ≡ true
+            → found.table.has_oddities ≡ true) }
+    {
+        let mut found = self;
+        find_odd_lines(&mut found.table, table)?;
+        Ok(found)
+    }
+
     /// The same with why the files are refused, if they are.
     fn with(self, refusal: &Option<Refusal<'_>>) -> Result<Found, AllocError>
-        ensures { IfOk result (KeepsSome refusal.now) }
+        ensures kept { IfOk result (KeepsSome refusal.now) }
+        ensures odd { IfOk result (λ found. found.table.has_oddities ≡ self.table.has_oddities) }
     {
         let mut found = self;
         if let Some(refusal) = refusal {
@@ -97,6 +110,7 @@ impl Found {
             KeepsJobLines (option_map (λ t. t.now) jobs.entry) found.jobs) }
         ensures kept { IfOk result (λ found. (refusal : Option Refusal)
             → KeepsSome refusal self → KeepsSome refusal found) }
+        ensures odd { IfOk result (λ found. found.table.has_oddities ≡ self.table.has_oddities) }
     {
         let mut found = self;
         keep_lines(&mut found.table, Kind::Crontab, table)?;
@@ -109,7 +123,8 @@ impl Found {
 
     /// Adds why the files are refused, where nothing tells it yet.
     fn keep(&mut self, refusal: &Refusal<'_>) -> Done
-        ensures { OnOk result (Keeps refusal.now self.new) }
+        ensures kept { OnOk result (Keeps refusal.now self.new) }
+        ensures odd { OnOk result (self.new.table.has_oddities ≡ self.old.table.has_oddities) }
     {
         match refusal {
             Refusal::Table(first) => self.table.keep(first),
@@ -119,7 +134,9 @@ impl Found {
         }
     }
 
-    fn is_odd(&self) -> bool {
+    fn is_odd(&self) -> bool
+        ensures { self.now.table.has_oddities ≡ true → result ≡ true }
+    {
         self.table.has_oddities || self.jobs.has_oddities || self.declared.has_oddities
     }
 
@@ -149,8 +166,9 @@ impl Found {
 
 /// The verdict of files: whether they are refused, and if not, whether anything in them is odd.
 fn verdict_of(refusal: &Option<Refusal<'_>>, is_odd: bool) -> Verdict
-    ensures { (table : List ℕ) (jobs declarations : Option (List ℕ))
+    ensures value { (table : List ℕ) (jobs declarations : Option (List ℕ))
         → Finds refusal.now table jobs declarations → Judges result table jobs declarations }
+    ensures odd { is_odd ≡ true → result ≢ Clean }
 {
     match refusal {
         Some(_) => Verdict::Faulty,
@@ -199,13 +217,17 @@ pub fn lint(
     // Each line of a table that has a fault of its own is told at its column, up to 100 faults.
     ensures each { IfOk result (λ report. TellsEachLine report.text table.now
         (option_map (λ file. file.now) jobs.entry)) }
+    // It is not `Clean` where something is odd in a line of the crontab.
+    ensures odd { IfOk result (λ report. is_odd_table table.now.bytes.now ≡ true
+        → report.verdict ≢ Clean) }
 {
     let (job_bytes, terms) = (bytes_of(jobs), bytes_of(declarations));
     let refusal = first_refusal(alloc, table.bytes, job_bytes, terms)?;
     let places = places_in(alloc, table.bytes)?;
     let notes = notes_on(alloc, places.as_slice())?;
     let look = Found::at(alloc, table.bytes, places.as_slice(), job_bytes, terms)?;
-    let kept = look.with(&refusal)?;
+    let odd = look.with_odd_lines(table.bytes)?;
+    let kept = odd.with(&refusal)?;
     let found = kept.with_lines(table.bytes, job_bytes)?;
     let (jobs, declarations) = (some_file(jobs), some_file(declarations));
     let text = found.text(alloc, table, &jobs, &declarations, notes.as_slice())?;

@@ -3,7 +3,7 @@
 use crate::table::Kind;
 use cs_anacrontab::{JobFault, MAX_IDENTIFIER, is_identifier, read_delay, read_period};
 use cs_crontab::{LineFault, read_item, read_line};
-use cs_diagnostics::{Words, meant, shown};
+use cs_diagnostics::{Span, Words, meant, shown};
 use cs_schedule::Part;
 use std::alloc::{AllocError, Global};
 
@@ -67,8 +67,14 @@ impl Front {
         }
     }
 
-    /// What is wrong with it, or with one of its items, if anything is.
-    pub(crate) fn wrong(self, alloc: Global, text: &[u8]) -> Result<Option<Wrong>, AllocError> {
+    /// What is wrong with it, or with one of its items, if anything is. Of an item it's given
+    /// whether nothing is wrong with those before it.
+    pub(crate) fn wrong(
+        self,
+        alloc: Global,
+        text: &[u8],
+        is_first: bool,
+    ) -> Result<Option<Wrong>, AllocError> {
         let fault = match self {
             Front::Word => match read_line(text) {
                 Err(wrong) if wrong.fault == LineFault::UnknownWord => {
@@ -77,7 +83,12 @@ impl Front {
                 _ => None,
             },
             Front::Field(field) => match read_item(field.0, text) {
-                Err(fault) => return wrong(fault.text(), item_words(alloc, field, text, fault)),
+                Err(fault) => {
+                    return wrong(
+                        fault.text(),
+                        item_words(alloc, field, text, fault, is_first),
+                    );
+                }
                 Ok(_) => None,
             },
             Front::Period => read_period(text).err(),
@@ -92,7 +103,7 @@ impl Front {
     }
 }
 
-fn item_words(alloc: Global, field: Field, item: &[u8], fault: LineFault) -> Words {
+fn item_words(alloc: Global, field: Field, item: &[u8], fault: LineFault, is_first: bool) -> Words {
     let (part, name, names) = field;
     let (first, last) = (part.first(), part.last());
     match fault {
@@ -105,8 +116,28 @@ fn item_words(alloc: Global, field: Field, item: &[u8], fault: LineFault) -> Wor
         }
         _ => {
             let text = shown(alloc, item)?;
-            format!(in alloc; "`{text}` is no {name}: write {first} to {last}{names}")
+            let read = other_words(alloc, part, if is_first { item } else { &[] })?;
+            format!(in alloc; "`{text}` is no {name}{read}: write {first} to {last}{names}")
         }
+    }
+}
+
+/// Whether an item may have the byte.
+fn is_part(byte: u8) -> bool {
+    byte.is_ascii_alphanumeric() || matches!(byte, b'*' | b'-' | b'/')
+}
+
+/// What Debian's cron takes an item for that is none here: it skips the rest of a field behind the
+/// first byte that is no part of an item.
+fn other_words(alloc: Global, part: Part, item: &[u8]) -> Words {
+    let len = item.iter().position(|byte| !is_part(*byte)).unwrap_or(0);
+    let front = Span::of(0, len).bytes(item);
+    match read_item(part, front) {
+        Ok(_) => {
+            let text = shown(alloc, front)?;
+            format!(in alloc; ", though Debian's cron reads `{text}`")
+        }
+        Err(_) => Ok(String::new(alloc)),
     }
 }
 

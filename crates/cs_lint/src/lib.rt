@@ -8,6 +8,7 @@ mod front;
 mod line;
 mod lines;
 mod object;
+mod odd_lines;
 mod parts;
 mod places;
 mod refusal;

@@ -1,5 +1,5 @@
 //! The words of a line of a table, which has no newline.
-use cs_outline::Span;
+use cs_diagnostics::Span;
 use cs_table::text::{skip_blanks, word};
 
 /// The next word from one of its bytes on; nothing at its end where there is none.

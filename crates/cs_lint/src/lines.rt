@@ -4,9 +4,8 @@ use crate::object::{Kind, Tell};
 use crate::table::{Begun, Table};
 use cs_crontab::When;
 use cs_decl::{DeclFault, MAX_MINUTES};
-use cs_diagnostics::{Done, Words, shown};
+use cs_diagnostics::{Done, Object, Span, Words, shown};
 use cs_gap::least_gap;
-use cs_outline::{Object, Span};
 use std::alloc::Global;
 
 /// How far into two commands they are told from their beginnings.

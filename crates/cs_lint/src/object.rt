@@ -1,7 +1,6 @@
 //! The kinds of objects of declarations, and what is told of one.
 use cs_decl::DeclFault;
-use cs_diagnostics::{Done, Findings};
-use cs_outline::Span;
+use cs_diagnostics::{Done, Findings, Span};
 use std::fmt::Display;
 
 /// A kind of object of declarations: the whole of them, or what stands in a member of it.

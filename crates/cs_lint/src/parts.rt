@@ -2,9 +2,8 @@
 use crate::object::{Kind, Tell};
 use crate::shape::find_in_object;
 use cs_decl::{DeclFault, MAX_MINUTES};
-use cs_diagnostics::{Done, quoted, shown};
+use cs_diagnostics::{Done, Object, Span, parts, quoted, shown};
 use cs_gather::Place;
-use cs_outline::{Object, Span, parts};
 use indexmap::{IndexMap, IndexSet};
 use serde_json::Value;
 use std::alloc::AllocError;

@@ -3,8 +3,7 @@
 use crate::object::{Kind, Tell};
 use cs_civil::MINUTES_OF_DAY;
 use cs_decl::{DeclFault, MAX_CAPACITY, MAX_MINUTES, MAX_WEIGHT};
-use cs_diagnostics::{Done, meant, nearest, quoted};
-use cs_outline::{Object, Span};
+use cs_diagnostics::{Done, Object, Span, meant, nearest, quoted};
 use indexmap::IndexSet;
 use serde_json::Value;
 use std::alloc::{AllocError, Global};

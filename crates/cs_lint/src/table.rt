@@ -8,9 +8,8 @@ use cs_crontab::{
     Entry, LineFault, MAX_COMMANDS, Schedule, TableFault, When, read_crontab, read_line,
 };
 use cs_decl::DeclFault;
-use cs_diagnostics::{Done, Findings, shown};
+use cs_diagnostics::{Done, Findings, Span, shown};
 use cs_gather::{Place, place_of};
-use cs_outline::Span;
 use cs_report::first_behind_user;
 use cs_schedule::Part;
 use cs_table::text::has_nul;
@@ -96,6 +95,10 @@ pub(crate) struct Table<'a> {
     pub(crate) begun: Vec<Begun<'a>>,
     /// The commands or identifiers, each with the first and the last line on which it stands.
     names: IndexMap<&'a [u8], (u32, u32)>,
+    /// The lines of commands without leading blanks, each with the first number since a setting.
+    same: IndexMap<&'a [u8], u32>,
+    /// The number of the last setting's line, or 0.
+    last_setting: u32,
     /// Whether it isn't too long, and has no more commands or jobs than it may have.
     pub(crate) is_whole: bool,
     /// Whether each of its lines can be read.
@@ -120,6 +123,8 @@ impl<'a> Table<'a> {
             start: 0,
             begun: Vec::new(alloc),
             names: IndexMap::new(alloc),
+            same: IndexMap::new(alloc),
+            last_setting: 0,
             is_whole: bytes.len() <= MAX_TABLE,
             is_read: true,
             places,
@@ -141,8 +146,19 @@ impl<'a> Table<'a> {
         }
         if kind == Kind::Crontab {
             table.find_user(bytes)?;
+            table.find_no_newline(bytes)?;
         }
         Ok(table)
+    }
+
+    /// Adds that a table ends without a newline.
+    fn find_no_newline(&mut self, bytes: &[u8]) -> Done {
+        if bytes.is_empty() || bytes.ends_with(b"\n") {
+            return Ok(());
+        }
+        let why = "Debian's cron takes no table without a newline at its end: add one";
+        let end = Span::of(bytes.len(), 0);
+        self.findings.odd(end, format_args!("NoNewline: {why}"))
     }
 
     /// The line of that number, if a command begins on it.
@@ -251,10 +267,11 @@ impl<'a> Table<'a> {
 
     fn find_in(&mut self, front: Front, word: Span) -> Done {
         let mut from = word.from;
-        let has_items = matches!(front, Front::Field(_));
+        let (has_items, mut is_first) = (matches!(front, Front::Field(_)), true);
         let text = word.bytes(self.line);
         for item in text.split(|byte| has_items && *byte == b',') {
-            if let Some((fault, why)) = front.wrong(self.findings.alloc, item)? {
+            if let Some((fault, why)) = front.wrong(self.findings.alloc, item, is_first)? {
+                is_first = false;
                 self.fault(Span::of(from, item.len()), fault, why.as_str())?;
             }
             from = from.saturating_add(item.len()).saturating_add(1);
@@ -265,7 +282,10 @@ impl<'a> Table<'a> {
     fn look_at_line(&mut self) -> Done {
         match read_line(self.line) {
             Ok(Entry::Nothing) => Ok(()),
-            Ok(Entry::Setting(name, _)) => self.find_unheeded(name),
+            Ok(Entry::Setting(name, _)) => {
+                self.last_setting = self.number;
+                self.find_unheeded(name)
+            }
             Ok(Entry::Command(when, command)) => self.look_at_command(when, command),
             Err(wrong) => self.look_at_bad(wrong.fault.text(), wrong.left),
         }
@@ -275,10 +295,29 @@ impl<'a> Table<'a> {
         if let When::At(schedule) = &when {
             self.find_never_due(schedule)?;
         }
+        self.find_same()?;
         let number = self.number;
         let first = self.names.get(&command).map_or(number, |(first, _)| *first);
         self.names.insert(command, (first, number))?;
         self.begin(word_from(self.line, 0), Some(when), Some(command))
+    }
+
+    /// Adds that a line above says the same in the same environment: no setting is between the two,
+    /// and the table wasn't gathered from several.
+    fn find_same(&mut self) -> Done {
+        let line = self.line;
+        let place = Span::between(word_from(line, 0).from, line.len());
+        let text = place.bytes(line);
+        let first = self.same.get(&text).copied().unwrap_or(0);
+        if first <= self.last_setting {
+            self.same.insert(text, self.number)?;
+            return Ok(());
+        }
+        if !self.places.is_empty() {
+            return Ok(());
+        }
+        let why = format_args!("line {first} says the same, so it runs twice: remove one");
+        self.odd(place, format_args!("SameLine: {why}"))
     }
 
     fn find_never_due(&mut self, schedule: &Schedule) -> Done {

@@ -136,7 +136,7 @@ fn chart_tables<I: Inputs>(
     }
 }
 
-/// The answer to `chart TABLE DATE MAX [--anacrontab FILE] [--from M] [--to M] [--days N]
+/// The answer to `chart TABLE DATE [MAX] [--anacrontab FILE] [--from M] [--to M] [--days N]
 /// [--declarations FILE]`.
 pub fn answer_chart<I: Inputs>(
     alloc: Global,

@@ -1,12 +1,13 @@
 """A call over files, what the second reading answers to it, and whether a program does so too."""
 import os
+import re
 import resource
 from collections import namedtuple
 
 from harness import Fault, called, folder_with
 from model.call import STALE_NOTE, Answer, agrees, answer_of
 from model.declarations import GREATEST_MAX
-from model.draft import is_draft, is_update
+from model.draft import is_draft, is_update, unlocked_lines
 
 START = b"start 2024-01-01 00:00 up\n"
 JOB = b"0 1 * * * a\n"
@@ -15,6 +16,10 @@ SECONDS = 10
 MEMORY = 1 << 30
 # What begins the verdict that a window isn't listed.
 MISSED = b"refused 5 WindowMissing: "
+# What begins the warning of a lock that a draft lacks.
+UNLOCKED = re.compile(
+    rb"^warning: the command on line (\d+) of the crontab is declared without a lock: ", re.MULTILINE
+)
 # Of the drafts of so many calls one is made.
 DRAFTS_OF_ONE = 3
 
@@ -90,6 +95,12 @@ def is_drawn_up(call, text):
     return is_draft(text, call.files, GREATEST_MAX)
 
 
+def is_warned_of(call, got):
+    """Returns whether a draft warns of the locks that it lacks; of an update nothing is told here."""
+    told = [int(it[1]) for it in UNLOCKED.finditer(got.err)]
+    return b"--update" in call.words or told == unlocked_lines(got.out, call.files)
+
+
 def looked_at(program, call):
     """Returns what differs in a call, as text; nothing where the answers are the same."""
     wanted, got = answer_of(call.words, call.files), run(program, call)
@@ -100,6 +111,8 @@ def looked_at(program, call):
         wrong.append(f"a window has to be missing: {call.is_missed}")
     if call.words[0] == b"draft" and got.status == 0 and not is_drawn_up(call, got.out):
         wrong.append("this is no draft of its tables, or no update of its declarations")
+    elif call.words[0] == b"draft" and got.status == 0 and not is_warned_of(call, got):
+        wrong.append("the locks that this draft lacks are told otherwise")
     if not wrong:
         return ""
     files = [f"{it.decode()} {text[:300]!r}" for it, text in call.files.items()]

@@ -1,5 +1,4 @@
-use Rattle.std.proofs.Common.{rules, ◌≡◌, length, map, subst}
-use Rattle.std.specs.List.{range_with_len}
+use Rattle.std.proofs.Common.{rules, map, subst}
 use Rattle.std.specs.List.Sorted.{IsPermutation}
 use Rattle.std.proofs.lemmas.List.Sorted.{All-permutation, IsNonDecreasingBy-from_sort_by_key, IsPermutation-map}
 use Rattle.cs_advise.specs.Room.{IsRoom, slack}

@@ -1,8 +1,8 @@
-use Rattle.cs_draft.proofs.Joins.{updates}
+use Rattle.cs_draft.proofs.Joins.{always, updates}
 use Rattle.cs_draft.proofs.confirm.is_update.Goals as goal
 
-pub returns : goal.returns
-returns c =
+pub returns-clause-update : goal.returns-clause-update
+returns-clause-update c =
     let sound = c.are_sound.ensures in
     let kept = c.are_kept.ensures in
     let is-sound = c.if-not-are_sound.false in
@@ -19,3 +19,6 @@ returns c =
       new_jobs = rw (c.entries-new.ensures.value, c.lines-job_lines.ensures.value) at (c.are_new_jobs.ensures c.if-not-are_new_jobs.false);
       new_groups = rw c.entries-new.ensures.value at (c.are_new_groups.ensures c.if-not-are_new_groups.false);
     }) c.is_fitting.result c.is_fitting.ensures
+
+pub returns-clause-warned : goal.returns-clause-warned
+returns-clause-warned c = always c.is_fitting.result (c.in-Ok.declarations, c.in-Ok.ensures, rw c.entries-new.ensures.value at (c.in_ok-tell_new.ensures c.if-not-branch-2.false))

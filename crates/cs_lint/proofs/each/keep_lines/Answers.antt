@@ -17,6 +17,7 @@ loop-rest-preserved-in_ok-keep c =
     record {
       within = omega (arith, before.within, c.first_line.ensures.shorter);
       kept = λ fault is. stays fault (before.kept fault is);
+      odd = c.in_ok-keep.ensures.odd ∙ before.odd;
       each = λ later keeps rest. before.each later (λ fault is. keeps fault (stays fault is))
           (subst (λ (ls : List (List ℕ)). EachLine (LineTells c.args.kind (λ first. is_told first later ≡ true)) n ls) (sym c.first_line.ensures.line) (
             some_told c.args.kind (λ first. is_told first later ≡ true) n line c.own_fault.result c.in-Some.fault c.in-Some.is
@@ -33,6 +34,7 @@ loop-rest-preserved c =
     record {
       within = omega (arith, before.within, c.first_line.ensures.shorter);
       kept = before.kept;
+      odd = before.odd;
       each = λ later keeps rest. before.each later keeps
           (subst (λ (ls : List (List ℕ)). EachLine (LineTells c.args.kind (λ first. is_told first later ≡ true)) n ls) (sym c.first_line.ensures.line)
           (none_told c.args.kind (λ first. is_told first later ≡ true) n line c.own_fault.result c.in_default.is c.own_fault.ensures, rest));

@@ -11,6 +11,7 @@ invariant-loop-rest l =
     record {
       within : l.number + length l.rest ≤ length l.table;
       kept : Keeps l.initial.findings l.findings;
+      odd : l.findings.has_oddities ≡ l.initial.findings.has_oddities;
       each : (later : Findings) → Keeps l.findings later
           → EachLine (LineTells l.fn.kind (λ first. is_told first later ≡ true)) (l.number + 1) (lines_of l.rest)
           → EachLine (LineTells l.fn.kind (λ first. is_told first later ≡ true)) 1 (lines_of l.fn.table);

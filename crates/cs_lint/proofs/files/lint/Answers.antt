@@ -12,7 +12,7 @@ returns-clause-told c =
     let refusal = c.in_ok-refusal.refusal in
     tells_of c.in_ok-text.text table _ _ _ _ c.bytes_of-job_bytes.ensures c.bytes_of-terms.ensures
     (tells_first refusal c.in_ok-found.found c.in_ok-text.text table _ _ c.in_ok-refusal.ensures
-    (c.in_ok-found.ensures.kept refusal c.in_ok-kept.ensures) c.in_ok-text.ensures.told)
+    (c.in_ok-found.ensures.kept refusal c.in_ok-kept.ensures.kept) c.in_ok-text.ensures.told)
 
 pub returns-clause-each : goal.returns-clause-each
 returns-clause-each c =
@@ -28,4 +28,4 @@ returns-clause-each c =
 pub returns-clause-verdict : goal.returns-clause-verdict
 returns-clause-verdict c =
     let table = c.args.table.now.bytes.now in
-    judges_of c.verdict_of-verdict.result table _ _ _ _ c.bytes_of-job_bytes.ensures c.bytes_of-terms.ensures (c.verdict_of-verdict.ensures table _ _ (c.in_ok-refusal.ensures))
+    judges_of c.verdict_of-verdict.result table _ _ _ _ c.bytes_of-job_bytes.ensures c.bytes_of-terms.ensures (c.verdict_of-verdict.ensures.value table _ _ (c.in_ok-refusal.ensures))

@@ -1,0 +1,14 @@
+use Rattle.std.proofs.Common.{◌-◌, ◌*◌, ◌≤◌}
+use Rattle.cs_decl.specs.Changed.{with_max}
+use Rattle.cs_decl.specs.declared.limits.TheConstants.{MAX_MINUTES}
+use Rattle.cs_judge.specs.Called.{IsCalledSafe}
+use Rattle.cs_advise.proofs.room.by_strides.Given as goal
+
+-- the time below the next stride is safe
+abbrev pub invariant-loop-low : goal.invariant-loop-low
+invariant-loop-low g l =
+    (l.fn.max ≤ l.low) × (1 ≤ l.low) × (l.low ≤ MAX_MINUTES) × (1 ≤ l.stride) × (l.stride ≤ 8 * MAX_MINUTES)
+    × IsCalledSafe (with_max l.plan l.job l.low)
+
+abbrev pub decreases-loop-low : goal.decreases-loop-low
+decreases-loop-low g l = MAX_MINUTES - l.low

@@ -1,0 +1,79 @@
+//! What is odd in the lines of a crontab, each by itself.
+ghost use Rattle.std.specs.Prelude.{◌≡◌, ◌||◌, OnOk};
+ghost use Rattle.cs_lint.specs.Odd.{is_odd_line, is_odd_table};
+
+use crate::line::{word_behind, word_from};
+use cs_diagnostics::{Done, Findings, Span};
+use cs_odd::{MAX_COMMAND, Oddity, from_percent, oddities_in};
+use cs_table::MAX_TABLE;
+use cs_table::text::first_line;
+
+/// From the first of two words of a line to the end of the second, both counted from 0.
+fn words(line: &[u8], first: usize, last: usize) -> Span {
+    Span::between(word_behind(line, first).from, word_behind(line, last).to)
+}
+
+/// The byte of a line at which its command begins.
+fn start_of_command(line: &[u8]) -> usize {
+    let has_word = word_behind(line, 0).bytes(line).starts_with(b"@");
+    word_behind(line, if has_word { 1 } else { 5 }).from
+}
+
+/// Where that is in a line that has it.
+fn place_of(oddity: Oddity, line: &[u8]) -> Span {
+    let len = line.len();
+    let percent = len.saturating_sub(from_percent(line).len());
+    match oddity {
+        Oddity::EachMinute => words(line, 0, 1),
+        Oddity::UnevenMinutes => words(line, 0, 0),
+        Oddity::UnevenHours => words(line, 1, 1),
+        Oddity::UnevenDays => words(line, 2, 2),
+        Oddity::BothDays => words(line, 2, 4),
+        Oddity::PercentSign => Span::of(percent, 1),
+        Oddity::LongCommand => {
+            Span::between(start_of_command(line).saturating_add(MAX_COMMAND), len)
+        }
+        Oddity::Background => {
+            let front = Span::of(0, percent).bytes(line);
+            let last = front.iter().rposition(|byte| *byte == b'&');
+            Span::of(last.unwrap_or(0), 1)
+        }
+        Oddity::Unexpanded | Oddity::TimeZone | Oddity::ValueComment => {
+            Span::between(word_from(line, 0).from, len)
+        }
+        Oddity::Backslash | Oddity::CarriageReturn => Span::of(len.saturating_sub(1), 1),
+    }
+}
+
+/// Adds what is odd in a line that begins at that byte of the table.
+fn find_in_line(findings: &mut Findings, start: usize, line: &[u8]) -> Done
+    ensures { OnOk result (findings.new.has_oddities
+        ≡ (findings.old.has_oddities || is_odd_line line.now)) }
+{
+    let found = oddities_in(findings.alloc, line)?;
+    for oddity in found.iter() {
+        let (name, why) = oddity.words();
+        let place = place_of(*oddity, line).behind(start);
+        findings.odd(place, format_args!("{name}: {why}"))?;
+    }
+    Ok(())
+}
+
+/// Adds what is odd in each line of a table that isn't too long.
+pub(crate) fn find_odd_lines(findings: &mut Findings, table: &[u8]) -> Done
+    ensures { OnOk result (findings.new.has_oddities
+        ≡ (findings.old.has_oddities || is_odd_table table.now)) }
+{
+    if table.len() > MAX_TABLE {
+        return Ok(());
+    }
+    let mut start = 0usize;
+    let mut rest = table;
+    while !rest.is_empty() {
+        let (line, after) = first_line(rest);
+        find_in_line(findings, start, line)?;
+        start = start.saturating_add(line.len()).saturating_add(1);
+        rest = after;
+    }
+    Ok(())
+}

@@ -100,7 +100,7 @@ def is_draft(text, files, asked):
     """Returns whether a text is a draft of tables with that longest time.
 
     It has an entry for each job, with the parts that the table tells, and leaves out the `@reboot`
-    lines alone.
+    lines alone. No command of these tables is run by timeout(1).
     """
     plan = sound_plan(text, files)
     if plan is None:

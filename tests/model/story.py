@@ -55,7 +55,7 @@ def broken_by(plan, state, event, reply):
         told, group = run_text(plan, event.job, state.minute), group_text(plan, event.job)
         line = b"# %s is skipped: %s is held\n" % (told.encode(), group)
         runs = [it for it in state.running if keeps_lock(plan, it.job, event.job)]
-        return Broken(f"{told} is skipped", runs, line, event.job, b", holds " + group)
+        return Broken(f"{told} is skipped", runs, line, event.job, b"holds %s, " % group)
     return None
 
 
@@ -89,10 +89,11 @@ def terms_text(plan, job):
 def run_lines(plan, run, held):
     """Returns the comments on a run."""
     last = min(run.started + plan.jobs[run.job].max - 1, LAST_MINUTE)
-    name, began = run_text(plan, run.job, run.named).encode(), minute_text(run.started).encode()
-    line = b"# %s: began %s%s, may go on until %s (%s)\n"
-    told = line % (name, began, held, minute_text(last).encode(), terms_text(plan, run.job))
-    return told + command_line(plan, run.job)
+    began, until = minute_text(run.started).encode(), minute_text(last).encode()
+    name = run_text(plan, run.job, run.named).encode()
+    told = b"# %s: began %s, may go on until %s\n" % (name, began, until)
+    terms = b"#   %s%s\n" % (held, terms_text(plan, run.job))
+    return told + command_line(plan, run.job) + terms
 
 
 def story_text(plan, script):

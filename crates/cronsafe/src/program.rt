@@ -1,9 +1,11 @@
 //! The program over the machine's words, files and clock.
 use crate::offset::local_offset;
 use crate::run::run_words;
+use cs_args::{Request, parse_words};
 use cs_device::Runner;
 use cs_files::Status;
 use cs_io::{Machine, Output};
+use std::alloc::Global;
 use std::io::{ErrorKind, Write};
 use std::process::ExitCode;
 use std::rt::{Clock, Env, Files};
@@ -21,15 +23,27 @@ fn without_words<E: Output>(error: &io::Error, err: &mut E) -> Status {
     Status::NoCall
 }
 
-/// Runs the program on the machine's words, files and clock, with these two outputs. Commands are
-/// run by runners that `new_runner` makes.
+/// Says that plans are being judged, if the words ask for that many times over.
+fn announce<E: Output>(alloc: Global, words: &[String], err: &mut E) {
+    match parse_words(alloc, words) {
+        Ok(Request::Advise(_)) | Ok(Request::Room(_)) => {
+            let _ = err.print(
+                b"cronsafe: judging changed plans, which can take a while\n".as_slice(),
+            );
+        }
+        _ => {}
+    }
+}
+
+/// Runs the program on the machine's words, files and clock, with these two outputs, the second of
+/// which someone may watch. Commands are run by runners that `new_runner` makes.
 pub(crate) fn run_program<
     R: Files + Input + Env + Clock + AllocGlobal + Threads + Wait + Sync,
     O: Output + Write + Send,
     E: Output,
     W: Runner + Send + Drop,
     F: Fn() -> W + Drop,
->(rt: &R, out: &mut O, err: &mut E, new_runner: F) -> ExitCode
+>(rt: &R, is_watched: bool, out: &mut O, err: &mut E, new_runner: F) -> ExitCode
     requires { F.IsAlwaysCallable new_runner }
 {
     let alloc = rt.alloc();
@@ -43,6 +57,9 @@ pub(crate) fn run_program<
     };
     let mut inputs = Machine::new(rt);
     let words = words.as_slice();
+    if is_watched {
+        announce(alloc, words, err);
+    }
     let offset = local_offset(rt).unwrap_or(0);
     ExitCode::from(run_words(rt, alloc, words, offset, &mut inputs, out, err, new_runner))
 }

@@ -1,21 +1,64 @@
 -- Advice with one change more.
-use Rattle.std.proofs.Common.{◌∙◌, ℕ, List, ◌∷◌, ◌++◌, [], ap, flat_map, sym}
-use Rattle.std.proofs.lemmas.Grind.{flat_map-append}
-use Rattle.std.proofs.lemmas.List.{append-nil}
-use Rattle.std.proofs.lemmas.List.Elements.{All-push}
+use Rattle.std.proofs.Common.{◌≡◌, ◌∙◌, ℕ, List, ◌∷◌, ◌++◌, [], Option, None, Some, Result, Ok, Err, Vec, Global, ap, subst, sym}
+use Rattle.std.specs.Prelude.{IfOk, IfSome}
+use Rattle.std.specs.List.{AllZip, concat}
+use Rattle.std.specs.declared.alloc.AllocError.{AllocError}
+use Rattle.std.proofs.lemmas.List.{append-nil, append_assoc}
+use Rattle.cs_check.specs.declared.checked.Checked.{Checked}
 use Rattle.cs_decl.specs.Plan.{Declared}
+use Rattle.cs_judge.specs.Called.{reach_in}
+use Rattle.cs_judge.specs.Judged.{IsCheckedFor, IsJudgement}
+use Rattle.cs_judge.specs.declared.judged.Judged.TheVariants.{Safe}
 use Rattle.cs_advise.specs.Advice.{IsAdvice, IsSafeLine}
-use Rattle.cs_advise.specs.Change.{MakesSafe}
+use Rattle.cs_advise.specs.Change.{IsChanged}
 use Rattle.cs_advise.specs.Told.{change_line}
 use Rattle.cs_advise.specs.declared.change.Change.{Change}
 use Rattle.cs_advise.specs.declared.source.Source.{Source}
+
+-- one pair more
+zipped : {A B : Type 0} (R : A → B → Type 0) (xs : List A) (ys : List B) (x : A) (y : B)
+    → AllZip R xs ys → R x y → AllZip R (xs ++ x ∷ []) (ys ++ y ∷ [])
+zipped R [] [] x y all r = (r, tt)
+zipped R [] (b ∷ ys) x y all r = absurd all
+zipped R (a ∷ xs) [] x y all r = absurd all
+zipped R (a ∷ xs) (b ∷ ys) x y all r = (all.0, zipped R xs ys x y all.1 r)
+
+-- one line more
+joined : (lines : List (List ℕ)) (line : List ℕ) → concat (lines ++ line ∷ []) ≡ concat lines ++ line
+joined [] line = append-nil line
+joined (first ∷ lines) line =
+    ap (λ (t : List ℕ). first ++ t) (joined lines line) ∙ sym (append_assoc first (concat lines) line)
 
 -- with that change, and its line
 pub one_more : (source : Source) (plan : Declared) (changes : List Change) (text : List ℕ) (change : Change) (line : List ℕ)
     → IsAdvice source plan changes text → IsSafeLine source plan change line → IsAdvice source plan (changes ++ change ∷ []) (text ++ line)
 one_more source plan changes text change line is safe = record {
-  safe = All-push (MakesSafe source plan) changes change is.safe safe.safe;
-  told = ap (λ (t : List ℕ). t ++ line) is.told
-      ∙ (ap (λ (l : List ℕ). flat_map (change_line plan) changes ++ l) (safe.told ∙ sym (append-nil (change_line plan change)))
-      ∙ sym (flat_map-append (change_line plan) changes (change ∷ [])));
+  lines = is.lines ++ line ∷ [];
+  each = zipped (IsSafeLine source plan) changes is.lines change line is.each safe;
+  told = ap (λ (t : List ℕ). t ++ line) is.told ∙ sym (joined is.lines line);
 }
+
+-- the plan that was judged safe with a change is the one that the checker accepted, so a line that
+-- tells the change by the reaches of its certificate is a safe one
+pub safe_line : (source : Source) (plan : Declared) (change : Change) (changed : Declared) (checked : Checked) (line : List ℕ)
+    → IsChanged source plan change changed → IsJudgement changed (Safe checked) → line ≡ change_line plan (reach_in checked) change
+    → IsSafeLine source plan change line
+safe_line source plan change changed checked line is known told =
+    let accepted : IsCheckedFor changed checked = known.safe in
+    record {
+      checked = checked;
+      changed = subst (λ (d : Declared). IsChanged source plan change d) (sym accepted.same) is;
+      safe = subst (λ (d : Declared). IsJudgement d (Safe checked)) (sym accepted.same) known;
+      told = told;
+    }
+
+-- and so it is of the answer that there may be
+pub if_safe : (source : Source) (plan : Declared) (change : Change) (changed : Declared) (checked : Checked)
+    → (answer : Result (Option (Vec ℕ Global)) AllocError)
+    → IsChanged source plan change changed → IsJudgement changed (Safe checked)
+    → IfOk answer (λ found. IfSome found (λ line. line.items ≡ change_line plan (reach_in checked) change))
+    → IfOk answer (λ found. IfSome found (λ line. IsSafeLine source plan change line.items))
+if_safe source plan change changed checked (Err e) is known told = tt
+if_safe source plan change changed checked (Ok None) is known told = tt
+if_safe source plan change changed checked (Ok (Some line)) is known told =
+    safe_line source plan change changed checked line.items is known told

@@ -1,7 +1,7 @@
 pub mod Own
 pub mod Each
 pub mod Lines
-pub mod Changes
 pub mod Advised
 pub mod Texts
 pub mod Shifts
+pub mod Gaps

@@ -1,7 +1,6 @@
 -- The text of a table that was read, where the files are as they were.
 use Rattle.std.proofs.Common.{◌≡◌, ℕ, List, Option, subst, sym}
 use Rattle.clap.specs.Words.{Text}
-use Rattle.cs_anacrontab.specs.Anacrontab.{Table as JobTable}
 use Rattle.cs_crontab.specs.Crontab.{Table}
 use Rattle.cs_files.specs.Reads.{TextIn}
 

@@ -1,19 +1,29 @@
 -- What is advised.
-use Rattle.std.specs.Prelude.{◌≡◌, ℕ, List, All, flat_map}
+use Rattle.std.specs.Prelude.{◌≡◌, ℕ, List}
+use Rattle.std.specs.List.{AllZip, concat}
+use Rattle.cs_check.specs.Checked.{plan_in}
+use Rattle.cs_check.specs.declared.checked.Checked.{Checked}
 use Rattle.cs_decl.specs.Plan.{Declared}
-use Rattle.cs_advise.specs.Change.{MakesSafe}
+use Rattle.cs_judge.specs.Called.{reach_in}
+use Rattle.cs_judge.specs.Judged.{IsJudgement}
+use Rattle.cs_judge.specs.declared.judged.Judged.TheVariants.{Safe}
+use Rattle.cs_advise.specs.Change.{IsChanged}
 use Rattle.cs_advise.specs.Told.{change_line}
 use Rattle.cs_advise.specs.declared.change.Change.{Change}
 use Rattle.cs_advise.specs.declared.source.Source.{Source}
 
--- with the change the plan is called safe, and the line tells it
+-- the plan with the change was judged safe, and the line tells the change, with the reaches that
+-- the accepted certificate gives
 pub record IsSafeLine (source : Source) (plan : Declared) (change : Change) (line : List ℕ) : Type 0
   where
-    pub safe : MakesSafe source plan change
-    pub told : line ≡ change_line plan change
+    pub checked : Checked
+    pub changed : IsChanged source plan change (plan_in checked)
+    pub safe : IsJudgement (plan_in checked) (Safe checked)
+    pub told : line ≡ change_line plan (reach_in checked) change
 
--- with each of the changes alone the plan is called safe, and the text has a line for each
+-- so it is with each of the changes alone, and the text has their lines
 pub record IsAdvice (source : Source) (plan : Declared) (changes : List Change) (text : List ℕ)
     : Type 0 where
-  pub safe : All (MakesSafe source plan) changes
-  pub told : text ≡ flat_map (change_line plan) changes
+  pub lines : List (List ℕ)
+  pub each : AllZip (IsSafeLine source plan) changes lines
+  pub told : text ≡ concat lines

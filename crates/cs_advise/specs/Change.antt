@@ -1,6 +1,6 @@
 -- Changes of a table or of declarations.
-use Rattle.std.specs.Prelude.{◌≡◌, ◌≢◌, ◌==◌, ◌+◌, ◌-◌, ◌<◌, ℕ, List, ◌∷◌, ◌++◌, [], length}
-use Rattle.std.specs.Prelude.{⊤, Ok, flat_map, if◌then◌else◌, set, slice_index_or}
+use Rattle.std.specs.Prelude.{◌≡◌, ◌≢◌, ◌==◌, ◌+◌, ◌-◌, ◌%◌, ◌<◌, ◌≤◌, ℕ, List, ◌∷◌, ◌++◌, []}
+use Rattle.std.specs.Prelude.{Ok, false, flat_map, if◌then◌else◌, length, set, slice_index_or}
 use Rattle.cs_crontab.specs.Crontab.{CommandLine, Table}
 use Rattle.cs_crontab.specs.Faults.{IsCrontab}
 use Rattle.cs_crontab.specs.declared.table.When.{When}
@@ -9,7 +9,7 @@ use Rattle.cs_decl.specs.Join.{joined}
 use Rattle.cs_decl.specs.Meaning.{declared_by}
 use Rattle.cs_decl.specs.Plan.{Declared, command_of, is_due, no_command}
 use Rattle.cs_decl.specs.declared.entries.Entries.{Entries}
-use Rattle.cs_judge.specs.Called.{IsCalledSafe}
+use Rattle.cs_schedule.specs.Times.{Times, is_time_due}
 use Rattle.cs_table.specs.Text.{lines_of}
 use Rattle.cs_advise.specs.declared.change.Change.{Change}
 use Rattle.cs_advise.specs.declared.change.Change.TheVariants.{Both, Capacity, Hours, Max, Mode}
@@ -35,6 +35,16 @@ place_of plan job = (command_of plan job).number - 1
 -- minute 0 is 1970-01-01 00:00
 abbrev pub IsLater : ℕ → When → When → Type 0
 IsLater minutes one other = (t : ℕ) → is_due other (t + minutes) ≡ is_due one t
+
+-- the fields of the days are the same, and each minute of a day of the one is so many minutes
+-- before one of the other on the same day, which has no more
+pub record IsLaterThatDay (minutes : ℕ) (one other : Times) : Type 0 where
+  pub less : minutes < 1440
+  pub dom : one.dom ≡ other.dom
+  pub month : one.month ≡ other.month
+  pub dow : one.dow ≡ other.dow
+  pub times : (m : ℕ) → m < 1440 → is_time_due other ((m + minutes) % 1440) ≡ is_time_due one m
+  pub stays : (m : ℕ) → m < 1440 → 1440 ≤ m + minutes → is_time_due one m ≡ false
 
 -- the starts are shifted so
 abbrev pub IsShifted : Shift → When → When → Type 0
@@ -91,18 +101,3 @@ IsChanged source plan (Max job max) changed = changed ≡ with_max plan job max
 IsChanged source plan (Mode job mode) changed = changed ≡ with_mode plan job mode
 IsChanged source plan (Capacity capacity) changed = changed ≡ with_capacity plan capacity
 IsChanged source plan (Hours hours) changed = changed ≡ with_hours plan hours
-
--- with that change the plan is called safe
-pub record MakesSafe (source : Source) (plan : Declared) (change : Change) : Type 0 where
-  pub changed : Declared
-  pub is : IsChanged source plan change changed
-  pub safe : IsCalledSafe changed
-
--- what the changed plan is, where declarations alone are changed
-abbrev pub IsDeclared : Declared → Change → Declared → Type 0
-IsDeclared plan (Alone start) changed = ⊤
-IsDeclared plan (Both one other) changed = ⊤
-IsDeclared plan (Max job max) changed = changed ≡ with_max plan job max
-IsDeclared plan (Mode job mode) changed = changed ≡ with_mode plan job mode
-IsDeclared plan (Capacity capacity) changed = ⊤
-IsDeclared plan (Hours hours) changed = ⊤

@@ -1,5 +1,5 @@
 -- The line that tells a change.
-use Rattle.std.specs.Prelude.{ℕ, List, ◌++◌, [], codes, map, nat_lt, not, slice_index_or}
+use Rattle.std.specs.Prelude.{ℕ, ◌-◌, List, ◌++◌, [], codes, map, nat_lt, not, slice_index_or}
 use Rattle.std.specs.Prelude.{◌==◌, ◌&&◌, ◌||◌, Option, None, Some, if◌then◌else◌}
 use Rattle.std.specs.Fmt.{decimal}
 use Rattle.serde_json.specs.Data.{string}
@@ -60,13 +60,33 @@ in_place_of = codes " in place of "
 unfoldable pub replaced_text : ℕ → ℕ → List ℕ
 replaced_text new old = decimal new ++ (in_place_of ++ decimal old)
 
--- what becomes of a run
-abbrev pub mode_words : LockMode → List ℕ
-mode_words modes.Plain = codes ", mode none, so that its runs take no lock: "
-mode_words modes.Skip = codes ", mode skip, so that no run may find the lock held: "
-mode_words modes.Try = codes ", mode try, so that a run that finds the lock held is left out: "
-mode_words modes.Wait = codes ", mode wait, so that a run may start late: "
-mode_words modes.Shared =
+-- `1 minute` or `N minutes`
+unfoldable pub minutes_text : ℕ → List ℕ
+minutes_text n = if n == 1 then codes "1 minute" else decimal n ++ codes " minutes"
+
+unfoldable pub may_start : List ℕ
+may_start = codes ", mode wait, so that a run may start up to "
+
+unfoldable pub may_end : List ℕ
+may_end = codes " late and end up to "
+
+unfoldable pub after_due : List ℕ
+after_due = codes " after its due minute: "
+
+-- how late a run of so many minutes may start, and how long after its due minute it may end, by its
+-- reach
+unfoldable pub wait_words : ℕ → ℕ → List ℕ
+wait_words max reach = may_start
+    ++ (minutes_text (reach - max) ++ (may_end ++ (minutes_text reach ++ after_due)))
+
+-- what becomes of a run of so many minutes, by its reach
+abbrev pub mode_words : LockMode → ℕ → ℕ → List ℕ
+mode_words modes.Plain max reach = codes ", mode none, so that its runs take no lock: "
+mode_words modes.Skip max reach = codes ", mode skip, so that no run may find the lock held: "
+mode_words modes.Try max reach =
+    codes ", mode try, so that a run that finds the lock held is left out: "
+mode_words modes.Wait max reach = wait_words max reach
+mode_words modes.Shared max reach =
     codes ", mode shared, so that a run may start late, and beside others that share the lock: "
 
 -- `JOB, max MAX in place of MAX: ENTRY`
@@ -77,9 +97,10 @@ max_line d j max =
     ++ (codes ": " ++ (entry_text (with_max d j max) j ++ codes "\n"))))
 
 -- `JOB, mode MODE, so that ..: ENTRY`
-unfoldable pub mode_line : Declared → ℕ → LockMode → List ℕ
-mode_line d j mode =
-    job_label d j ++ (mode_words mode ++ (entry_text (with_mode d j mode) j ++ codes "\n"))
+unfoldable pub mode_line : Declared → ℕ → LockMode → ℕ → List ℕ
+mode_line d j mode reach =
+    job_label d j ++ (mode_words mode (job_at d j).max reach
+    ++ (entry_text (with_mode d j mode) j ++ codes "\n"))
 
 -- `capacity CAPACITY in place of CAPACITY: {"capacity":CAPACITY}`
 unfoldable pub capacity_line : Declared → ℕ → List ℕ
@@ -101,10 +122,6 @@ hours_line d hours =
     codes "hours " ++ (span_text (codes " to ") hours ++ (in_place_of
     ++ (span_text (codes " to ") d.hours ++ (codes ": " ++ hours_member hours))))
 
--- `1 minute` or `N minutes`
-unfoldable pub minutes_text : ℕ → List ℕ
-minutes_text n = if n == 1 then codes "1 minute" else decimal n ++ codes " minutes"
-
 -- `N minutes later` or `N minutes earlier`
 unfoldable pub shift_text : Shift → List ℕ
 shift_text (Later n) = minutes_text n ++ codes " later: "
@@ -124,11 +141,11 @@ start_line d start =
 unfoldable pub both_lines : Declared → Start → Start → List ℕ
 both_lines d one other = codes "both:\n" ++ (start_line d one ++ start_line d other)
 
--- the line that tells a change, or the lines
-abbrev pub change_line : Declared → Change → List ℕ
-change_line d (Alone start) = start_line d start
-change_line d (Both one other) = both_lines d one other
-change_line d (Max j max) = max_line d j max
-change_line d (Mode j mode) = mode_line d j mode
-change_line d (Capacity capacity) = capacity_line d capacity
-change_line d (Hours hours) = hours_line d hours
+-- the line that tells a change, or the lines, by the reaches of jobs
+abbrev pub change_line : Declared → (ℕ → ℕ) → Change → List ℕ
+change_line d reach (Alone start) = start_line d start
+change_line d reach (Both one other) = both_lines d one other
+change_line d reach (Max j max) = max_line d j max
+change_line d reach (Mode j mode) = mode_line d j mode (reach j)
+change_line d reach (Capacity capacity) = capacity_line d capacity
+change_line d reach (Hours hours) = hours_line d hours

@@ -1,15 +1,19 @@
 //! The changes that make a plan safe, as they are told.
-ghost use Rattle.std.specs.Prelude.{◌≡◌, All, IfOk, IfSome, flat_map};
+ghost use Rattle.std.specs.Prelude.{◌≡◌, IfOk, IfSome};
+ghost use Rattle.cs_check.specs.Checked.{plan_in};
+ghost use Rattle.cs_judge.specs.Called.{reach_in};
 ghost use Rattle.cs_advise.specs.Advice.{IsAdvice, IsSafeLine};
-ghost use Rattle.cs_advise.specs.Change.{IsDeclared};
+ghost use Rattle.cs_advise.specs.Change.{IsChanged};
 ghost use Rattle.cs_advise.specs.Told.{change_line};
+ghost use Rattle.cs_advise.specs.declared.source.Source.{Source};
 
 use crate::change::Change;
 use crate::changing::changed_plan;
 use crate::source::Source;
 use crate::told::{both_lines, capacity_line, hours_line, max_line, mode_line, start_line};
+use cs_check::Checked;
 use cs_decl::Plan;
-use cs_judge::is_called_safe;
+use cs_judge::{called_safe, reach_in};
 use std::alloc::{AllocError, Global};
 use std::thread::Threads;
 
@@ -20,29 +24,32 @@ pub(crate) struct Advice {
     pub(crate) text: Vec<u8>,
 }
 
-/// The line that tells a change, of which a plan is given; none where its entry has no text.
+/// The line that tells a change, of which the plan was accepted; none where its entry has no text.
 fn change_line(
     alloc: Global,
     plan: &Plan,
-    changed: &Plan,
+    checked: &Checked,
     change: &Change,
 ) -> Result<Option<Vec<u8>>, AllocError>
-    requires { IsDeclared plan.now change.now changed.now }
-    ensures { IfOk result
-        (λ line. IfSome line (λ text. text.items ≡ change_line plan.now change.now)) }
+    requires { (source : Source) × IsChanged source plan.now change.now (plan_in checked.now) }
+    ensures { IfOk result (λ line. IfSome line
+        (λ text. text.items ≡ change_line plan.now (reach_in checked.now) change.now)) }
 {
+    let changed = checked.plan();
     match change {
         Change::Start(start) => Ok(Some(start_line(alloc, plan, start)?)),
         Change::Both(one, other) => Ok(Some(both_lines(alloc, plan, one, other)?)),
         Change::Max(job, max) => max_line(alloc, plan, changed, *job, *max),
-        Change::Mode(job, mode) => mode_line(alloc, plan, changed, *job, *mode),
+        Change::Mode(job, mode) => {
+            let reach = reach_in(checked, *job);
+            mode_line(alloc, plan, changed, *job, *mode, reach)
+        }
         Change::Capacity(capacity) => Ok(Some(capacity_line(alloc, plan, *capacity)?)),
         Change::Hours(hours) => Ok(Some(hours_line(alloc, plan, *hours)?)),
     }
 }
 
 /// The line that tells a change, if the plan is called safe with it.
-#[tactic(auto, using(crate::proofs::Changes::declared))]
 fn safe_line<R: Threads + Sync>(
     rt: &R,
     alloc: Global,
@@ -56,10 +63,10 @@ fn safe_line<R: Threads + Sync>(
     let Some(changed) = changed_plan(alloc, source, plan, change)? else {
         return Ok(None);
     };
-    if !is_called_safe(rt, alloc, &changed)? {
+    let Some(checked) = called_safe(rt, alloc, &changed)? else {
         return Ok(None);
-    }
-    change_line(alloc, plan, &changed, change)
+    };
+    change_line(alloc, plan, &checked, change)
 }
 
 /// Those of some changes with which the plan is called safe, in order. The only error is want of

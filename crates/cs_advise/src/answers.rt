@@ -1,5 +1,5 @@
 //! What is answered of a plan that was judged.
-ghost use Rattle.std.specs.Prelude.{◌≡◌, ◌++◌, IfOk};
+ghost use Rattle.std.specs.Prelude.{◌≡◌, ◌++◌, [], IfOk};
 ghost use Rattle.cs_files.specs.Response.{status_of};
 ghost use Rattle.cs_judge.specs.Called.{IsCalledSafe};
 ghost use Rattle.cs_counterexample.specs.Shown.{IsTellable};
@@ -7,18 +7,21 @@ ghost use Rattle.cs_decl.specs.Plan.{as_plan};
 ghost use Rattle.cs_judge.specs.Judged.{IsJudgement};
 ghost use Rattle.cs_advise.specs.Advice.{IsAdvice};
 ghost use Rattle.cs_advise.specs.Answer.{IsAdvised, IsPrinted, IsTold, TellsAdvice, TellsRooms};
-ghost use Rattle.cs_advise.specs.Answer.{head_of, shown_line, unknown_status};
+ghost use Rattle.cs_advise.specs.Places.{job_places, shown_jobs};
+ghost use Rattle.cs_advise.specs.Answer.{breach_text, head_of, shown_line, unknown_status};
 
 use crate::advice::{Advice, told_changes};
 use crate::breach::jobs_of;
+use crate::places::{changed_jobs, job_places, shown_jobs};
 use crate::rooms::{push_rooms, rooms_of};
 use crate::search::Search;
 use crate::source::Source;
+use cs_civil::Bytes;
 use cs_counterexample::{Shown, shown_text};
 use cs_decl::Plan;
 use cs_files::{Response, Status};
 use cs_gather::Place;
-use cs_judge::{Breach, Judged, Outcome, Wanted, answer, judge};
+use cs_judge::{Breach, Judged, Outcome, Wanted, answer, judge, push_broken};
 use cs_report::plan_notes;
 use std::alloc::{AllocError, Global};
 use std::thread::Threads;
@@ -30,6 +33,30 @@ pub enum Question {
     Rooms,
     /// Which changes make it safe, with starts that are shifted by so many minutes at most.
     Advice(u64),
+}
+
+/// What is told of a plan, and the status.
+#[derive(Debug, Drop)]
+struct Reply {
+    status: Status,
+    text: Vec<u8>,
+    /// Beside it.
+    notes: Vec<u8>,
+}
+
+impl Reply {
+    /// With no notes beside it.
+    fn alone(alloc: Global, status: Status, text: Vec<u8>) -> Reply
+        ensures status { result.status ≡ status }
+        ensures text { result.text.items ≡ text.items }
+        ensures notes { result.notes.items ≡ [] }
+    {
+        Reply {
+            status,
+            text,
+            notes: Vec::new(alloc),
+        }
+    }
 }
 
 /// A line for the room of each job of a safe plan, behind what stands before them.
@@ -58,6 +85,22 @@ fn shown_line(alloc: Global, plan: &Plan, shown: &Shown) -> Result<Vec<u8>, Allo
     Ok(text)
 }
 
+/// That line, and below it what is broken.
+#[tactic(auto, unfolding(crate::specs::Answer::breach_text))]
+fn breach_text(
+    alloc: Global,
+    plan: &Plan,
+    shown: &Shown,
+    breach: &Breach,
+) -> Result<Vec<u8>, AllocError>
+    requires { IsTellable (as_plan plan.now) shown.now }
+    ensures { IfOk result (λ text. text.items ≡ breach_text plan.now shown.now breach.now) }
+{
+    let mut text = shown_line(alloc, plan, shown)?;
+    push_broken(alloc, &mut text, plan, *shown, breach.minute)?;
+    Ok(text)
+}
+
 /// Changes of an unsafe plan that make it safe.
 fn advice_on<R: Threads + Sync>(
     rt: &R,
@@ -80,27 +123,57 @@ fn advice_on<R: Threads + Sync>(
     told_changes(rt, alloc, source, plan, changes)
 }
 
-/// A line for each change that makes an unsafe plan safe; or the line of what it breaks first,
-/// where none was found.
+/// What an unsafe plan breaks first, where no change was found.
+fn told_breach(
+    alloc: Global,
+    plan: &Plan,
+    places: &[Place],
+    shown: &Shown,
+    text: Vec<u8>,
+) -> Result<Reply, AllocError>
+    ensures status { IfOk result (λ told. status_of told.status ≡ 1) }
+    ensures text { IfOk result (λ told. told.text.items ≡ text.items) }
+    ensures notes { IfOk result
+        (λ told. told.notes.items ≡ job_places plan.now places.now (shown_jobs shown.now)) }
+{
+    let jobs = shown_jobs(alloc, shown)?;
+    let notes = job_places(alloc, plan, places, jobs.as_slice())?;
+    Ok(Reply {
+        status: Status::Refused,
+        text,
+        notes,
+    })
+}
+
+/// A line for each change that makes an unsafe plan safe; or what it breaks first, where none was
+/// found.
 fn advice_text<R: Threads + Sync>(
     rt: &R,
     alloc: Global,
     source: &Source,
     plan: &Plan,
+    places: &[Place],
     broken: (&Shown, &Breach),
     within: u64,
-) -> Result<(Status, Vec<u8>), AllocError>
+) -> Result<Reply, AllocError>
     requires { IsTellable (as_plan plan.now) broken.0.now }
-    ensures { IfOk result (λ told. TellsAdvice source.now plan.now broken.entry.0.now
-        (status_of told.0) told.1.items) }
+    ensures { IfOk result (λ told. TellsAdvice source.now plan.now places.now broken.entry.0.now
+        broken.entry.1.now (status_of told.status) told.text.items told.notes.items) }
 {
     let (shown, breach) = broken;
     let jobs = jobs_of(alloc, plan, shown, breach)?;
     let advice = advice_on(rt, alloc, source, plan, jobs.as_slice(), within)?;
     if advice.changes.is_empty() {
-        return Ok((Status::Refused, shown_line(alloc, plan, shown)?));
+        let text = breach_text(alloc, plan, shown, breach)?;
+        return told_breach(alloc, plan, places, shown, text);
     }
-    Ok((Status::Done, advice.text))
+    let named = changed_jobs(alloc, advice.changes.as_slice())?;
+    let notes = job_places(alloc, plan, places, named.as_slice())?;
+    Ok(Reply {
+        status: Status::Done,
+        text: advice.text,
+        notes,
+    })
 }
 
 /// What stands before the rooms of a safe plan.
@@ -113,22 +186,27 @@ fn head_of(question: Question) -> &'static [u8]
     }
 }
 
-/// What is printed of an unsafe plan, and the status.
+/// What is told of an unsafe plan.
 fn told<R: Threads + Sync>(
     rt: &R,
     alloc: Global,
     source: &Source,
     plan: &Plan,
+    places: &[Place],
     question: Question,
     broken: (&Shown, &Breach),
-) -> Result<(Status, Vec<u8>), AllocError>
+) -> Result<Reply, AllocError>
     requires { IsTellable (as_plan plan.now) broken.0.now }
-    ensures { IfOk result (λ told. IsTold question source.now plan.now broken.entry.0.now
-        (status_of told.0) told.1.items) }
+    ensures { IfOk result (λ told. IsTold question source.now plan.now places.now
+        broken.entry.0.now broken.entry.1.now (status_of told.status) told.text.items
+        told.notes.items) }
 {
     match question {
-        Question::Rooms => Ok((Status::Refused, shown_line(alloc, plan, broken.0)?)),
-        Question::Advice(within) => advice_text(rt, alloc, source, plan, broken, within),
+        Question::Rooms => {
+            let text = shown_line(alloc, plan, broken.0)?;
+            told_breach(alloc, plan, places, broken.0, text)
+        }
+        Question::Advice(within) => advice_text(rt, alloc, source, plan, places, broken, within),
     }
 }
 
@@ -142,7 +220,7 @@ fn unknown_status(outcome: Outcome) -> Status
     }
 }
 
-/// What is printed of a plan that was judged, and the status.
+/// What is told of a plan that was judged.
 fn printed<R: Threads + Sync>(
     rt: &R,
     alloc: Global,
@@ -151,22 +229,22 @@ fn printed<R: Threads + Sync>(
     places: &[Place],
     question: Question,
     judged: &Judged,
-) -> Result<(Status, Vec<u8>), AllocError>
+) -> Result<Reply, AllocError>
     requires { IsJudgement plan.now judged.now }
     ensures { IfOk result (λ told. IsPrinted question source.now plan.now places.now judged.now
-        (status_of told.0) told.1.items) }
+        (status_of told.status) told.text.items told.notes.items) }
 {
     match judged {
         Judged::Safe(_) => {
             let text = rooms_text(rt, alloc, plan, head_of(question))?;
-            Ok((Status::Done, text))
+            Ok(Reply::alone(alloc, Status::Done, text))
         }
         Judged::Unsafe(_, shown, breach) => {
-            told(rt, alloc, source, plan, question, (shown, breach))
+            told(rt, alloc, source, plan, places, question, (shown, breach))
         }
         Judged::Unknown(_, _) => {
             let (outcome, text) = answer(alloc, plan, places, Wanted::Verdict, judged)?;
-            Ok((unknown_status(outcome), text))
+            Ok(Reply::alone(alloc, unknown_status(outcome), text))
         }
     }
 }
@@ -184,7 +262,8 @@ pub(crate) fn advised<R: Threads + Sync>(
     ensures { IfOk result (IsAdvised question source.now plan.now places.now) }
 {
     let judged = judge(rt, alloc, plan, Wanted::Verdict);
-    let notes = plan_notes(alloc, plan)?;
-    let (status, text) = printed(rt, alloc, source, plan, places, question, &judged)?;
-    Ok(Response::told(status, text, notes))
+    let mut notes = plan_notes(alloc, plan)?.into_vec();
+    let told = printed(rt, alloc, source, plan, places, question, &judged)?;
+    notes.extend_from_slice(told.notes.as_slice())?;
+    Ok(Response::told(told.status, told.text, Bytes::from_vec(notes)))
 }

@@ -1,10 +1,12 @@
-//! How long the runs of a job may take while the plan stays safe.
+//! How long the runs of a job may take while the plan stays safe, and how close its windows come to
+//! those of the others of its group.
 ghost use Rattle.std.specs.Prelude.{◌≡◌, ◌≤◌, ◌<◌, ◌+◌, IfOk, length, true};
 ghost use Rattle.cs_decl.specs.Changed.{with_max};
 ghost use Rattle.cs_decl.specs.declared.limits.TheConstants.{MAX_MINUTES};
 ghost use Rattle.cs_judge.specs.Called.{IsCalledSafe};
 ghost use Rattle.cs_advise.specs.Room.{IsRoom};
 
+use crate::gap::{Gap, gap_of};
 use cs_decl::{MAX_MINUTES, Plan};
 use cs_judge::is_called_safe;
 use std::alloc::{AllocError, Global};
@@ -16,7 +18,7 @@ const FIRST_STRIDE: u16 = 4;
 /// How many times as long the next stride is.
 const GROWTH: u16 = 8;
 
-/// How long the runs of a job may take while the plan stays safe, in minutes.
+/// What a job of a safe plan has to spare, in minutes.
 #[derive(Clone, Copy, Debug, PartialEq, Eq)]
 pub struct Room {
     /// The number of the job.
@@ -25,6 +27,9 @@ pub struct Room {
     pub max: u16,
     /// The greatest longest time that was judged safe, all else as it is declared.
     pub most: u16,
+    /// The smallest gap, as it is declared, between a window of the job and one of another command
+    /// of its group: none where there is no other, and of a job of the anacrontab.
+    pub gap: Option<Gap>,
 }
 
 /// Whether the plan is called safe with another longest time of a job.
@@ -136,5 +141,11 @@ pub(crate) fn room_of<R: Threads + Sync>(
 {
     let max = plan.job_at(job).max();
     let most = greatest(rt, alloc, plan, job, max)?;
-    Ok(Room { job, max, most })
+    let gap = gap_of(plan, job);
+    Ok(Room {
+        job,
+        max,
+        most,
+        gap,
+    })
 }

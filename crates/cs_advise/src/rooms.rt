@@ -2,9 +2,10 @@
 ghost use Rattle.std.specs.Prelude.{◌≡◌, ◌<◌, ◌≤◌, ◌++◌, All, IfOk, OnOk, flat_map, length, map};
 ghost use Rattle.std.specs.List.{range_with_len};
 ghost use Rattle.cs_judge.specs.Called.{IsCalledSafe};
-ghost use Rattle.cs_advise.specs.Room.{AreRooms, IsRoom, declared_text, limit_mark, most_text};
-ghost use Rattle.cs_advise.specs.Room.{room_line, room_text, safe_up_to};
+ghost use Rattle.cs_advise.specs.Room.{AreRooms, IsRoom, declared_text, gap_text, limit_mark};
+ghost use Rattle.cs_advise.specs.Room.{more_mark, most_text, room_line, room_text, safe_up_to};
 
+use crate::gap::Gap;
 use crate::label::push_label;
 use crate::room::{Room, room_of};
 use cs_civil::push_number;
@@ -49,16 +50,15 @@ pub(crate) fn rooms_of<R: Threads + Sync>(
     Ok(rooms)
 }
 
-/// Adds the end of a line.
+/// Adds ` (the most)` where that is so.
 #[tactic(auto, unfolding(crate::specs::Room::limit_mark))]
 fn push_limit_mark(text: &mut Vec<u8>, most: u16) -> Result<(), AllocError>
     ensures { OnOk result (text.new.items ≡ text.old.items ++ limit_mark most) }
 {
     if most == MAX_MINUTES {
-        text.extend_from_slice(b" (the most)\n")
-    } else {
-        text.extend_from_slice(b"\n")
+        return text.extend_from_slice(b" (the most)");
     }
+    Ok(())
 }
 
 /// Adds `: max MAX`.
@@ -77,7 +77,7 @@ fn push_safe_up_to(text: &mut Vec<u8>) -> Result<(), AllocError>
     text.extend_from_slice(b", safe up to ")
 }
 
-/// Adds `, safe up to MOST` and the end of a line.
+/// Adds `, safe up to MOST`, and whether it is the most.
 #[tactic(auto, unfolding(crate::specs::Room::most_text))]
 fn push_most(alloc: Global, text: &mut Vec<u8>, most: u16) -> Result<(), AllocError>
     ensures { OnOk result (text.new.items ≡ text.old.items ++ most_text most) }
@@ -87,14 +87,42 @@ fn push_most(alloc: Global, text: &mut Vec<u8>, most: u16) -> Result<(), AllocEr
     push_limit_mark(text, most)
 }
 
-/// Adds `JOB: max MAX, safe up to MOST`, a line.
+/// Adds the end of a line, behind ` or more` where the number stands for more too.
+#[tactic(auto, unfolding(crate::specs::Room::more_mark))]
+fn push_more_mark(text: &mut Vec<u8>, gap: u16) -> Result<(), AllocError>
+    ensures { OnOk result (text.new.items ≡ text.old.items ++ more_mark gap) }
+{
+    if gap == MAX_MINUTES {
+        return text.extend_from_slice(b" or more\n");
+    }
+    text.extend_from_slice(b"\n")
+}
+
+/// Adds `, gap GAP` and the end of a line.
+#[tactic(auto, unfolding(crate::specs::Room::gap_text))]
+fn push_gap(alloc: Global, text: &mut Vec<u8>, gap: Option<Gap>) -> Result<(), AllocError>
+    ensures { OnOk result (text.new.items ≡ text.old.items ++ gap_text gap) }
+{
+    match gap {
+        None => text.extend_from_slice(b", gap -\n"),
+        Some(Gap::Meet) => text.extend_from_slice(b", gap meet\n"),
+        Some(Gap::Minutes(minutes)) => {
+            text.extend_from_slice(b", gap ")?;
+            push_number(alloc, text, u128::from(minutes))?;
+            push_more_mark(text, minutes)
+        }
+    }
+}
+
+/// Adds `JOB: max MAX, safe up to MOST, gap GAP`, a line.
 #[tactic(auto, unfolding(crate::specs::Room::room_line))]
 fn push_room(alloc: Global, text: &mut Vec<u8>, plan: &Plan, room: Room) -> Result<(), AllocError>
     ensures { OnOk result (text.new.items ≡ text.old.items ++ room_line plan.now room) }
 {
     push_label(alloc, text, plan, room.job)?;
     push_declared(alloc, text, room.max)?;
-    push_most(alloc, text, room.most)
+    push_most(alloc, text, room.most)?;
+    push_gap(alloc, text, room.gap)
 }
 
 /// Adds a line for each room.

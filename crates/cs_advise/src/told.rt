@@ -1,10 +1,11 @@
 //! The line that tells a change.
 ghost use Rattle.std.specs.Prelude.{◌≡◌, ◌++◌, IfOk, IfSome, OnOk, map};
 ghost use Rattle.cs_decl.specs.Changed.{with_max, with_mode};
-ghost use Rattle.cs_advise.specs.Told.{both_lines, capacity_line, hours_line, hours_member};
-ghost use Rattle.cs_advise.specs.Told.{in_place_of, max_line, minutes_text};
+ghost use Rattle.cs_advise.specs.Told.{after_due, both_lines, capacity_line, hours_line};
+ghost use Rattle.cs_advise.specs.Told.{hours_member, in_place_of, max_line, may_end, may_start};
+ghost use Rattle.cs_advise.specs.Told.{minutes_text};
 ghost use Rattle.cs_advise.specs.Told.{mode_line, mode_words, replaced_text, seen, shift_text};
-ghost use Rattle.cs_advise.specs.Told.{span_text, start_line};
+ghost use Rattle.cs_advise.specs.Told.{span_text, start_line, wait_words};
 
 use crate::change::{Shift, Start};
 use crate::entry::entry_text;
@@ -57,22 +58,84 @@ pub(crate) fn max_line(
     Ok(Some(text))
 }
 
-/// What becomes of a run, in words.
-fn mode_words(mode: Mode) -> &'static [u8]
-    ensures { result.now ≡ mode_words mode }
+/// Adds `1 minute` or `N minutes`.
+#[tactic(auto, unfolding(crate::specs::Told::minutes_text))]
+fn push_minutes(alloc: Global, text: &mut Vec<u8>, minutes: u16) -> Result<(), AllocError>
+    ensures { OnOk result (text.new.items ≡ text.old.items ++ minutes_text minutes) }
+{
+    if minutes == 1 {
+        return text.extend_from_slice(b"1 minute");
+    }
+    push_number(alloc, text, u128::from(minutes))?;
+    text.extend_from_slice(b" minutes")
+}
+
+#[tactic(auto, unfolding(crate::specs::Told::may_start))]
+fn push_may_start(text: &mut Vec<u8>) -> Result<(), AllocError>
+    ensures { OnOk result (text.new.items ≡ text.old.items ++ may_start) }
+{
+    text.extend_from_slice(b", mode wait, so that a run may start up to ")
+}
+
+#[tactic(auto, unfolding(crate::specs::Told::may_end))]
+fn push_may_end(text: &mut Vec<u8>) -> Result<(), AllocError>
+    ensures { OnOk result (text.new.items ≡ text.old.items ++ may_end) }
+{
+    text.extend_from_slice(b" late and end up to ")
+}
+
+#[tactic(auto, unfolding(crate::specs::Told::after_due))]
+fn push_after_due(text: &mut Vec<u8>) -> Result<(), AllocError>
+    ensures { OnOk result (text.new.items ≡ text.old.items ++ after_due) }
+{
+    text.extend_from_slice(b" after its due minute: ")
+}
+
+/// Adds how late a run of so many minutes may start, and how long after its due minute it may end,
+/// by its reach.
+#[tactic(auto, unfolding(crate::specs::Told::wait_words))]
+fn push_wait_words(
+    alloc: Global,
+    text: &mut Vec<u8>,
+    max: u16,
+    reach: u16,
+) -> Result<(), AllocError>
+    ensures { OnOk result (text.new.items ≡ text.old.items ++ wait_words max reach) }
+{
+    push_may_start(text)?;
+    push_minutes(alloc, text, reach.saturating_sub(max))?;
+    push_may_end(text)?;
+    push_minutes(alloc, text, reach)?;
+    push_after_due(text)
+}
+
+/// Adds what becomes of a run of so many minutes, by its reach.
+fn push_mode_words(
+    alloc: Global,
+    text: &mut Vec<u8>,
+    mode: Mode,
+    max: u16,
+    reach: u16,
+) -> Result<(), AllocError>
+    ensures { OnOk result (text.new.items ≡ text.old.items ++ mode_words mode max reach) }
 {
     match mode {
-        Mode::Plain => b", mode none, so that its runs take no lock: ",
-        Mode::Skip => b", mode skip, so that no run may find the lock held: ",
-        Mode::Try => b", mode try, so that a run that finds the lock held is left out: ",
-        Mode::Wait => b", mode wait, so that a run may start late: ",
-        Mode::Shared => {
-            b", mode shared, so that a run may start late, and beside others that share the lock: "
+        Mode::Plain => text.extend_from_slice(b", mode none, so that its runs take no lock: "),
+        Mode::Skip => {
+            text.extend_from_slice(b", mode skip, so that no run may find the lock held: ")
         }
+        Mode::Try => text.extend_from_slice(
+            b", mode try, so that a run that finds the lock held is left out: ",
+        ),
+        Mode::Wait => push_wait_words(alloc, text, max, reach),
+        Mode::Shared => text.extend_from_slice(
+            b", mode shared, so that a run may start late, and beside others that share the lock: ",
+        ),
     }
 }
 
-/// The line of another mode, of which a plan is given; none where its entry has no text.
+/// The line of another mode, of which a plan is given, with the reach of the job; none where its
+/// entry has no text.
 #[tactic(auto, unfolding(crate::specs::Told::mode_line))]
 pub(crate) fn mode_line(
     alloc: Global,
@@ -80,17 +143,18 @@ pub(crate) fn mode_line(
     changed: &Plan,
     job: u16,
     mode: Mode,
+    reach: u16,
 ) -> Result<Option<Vec<u8>>, AllocError>
     requires { changed.now ≡ with_mode plan.now job mode }
     ensures { IfOk result
-        (λ line. IfSome line (λ text. text.items ≡ mode_line plan.now job mode)) }
+        (λ line. IfSome line (λ text. text.items ≡ mode_line plan.now job mode reach)) }
 {
     let Some(entry) = entry_text(alloc, changed, job)? else {
         return Ok(None);
     };
     let mut text = Vec::new(alloc);
     push_label(alloc, &mut text, plan, job)?;
-    text.extend_from_slice(mode_words(mode))?;
+    push_mode_words(alloc, &mut text, mode, plan.job_at(job).max(), reach)?;
     text.extend_from_slice(entry.as_slice())?;
     text.extend_from_slice(b"\n")?;
     Ok(Some(text))
@@ -151,18 +215,6 @@ pub(crate) fn hours_line(alloc: Global, plan: &Plan, hours: Hours) -> Result<Vec
     text.extend_from_slice(b": ")?;
     push_hours_member(alloc, &mut text, hours)?;
     Ok(text)
-}
-
-/// Adds `1 minute` or `N minutes`.
-#[tactic(auto, unfolding(crate::specs::Told::minutes_text))]
-fn push_minutes(alloc: Global, text: &mut Vec<u8>, minutes: u16) -> Result<(), AllocError>
-    ensures { OnOk result (text.new.items ≡ text.old.items ++ minutes_text minutes) }
-{
-    if minutes == 1 {
-        return text.extend_from_slice(b"1 minute");
-    }
-    push_number(alloc, text, u128::from(minutes))?;
-    text.extend_from_slice(b" minutes")
 }
 
 /// Adds how much later or earlier.

@@ -97,6 +97,7 @@ asked_chart c = record {
   day = asked c.day;
   days = c.days;
   declarations = option_map (λ path. path.now) c.declarations;
+  story = option_map (λ path. path.now) c.story;
 }
 
 abbrev pub asking : Request → Asking

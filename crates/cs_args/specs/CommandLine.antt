@@ -119,12 +119,14 @@ lint_app =
     with_rule (with_rule (with_rule (new_app (codes "lint")) (required_rule (codes "TABLE")))
     (new_rule (codes "DECLS"))) (option_rule (codes "anacrontab"))
 
--- `chart TABLE DATE [MAX] [--anacrontab FILE] [--from M] [--to M] [--days N] [--declarations FILE]`
+-- `chart TABLE DATE [MAX] [--anacrontab FILE] [--from M] [--to M] [--days N] [--declarations FILE]
+-- [--story FILE]`
 unfoldable pub chart_app : App
 chart_app =
-    with_rule (with_rule (with_hours
+    with_rule (with_rule (with_rule (with_hours
     (with_rule (with_words (new_app (codes "chart"))) (new_rule (codes "MAX"))))
-    (option_rule (codes "days"))) (option_rule (codes "declarations"))
+    (option_rule (codes "days"))) (option_rule (codes "declarations")))
+    (option_rule (codes "story"))
 
 -- `explain [NAME]`
 unfoldable pub explain_app : App
@@ -250,11 +252,13 @@ pub record AskedLint : Type 0 where
   pub declarations : Option Text
   pub anacrontab : Option Text
 
--- what `chart` is asked: what `day` is, for how many days, and the path of declarations
+-- what `chart` is asked: what `day` is, for how many days, and the paths of declarations and of a
+-- script
 pub record AskedChart : Type 0 where
   pub day : Asked
   pub days : ℕ
   pub declarations : Option Text
+  pub story : Option Text
 
 -- what words may ask: a subcommand, or, by the subcommand `help`, how the program is called
 pub data Asking : Type 0 where
@@ -462,13 +466,19 @@ lint_in rows =
 abbrev pub is_up_to_a_week : ℕ → Bool
 is_up_to_a_week days = nat_lt 0 days && nat_lt days 8
 
+-- a story is told of a plan, so with declarations alone
+abbrev pub is_story_alone : Option Text → Option Text → Bool
+is_story_alone story declarations = is_some story && not (is_some declarations)
+
 -- what the entries of `chart` ask, where those of `day` ask this and `--days` has this number
 abbrev pub chart_with : List Row → Asked → ℕ → Option AskedChart
 chart_with rows day days =
     let declarations = first_of (codes "declarations") rows in
-    if are_dashes day.table [] day.anacrontab declarations then None
+    let story = first_of (codes "story") rows in
+    if are_dashes day.table (unwrap_or story []) day.anacrontab declarations then None
+    else if is_story_alone story declarations then None
     else if is_up_to_a_week days
-    then Some (record { day = day; days = days; declarations = declarations })
+    then Some (record { day = day; days = days; declarations = declarations; story = story })
     else None
 
 -- MAX of `chart` may be left out beside declarations, which have the longest time of each job: then
@@ -485,8 +495,8 @@ chart_up_to max rows =
     (number_of (value_or (codes "1") (codes "days") rows))) (asked_up_to max rows)
 
 -- what the entries of `chart` ask: MAX is given or left out beside declarations, those of `day` ask
--- something, `--days` has to be a number from 1 to 7, by default 1, and standard input is named
--- once at most
+-- something, `--days` has to be a number from 1 to 7, by default 1, `--story` is given beside
+-- declarations alone, and standard input is named once at most
 abbrev pub chart_in : List Row → Option AskedChart
 chart_in rows = option_and_then (λ max. chart_up_to max rows)
     (max_beside (first_of (codes "MAX") rows) (first_of (codes "declarations") rows))

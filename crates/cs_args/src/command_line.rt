@@ -433,8 +433,13 @@ fn chart_words<'a>(alloc: Global, given: &ArgMatches<'a>) -> Result<ChartWords<'
         "--days",
         text_of(given, "days", "1"),
     )?;
-    if are_dashes(day.table, "", day.anacrontab, declarations) {
+    let story = value_of(given, "story");
+    if are_dashes(day.table, story.unwrap_or(""), day.anacrontab, declarations) {
         return Err(UsageFault::NoCall(twice_standard(alloc, Subcommand::Chart)?));
+    }
+    if story.is_some() && declarations.is_none() {
+        let message = "--story is given without --declarations";
+        return Err(UsageFault::NoCall(Subcommand::Chart.fault(alloc, message)?));
     }
     if !is_up_to_a_week(days) {
         let message = "--days is from 1 to 7";
@@ -444,6 +449,7 @@ fn chart_words<'a>(alloc: Global, given: &ArgMatches<'a>) -> Result<ChartWords<'
         day,
         days: days as u8,
         declarations,
+        story,
     })
 }
 

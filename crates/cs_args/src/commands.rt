@@ -18,7 +18,7 @@ use crate::texts::{
     GATHER_EXAMPLE, HELP_ABOUT, JUDGE_ABOUT, JUDGE_EXAMPLE, JUDGE_HELP, LINT_ABOUT, LINT_EXAMPLE,
     MAKE_ABOUT, MAKE_EXAMPLE, MAX_HELP, MINUTES_HELP, NAME_HELP, REPLAY_ABOUT, REPLAY_EXAMPLE,
     REPLAY_MAX_HELP, ROOM_ABOUT, ROOM_EXAMPLE, ROOT_HELP, RUN_ABOUT, RUN_EXAMPLE, SCRIPT_HELP,
-    STAMPS_HELP, SYSTEM_HELP, TABLE_HELP, TO_HELP, UPDATE_HELP, USER_HELP, WITHIN_HELP,
+    STAMPS_HELP, STORY_HELP, SYSTEM_HELP, TABLE_HELP, TO_HELP, UPDATE_HELP, USER_HELP, WITHIN_HELP,
 };
 use crate::version::version_text;
 use clap::error::ErrorKind;
@@ -341,8 +341,8 @@ fn lint_command<'a>(alloc: Global) -> Result<Command<'a>, AllocError>
     with_option(alloc, command, "anacrontab", "FILE", ANACRONTAB_HELP)
 }
 
-/// `chart TABLE DATE [MAX] [--anacrontab FILE] [--from M] [--to M] [--days N] [--declarations
-/// FILE]`.
+/// `chart TABLE DATE [MAX] [--anacrontab FILE] [--from M] [--to M] [--days N] [--declarations FILE]
+/// [--story FILE]`.
 #[tactic(auto, unfolding(crate::specs::CommandLine::chart_app))]
 fn chart_command<'a>(alloc: Global) -> Result<Command<'a>, AllocError>
     ensures app { IfOk result (λ c. app_of c ≡ chart_app) }
@@ -353,7 +353,8 @@ fn chart_command<'a>(alloc: Global) -> Result<Command<'a>, AllocError>
     let command = with_optional(alloc, command, "MAX", CHART_MAX_HELP);
     let command = with_hours(alloc, command);
     let command = with_option(alloc, command, "days", "N", DAYS_HELP);
-    with_option(alloc, command, "declarations", "FILE", DECLARATIONS_HELP)
+    let command = with_option(alloc, command, "declarations", "FILE", DECLARATIONS_HELP);
+    with_option(alloc, command, "story", "FILE", STORY_HELP)
 }
 
 /// `explain [NAME]`.

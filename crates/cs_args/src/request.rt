@@ -78,7 +78,8 @@ pub struct JudgeWords<'a> {
 pub struct MakeWords<'a> {
     /// The paths that `judge` is asked with.
     pub judge: JudgeWords<'a>,
-    /// Whether the certificate is to be a compact one, which says only what the tables and declarations don't.
+    /// Whether the certificate is to be a compact one, which says only what the tables and
+    /// declarations don't.
     pub compact: bool,
 }
 
@@ -135,6 +136,8 @@ pub struct ChartWords<'a> {
     pub days: u8,
     /// The path of declarations.
     pub declarations: Option<&'a str>,
+    /// The path of a script, whose story is drawn over the plan of the declarations.
+    pub story: Option<&'a str>,
 }
 
 /// What a call asks.

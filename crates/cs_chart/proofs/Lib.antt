@@ -7,3 +7,4 @@ pub mod Passed
 pub mod Example
 pub mod Others
 pub mod Marked
+pub mod Told

@@ -75,7 +75,7 @@ row_of days job name shown top old front behind new e named first (plot, so, add
 )
 
 -- all rows, between texts without bars
-pub picture_of : (days : Days) (jobs : List ShownJob) (top : ℕ) (none front behind new : List ℕ) → none ≡ [] → KeepsBars none front
+unfoldable pub picture_of : (days : Days) (jobs : List ShownJob) (top : ℕ) (none front behind new : List ℕ) → none ≡ [] → KeepsBars none front
     → AddsRowsOf days jobs top front behind → KeepsBars behind new → IsPictureOf days jobs new
 unfolding Draws has_no_bars
 picture_of days jobs top none front behind new empty first (rows, so, adds) last = record {

@@ -6,3 +6,4 @@ pub mod Rows
 pub mod Begun
 pub mod Program
 pub mod Meeting
+pub mod Story

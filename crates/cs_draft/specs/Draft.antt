@@ -10,7 +10,6 @@ use Rattle.cs_schedule.specs.Times.{Times}
 use Rattle.cs_gap.specs.Gap.{AreApart, can_be_apart}
 use Rattle.cs_gather.specs.Places.{place_of}
 use Rattle.cs_gather.specs.declared.places.Place.{Place}
-use Rattle.cs_civil.specs.declared.minute.TheConstants.{MINUTES_OF_DAY}
 use Rattle.cs_history.specs.declared.mode.Mode.{Mode}
 use Rattle.cs_history.specs.declared.mode.Mode.TheVariants.{Plain}
 use Rattle.cs_decl.specs.declared.limits.TheConstants.{MAX_CAPACITY, MAX_GROUPS, MAX_MINUTES}
@@ -26,6 +25,8 @@ use Rattle.cs_decl.specs.Meaning.{declared_by}
 use Rattle.cs_decl.specs.Join.{is_left_out, is_named, is_of_job, is_reboot, join_faults}
 use Rattle.cs_decl.specs.Lines.{names_of}
 use Rattle.cs_draft.specs.Locks.{lock_of}
+use Rattle.cs_draft.specs.CatchUp.{hours_of}
+use Rattle.cs_draft.specs.Timeouts.{asked_for}
 
 -- ---- entries and lines
 
@@ -124,7 +125,8 @@ IsDraftedAs asked names entry is_out (At schedule) = (is_out ≡ false)
 IsDraftedAs asked names entry is_out Reboot = is_out ≡ true
 
 abbrev pub IsDrafted : ℕ → List Place → Entries → CommandLine → Type 0
-IsDrafted asked places d line = IsDraftedAs asked (parts_of places line.number)
+IsDrafted asked places d line =
+    IsDraftedAs (asked_for asked line.command) (parts_of places line.number)
     (find (λ e. is_named e.name line) d.cron) (is_left_out d line) line.when
 
 -- the text is this one
@@ -161,17 +163,18 @@ abbrev pub IsDraftedGroup : Entries → GroupEntry → Type 0
 IsDraftedGroup d g =
     (g.exclusive ≡ true) × (list_any (λ e. is_text g.name e.group) d.cron ≡ true)
 
--- the anacron job has an entry with the asked time, the least weight and no group
+-- The anacron job has an entry with the asked time, or that of its command, the least weight and no
+-- group.
 abbrev pub IsDraftedJob : ℕ → Entries → JobLine → Type 0
 IsDraftedJob max d line = IsSomeAnd (find (is_of_job line.identifier) d.anacron)
-    (λ e. (e.max ≡ pos max) × (e.weight ≡ pos 1) × (e.group ≡ None))
+    (λ e. (e.max ≡ pos (asked_for max line.command)) × (e.weight ≡ pos 1) × (e.group ≡ None))
 
--- The capacity is the greatest, clocks are ahead of UTC by so many minutes, catch-up is at all
--- hours and has no pass minute, and no job has a default.
-pub record AreFresh (east : ℤ) (d : Entries) : Type 0 where
+-- The capacity is the greatest, clocks are ahead of UTC by so many minutes, catch-up is between
+-- those minutes of the day and has no pass minute, and no job has a default.
+pub record AreFresh (between : ℕ × ℕ) (east : ℤ) (d : Entries) : Type 0 where
   pub capacity : d.capacity ≡ pos MAX_CAPACITY
   pub offset : d.offset ≡ east
-  pub hours : d.hours ≡ (pos 0, pos MINUTES_OF_DAY)
+  pub hours : d.hours ≡ (pos between.0, pos between.1)
   pub pass : d.pass ≡ None
   pub default : d.default ≡ None
 
@@ -181,7 +184,7 @@ pub record IsDraft (crontab : Crontab) (anacrontab : Anacrontab) (places : List 
     (east : ℤ) (bytes : List ℕ) : Type 0 where
   pub entries : Entries
   pub sound : IsSound crontab anacrontab bytes entries
-  pub terms : AreFresh east entries
+  pub terms : AreFresh (hours_of anacrontab.settings) east entries
   pub lines : All (IsDrafted max places entries) crontab.lines
   pub locks : All (HasLock entries) crontab.lines
   pub groups : All (IsDraftedGroup entries) entries.groups

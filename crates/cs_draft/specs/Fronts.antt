@@ -1,11 +1,12 @@
 -- What stands before the program that a command runs at last: guards, which only decide whether it
 -- is run (sh(1)), and programs that run it and wait for its end.
 use Rattle.std.specs.Prelude.{ℕ, zero, suc, List, [], ◌∷◌, length, codes, bytes_eq, Option, None, Some, Bool, false, not, ◌&&◌, ◌||◌, ◌==◌, if◌then◌else◌}
-use Rattle.std.specs.List.{list_any}
+use Rattle.std.specs.Char.{is_ascii_alphanumeric}
+use Rattle.std.specs.List.{list_any, starts_with}
 use Rattle.cs_table.specs.Text.{after, begins_with, front, is_blank, is_digit, is_nothing, is_solid}
 use Rattle.cs_json.specs.Shape.{is_among}
 use Rattle.cs_draft.specs.Named.{is_called}
-use Rattle.cs_draft.specs.Shell.{is_name_byte, is_of}
+use Rattle.cs_draft.specs.Shell.{is_name_byte, is_of, is_one_program}
 use Rattle.cs_draft.specs.declared.fronts.Runner.{Runner}
 use Rattle.cs_draft.specs.declared.fronts.Runner.TheVariants.{Nice, Timeout}
 
@@ -68,12 +69,20 @@ is_valued Nice word =
 is_valued Timeout word =
     is_among (codes "-k" ∷ codes "--kill-after" ∷ codes "-s" ∷ codes "--signal" ∷ []) word
 
+abbrev pub begins_as : List ℕ → List ℕ → Bool
+begins_as front word = starts_with (λ a b. a == b) word front
+
+-- an option of timeout(1) and its value in one word
+abbrev pub holds_value : List ℕ → Bool
+holds_value word = list_any (λ front. begins_as front word)
+    (codes "-k" ∷ codes "--kill-after=" ∷ codes "-s" ∷ codes "--signal=" ∷ [])
+
 -- With `--foreground` timeout(1) doesn't end what its program has started, and by `-p` chrt(1) and
 -- ionice(1) run no program.
 unfoldable pub is_option : Runner → List ℕ → Bool
 is_option Nice word = begins_with 45 word && not (bytes_eq word (codes "-p"))
-is_option Timeout word = is_valued Timeout word
-    || is_among (codes "-v" ∷ codes "--verbose" ∷ codes "--preserve-status" ∷ []) word
+is_option Timeout word = is_valued Timeout word || (holds_value word
+    || is_among (codes "-v" ∷ codes "--verbose" ∷ codes "--preserve-status" ∷ []) word)
 
 -- an option, and its value
 unfoldable pub behind_option : Runner → List ℕ → Option (List ℕ)
@@ -124,9 +133,42 @@ behind_runner word rest =
 abbrev pub behind_end : List ℕ → Option (List ℕ)
 behind_end rest = if is_end (first_word rest) then Some (behind_word rest) else None
 
--- behind simple words, and one that ends their command
+-- A shell takes a word with quotes as one word: none is open at its end, nothing in it runs a
+-- program, redirects, or ends the text of the shell.
+unfoldable pub is_quoted : List ℕ → Bool
+is_quoted word = is_one_program word && not (list_any (is_of (codes "<>#%")) word)
+
+-- `date` with one letter for its format, as `+\%u)`: a crontab has `\%` for `%` (crontab(5))
+unfoldable pub is_format : List ℕ → List ℕ → Bool
+is_format end [] = false
+is_format end (a ∷ []) = false
+is_format end (a ∷ b ∷ []) = false
+is_format end (a ∷ b ∷ c ∷ []) = false
+is_format end (a ∷ b ∷ c ∷ letter ∷ behind) = bytes_eq (a ∷ b ∷ c ∷ []) (codes "+\\%")
+    && (is_ascii_alphanumeric letter && bytes_eq behind end)
+
+abbrev pub behind_format : List ℕ → List ℕ → Option (List ℕ)
+behind_format end text =
+    if is_format end (first_word text) then Some (behind_word text) else None
+
+-- what date(1) tells takes no time, in quotes or without
+unfoldable pub behind_date : List ℕ → Option (List ℕ)
+behind_date text =
+    if bytes_eq (first_word text) (codes "$(date") then behind_format (codes ")") (behind_word text)
+    else if bytes_eq (first_word text) (codes "\"$(date")
+    then behind_format (codes ")\"") (behind_word text)
+    else None
+
+unfoldable pub behind_piece : List ℕ → Option (List ℕ)
+behind_piece text =
+    if is_simple (first_word text) then Some (behind_word text)
+    else if not (is_nothing (first_word text)) && is_quoted (first_word text)
+    then Some (behind_word text)
+    else behind_date text
+
+-- behind such words, and one that ends their command
 unfoldable pub behind_guard : List ℕ → Option (List ℕ)
-behind_guard text = behind_end (passed behind_simple (length text) text)
+behind_guard text = behind_end (passed behind_piece (length text) text)
 
 -- these commands of a shell test or set something, and take no time (sh(1))
 unfoldable pub begins_guard : List ℕ → Bool
@@ -140,6 +182,17 @@ begins_guard word =
 abbrev pub behind_setting : List ℕ → Option (List ℕ)
 behind_setting text =
     if is_simple (first_word text) then Some (behind_word text) else behind_guard text
+
+-- behind a guard or a setting
+unfoldable pub behind_check : List ℕ → Option (List ℕ)
+behind_check text =
+    if begins_guard (first_word text) then behind_guard (behind_word text)
+    else if is_setting (first_word text) then behind_setting text
+    else None
+
+-- all that decides whether the rest is run, or is set for it
+abbrev pub behind_guards : List ℕ → List ℕ
+behind_guards command = passed behind_check (length command) command
 
 -- behind a guard, a setting, or a program that runs what is behind it
 unfoldable pub behind_front : List ℕ → Option (List ℕ)

@@ -4,6 +4,9 @@ pub mod Named
 pub mod Fronts
 pub mod Paths
 pub mod Locks
+pub mod Durations
+pub mod Timeouts
+pub mod CatchUp
 pub mod Locking
 pub mod Notices
 pub mod Draft

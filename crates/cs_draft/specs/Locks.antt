@@ -1,26 +1,19 @@
 -- Which lock a command takes by flock(1), as util-linux has it: `flock [options] file command`.
-use Rattle.std.specs.Prelude.{ℕ, List, [], ◌∷◌, ◌++◌, length, drop, map, codes, bytes_eq, Option, None, Some, is_some, option_map, Bool, true, false, not, ◌&&◌, ◌||◌, ◌==◌, if◌then◌else◌}
-use Rattle.std.specs.List.{before_first, ends_with, filter, filter_map, fold, list_all, list_any, slice_split}
+use Rattle.std.specs.Prelude.{ℕ, zero, suc, List, [], ◌∷◌, ◌++◌, length, map, codes, bytes_eq, Option, None, Some, is_some, option_map, Bool, true, false, not, ◌&&◌, ◌||◌, ◌==◌, if◌then◌else◌}
+use Rattle.std.specs.List.{before_first, count_by, ends_with, filter_map, fold, list_all, list_any, slice_split}
 use Rattle.std.specs.Str.{is_utf8}
-use Rattle.cs_table.specs.Text.{after, begins_with, is_blank, is_digit}
+use Rattle.cs_table.specs.Text.{after, begins_with, is_blank, is_digit, is_nothing}
 use Rattle.cs_history.specs.declared.mode.Mode.{Mode}
 use Rattle.cs_history.specs.declared.mode.Mode.TheVariants as modes
 use Rattle.cs_json.specs.Shape.{is_among}
-use Rattle.cs_draft.specs.Fronts.{behind_fronts}
+use Rattle.cs_draft.specs.Fronts.{behind_fronts, behind_word, first_word, passed}
 use Rattle.cs_draft.specs.Named.{locks_in}
 use Rattle.cs_draft.specs.Paths.{is_direct, real_path}
 use Rattle.cs_draft.specs.Shell.{has_lone_ampersand, is_of, is_one_program, shell_text}
 use Rattle.cs_draft.specs.declared.flock.Flag.{Flag}
 use Rattle.cs_draft.specs.declared.flock.Flag.TheVariants.{Shared, Exclusive, AtOnce, Unseen}
 
--- ---- words
-
-abbrev pub is_filled : List ℕ → Bool
-is_filled word = not (length word == 0)
-
--- the words of a text are what stands between its blanks
-abbrev pub words_of : List ℕ → List (List ℕ)
-words_of text = filter is_filled (slice_split is_blank text)
+-- ---- the text
 
 -- The words of a call are in front of the first `%`. It ends the text of the shell, or a backslash
 -- escapes it: then the last of these words ends with that, and is no option and no lock file.
@@ -61,21 +54,47 @@ options_in [] = []
 options_in (dash ∷ rest) =
     if begins_with 45 rest then (dash ∷ rest) ∷ [] else short_options rest
 
--- the options at the front, and the words behind them
-unfoldable pub options_of : List (List ℕ) → List (List ℕ)
-options_of [] = []
-options_of (word ∷ words) = if is_option word then options_in word ++ options_of words else []
+-- A wait of 0 seconds, in one word or in two: flock(1) then gives up at once, as by `-n`.
+unfoldable pub is_no_wait : List ℕ → Bool
+is_no_wait word = is_among (codes "-w0" ∷ codes "--wait=0" ∷ codes "--timeout=0" ∷ []) word
 
-unfoldable pub after_options : List (List ℕ) → List (List ℕ)
-after_options [] = []
-after_options (word ∷ words) = if is_option word then after_options words else word ∷ words
+unfoldable pub has_no_wait : List ℕ → Bool
+has_no_wait text =
+    is_among (codes "-w" ∷ codes "--wait" ∷ codes "--timeout" ∷ []) (first_word text)
+    && bytes_eq (first_word (behind_word text)) (codes "0")
 
-abbrev pub unmarked : List (List ℕ) → List (List ℕ)
-unmarked [] = []
-unmarked (word ∷ words) = if bytes_eq word (codes "--") then words else word ∷ words
+-- the options at the front, and what is behind them
+unfoldable pub options_at : List ℕ → List (List ℕ)
+options_at text =
+    if has_no_wait text || is_no_wait (first_word text) then codes "-n" ∷ []
+    else options_in (first_word text)
 
-abbrev pub behind_options : List (List ℕ) → List (List ℕ)
-behind_options words = unmarked (after_options words)
+unfoldable pub behind_option : List ℕ → Option (List ℕ)
+behind_option text =
+    if has_no_wait text then Some (behind_word (behind_word text))
+    else if is_option (first_word text) then Some (behind_word text)
+    else None
+
+abbrev pub and_more : List (List ℕ) → (List ℕ → List (List ℕ)) → Option (List ℕ)
+    → List (List ℕ)
+and_more here next None = []
+and_more here next (Some rest) = here ++ next rest
+
+-- all options, at most so often, and what is behind them all
+unfoldable pub options_from : ℕ → List ℕ → List (List ℕ)
+options_from zero text = []
+options_from (suc most) text =
+    and_more (options_at text) (λ rest. options_from most rest) (behind_option text)
+
+abbrev pub options_of : List ℕ → List (List ℕ)
+options_of text = options_from (length text) text
+
+-- `--` ends them
+abbrev pub unmarked : List ℕ → List ℕ
+unmarked text = if bytes_eq (first_word text) (codes "--") then behind_word text else text
+
+abbrev pub behind_options : List ℕ → List ℕ
+behind_options text = unmarked (passed behind_option (length text) text)
 
 -- of `-s` and `-x` the last one counts
 abbrev pub and_shared : Bool → Flag → Bool
@@ -122,23 +141,23 @@ unfoldable pub is_shell_word : List ℕ → Bool
 is_shell_word word = begins_among (codes "~#") word || list_any is_shell_byte word
 
 -- The word is the path of a file from the root, and leads there without a way back: another one is
--- of a file in the folder of the run, or one of several paths of a file.
+-- of a file in the folder of the run, or of one that depends on symbolic links.
 unfoldable pub is_file : List ℕ → Bool
 is_file word =
-    begins_with 47 word && (not (is_shell_word word) && (is_direct (drop 1 word) && is_utf8 word))
+    begins_with 47 word && (not (is_shell_word word) && (is_direct word && is_utf8 word))
 
 -- a word of a command is at the front, and nothing that ends a command or redirects its output,
 -- also that of a descriptor with a number
-unfoldable pub has_word : List (List ℕ) → Bool
-has_word [] = false
-has_word (word ∷ words) = not (begins_among (codes "|&;<>()#") (after is_digit word))
+unfoldable pub has_word : List ℕ → Bool
+has_word text =
+    not (is_nothing text) && not (begins_among (codes "|&;<>()#") (after is_digit text))
 
 -- a command, or `-c` and one
-unfoldable pub is_command : List (List ℕ) → Bool
-is_command [] = false
-is_command (word ∷ words) =
-    if is_among (codes "-c" ∷ codes "--command" ∷ []) word then has_word words
-    else has_word (word ∷ words)
+unfoldable pub is_command : List ℕ → Bool
+is_command text =
+    if is_among (codes "-c" ∷ codes "--command" ∷ []) (first_word text)
+    then has_word (behind_word text)
+    else has_word text
 
 -- ---- the lock
 
@@ -149,23 +168,23 @@ is_flock word = bytes_eq word (codes "flock") || ends_with (λ a b. a == b) word
 unfoldable pub is_path : List ℕ → Bool
 is_path word = not (is_shell_word word) && not (list_any (λ b. b == 61) word)
 
--- the file and the mode, where options and the words behind them are like a mode's
-abbrev pub called : List (List ℕ) → List (List ℕ) → Option (List ℕ × Mode)
-called options [] = None
-called options (file ∷ command) =
-    if are_known options && (is_file file && is_command command)
-    then option_map (λ mode. (file, mode))
+-- the file and the mode, where options and what is behind them are like a mode's
+abbrev pub called : List (List ℕ) → List ℕ → Option (List ℕ × Mode)
+called options text =
+    if are_known options && (is_file (first_word text) && is_command (behind_word text))
+    then option_map (λ mode. (first_word text, mode))
     (mode_of (shared_by false options) (at_once_by false options))
     else None
 
--- the same of the words behind `flock`
-abbrev pub call_lock : List (List ℕ) → Option (List ℕ × Mode)
-call_lock words = called (options_of words) (behind_options words)
+-- the same of what is behind `flock`
+abbrev pub call_lock : List ℕ → Option (List ℕ × Mode)
+call_lock text = called (options_of text) (behind_options text)
 
--- the lock of words that begin with `flock`, or a path to it
-abbrev pub words_lock : List (List ℕ) → Option (List ℕ × Mode)
-words_lock [] = None
-words_lock (word ∷ words) = if is_flock word && is_path word then call_lock words else None
+-- the lock of a text that begins with `flock`, or a path to it
+abbrev pub words_lock : List ℕ → Option (List ℕ × Mode)
+words_lock text =
+    if is_flock (first_word text) && is_path (first_word text) then call_lock (behind_word text)
+    else None
 
 -- a shell is handed its text by such a word: `-c`, `-lc` or `--command`
 unfoldable pub hands_text : List ℕ → Bool
@@ -173,9 +192,13 @@ hands_text word =
     begins_with 45 word && ends_with (λ a b. a == b) word (codes "c")
     || bytes_eq word (codes "--command")
 
+-- a shell is handed its text behind a word
+abbrev pub hand_text : List ℕ → Bool
+hand_text text = not (count_by hands_text (slice_split is_blank text) == 0)
+
 -- a shell that is handed a text may not wait for the end of all that it starts
 abbrev pub may_run_on : List ℕ → Bool
-may_run_on text = list_any hands_text (words_of (before_percent text)) && has_lone_ampersand 32 text
+may_run_on text = hand_text (before_percent text) && has_lone_ampersand 32 text
 
 -- the shell runs one program for the text, and waits for the end of all that this runs
 unfoldable pub is_whole : List ℕ → Bool
@@ -184,7 +207,7 @@ is_whole text = is_one_program (shell_text text) && not (may_run_on text)
 -- The lock of a text that begins with a call of flock(1); none where no mode is like it, or where
 -- the shell does more than to run it.
 unfoldable pub flock_lock : List ℕ → Option (List ℕ × Mode)
-flock_lock text = if is_whole text then words_lock (words_of (before_percent text)) else None
+flock_lock text = if is_whole text then words_lock (after is_blank (before_percent text)) else None
 
 -- .. or where another program that locks files is named in it
 unfoldable pub text_lock : List ℕ → Option (List ℕ × Mode)

@@ -6,6 +6,7 @@ ghost use Rattle.cs_draft.specs.Draft.{IsDrafted, IsShare, IsTimed, IsTimedAlone
 
 use crate::names::{entry_of, is_left_out};
 use crate::parts::{are_parts_with, parts_of};
+use crate::timeouts::asked_for;
 use cs_civil::Bytes;
 use cs_crontab::{Line, When};
 use cs_decl::{CronEntry, Entries, MAX_MINUTES};
@@ -84,7 +85,7 @@ pub(crate) fn is_drafted(asked: u64, places: &[Place], entries: &Entries, line: 
             Some(entry) => {
                 !is_left_out(entries, line)
                     && entry.weight == 1
-                    && is_timed(asked, schedule, names, entry)
+                    && is_timed(asked_for(asked, line.command()), schedule, names, entry)
             }
             None => false,
         },

@@ -1,12 +1,17 @@
 //! The words of a call of flock(1), as util-linux has it: options, a lock file, and a command.
-ghost use Rattle.std.specs.Prelude.{◌≡◌, ◌∷◌, [], ◌&&◌, ◌==◌, ◌⊎◌, MatchResult, None, Some, codes, drop, false, is_none, true};
+ghost use Rattle.std.specs.Prelude.{◌≡◌, ◌∷◌, [], ◌&&◌, ◌==◌, ◌⊎◌, MatchResult, None, Some, codes, false, is_none, option_map, true};
 ghost use Rattle.std.specs.List.{list_any};
 ghost use Rattle.cs_json.specs.Shape.{is_among};
 ghost use Rattle.cs_table.specs.Text.{after, begins_with, is_digit};
-ghost use Rattle.cs_draft.specs.Locks.{and_at_once, and_shared, are_known, at_once_by, begins_among, behind_options, call_lock, flag_of, has_word, is_command, is_file, is_option, is_path, is_shell_byte, is_shell_word, mode_of, options_in, options_of, shared_by, short_options, unmarked};
-ghost use Rattle.cs_draft.specs.Locking.{texts_of};
-ghost use Rattle.cs_draft.specs.Paths.{is_direct};
+ghost use Rattle.cs_draft.specs.Locks.{and_at_once, and_shared, are_known, at_once_by};
+ghost use Rattle.cs_draft.specs.Locks.{begins_among, behind_option, behind_options, call_lock};
+ghost use Rattle.cs_draft.specs.Locks.{flag_of, has_no_wait, has_word, is_command, is_file};
+ghost use Rattle.cs_draft.specs.Locks.{is_flock, is_no_wait, is_option, is_path, is_shell_byte};
+ghost use Rattle.cs_draft.specs.Locks.{is_shell_word, mode_of, options_at, options_in, options_of};
+ghost use Rattle.cs_draft.specs.Locks.{shared_by, short_options, unmarked, words_lock};
+ghost use Rattle.cs_draft.specs.Timeouts.{behind_flock};
 
+use crate::fronts::{behind_simple, behind_word, first_word};
 use crate::paths::is_direct;
 use crate::unlocked::Unlocked;
 use cs_history::Mode;
@@ -181,6 +186,20 @@ impl Asked {
         }
     }
 
+    /// With the option at the front of a text.
+    #[tactic(auto, unfolding(crate::specs::Locks::options_at))]
+    fn with_front(self, text: &[u8]) -> Asked
+        ensures shared { result.is_shared ≡ shared_by self.is_shared (options_at text.now) }
+        ensures at_once { result.is_at_once ≡ at_once_by self.is_at_once (options_at text.now) }
+        ensures known { is_none result.reason
+            ≡ (is_none self.reason && are_known (options_at text.now)) }
+    {
+        if has_no_wait(text) || is_no_wait(first_word(text)) {
+            return self.with_option(b"-n".as_slice());
+        }
+        self.with_word(first_word(text))
+    }
+
     /// The mode of a run that takes its lock so.
     fn mode(self) -> Result<Mode, Unlocked>
         ensures { MatchResult result
@@ -212,38 +231,101 @@ fn is_option(word: &[u8]) -> bool
     }
 }
 
-/// The words without the `--` that ends options.
-fn without_mark<'w, 'a>(words: &'w [&'a [u8]]) -> &'w [&'a [u8]]
-    ensures { texts_of result.now ≡ unmarked (texts_of words.now) }
+/// Nothing is asked for yet.
+const PLAIN: Asked = Asked {
+    is_shared: false,
+    is_at_once: false,
+    reason: None,
+};
+
+/// Whether the word is a wait of 0 seconds.
+#[tactic(auto, unfolding(crate::specs::Locks::is_no_wait))]
+fn is_no_wait(word: &[u8]) -> bool
+    ensures { result ≡ is_no_wait word.now }
 {
-    match words {
-        [mark, others @ ..] if *mark == b"--".as_slice() => others,
-        _ => words,
+    match word {
+        b"-w0" | b"--wait=0" | b"--timeout=0" => true,
+        _ => false,
     }
 }
 
-/// What the options at the front ask for, and the words behind them.
-fn options<'w, 'a>(words: &'w [&'a [u8]]) -> (Asked, &'w [&'a [u8]])
-    ensures shared { result.0.is_shared
-        ≡ shared_by false (options_of (texts_of words.now)) }
-    ensures at_once { result.0.is_at_once
-        ≡ at_once_by false (options_of (texts_of words.now)) }
-    ensures known { is_none result.0.reason
-        ≡ are_known (options_of (texts_of words.now)) }
-    ensures behind { texts_of result.1.now
-        ≡ behind_options (texts_of words.now) }
+/// Whether the option has the time of a wait in the next word.
+fn is_wait(word: &[u8]) -> bool
+    ensures { result
+        ≡ is_among (codes "-w" ∷ codes "--wait" ∷ codes "--timeout" ∷ []) word.now }
 {
-    let mut asked = Asked {
-        is_shared: false,
-        is_at_once: false,
-        reason: None,
-    };
-    let mut at = 0;
-    while at < words.len() && is_option(words[at]) {
-        asked = asked.with_word(words[at]);
-        at += 1;
+    match word {
+        b"-w" | b"--wait" | b"--timeout" => true,
+        _ => false,
     }
-    (asked, without_mark(&words[at..]))
+}
+
+/// Whether a wait of 0 seconds stands in the first two words.
+#[tactic(auto, unfolding(crate::specs::Locks::has_no_wait))]
+fn has_no_wait(text: &[u8]) -> bool
+    ensures { result ≡ has_no_wait text.now }
+{
+    is_wait(first_word(text)) && first_word(behind_word(text)) == b"0".as_slice()
+}
+
+/// What stands behind an option and its value.
+#[tactic(auto, unfolding(crate::specs::Locks::behind_option))]
+fn behind_option(text: &[u8]) -> Option<&[u8]>
+    ensures { option_map (λ rest. rest.now) result ≡ behind_option text.now }
+{
+    if has_no_wait(text) {
+        return Some(behind_word(behind_word(text)));
+    }
+    if is_option(first_word(text)) {
+        return Some(behind_word(text));
+    }
+    None
+}
+
+/// What stands behind the `--` that ends options.
+fn without_mark(text: &[u8]) -> &[u8]
+    ensures { result.now ≡ unmarked text.now }
+{
+    if first_word(text) == b"--".as_slice() {
+        behind_word(text)
+    } else {
+        text
+    }
+}
+
+/// What the options at the front ask for, and what stands behind them and their mark.
+#[tactic(auto, unfolding(crate::specs::Fronts::passed))]
+fn options(text: &[u8]) -> (Asked, &[u8])
+    ensures shared { result.0.is_shared ≡ shared_by false (options_of text.now) }
+    ensures at_once { result.0.is_at_once ≡ at_once_by false (options_of text.now) }
+    ensures known { is_none result.0.reason ≡ are_known (options_of text.now) }
+    ensures behind { result.1.now ≡ behind_options text.now }
+{
+    let mut asked = PLAIN;
+    let mut rest = text;
+    for _ in 0..text.len() {
+        match behind_option(rest) {
+            Some(behind) => {
+                asked = asked.with_front(rest);
+                rest = behind;
+            }
+            None => return (asked, without_mark(rest)),
+        }
+    }
+    (asked, without_mark(rest))
+}
+
+/// What stands behind a call of flock(1) whose options are known.
+#[tactic(auto, unfolding(crate::specs::Timeouts::behind_flock))]
+pub(crate) fn behind_flock(rest: &[u8]) -> Option<&[u8]>
+    ensures { option_map (λ rest. rest.now) result ≡ behind_flock rest.now }
+{
+    let (asked, behind) = options(rest);
+    if asked.reason.is_none() {
+        behind_simple(behind)
+    } else {
+        None
+    }
 }
 
 /// Whether a shell reads the byte in its own way wherever it stands in a word (sh(1)): quotes, what
@@ -306,6 +388,9 @@ fn is_from_root(word: &[u8]) -> bool
 
 /// Why a word that isn't the path of a file from the root is no lock file.
 fn reason_of_word(word: &[u8]) -> Unlocked {
+    if word.is_empty() {
+        return Unlocked::NoFile;
+    }
     if is_shell_word(word) {
         return Unlocked::ShellWord;
     }
@@ -313,16 +398,6 @@ fn reason_of_word(word: &[u8]) -> Unlocked {
         return Unlocked::Descriptor;
     }
     Unlocked::Relative
-}
-
-/// Whether each part of the path behind its first byte leads on.
-fn is_direct_path(word: &[u8]) -> bool
-    ensures { result ≡ is_direct (drop 1 word.now) }
-{
-    match word {
-        [_, behind @ ..] => is_direct(behind),
-        [] => is_direct(&[]),
-    }
 }
 
 /// The path of the file that the word stands for.
@@ -334,7 +409,7 @@ fn file_path(word: &[u8]) -> Result<&str, Unlocked>
     if is_shell_word(word) || !is_from_root(word) {
         return Err(reason_of_word(word));
     }
-    if !is_direct_path(word) {
+    if !is_direct(word) {
         return Err(Unlocked::Indirect);
     }
     match str::from_utf8(word) {
@@ -364,13 +439,10 @@ fn ends_command(word: &[u8]) -> bool
 /// Whether a word of a command stands at the front, and nothing that ends a command or turns its
 /// output.
 #[tactic(auto, unfolding(crate::specs::Locks::has_word))]
-fn has_word(words: &[&[u8]]) -> bool
-    ensures { result ≡ has_word (texts_of words.now) }
+fn has_word(text: &[u8]) -> bool
+    ensures { result ≡ has_word text.now }
 {
-    match words {
-        [word, ..] => !ends_command(behind_digits(*word)),
-        [] => false,
-    }
+    !text.is_empty() && !ends_command(behind_digits(text))
 }
 
 /// Whether a command stands in the word behind this one.
@@ -380,43 +452,49 @@ fn is_command_option(word: &[u8]) -> bool
     word == b"-c".as_slice() || word == b"--command".as_slice()
 }
 
-/// Whether the words behind a lock file are a command, or `-c` and one.
-#[tactic(auto, unfolding(crate::specs::Locks::is_command, crate::specs::Locks::has_word))]
-fn is_command(words: &[&[u8]]) -> bool
-    ensures { result ≡ is_command (texts_of words.now) }
+/// Whether a command stands behind a lock file, or `-c` and one.
+#[tactic(auto, unfolding(crate::specs::Locks::is_command))]
+fn is_command(text: &[u8]) -> bool
+    ensures { result ≡ is_command text.now }
 {
-    match words {
-        [option, command @ ..] if is_command_option(*option) => has_word(command),
-        _ => has_word(words),
+    if is_command_option(first_word(text)) {
+        return has_word(behind_word(text));
     }
+    has_word(text)
 }
 
-/// The lock file of the words behind `flock`, and the mode that the options ask for.
-fn file_and_mode<'a>(words: &[&'a [u8]]) -> Result<(&'a str, Mode), Unlocked>
-    ensures { MatchResult result
-        (λ lock. call_lock (texts_of words.now) ≡ Some (lock.0.now, lock.1))
-        (λ e. call_lock (texts_of words.now) ≡ None) }
+/// The lock file of what stands behind `flock`, and the mode that the options ask for.
+fn file_and_mode(text: &[u8]) -> Result<(&str, Mode), Unlocked>
+    ensures { MatchResult result (λ lock. call_lock text.now ≡ Some (lock.0.now, lock.1))
+        (λ e. call_lock text.now ≡ None) }
 {
-    let (asked, behind) = options(words);
+    let (asked, behind) = options(text);
     let mode = asked.mode()?;
-    let [file, command @ ..] = behind else {
-        return Err(Unlocked::NoFile);
-    };
-    let file = file_path(*file)?;
-    if !is_command(command) {
+    let file = file_path(first_word(behind))?;
+    if !is_command(behind_word(behind)) {
         return Err(Unlocked::NoCommand);
     }
     Ok((file, mode))
 }
 
-/// The same of the words behind this one, if a shell takes it as the path of a program.
-pub(crate) fn call_of<'a>(first: &[u8], words: &[&'a [u8]]) -> Result<(&'a str, Mode), Unlocked>
-    ensures { MatchResult result
-        (λ lock. (is_path first.now ≡ true)
-        × (call_lock (texts_of words.now) ≡ Some (lock.0.now, lock.1)))
-        (λ e. (is_path first.now ≡ false) ⊎ (call_lock (texts_of words.now) ≡ None)) }
+/// Whether the word is `flock`, or a path to it.
+#[tactic(auto, unfolding(crate::specs::Locks::is_flock))]
+pub(crate) fn is_flock(word: &[u8]) -> bool
+    ensures { result ≡ is_flock word.now }
 {
-    let lock = file_and_mode(words)?;
+    word == b"flock".as_slice() || word.ends_with(b"/flock".as_slice())
+}
+
+/// The same of a text that begins with `flock` or a path to it.
+pub(crate) fn words_lock(text: &[u8]) -> Result<(&str, Mode), Unlocked>
+    ensures { MatchResult result (λ lock. words_lock text.now ≡ Some (lock.0.now, lock.1))
+        (λ e. words_lock text.now ≡ None) }
+{
+    let first = first_word(text);
+    if !is_flock(first) {
+        return Err(Unlocked::Unread);
+    }
+    let lock = file_and_mode(behind_word(text))?;
     if !is_path(first) {
         return Err(Unlocked::OtherProgram);
     }

@@ -1,9 +1,11 @@
 //! The draft of tables of which nothing is declared yet.
 
+use crate::catch_up::hours_of;
 use crate::layout::Front;
 use crate::notice::Notice;
 use crate::sheet::Sheet;
 use cs_anacrontab::Anacrontab;
+use cs_civil::MINUTES_OF_DAY;
 use cs_crontab::{Crontab, Line, When};
 use cs_decl::MAX_CAPACITY;
 use cs_gather::Place;
@@ -20,8 +22,26 @@ fn add_line<'a>(alloc: Global, sheet: &mut Sheet<'a>, line: &'a Line) -> Result<
     }
 }
 
-/// The text of declarations, and what is told, for a longest time in minutes and an offset, which
-/// is told unless it is 0. The only error is want of memory.
+/// What stands before the lists: the offset unless it is 0, and the catch-up hours unless they are
+/// all. The only error is want of memory.
+fn front(alloc: Global, jobs: &Anacrontab, offset: i16) -> Result<Front, AllocError> {
+    let mut front = Front::new(alloc);
+    let capacity = format!(in alloc; "{MAX_CAPACITY}")?;
+    front.add("capacity", capacity.as_str())?;
+    if offset != 0 {
+        let offset = format!(in alloc; "{offset}")?;
+        front.add("offset", offset.as_str())?;
+    }
+    let (from, to) = hours_of(jobs.settings());
+    if from != 0 || to != u32::from(MINUTES_OF_DAY) {
+        let hours = format!(in alloc; "[{from}, {to}]")?;
+        front.add("hours", hours.as_str())?;
+    }
+    Ok(front)
+}
+
+/// The text of declarations, and what is told, for a longest time in minutes and an offset. The
+/// only error is want of memory.
 pub(crate) fn fresh_text(
     alloc: Global,
     table: &Crontab,
@@ -40,12 +60,5 @@ pub(crate) fn fresh_text(
             sheet.add_job(alloc, job, identifier, None)?;
         }
     }
-    let mut front = Front::new(alloc);
-    let capacity = format!(in alloc; "{MAX_CAPACITY}")?;
-    front.add("capacity", capacity.as_str())?;
-    if offset != 0 {
-        let offset = format!(in alloc; "{offset}")?;
-        front.add("offset", offset.as_str())?;
-    }
-    sheet.into_text(alloc, &front)
+    sheet.into_text(alloc, &front(alloc, jobs, offset)?)
 }

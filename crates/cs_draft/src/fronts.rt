@@ -4,15 +4,18 @@ ghost use Rattle.std.specs.Prelude.{◌≡◌, ◌∷◌, [], codes, length, opt
 ghost use Rattle.std.specs.List.{list_any};
 ghost use Rattle.cs_json.specs.Shape.{is_among};
 ghost use Rattle.cs_table.specs.Text.{after, begins_with};
-ghost use Rattle.cs_draft.specs.Fronts.{are_called, begins_guard, behind_end, behind_front};
+ghost use Rattle.cs_draft.specs.Fronts.{are_called, begins_as, begins_guard, behind_check};
+ghost use Rattle.cs_draft.specs.Fronts.{behind_date, behind_end, behind_format, behind_front};
+ghost use Rattle.cs_draft.specs.Fronts.{behind_guards, behind_piece, holds_value, is_format};
+ghost use Rattle.cs_draft.specs.Fronts.{is_quoted};
 ghost use Rattle.cs_draft.specs.Fronts.{behind_fronts, behind_guard, behind_number, behind_option};
 ghost use Rattle.cs_draft.specs.Fronts.{behind_options, behind_runner, behind_setting, behind_simple};
 ghost use Rattle.cs_draft.specs.Fronts.{behind_this, behind_word, ends_simply, first_word, is_end};
 ghost use Rattle.cs_draft.specs.Fronts.{is_option, is_setting, is_sign, is_simple, is_valued, passed};
-ghost use Rattle.cs_draft.specs.Shell.{is_name_byte};
+ghost use Rattle.cs_draft.specs.Shell.{is_name_byte, is_of};
 
 use crate::named::is_called;
-use crate::shell::is_name_byte;
+use crate::shell::{is_name_byte, is_one_program};
 use cs_table::text::{skip_blanks, word};
 
 /// A program that runs another one, and has options of its own.
@@ -24,14 +27,14 @@ pub(crate) enum Runner {
     Timeout,
 }
 
-fn first_word(text: &[u8]) -> &[u8]
+pub(crate) fn first_word(text: &[u8]) -> &[u8]
     ensures { result.now ≡ first_word text.now }
 {
     let (first, _) = word(text);
     first
 }
 
-fn behind_word(text: &[u8]) -> &[u8]
+pub(crate) fn behind_word(text: &[u8]) -> &[u8]
     ensures { result.now ≡ behind_word text.now }
 {
     let (_, rest) = word(text);
@@ -55,7 +58,7 @@ fn has_sign(word: &[u8]) -> bool
 
 /// Whether there is a word, which a shell takes as it stands.
 #[tactic(auto, unfolding(crate::specs::Fronts::is_simple))]
-fn is_simple(word: &[u8]) -> bool
+pub(crate) fn is_simple(word: &[u8]) -> bool
     ensures { result ≡ is_simple word.now }
 {
     !word.is_empty() && !has_sign(word)
@@ -87,7 +90,7 @@ fn begins_with_equals_sign(text: &[u8]) -> bool
 
 /// Whether the word begins as `NAME=VALUE`.
 #[tactic(auto, unfolding(crate::specs::Fronts::is_setting))]
-fn is_setting(word: &[u8]) -> bool
+pub(crate) fn is_setting(word: &[u8]) -> bool
     ensures { result ≡ is_setting word.now }
 {
     match word {
@@ -132,7 +135,7 @@ fn is_end(word: &[u8]) -> bool
 // ---- what is passed over
 
 #[tactic(auto, unfolding(crate::specs::Fronts::behind_simple))]
-fn behind_simple(text: &[u8]) -> Option<&[u8]>
+pub(crate) fn behind_simple(text: &[u8]) -> Option<&[u8]>
     ensures { option_map (λ rest. rest.now) result ≡ behind_simple text.now }
 {
     if is_simple(first_word(text)) {
@@ -140,21 +143,6 @@ fn behind_simple(text: &[u8]) -> Option<&[u8]>
     } else {
         None
     }
-}
-
-/// What stands behind all simple words.
-#[tactic(auto, unfolding(crate::specs::Fronts::passed))]
-fn behind_words(text: &[u8]) -> &[u8]
-    ensures { result.now ≡ passed behind_simple (length text.now) text.now }
-{
-    let mut rest = text;
-    for _ in 0..text.len() {
-        match behind_simple(rest) {
-            Some(behind) => rest = behind,
-            None => return rest,
-        }
-    }
-    rest
 }
 
 // ---- programs that run another one
@@ -186,6 +174,22 @@ fn is_valued(runner: Runner, word: &[u8]) -> bool
     }
 }
 
+pub(crate) fn begins_as(front: &[u8], word: &[u8]) -> bool
+    ensures { result ≡ begins_as front.now word.now }
+{
+    word.starts_with(front)
+}
+
+/// Whether the word is an option of timeout(1) and its value.
+fn holds_value(word: &[u8]) -> bool
+    ensures { result ≡ holds_value word.now }
+{
+    begins_as(b"-k", word)
+        || begins_as(b"--kill-after=", word)
+        || begins_as(b"-s", word)
+        || begins_as(b"--signal=", word)
+}
+
 /// Whether the word is an option with which timeout(1) ends all that its program started.
 fn is_silent(word: &[u8]) -> bool
     ensures { result ≡ is_among (codes "-v" ∷ codes "--verbose" ∷ codes "--preserve-status" ∷ [])
@@ -204,13 +208,13 @@ fn is_option(runner: Runner, word: &[u8]) -> bool
 {
     match runner {
         Runner::Nice => begins_with_dash(word) && word != b"-p".as_slice(),
-        Runner::Timeout => is_valued(runner, word) || is_silent(word),
+        Runner::Timeout => is_valued(runner, word) || holds_value(word) || is_silent(word),
     }
 }
 
 /// What stands behind an option and its value.
 #[tactic(auto, unfolding(crate::specs::Fronts::behind_option))]
-fn behind_option(runner: Runner, text: &[u8]) -> Option<&[u8]>
+pub(crate) fn behind_option(runner: Runner, text: &[u8]) -> Option<&[u8]>
     ensures { option_map (λ rest. rest.now) result ≡ behind_option runner text.now }
 {
     if !is_option(runner, first_word(text)) {
@@ -224,7 +228,7 @@ fn behind_option(runner: Runner, text: &[u8]) -> Option<&[u8]>
 }
 
 #[tactic(auto, unfolding(crate::specs::Fronts::behind_options, crate::specs::Fronts::passed))]
-fn behind_options(runner: Runner, text: &[u8]) -> &[u8]
+pub(crate) fn behind_options(runner: Runner, text: &[u8]) -> &[u8]
     ensures { result.now ≡ behind_options runner text.now }
 {
     let mut rest = text;
@@ -291,7 +295,7 @@ fn is_plain_runner(word: &[u8]) -> bool
 
 /// What stands behind a program that runs it.
 #[tactic(auto, unfolding(crate::specs::Fronts::behind_runner))]
-fn behind_runner<'t>(word: &[u8], rest: &'t [u8]) -> Option<&'t [u8]>
+pub(crate) fn behind_runner<'t>(word: &[u8], rest: &'t [u8]) -> Option<&'t [u8]>
     ensures { option_map (λ rest. rest.now) result ≡ behind_runner word.now rest.now }
 {
     if is_nice(word) {
@@ -328,12 +332,95 @@ fn behind_end(rest: &[u8]) -> Option<&[u8]>
     }
 }
 
-/// What stands behind simple words and one that ends their command.
+fn is_unread(byte: u8) -> bool
+    ensures { result ≡ is_of (codes "<>#%") byte }
+{
+    b"<>#%".as_slice().contains(&byte)
+}
+
+fn has_unread(word: &[u8]) -> bool
+    ensures { result ≡ list_any (is_of (codes "<>#%")) word.now }
+{
+    word.iter().any(|byte| is_unread(*byte))
+}
+
+/// Whether a shell takes the word as one, quotes and all, and runs no program for it.
+#[tactic(auto, unfolding(crate::specs::Fronts::is_quoted))]
+fn is_quoted(word: &[u8]) -> bool
+    ensures { result ≡ is_quoted word.now }
+{
+    is_one_program(word) && !has_unread(word)
+}
+
+/// Whether the word is a format of date(1), with one letter and that end.
+#[tactic(auto, unfolding(crate::specs::Fronts::is_format))]
+fn is_format(end: &[u8], word: &[u8]) -> bool
+    ensures { result ≡ is_format end.now word.now }
+{
+    match word {
+        [b'+', b'\\', b'%', letter, behind @ ..] => letter.is_ascii_alphanumeric() && behind == end,
+        _ => false,
+    }
+}
+
+fn behind_format<'t>(end: &[u8], text: &'t [u8]) -> Option<&'t [u8]>
+    ensures { option_map (λ rest. rest.now) result ≡ behind_format end.now text.now }
+{
+    if is_format(end, first_word(text)) {
+        Some(behind_word(text))
+    } else {
+        None
+    }
+}
+
+/// What stands behind `$(date +\%u)`, in quotes or without.
+#[tactic(auto, unfolding(crate::specs::Fronts::behind_date))]
+fn behind_date(text: &[u8]) -> Option<&[u8]>
+    ensures { option_map (λ rest. rest.now) result ≡ behind_date text.now }
+{
+    let first = first_word(text);
+    if first == b"$(date".as_slice() {
+        return behind_format(b")", behind_word(text));
+    }
+    if first == b"\"$(date".as_slice() {
+        return behind_format(b")\"", behind_word(text));
+    }
+    None
+}
+
+/// What stands behind a word that takes no time.
+#[tactic(auto, unfolding(crate::specs::Fronts::behind_piece))]
+fn behind_piece(text: &[u8]) -> Option<&[u8]>
+    ensures { option_map (λ rest. rest.now) result ≡ behind_piece text.now }
+{
+    let first = first_word(text);
+    if is_simple(first) || !first.is_empty() && is_quoted(first) {
+        return Some(behind_word(text));
+    }
+    behind_date(text)
+}
+
+/// What stands behind all such words.
+#[tactic(auto, unfolding(crate::specs::Fronts::passed))]
+fn behind_pieces(text: &[u8]) -> &[u8]
+    ensures { result.now ≡ passed behind_piece (length text.now) text.now }
+{
+    let mut rest = text;
+    for _ in 0..text.len() {
+        match behind_piece(rest) {
+            Some(behind) => rest = behind,
+            None => return rest,
+        }
+    }
+    rest
+}
+
+/// What stands behind such words and one that ends their command.
 #[tactic(auto, unfolding(crate::specs::Fronts::behind_guard))]
 fn behind_guard(text: &[u8]) -> Option<&[u8]>
     ensures { option_map (λ rest. rest.now) result ≡ behind_guard text.now }
 {
-    behind_end(behind_words(text))
+    behind_end(behind_pieces(text))
 }
 
 /// Whether the word is a command of a shell that takes no time.
@@ -358,6 +445,36 @@ fn behind_setting(text: &[u8]) -> Option<&[u8]>
     } else {
         behind_guard(text)
     }
+}
+
+/// What stands behind a guard or a setting.
+#[tactic(auto, unfolding(crate::specs::Fronts::behind_check))]
+fn behind_check(text: &[u8]) -> Option<&[u8]>
+    ensures { option_map (λ rest. rest.now) result ≡ behind_check text.now }
+{
+    let first = first_word(text);
+    if begins_guard(first) {
+        return behind_guard(behind_word(text));
+    }
+    if is_setting(first) {
+        return behind_setting(text);
+    }
+    None
+}
+
+/// What stands behind all guards and settings.
+#[tactic(auto, unfolding(crate::specs::Fronts::passed))]
+pub(crate) fn behind_guards(command: &[u8]) -> &[u8]
+    ensures { result.now ≡ behind_guards command.now }
+{
+    let mut rest = command;
+    for _ in 0..command.len() {
+        match behind_check(rest) {
+            Some(behind) => rest = behind,
+            None => return rest,
+        }
+    }
+    rest
 }
 
 /// What stands behind a guard, a setting, or a program that runs what is behind it.

@@ -5,8 +5,10 @@
 mod added;
 mod bound;
 mod brief;
+mod catch_up;
 mod confirm;
 mod draft;
+mod durations;
 mod flock;
 mod fresh;
 mod fronts;
@@ -23,6 +25,7 @@ mod paths;
 mod sheet;
 mod shell;
 mod terms;
+mod timeouts;
 mod times;
 mod told;
 mod unlocked;
@@ -30,3 +33,4 @@ mod updated;
 mod warned;
 
 pub use draft::{Draft, Drawing, draw_up, update};
+pub use lock::{Lock, lock_of};

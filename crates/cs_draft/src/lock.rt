@@ -1,13 +1,13 @@
 //! The lock that a command of a crontab takes.
 ghost use Rattle.std.specs.Prelude.{◌≡◌, ◌==◌, IfOk, MatchResult, None, Some, false, position, true};
-ghost use Rattle.std.specs.List.{list_any};
-ghost use Rattle.cs_table.specs.Text.{begins_with};
-ghost use Rattle.cs_draft.specs.Locks.{before_percent, flock_lock, hands_text, is_flock, is_whole, may_run_on, text_lock, words_lock, words_of};
-ghost use Rattle.cs_draft.specs.Locking.{IsLock, texts_of};
+ghost use Rattle.std.specs.List.{count_by, slice_split};
+ghost use Rattle.cs_table.specs.Text.{begins_with, is_blank};
+ghost use Rattle.cs_draft.specs.Locks.{before_percent, flock_lock, hand_text, hands_text, is_whole, may_run_on, text_lock};
+ghost use Rattle.cs_draft.specs.Locking.{IsLock};
 ghost use Rattle.cs_draft.specs.Named.{locks_in};
 ghost use Rattle.cs_draft.specs.Shell.{is_one_program, shell_text};
 
-use crate::flock::call_of;
+use crate::flock::words_lock;
 use crate::fronts::behind_fronts;
 use crate::named::{locks_in, names_lock};
 use crate::paths::real_path;
@@ -16,12 +16,12 @@ use crate::unlocked::Unlocked;
 use cs_civil::Bytes;
 use cs_crontab::command_parts;
 use cs_history::Mode;
-use cs_table::text::{is_blank, skip_blanks, word};
+use cs_table::text::{is_blank, skip_blanks};
 use std::alloc::{AllocError, Global};
 
 /// Whether a command takes a lock.
 #[derive(Drop)]
-pub(crate) enum Lock {
+pub enum Lock {
     /// It names no program that locks files.
     Absent,
     /// It takes the lock of the file, in that mode.
@@ -46,28 +46,6 @@ fn before_percent(command: &[u8]) -> &[u8]
         Some(at) => &command[..at],
         None => command,
     }
-}
-
-/// The words of a text, parted by blanks. The only error is want of memory.
-fn words_of(alloc: Global, text: &[u8]) -> Result<Vec<&[u8]>, AllocError>
-    ensures { IfOk result (λ words. texts_of words.items ≡ words_of text.now) }
-{
-    let mut words = Vec::new(alloc);
-    let mut rest = skip_blanks(text);
-    while !rest.is_empty() {
-        let (first, others) = word(rest);
-        words.push(first)?;
-        rest = skip_blanks(others);
-    }
-    Ok(words)
-}
-
-/// Whether the word is `flock`, or a path to it.
-#[tactic(auto, unfolding(crate::specs::Locks::is_flock))]
-fn is_flock(word: &[u8]) -> bool
-    ensures { result ≡ is_flock word.now }
-{
-    word == b"flock".as_slice() || word.ends_with(b"/flock".as_slice())
 }
 
 /// The text that the shell is given for the command. The only error is want of memory.
@@ -95,27 +73,26 @@ fn hands_text(word: &[u8]) -> bool
     begins_with_dash(word) && word.ends_with(b"c".as_slice()) || word == b"--command".as_slice()
 }
 
-/// Whether a shell is handed its text behind one of the words.
-fn hand_text(words: &[&[u8]]) -> bool
-    ensures { result ≡ list_any hands_text (texts_of words.now) }
+fn texts_handed(text: &[u8]) -> usize
+    ensures { result ≡ count_by hands_text (slice_split is_blank text.now) }
 {
-    let mut rest = words;
-    while let [word, others @ ..] = rest {
-        if hands_text(*word) {
-            return true;
-        }
-        rest = others;
-    }
-    false
+    text.split(|byte| is_blank(*byte))
+        .filter(|word| hands_text(word))
+        .count()
 }
 
-/// Whether a shell that is handed a text may not wait for the end of all that it starts. The only
-/// error is want of memory.
-fn may_run_on(alloc: Global, text: &[u8]) -> Result<bool, AllocError>
-    ensures { IfOk result (λ b. b ≡ may_run_on text.now) }
+/// Whether a shell is handed its text behind a word.
+fn hand_text(text: &[u8]) -> bool
+    ensures { result ≡ hand_text text.now }
 {
-    let words = words_of(alloc, before_percent(text))?;
-    Ok(hand_text(words.as_slice()) && has_lone_ampersand(text))
+    texts_handed(text) != 0
+}
+
+/// Whether a shell that is handed a text may not wait for the end of all that it starts.
+pub(crate) fn may_run_on(text: &[u8]) -> bool
+    ensures { result ≡ may_run_on text.now }
+{
+    hand_text(before_percent(text)) && has_lone_ampersand(text)
 }
 
 /// Whether the shell runs one program for the text, and waits for the end of all that this runs; or
@@ -129,30 +106,10 @@ fn whole(alloc: Global, text: &[u8]) -> Result<Result<(), Unlocked>, AllocError>
     if let Err(reason) = one_program(read.as_slice()) {
         return Ok(Err(reason));
     }
-    if may_run_on(alloc, text)? {
+    if may_run_on(text) {
         return Ok(Err(Unlocked::Further));
     }
     Ok(Ok(()))
-}
-
-/// The lock of the first words of a text; or why they are none. The only error is want of memory.
-fn words_lock<'a>(
-    alloc: Global,
-    text: &'a [u8],
-) -> Result<Result<(&'a str, Mode), Unlocked>, AllocError>
-    ensures { IfOk result (λ r. MatchResult r
-        (λ lock. words_lock (words_of (before_percent text.now)) ≡ Some (lock.0.now, lock.1))
-        (λ e. words_lock (words_of (before_percent text.now)) ≡ None)) }
-{
-    let (first, rest) = word(skip_blanks(before_percent(text)));
-    if !is_flock(first) {
-        return Ok(Err(Unlocked::Unread));
-    }
-    let words = words_of(alloc, rest)?;
-    match call_of(first, words.as_slice()) {
-        Ok(lock) => Ok(Ok(lock)),
-        Err(reason) => Ok(Err(reason)),
-    }
 }
 
 /// The lock of a text that begins with a call of flock(1); or why there is none. The only error is
@@ -166,7 +123,7 @@ fn flock_lock<'a>(
         (λ lock. flock_lock text.now ≡ Some (lock.0.now, lock.1))
         (λ e. flock_lock text.now ≡ None)) }
 {
-    let lock = match words_lock(alloc, text)? {
+    let lock = match words_lock(skip_blanks(before_percent(text))) {
         Ok(lock) => lock,
         Err(reason) => return Ok(Err(reason)),
     };
@@ -201,7 +158,7 @@ fn text_lock<'a>(
 }
 
 /// The lock that the command takes, or none and why. The only error is want of memory.
-pub(crate) fn lock_of(alloc: Global, command: &[u8]) -> Result<Lock, AllocError>
+pub fn lock_of(alloc: Global, command: &[u8]) -> Result<Lock, AllocError>
     ensures { IfOk result (IsLock command.now) }
 {
     let reason = match text_lock(alloc, behind_fronts(command))? {

@@ -25,7 +25,7 @@ fn is_lock_program(word: &[u8]) -> bool
 
 /// Whether the byte can't stand in the path of a program.
 #[tactic(auto, unfolding(crate::specs::Named::is_parting))]
-fn is_parting(byte: u8) -> bool
+pub(crate) fn is_parting(byte: u8) -> bool
     ensures { result ≡ is_parting byte }
 {
     !(byte.is_ascii_alphanumeric() || b"/._-+".as_slice().contains(&byte))

@@ -6,6 +6,7 @@ use crate::named::names_lock;
 use crate::notice::Notice;
 use crate::old::Bound;
 use crate::parts::{declarable, has_name, has_part, have_changed, is_placed, names_at};
+use crate::timeouts::asked_for;
 use crate::times::{add_new_times, add_old_times, add_renewed_times, room_for};
 use crate::told::Told;
 use crate::unlocked::Unlocked;
@@ -154,7 +155,8 @@ impl<'a> Sheet<'a> {
         let mut entry = Object::new(alloc);
         entry.add_number(alloc, "line", u64::from(line.number()))?;
         let names = self.parts_of(alloc, line)?;
-        add_new_times(alloc, &mut entry, schedule, self.max, names)?;
+        let max = asked_for(self.max, line.command());
+        add_new_times(alloc, &mut entry, schedule, max, names)?;
         self.add_lock_of(alloc, &mut entry, line)?;
         add_command(alloc, &mut entry, line)?;
         self.cron.add(alloc, &entry)
@@ -275,7 +277,7 @@ impl<'a> Sheet<'a> {
                 entry.add_members(alloc, old, names.as_slice())?;
             }
             None => {
-                entry.add_number(alloc, "max", self.max)?;
+                entry.add_number(alloc, "max", asked_for(self.max, job.command()))?;
                 if names_lock(job.command()) {
                     self.told.unlocked_job(job.number())?;
                 }

@@ -122,6 +122,16 @@ pub(crate) fn one_program(text: &[u8]) -> Result<(), Unlocked>
     }
 }
 
+/// Whether the shell runs one program for the text.
+pub(crate) fn is_one_program(text: &[u8]) -> bool
+    ensures { result ≡ is_one_program text.now }
+{
+    match one_program(text) {
+        Ok(()) => true,
+        Err(_) => false,
+    }
+}
+
 fn begins_with_ampersand(text: &[u8]) -> bool
     ensures { result ≡ begins_with 38 text.now }
 {

@@ -1,6 +1,6 @@
 /// Why a command that names a program that locks files is declared without a lock.
 #[derive(Clone, Copy)]
-pub(crate) enum Unlocked {
+pub enum Unlocked {
     /// The option `-w`: no mode waits for a limited time.
     Timed,
     /// The option `-E`: no mode has an exit status of its own.
@@ -21,7 +21,7 @@ pub(crate) enum Unlocked {
     ShellWord,
     /// The file's path doesn't begin with `/`: which file it is depends on the folder of the run.
     Relative,
-    /// The file's path has an empty part, `.` or `..`: other paths would be of the same file.
+    /// The file's path has `..`, and symbolic links decide which file that is; or it is `/`.
     Indirect,
     /// The file's name isn't UTF-8, so no declarations can name it.
     NotUtf8,
@@ -58,7 +58,7 @@ impl Unlocked {
             Unlocked::Descriptor => "its flock has a number in place of a lock file",
             Unlocked::ShellWord => "the shell expands the name of its lock file",
             Unlocked::Relative => "the path of its lock file doesn't begin with /",
-            Unlocked::Indirect => "the path of its lock file has an empty part, . or .. in it",
+            Unlocked::Indirect => "the path of its lock file has .. in it, or no name",
             Unlocked::NotUtf8 => "the name of its lock file isn't UTF-8",
             Unlocked::NoCommand => "its flock runs no command",
             Unlocked::OtherProgram => "the shell doesn't take its first word as a path to flock",

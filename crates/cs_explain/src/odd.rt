@@ -54,7 +54,8 @@ the script.",
         name: "Background",
         short: "a command ends in &",
         text: "The run ends at once, and what it has started goes on without its lock and past
-its longest time. Without the & no other command has to wait for it.
+its longest time. Cron never makes one command wait for another, so nothing is
+gained by the &.
 wrong:
   0 3 * * * /usr/bin/backup &
 right:

@@ -1,5 +1,5 @@
 -- Two minutes at which a command is due, and the days that can follow one another.
-use Rattle.std.proofs.Common.{◌≡◌, ℕ, zero, suc, ◌+◌, ◌-◌, ◌/◌, ◌%◌, ◌<◌, ◌≤◌, Bool, true, false, ◌&&◌, ◌||◌, List, [], ◌∷◌, All, Contains, get_or, refl, sym, ap, subst, ◌∙◌, arith, inl, inr}
+use Rattle.std.proofs.Common.{◌≡◌, ℕ, zero, suc, ◌+◌, ◌-◌, ◌/◌, ◌%◌, ◌<◌, ◌≤◌, Bool, true, false, ◌&&◌, ◌||◌, List, [], ◌∷◌, All, Contains, refl, sym, ap, subst, ◌∙◌, arith, inl, inr}
 use Rattle.std.specs.List.{list_any, range_with_len}
 use Rattle.std.proofs.lemmas.Bool.{and_parts, cases_lt}
 use Rattle.std.proofs.lemmas.Bool.Decides.{eqb_tells}
@@ -13,7 +13,7 @@ use Rattle.cs_schedule.specs.Minutes.{minutes_where}
 use Rattle.cs_schedule.specs.Numbers.{has}
 use Rattle.cs_schedule.specs.Times.{Times, is_day_due, is_due, is_time_due}
 use Rattle.cs_schedule.proofs.Ranges.{has-filter}
-use Rattle.cs_gap.specs.Gap.{AreApart, NoneBelow, can_be_after, can_be_apart, is_day_due_after, is_due_at, is_followed}
+use Rattle.cs_gap.specs.Gap.{AreApartFrom, AreDays, NoneFrom, can_be_after, can_follow, is_day_due_after, is_due_at, is_followed}
 
 -- ---- days
 
@@ -42,9 +42,9 @@ or_right false b p = p
 and_true : (a b : Bool) → a ≡ true → b ≡ true → (a && b) ≡ true
 and_true a b p q = cc
 
-pub after_due : (s : Times) (n d : ℕ) → is_day_due s (kind d) ≡ true → is_day_due s (kind (d + n)) ≡ true → can_be_after s n ≡ true
+pub after_due : (s r : Times) (n d : ℕ) → is_day_due s (kind d) ≡ true → is_day_due r (kind (d + n)) ≡ true → can_be_after s r n ≡ true
 unfolding can_be_after
-after_due s n d due later = any_of (λ day. is_day_due s day && is_day_due_after s n day) all_kinds (kind d) (is_listed d) (and_true _ _ due (due_after s n d later))
+after_due s r n d due later = any_of (λ day. is_day_due s day && is_day_due_after r n day) all_kinds (kind d) (is_listed d) (and_true _ _ due (due_after r n d later))
 
 -- ---- minutes
 
@@ -79,48 +79,40 @@ found : (p : ℕ → Bool) (m : ℕ) → m < 1440 → has (minutes_where p) m �
 unfolding minutes_where
 found p m below = has-filter p 0 1440 m (omega arith) (omega arith)
 
--- one of four
-one_of_four : (f : ℕ → Bool) (k : ℕ) → k < 4 → get_or (f 0 ∷ f 1 ∷ f 2 ∷ f 3 ∷ []) k false ≡ f k
-one_of_four f zero h = refl
-one_of_four f (suc zero) h = refl
-one_of_four f (suc (suc zero)) h = refl
-one_of_four f (suc (suc (suc zero))) h = refl
-one_of_four f (suc (suc (suc (suc k)))) h = absurd (omega (arith, h))
-
-pub met : (s : Times) (times : List ℕ) (days : List Bool) (gap : ℕ) → times ≡ minutes_where (is_time_due s)
-    → days ≡ can_be_after s 0 ∷ can_be_after s 1 ∷ can_be_after s 2 ∷ can_be_after s 3 ∷ [] → gap ≤ 4320
-    → list_any (is_followed times days gap) times ≡ can_be_apart s gap
-unfolding can_be_apart
-met s times days gap same days_are few =
-    rw (same, days_are) (same_any _ _ (minutes_where (is_time_due s)) (in_day (is_time_due s)) (λ m below. alike m below))
+-- a gap is met among the minutes and days that were reckoned if a minute can follow so
+pub met : (s r : Times) (most : ℕ) (times later : List ℕ) (days : List Bool) (gap : ℕ) → times ≡ minutes_where (is_time_due s) → later ≡ minutes_where (is_time_due r)
+    → AreDays s r most days → gap ≤ most → list_any (is_followed later days gap) times ≡ can_follow s r gap
+unfolding can_follow
+met s r most times later days gap same other are few =
+    rw (same, other) (same_any _ _ (minutes_where (is_time_due s)) (in_day (is_time_due s)) (λ m below. alike m below))
   where
-    alike : (m : ℕ) → m < 1440 → is_followed (minutes_where (is_time_due s)) (can_be_after s 0 ∷ can_be_after s 1 ∷ can_be_after s 2 ∷ can_be_after s 3 ∷ []) gap m ≡ (can_be_after s ((m + gap) / 1440) && is_time_due s ((m + gap) % 1440))
+    alike : (m : ℕ) → m < 1440 → is_followed (minutes_where (is_time_due r)) days gap m ≡ (can_be_after s r ((m + gap) / 1440) && is_time_due r ((m + gap) % 1440))
     alike m below =
-        let day = one_of_four (can_be_after s) ((m + gap) / 1440) (omega arith) in
-        let minute = found (is_time_due s) ((m + gap) % 1440) (omega arith) in
+        let day = are ((m + gap) / 1440) (omega arith) in
+        let minute = found (is_time_due r) ((m + gap) % 1440) (omega arith) in
         rw (day, minute) refl
 
 -- ---- due minutes
 
-pub apart : (s : Times) (t u g : ℕ) → is_due_at s t ≡ true → is_due_at s u ≡ true → t + g ≡ u → can_be_apart s g ≡ true
-unfolding can_be_apart
-apart s t u g due later is =
+pub follows : (s r : Times) (t u g : ℕ) → is_due_at s t ≡ true → is_due_at r u ≡ true → t + g ≡ u → can_follow s r g ≡ true
+unfolding can_follow
+follows s r t u g due later is =
     let day : t / 1440 + (t % 1440 + g) / 1440 ≡ u / 1440 = omega arith in
     let minute : (t % 1440 + g) % 1440 ≡ u % 1440 = omega arith in
-    by_parts (t / 1440) (t % 1440) ((t % 1440 + g) / 1440) ((t % 1440 + g) % 1440) (omega arith) due (subst (λ x. is_due s (kind x) ((t % 1440 + g) % 1440) ≡ true) (sym day) (subst (λ x. is_due s (kind (u / 1440)) x ≡ true) (sym minute) later)) refl refl
+    by_parts (t / 1440) (t % 1440) ((t % 1440 + g) / 1440) ((t % 1440 + g) % 1440) (omega arith) due (subst (λ x. is_due r (kind x) ((t % 1440 + g) % 1440) ≡ true) (sym day) (subst (λ x. is_due r (kind (u / 1440)) x ≡ true) (sym minute) later)) refl refl
   where
-    by_parts : (d m n k : ℕ) → m < 1440 → is_due s (kind d) m ≡ true → is_due s (kind (d + n)) k ≡ true → (m + g) / 1440 ≡ n → (m + g) % 1440 ≡ k
-        → list_any (λ x. can_be_after s ((x + g) / 1440) && is_time_due s ((x + g) % 1440)) (minutes_where (is_time_due s)) ≡ true
+    by_parts : (d m n k : ℕ) → m < 1440 → is_due s (kind d) m ≡ true → is_due r (kind (d + n)) k ≡ true → (m + g) / 1440 ≡ n → (m + g) % 1440 ≡ k
+        → list_any (λ x. can_be_after s r ((x + g) / 1440) && is_time_due r ((x + g) % 1440)) (minutes_where (is_time_due s)) ≡ true
     by_parts d m n k below one other is_day is_minute =
         let first = and_parts (is_time_due s m) (is_day_due s (kind d)) one in
-        let second = and_parts (is_time_due s k) (is_day_due s (kind (d + n))) other in
+        let second = and_parts (is_time_due r k) (is_day_due r (kind (d + n))) other in
         any_has _ (minutes_where (is_time_due s)) m (found (is_time_due s) m below ∙ first.0)
-        (and_true _ _ (ap (can_be_after s) is_day ∙ after_due s n d first.1 second.1) (ap (is_time_due s) is_minute ∙ second.0))
+        (and_true _ _ (ap (can_be_after s r) is_day ∙ after_due s r n d first.1 second.1) (ap (is_time_due r) is_minute ∙ second.0))
 
-pub are_apart : (s : Times) (gap : ℕ) → NoneBelow s gap → AreApart s gap
-are_apart s gap none t u due later before =
+pub are_apart : (s r : Times) (least gap : ℕ) → NoneFrom s r least gap → AreApartFrom s r least gap
+are_apart s r least gap none t u due later before =
     elim (cases_lt u (t + gap)) [
-      | inl near ↦ absurd (let g = u - t in let no = none g (omega arith) (omega arith) in let yes = apart s t u g due later (omega arith) in cc)
+      | inl near ↦ absurd (let g = u - t in let no = none g (omega arith) (omega arith) in let yes = follows s r t u g due later (omega arith) in cc)
       | inr far ↦ far
     ]
 
@@ -131,10 +123,10 @@ one_fewer p ms m rest b same fails is =
     let out : (p m || list_any p rest) ≡ list_any p rest = rw fails refl in
     sym (split ∙ out) ∙ is
 
--- none below a gap at which they can't be apart either
-pub one_more : (s : Times) (gap : ℕ) → NoneBelow s gap → can_be_apart s gap ≡ false → NoneBelow s (gap + 1)
-one_more s gap none fails g from below =
+-- none below a gap at which none can follow either
+pub one_more : (s r : Times) (least gap : ℕ) → NoneFrom s r least gap → can_follow s r gap ≡ false → NoneFrom s r least (gap + 1)
+one_more s r least gap none fails g from below =
     elim (cases_lt g gap) [
       | inl less ↦ none g from less
-      | inr more ↦ let same : gap ≡ g = omega arith in subst (λ x. can_be_apart s x ≡ false) same fails
+      | inr more ↦ let same : gap ≡ g = omega arith in subst (λ x. can_follow s r x ≡ false) same fails
     ]

@@ -1,5 +1,6 @@
--- How soon a command is due again.
-use Rattle.std.specs.Prelude.{◌≡◌, ℕ, zero, suc, ◌+◌, ◌/◌, ◌%◌, ◌<◌, ◌≤◌, Bool, true, false, ◌&&◌, List, slice_index_or}
+-- How soon a command is due again, or after another one.
+use Rattle.std.specs.Prelude.{◌≡◌, ℕ, zero, suc, ◌+◌, ◌*◌, ◌/◌, ◌%◌, ◌<◌, ◌≤◌, ◌&&◌}
+use Rattle.std.specs.Prelude.{Bool, true, false, List, slice_index_or}
 use Rattle.std.specs.List.{list_any}
 use Rattle.cs_civil.specs.Calendar.{Kind, kind, kinds_after}
 use Rattle.cs_civil.specs.Order.{all_kinds}
@@ -16,6 +17,12 @@ abbrev pub AreApart : Times → ℕ → Type 0
 AreApart s gap =
     (t u : ℕ) → is_due_at s t ≡ true → is_due_at s u ≡ true → t < u → t + gap ≤ u
 
+-- from a minute at which the first is due to one at which the second is there are so many minutes
+-- at least, if there are `least`
+abbrev pub AreApartFrom : Times → Times → ℕ → ℕ → Type 0
+AreApartFrom s r least gap =
+    (t u : ℕ) → is_due_at s t ≡ true → is_due_at r u ≡ true → t + least ≤ u → t + gap ≤ u
+
 -- ---- over the days that can follow one another
 
 -- a day on which it is due can come so many days after a day of this kind
@@ -23,21 +30,34 @@ abbrev pub is_day_due_after : Times → ℕ → Kind → Bool
 is_day_due_after s zero day = is_day_due s day
 is_day_due_after s (suc n) day = list_any (is_day_due_after s n) (kinds_after day)
 
--- and so many days after another one
-unfoldable pub can_be_after : Times → ℕ → Bool
-can_be_after s n = list_any (λ day. is_day_due s day && is_day_due_after s n day) all_kinds
+-- a day of the second can come so many days after one of the first
+unfoldable pub can_be_after : Times → Times → ℕ → Bool
+can_be_after s r n = list_any (λ day. is_day_due s day && is_day_due_after r n day) all_kinds
+
+-- a minute of the second can come so many minutes after one of the first
+unfoldable pub can_follow : Times → Times → ℕ → Bool
+can_follow s r gap = list_any
+    (λ m. can_be_after s r ((m + gap) / 1440) && is_time_due r ((m + gap) % 1440))
+    (minutes_where (is_time_due s))
+
+-- and in no fewer, from this number on
+abbrev pub NoneFrom : Times → Times → ℕ → ℕ → Type 0
+NoneFrom s r least gap = (g : ℕ) → least ≤ g → g < gap → can_follow s r g ≡ false
 
 -- two minutes at which it is due can be so many minutes apart
-unfoldable pub can_be_apart : Times → ℕ → Bool
-can_be_apart s gap = list_any
-    (λ m. can_be_after s ((m + gap) / 1440) && is_time_due s ((m + gap) % 1440))
-    (minutes_where (is_time_due s))
+abbrev pub can_be_apart : Times → ℕ → Bool
+can_be_apart s gap = can_follow s s gap
 
 -- and at no fewer
 abbrev pub NoneBelow : Times → ℕ → Type 0
-NoneBelow s gap = (g : ℕ) → 1 ≤ g → g < gap → can_be_apart s g ≡ false
+NoneBelow s gap = NoneFrom s s 1 gap
 
--- so many minutes after a minute of the day there is one of the set, on one of four days that can come
+-- how many days later there can be a day of the second, as far as so many minutes reach
+abbrev pub AreDays : Times → Times → ℕ → List Bool → Type 0
+AreDays s r most days =
+    (n : ℕ) → n * 1440 < most + 1440 → slice_index_or days n false ≡ can_be_after s r n
+
+-- so many minutes after a minute of the day there is one of the set, on a day that can come
 abbrev pub is_followed : List ℕ → List Bool → ℕ → ℕ → Bool
 is_followed times days gap m =
     slice_index_or days ((m + gap) / 1440) false && has times ((m + gap) % 1440)

@@ -3,4 +3,4 @@
 
 mod gap;
 
-pub use gap::{MAX_GAP, least_gap};
+pub use gap::{MAX_DISTANCE, MAX_GAP, least_distance, least_gap};

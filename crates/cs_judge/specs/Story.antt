@@ -94,23 +94,30 @@ run_shown d run = run_name d run.job ++ minute_shown run.at
 abbrev pub last_of : Declared → Going → ℕ
 last_of d going = min (going.since + ((job_at d going.run.job).max - 1)) last_minute
 
--- `, holds disk` of each run that keeps the lock from a job
+-- `: began 2024-01-01 00:00, may go on until 2024-01-01 00:29`
+unfoldable pub span_text : Declared → Going → List ℕ
+span_text d going = codes ": began " ++ (minute_shown going.since
+    ++ (codes ", may go on until " ++ minute_shown (last_of d going)))
+
+-- `# line 2 due 2024-01-01 00:00: began 2024-01-01 00:00, may go on until 2024-01-01 00:29`
+unfoldable pub run_line : Declared → Going → List ℕ
+run_line d going = codes "# " ++ (run_shown d going.run ++ (span_text d going ++ 10 ∷ []))
+
+-- `holds disk, ` of each run that keeps the lock from a job
 unfoldable pub holds_text : Declared → Shown → List ℕ
 holds_text d (Together r q) = []
 holds_text d (Load n) = []
-holds_text d (Skipped j t) = codes ", holds " ++ group_of d j
+holds_text d (Skipped j t) = codes "holds " ++ (group_of d j ++ codes ", ")
 
--- `: began 2024-01-01 00:00, may go on until 2024-01-01 00:29`
-unfoldable pub span_text : Declared → Shown → Going → List ℕ
-span_text d shown going = codes ": began " ++ (minute_shown going.since
-    ++ (holds_text d shown ++ (codes ", may go on until " ++ minute_shown (last_of d going))))
+-- `#   max 30, weight 1, group disk, mode wait`
+unfoldable pub terms_line : Declared → Shown → ℕ → List ℕ
+terms_line d shown j =
+    codes "#   " ++ (holds_text d shown ++ (terms_text d (job_at d j) ++ 10 ∷ []))
 
--- `# line 2 due 2024-01-01 00:00: began .. (max 30, weight 1, group disk, mode wait)`, and below it
--- the command
+-- the line of a run, below it its command, and what is declared of its job
 unfoldable pub run_lines : Declared → Shown → Going → List ℕ
-run_lines d shown going = codes "# " ++ (run_shown d going.run ++ (span_text d shown going
-    ++ (codes " (" ++ (terms_text d (job_at d going.run.job)
-    ++ (codes ")\n" ++ command_line d going.run.job)))))
+run_lines d shown going = run_line d going
+    ++ (command_line d going.run.job ++ terms_line d shown going.run.job)
 
 -- ---- the breach
 

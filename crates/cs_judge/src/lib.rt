@@ -13,8 +13,9 @@ mod waiters;
 
 pub use answers::{Outcome, Wanted, answer};
 pub use breach::Breach;
-pub use calling::is_called_safe;
+pub use calling::{called_safe, is_called_safe, reach_in};
 pub use judged::Judged;
 pub use judging::judge;
 pub use laws::outcomes_hold;
+pub use story::push_broken;
 pub use waiters::push_taker_notes;

@@ -7,8 +7,8 @@ ghost use Rattle.cs_judge.specs.Story.{at_end, both_need, broken_lines, command_
 ghost use Rattle.cs_judge.specs.Story.{group_of, group_shown, held_line, held_lines};
 ghost use Rattle.cs_judge.specs.Story.{holds_text, is_down, is_high, is_skipped, last_of, load_line, lock_text};
 ghost use Rattle.cs_judge.specs.Story.{minute_shown, mode_text, need_line};
-ghost use Rattle.cs_judge.specs.Story.{outage_line, outage_text, run_lines, run_shown, span_text};
-ghost use Rattle.cs_judge.specs.Story.{story_lines, terms_text, whole_front};
+ghost use Rattle.cs_judge.specs.Story.{outage_line, outage_text, run_line, run_lines, run_shown, span_text};
+ghost use Rattle.cs_judge.specs.Story.{story_lines, terms_line, terms_text, whole_front};
 
 use crate::breach::{Breach, taking_part};
 use cs_civil::{FIRST_MINUTE, LAST_MINUTE, Minute, date_text, push_number};
@@ -224,20 +224,6 @@ fn last_of(plan: &Plan, going: Going) -> u64
     going.since.saturating_add(max - 1).min(LAST_MINUTE)
 }
 
-/// Adds `, holds GROUP` if a job is skipped.
-#[tactic(auto, unfolding(crate::specs::Story::holds_text))]
-fn push_holds(text: &mut Vec<u8>, plan: &Plan, shown: Shown) -> Result<(), AllocError>
-    ensures { OnOk result (text.new.items ≡ text.old.items ++ holds_text plan.now shown) }
-{
-    match shown {
-        Shown::Together(_, _) | Shown::Load(_) => Ok(()),
-        Shown::Skipped(job, _) => {
-            text.extend_from_slice(b", holds ")?;
-            push_group_of(text, plan, job)
-        }
-    }
-}
-
 /// Adds the last minute of a run's declared time.
 fn push_last(text: &mut Vec<u8>, plan: &Plan, going: Going) -> Result<(), AllocError>
     ensures { OnOk result
@@ -248,14 +234,61 @@ fn push_last(text: &mut Vec<u8>, plan: &Plan, going: Going) -> Result<(), AllocE
 
 /// Adds when a run began, and until when it may go on.
 #[tactic(auto, unfolding(crate::specs::Story::span_text))]
-fn push_span(text: &mut Vec<u8>, plan: &Plan, shown: Shown, going: Going) -> Result<(), AllocError>
-    ensures { OnOk result (text.new.items ≡ text.old.items ++ span_text plan.now shown going) }
+fn push_span(text: &mut Vec<u8>, plan: &Plan, going: Going) -> Result<(), AllocError>
+    ensures { OnOk result (text.new.items ≡ text.old.items ++ span_text plan.now going) }
 {
     text.extend_from_slice(b": began ")?;
     push_minute(text, going.since)?;
-    push_holds(text, plan, shown)?;
     text.extend_from_slice(b", may go on until ")?;
     push_last(text, plan, going)
+}
+
+/// Adds the line of a run.
+#[tactic(auto, unfolding(crate::specs::Story::run_line))]
+fn push_run_line(
+    alloc: Global,
+    text: &mut Vec<u8>,
+    plan: &Plan,
+    going: Going,
+) -> Result<(), AllocError>
+    ensures { OnOk result (text.new.items ≡ text.old.items ++ run_line plan.now going) }
+{
+    text.extend_from_slice(b"# ")?;
+    push_run(alloc, text, plan, going.run)?;
+    push_span(text, plan, going)?;
+    text.extend_from_slice(b"\n")
+}
+
+/// Adds `holds GROUP, ` if a job is skipped.
+#[tactic(auto, unfolding(crate::specs::Story::holds_text))]
+fn push_holds(text: &mut Vec<u8>, plan: &Plan, shown: Shown) -> Result<(), AllocError>
+    ensures { OnOk result (text.new.items ≡ text.old.items ++ holds_text plan.now shown) }
+{
+    match shown {
+        Shown::Together(_, _) | Shown::Load(_) => Ok(()),
+        Shown::Skipped(job, _) => {
+            text.extend_from_slice(b"holds ")?;
+            push_group_of(text, plan, job)?;
+            text.extend_from_slice(b", ")
+        }
+    }
+}
+
+/// Adds the line of what is declared of a run's job.
+#[tactic(auto, unfolding(crate::specs::Story::terms_line))]
+fn push_terms_line(
+    alloc: Global,
+    text: &mut Vec<u8>,
+    plan: &Plan,
+    shown: Shown,
+    job: u16,
+) -> Result<(), AllocError>
+    ensures { OnOk result (text.new.items ≡ text.old.items ++ terms_line plan.now shown job) }
+{
+    text.extend_from_slice(b"#   ")?;
+    push_holds(text, plan, shown)?;
+    push_terms(alloc, text, plan, plan.job_at(job))?;
+    text.extend_from_slice(b"\n")
 }
 
 /// Adds the lines of a run.
@@ -269,13 +302,9 @@ fn push_run_lines(
 ) -> Result<(), AllocError>
     ensures { OnOk result (text.new.items ≡ text.old.items ++ run_lines plan.now shown going) }
 {
-    text.extend_from_slice(b"# ")?;
-    push_run(alloc, text, plan, going.run)?;
-    push_span(text, plan, shown, going)?;
-    text.extend_from_slice(b" (")?;
-    push_terms(alloc, text, plan, plan.job_at(going.run.job))?;
-    text.extend_from_slice(b")\n")?;
-    push_command(text, plan, usize::from(going.run.job))
+    push_run_line(alloc, text, plan, going)?;
+    push_command(text, plan, usize::from(going.run.job))?;
+    push_terms_line(alloc, text, plan, shown, going.run.job)
 }
 
 /// Adds the lines of these runs.
@@ -382,8 +411,10 @@ fn push_held(
     push_command(text, plan, usize::from(job))
 }
 
-/// Adds what is broken at the minute.
-fn push_broken(
+/// Adds what is broken at the minute, in comments: which lock two runs need, what the load is, or
+/// which lock is held, and below that the command of the run that is skipped. The only error is out
+/// of memory.
+pub fn push_broken(
     alloc: Global,
     text: &mut Vec<u8>,
     plan: &Plan,

@@ -16,6 +16,7 @@ mod gather_stop;
 mod lint;
 mod replay;
 mod replay_text;
+mod story;
 mod verdict;
 
 pub use chart::answer_chart;

@@ -70,7 +70,7 @@ fn script_in<'a>(
 }
 
 /// The script at a path.
-fn script_from<'a, I: Inputs>(
+pub(crate) fn script_from<'a, I: Inputs>(
     alloc: Global,
     inputs: &mut I,
     path: &'a str,

@@ -1,19 +1,15 @@
--- The words that are left ask for what is left to ask for.
-use Rattle.std.proofs.Common.{◌≡◌, ◌≤◌, ◌-◌, ◌&&◌, drop, false, length}
+-- What is left asks for what is left to ask for.
+use Rattle.std.proofs.Common.{◌≡◌, ◌-◌, ◌&&◌, false, length}
 use Rattle.std.specs.Option.{is_none}
-use Rattle.cs_draft.specs.Locks.{after_options, are_known, at_once_by, options_of, shared_by}
-use Rattle.cs_draft.specs.Locking.{texts_of}
+use Rattle.cs_draft.specs.Fronts.{passed}
+use Rattle.cs_draft.specs.Locks.{are_known, at_once_by, behind_option, options_from, options_of, shared_by}
 use Rattle.cs_draft.proofs.flock.options.Given as goal
 
-abbrev pub invariant-loop-at : goal.invariant-loop-at
-invariant-loop-at l =
+abbrev pub invariant-loop : goal.invariant-loop
+invariant-loop l =
     record {
-      within : l.at ≤ length l.words;
-      shared : shared_by false (options_of (texts_of l.words)) ≡ shared_by l.asked.is_shared (options_of (texts_of (drop l.at l.words)));
-      at_once : at_once_by false (options_of (texts_of l.words)) ≡ at_once_by l.asked.is_at_once (options_of (texts_of (drop l.at l.words)));
-      known : are_known (options_of (texts_of l.words)) ≡ (is_none l.asked.reason && are_known (options_of (texts_of (drop l.at l.words))));
-      after : after_options (texts_of l.words) ≡ after_options (texts_of (drop l.at l.words));
+      shared : shared_by false (options_of l.text) ≡ shared_by l.asked.is_shared (options_from (l.end - l.counter) l.rest);
+      at_once : at_once_by false (options_of l.text) ≡ at_once_by l.asked.is_at_once (options_from (l.end - l.counter) l.rest);
+      known : are_known (options_of l.text) ≡ (is_none l.asked.reason && are_known (options_from (l.end - l.counter) l.rest));
+      behind : passed behind_option (l.end - l.counter) l.rest ≡ passed behind_option (length l.text) l.text;
     }
-
-abbrev pub decreases-loop-at : goal.decreases-loop-at
-decreases-loop-at l = length l.words - l.at

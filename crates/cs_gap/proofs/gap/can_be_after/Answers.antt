@@ -8,5 +8,5 @@ use Rattle.cs_gap.proofs.gap.can_be_after.Goals as goal
 pub loop-kind-init : goal.loop-kind-init
 unfolding can_be_after
 loop-kind-init c =
-    ap (λ (ks : List Kind). list_any (λ day. is_day_due c.args.schedule.now day && is_day_due_after c.args.schedule.now c.args.days day) ks)
+    ap (λ (ks : List Kind). list_any (λ day. is_day_due c.args.first.now day && is_day_due_after c.args.second.now c.args.days day) ks)
     (c.into_iter-kind-iterator.ensures.into_iter_gives ∙ c.all_kinds-kind-items.ensures.value)

@@ -7,5 +7,5 @@ use Rattle.cs_gap.proofs.gap.can_be_after.Given as goal
 -- none of the kinds so far
 abbrev pub invariant-loop-kind : goal.invariant-loop-kind
 invariant-loop-kind l =
-    list_any (λ day. is_day_due l.schedule day && is_day_due_after l.schedule l.days day) l.kind-iterator
-    ≡ can_be_after l.schedule l.days
+    list_any (λ day. is_day_due l.first day && is_day_due_after l.second l.days day) l.kind-iterator
+    ≡ can_be_after l.first l.second l.days

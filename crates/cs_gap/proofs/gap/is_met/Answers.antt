@@ -9,5 +9,5 @@ loop-minute-preserved c =
     let left : c.loop-minute.minute-iterator ≡ c.in-Some.minute ∷ c.next.new.self = c.in-Some.ensures.steps in
     record {
       day = All-tail (λ minute. minute < 1440) c.in-Some.minute c.next.new.self (subst (λ (ms : List ℕ). All (λ minute. minute < 1440) ms) left c.loop-minute.invariant.day);
-      rest = one_fewer (is_followed c.args.times.now c.args.days.now c.args.gap) _ c.in-Some.minute c.next.new.self _ left (sym c.is_followed.ensures ∙ c.if-is_followed.false) c.loop-minute.invariant.rest;
+      rest = one_fewer (is_followed c.args.second.now c.args.days.now c.args.gap) _ c.in-Some.minute c.next.new.self _ left (sym c.is_followed.ensures ∙ c.if-is_followed.false) c.loop-minute.invariant.rest;
     }

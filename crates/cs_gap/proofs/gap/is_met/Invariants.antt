@@ -7,5 +7,5 @@ use Rattle.cs_gap.proofs.gap.is_met.Given as goal
 abbrev pub invariant-loop-minute : goal.invariant-loop-minute
 invariant-loop-minute l = record {
   day : All (λ minute. minute < 1440) l.minute-iterator;
-  rest : list_any (is_followed l.times l.days l.gap) l.minute-iterator ≡ list_any (is_followed l.times l.days l.gap) l.times;
+  rest : list_any (is_followed l.second l.days l.gap) l.minute-iterator ≡ list_any (is_followed l.second l.days l.gap) l.first;
 }

@@ -121,9 +121,8 @@ def strokes_in(story):
     return found
 
 
-def look_at_story(picture, rows, reading, script):
+def look_at_story(picture, story, rows, reading, script):
     """Looks at the story in a picture, whose rows are these."""
-    story = picture.find(f".//{SVG}svg[@class='story']")
     # A row is 18 high, and its name stands 13 below its top.
     tops = [int(row.find(SVG + "text").get("y")) - 13 for row in rows]
     top, height = int(story.get("y")), int(story.get("height"))

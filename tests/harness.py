@@ -102,9 +102,9 @@ def called(program, words, folder, stdin=b"", seconds=10, **more):
     return ran.returncode, out, err
 
 
-def compiled(folder):
-    """Returns the library of failing.c, which lets calls of the C library fail."""
-    library, source = folder / "failing.so", TOP / "tests/failing.c"
+def compiled(folder, name="failing"):
+    """Returns a library to be preloaded: that of failing.c lets calls of the C library fail."""
+    library, source = folder / f"{name}.so", TOP / f"tests/{name}.c"
     words = [os.environ.get("CC", "cc"), "-shared", "-fPIC", "-o", library, source, "-ldl"]
     try:
         subprocess.run(words, check=True)

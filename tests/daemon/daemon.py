@@ -48,8 +48,8 @@ class Room:
     What that prints is in the files `printed` and `said`.
     """
 
-    def __init__(self, program, folder, library):
-        self.program, self.folder, self.library = program, folder, library
+    def __init__(self, program, folder, libraries):
+        self.program, self.folder, self.libraries = program, folder, libraries
         self.daemons, self.options = [], []
         (folder / "stamps").mkdir(parents=True)
 
@@ -57,10 +57,14 @@ class Room:
         (self.folder / name).write_bytes(text if isinstance(text, bytes) else text.encode())
 
     def read(self, name):
-        """Returns the text of a file, '' where there is none, or of each file of a folder."""
+        """Returns the text of a file, '' where there is none, or of each file of a folder.
+
+        The state that a daemon keeps among its stamps is left out.
+        """
         path = self.folder / name
         if path.is_dir():
-            return {it.name: self.read(it) for it in path.iterdir()}
+            inside = (it for it in path.iterdir() if not it.name.startswith("cronsafe state"))
+            return {it.name: self.read(it) for it in inside}
         return path.read_text("utf-8", "replace") if path.is_file() else ""
 
     def holds(self, lines=None, **texts):
@@ -80,7 +84,10 @@ class Room:
 
     def call(self, *words):
         """Returns status, standard output and standard error of a call that ends at once."""
-        words = [*words, *self.options]
+        return self.ask(*words, *self.options)
+
+    def ask(self, *words):
+        """Returns the same of a call that has no tables."""
         status, *sides = called(self.program, words, self.folder, seconds=SECONDS)
         return status, *(it.decode("utf-8", "replace") for it in sides)
 
@@ -118,6 +125,20 @@ class Room:
             daemon = subprocess.Popen(words, cwd=self.folder, start_new_session=True, **how)
         self.daemons.append(daemon)
         return daemon
+
+    def step(self, *options, seconds=0):
+        """Starts a daemon whose clock goes on by so many seconds in a hundredth of one.
+
+        With 0 it goes on as ever. What `shift` writes is added to it.
+        """
+        library, shift = self.libraries / "stepping.so", self.folder / "shift"
+        variables = {"LD_PRELOAD": str(library), "STEP": str(seconds), "SHIFT": str(shift)}
+        return self.start(self.words(*options), **variables)
+
+    def shift(self, seconds):
+        """Lets the clock of the daemon show so many seconds more than it would."""
+        self.write("shift to come", str(seconds))
+        (self.folder / "shift to come").rename(self.folder / "shift")
 
     def status(self):
         """Returns how the daemon ended, minus the number of a signal; None while it goes on.

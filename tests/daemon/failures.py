@@ -23,11 +23,11 @@ FUNCTIONS = {
 def look_at_call(room, name, which):
     """Runs a daemon of which one call of a function fails; returns whether it made that call."""
     folder = room.folder / f"{name} {which}"
-    own = Room(room.program, folder, room.library)
+    own = Room(room.program, folder, room.libraries)
     own.take_tables(DECLARED, "", ANACRONTAB)
     own.write("certificate", room.read("certificate"))
     failed, day = folder / "failed", early_minute()
-    variables = failing(room.library, name, which, FUNCTIONS[name], failed)
+    variables = failing(room.libraries / "failing.so", name, which, FUNCTIONS[name], failed)
     try:
         own.start(own.words("--minutes", "0"), **variables)
         own.wait_for("its end", lambda: own.status() is not None)

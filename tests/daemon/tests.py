@@ -3,13 +3,19 @@
 The clock is the machine's own. A job of an anacrontab that has no stamp is started at once, so that
 tests with such jobs alone take some seconds; a command of a crontab waits for its minute.
 """
+import calendar
+import fcntl
+import json
 import os
+import re
 import signal
 import time
+from concurrent.futures import ThreadPoolExecutor
 
 from harness import Fault, wanted
 
-from daemon import SOON, date_text, early_minute, minute_now, runs, stamp_text
+import failures
+from daemon import SOON, Room, date_text, early_minute, minute_now, runs, stamp_text
 
 MINUTE = 60
 DAY = 1440
@@ -52,6 +58,14 @@ def declared(capacity, lines=(), identifiers=(), groups=(), offset=0, left_out=(
         "cron": [{"line": it, "max": MAX, **terms.get(f"line{it}", {})} for it in lines],
         "anacron": [{"id": it, "max": MAX, **terms.get(it, {})} for it in identifiers],
     }
+
+
+def moments_and_texts(lines):
+    """Returns the seconds since 1970 at the front of lines of a log, and what is behind them."""
+    found = [re.fullmatch(r"(\d{4}-\d\d-\d\dT\d\d:\d\d:\d\dZ) (.+)", it) for it in lines]
+    wanted("lines with times", True, all(found))
+    seconds = [calendar.timegm(time.strptime(it[1], "%Y-%m-%dT%H:%M:%SZ")) for it in found]
+    return seconds, [it[2] for it in found]
 
 
 def take_job(room, command="echo x >>ran", **terms):
@@ -185,6 +199,502 @@ def no_folder(room):
         room.run(*ONCE, stamps=path, status=6, seconds=SOON)
         room.holds(printed="", said=f"cronsafe: no folder {path}\n", ran="")
     wanted("a folder was made", False, (room.folder / "none").exists())
+
+
+def second_daemon(room):
+    """A second daemon on a folder of stamps, while the first goes on and after it was killed.
+
+    For a daemon that starts everything again, ends with another status or text, waits, or leaves
+    the lock behind, or to a job that goes on.
+    """
+    minute, run = take_job(room, "sleep 100; echo x >>ran")
+    first = room.start(room.words())
+    room.wait_for_line(f"started {run}")
+    room.run(*ONCE, status=6, seconds=SOON)
+    room.holds(printed="", said="cronsafe: another daemon uses stamps\n", stamps={})
+    os.kill(first.pid, signal.SIGKILL)
+    first.wait()
+    room.write("stamps/a", stamp_text(minute))
+    room.run(*ONCE, seconds=SOON)
+    room.holds(printed="", said="", ran="")
+
+
+def stopped(room):
+    """`stop` beside a daemon with a run under way, and then `stop` without one.
+
+    For a daemon that ends its run, starts another, loses the stamp or ends with another status; for
+    a `stop` that ends before the daemon has, or leaves behind what asks a daemon to stop.
+    """
+    minute, run = take_job(room, "sleep 9; echo x >>ran")
+    room.start(room.words())
+    room.wait_for_line(f"started {run}")
+    waited = "cronsafe: waiting for the runs under way to end\n"
+    wanted("stop", (0, "", waited), room.ask("stop", "stamps"))
+    room.ends(0)
+    room.holds(runs(run), said="", ran="x\n", stamps={"a": stamp_text(minute)})
+    unused = (2, "", "cronsafe: no daemon uses stamps\n")
+    wanted("stop of nobody", unused, room.ask("stop", "stamps"))
+    wanted("stop of nobody", unused, room.ask("stop", "--now", "stamps"))
+    absent = (6, "", "cronsafe: no folder nowhere\n")
+    wanted("stop of no folder", absent, room.ask("stop", "nowhere"))
+    wanted("stop of a file", (6, "", "cronsafe: no folder crontab\n"), room.ask("stop", "crontab"))
+    room.holds(stamps={"a": stamp_text(minute)})
+
+
+def stopped_twice(room):
+    """`stop --now`, which doesn't wait, twice, and a daemon that comes next.
+
+    For a `stop` that waits, a daemon that needs it to wait, and one that is stopped by what an
+    earlier daemon was asked.
+    """
+    _, run = take_job(room, "sleep 9; echo x >>ran")
+    room.start(room.words())
+    room.wait_for_line(f"started {run}")
+    for _ in range(2):
+        wanted("stop --now", (0, "", ""), room.ask("stop", "stamps", "--now"))
+        wanted("the run", "", room.read("ran"))
+    room.ends(0)
+    room.holds(runs(run), ran="x\n")
+    room.start(room.words())
+    room.wait_for("the end of what asks to stop", lambda: "cronsafe stop" not in room.read("stamps"))
+    time.sleep(3)
+    room.holds([])
+    wanted("stop", (0, ""), room.ask("stop", "stamps")[:2])
+    room.ends(0)
+    room.holds([], ran="x\n")
+
+
+def stop_that_stays(room):
+    """A folder where the file is that asks a daemon to stop: it can't be removed.
+
+    For a daemon that runs and is stopped at once, or isn't to be stopped.
+    """
+    take_job(room)
+    (room.folder / "stamps" / "cronsafe stop").mkdir()
+    room.run(*ONCE, status=6, seconds=SOON)
+    room.holds(printed="", said="cronsafe: can't remove 'cronsafe stop' from stamps\n", ran="")
+
+
+def timed_log(room):
+    """A log with times, behind what its file holds already, and on standard output.
+
+    For a daemon that loses what was there, or mixes it with what jobs print; whose times aren't
+    those of the events, or that counts no seconds; that tells no beginning or end.
+    """
+    command = "echo printed; sleep 3; exit 4"
+    _, run = take_job(room, command)
+    room.write("log", "what was there\n")
+    before = int(time.time())
+    room.run(*ONCE, "--log", "log", seconds=SOON)
+    after = int(time.time())
+    room.holds(printed="printed\n", said="")
+    first, *lines = room.read("log").splitlines()
+    wanted("what was there", "what was there", first)
+    times, texts = moments_and_texts(lines)
+    wanted("order of times", sorted(times), times)
+    wanted("times", True, before <= times[0] and times[-1] <= after)
+    opening = "running crontab with declarations and certificate and anacrontab, stamps in stamps"
+    seconds = times[2] - times[1]
+    wanted("seconds", True, 3 <= seconds <= 3 + SOON)
+    ended = f"ended {run} status 4 after {seconds} s"
+    wanted("log", [f"{opening}, capacity 1", f"started {run}", ended, "stopped"], texts)
+    (room.folder / "stamps" / "a").unlink()
+    room.run(*ONCE, "--log", "-", seconds=SOON)
+    _, texts = moments_and_texts(it for it in room.read("printed").splitlines() if it != "printed")
+    kinds = [it.split()[0] for it in texts]
+    wanted("kinds of lines", ["running", "started", "ended", "stopped"], kinds)
+
+
+def log_of_a_stop(room):
+    """What a log says of a daemon that is asked to stop."""
+    take_job(room)
+    room.start(room.words("--log", "log"))
+    room.wait_for("a run", lambda: "ended" in room.read("log"))
+    wanted("stop", (0, ""), room.ask("stop", "stamps")[:2])
+    room.ends(0)
+    _, texts = moments_and_texts(room.read("log").splitlines())
+    wanted("its end", ["asked to stop", "stopped"], texts[-2:])
+
+
+def log_that_cant_be_written(room):
+    """A log that is a folder, or in one that isn't there. For a daemon that runs without a log."""
+    take_job(room)
+    for path in ("stamps", "nowhere/log"):
+        room.run(*ONCE, "--log", path, status=6, seconds=SOON)
+        room.holds(printed="", said=f"cronsafe: can't write {path}\n", ran="", stamps={})
+
+
+def state_of(room, line):
+    """Returns the lines that `status` prints, with status 0, once one of them begins so."""
+    found = []
+
+    def is_told():
+        status, out, err = room.ask("status", "stamps")
+        found[:] = out.splitlines()
+        return (status, err) == (0, "") and any(it.startswith(line) for it in found)
+
+    room.wait_for(f"a state with '{line}'", is_told)
+    return found
+
+
+def told_state(room):
+    """What `status` says of a run, of a daemon that is asked to stop, and of none.
+
+    For a daemon that tells no state, one of other files, or none of the run; for a `status` that
+    mixes up lines or members, or tells of a daemon that has ended.
+    """
+    _, run = take_job(room, "sleep 9; echo x >>ran")
+    before = int(time.time())
+    room.start(room.words())
+    lines = state_of(room, run)
+    after = int(time.time())
+    moment = r"\d{4}-\d\d-\d\dT\d\d:\d\d:\d\dZ"
+    head = re.fullmatch(f"running since ({moment}), seen at ({moment})", lines[0])
+    started = re.fullmatch(f"{re.escape(run)} runs since ({moment})", lines[2])
+    wanted("the first line and the run", True, bool(head and started))
+    times = [calendar.timegm(time.strptime(it, "%Y-%m-%dT%H:%M:%SZ"))
+             for it in (head[1], started[1], head[2])]
+    wanted("order of times", sorted([before, *times, after]), [before, *times, after])
+    files = "crontab with declarations and certificate and anacrontab, capacity 1"
+    counts = "skipped 0, overruns 0, not started 0, outages 0, stamps not written 0"
+    wanted("lines", [files, counts], [lines[1], *lines[3:]])
+    status, out, err = room.ask("status", "stamps", "--json")
+    wanted("end of --json", (0, ""), (status, err))
+    wanted("lines of --json", 1, out.count("\n"))
+    state = json.loads(out)
+    _, version, _ = room.call("--version")
+    told = {
+        "version": version.split()[1],
+        "at": state["at"],
+        "since": head[1],
+        "table": "crontab",
+        "declarations": "declarations",
+        "certificate": "certificate",
+        "anacrontab": "anacrontab",
+        "capacity": 1,
+        "stopping": False,
+        "running": [{"run": run, "since": started[1], "late": False}],
+        "waiting": [],
+        **dict.fromkeys(("skipped", "overruns", "outages", "not_started"), 0),
+        "stamps_not_written": 0,
+        "stamp_fault_at": None,
+    }
+    wanted("members", list(told.items()), list(state.items()))
+    wanted("stop --now", (0, "", ""), room.ask("stop", "stamps", "--now"))
+    lines = state_of(room, "asked to stop")
+    wanted("lines while it stops", [files, "asked to stop"], lines[1:3])
+    room.ends(0)
+    unused = (2, "", "cronsafe: no daemon uses stamps\n")
+    wanted("status of nobody", unused, room.ask("status", "stamps"))
+    absent = (6, "", "cronsafe: no folder nowhere\n")
+    wanted("status of no folder", absent, room.ask("status", "nowhere"))
+
+
+def late_state(room):
+    """A run that takes longer than declared. For a state that stays fine, or stays late."""
+    _, run = take_job(room, "sleep 150", max=1)
+    room.start(room.words())
+    room.wait_for_line(f"overrun {run}", 3 * MINUTE)
+
+    def is_late():
+        status, out, _ = room.ask("status", "stamps")
+        late = f"^{re.escape(run)} runs since .*, late$"
+        return status == 1 and re.search(late, out, re.MULTILINE)
+
+    room.wait_for("a late run", is_late)
+    room.wait_for_line(f"ended {run} status 0", 3 * MINUTE)
+    lines = state_of(room, "skipped 0, overruns 1,")
+    wanted("lines", 3, len(lines))
+    room.end()
+
+
+# the state of a daemon with one run that waits
+STATE = {
+    "version": "0",
+    "at": "",
+    "since": "2024-09-13T20:00:01Z",
+    "table": "evening.cron",
+    "declarations": "evening.json",
+    "certificate": "evening.cert",
+    "anacrontab": None,
+    "capacity": 3,
+    "stopping": False,
+    "running": [],
+    "waiting": ["line 2 due 2024-09-13 23:30"],
+    "skipped": 1,
+    "overruns": 2,
+    "outages": 3,
+    "not_started": 4,
+    "stamps_not_written": 5,
+    "stamp_fault_at": None,
+}
+COUNTS = "skipped 1, overruns 2, not started 4, outages 3, stamps not written 5\n"
+
+
+def moment_text(seconds):
+    return time.strftime("%Y-%m-%dT%H:%M:%SZ", time.gmtime(seconds))
+
+
+def states_by_hand(room):
+    """States that a lock holder has written, and what `status` says of each.
+
+    For a `status` that is mistaken about what is late, about two minutes, about a daemon that stops,
+    or about null, or that prints something else with --json.
+    """
+    folder = os.open(room.folder / "stamps", os.O_RDONLY)
+    fcntl.flock(folder, fcntl.LOCK_EX)
+    now = int(time.time())
+    soon = 60
+    run = {"run": "job a\\x1b at 2024-09-13 23:30", "since": "2024-09-13T23:30:01Z"}
+    shown = "job a\\x1b at 2024-09-13 23:30 runs since 2024-09-13T23:30:01Z"
+    old = "cronsafe: no state of the last two minutes in stamps\n"
+    rows = [
+        ({}, 0, "", ""),
+        ({"running": [{**run, "late": False}], "more": 1}, 0, f"{shown}\n", ""),
+        ({"running": [{**run, "late": True}]}, 1, f"{shown}, late\n", ""),
+        ({"stamp_fault_at": moment_text(now - 120)}, 1, "", ""),
+        ({"stamp_fault_at": moment_text(now - 121)}, 0, "", ""),
+        ({"at": moment_text(now - 121)}, 2, "", old),
+        ({"at": moment_text(now - 121), "running": [{**run, "late": True}]}, 2, f"{shown}, late\n", old),
+        ({"at": moment_text(now + soon)}, 0, "", ""),
+        ({"at": moment_text(now - 200), "stopping": True}, 0, "asked to stop\n", ""),
+        ({"anacrontab": "my jobs"}, 0, "", ""),
+    ]
+    for members, status, lines, err in rows:
+        state = {**STATE, "at": moment_text(now), **members}
+        text = json.dumps(state)
+        room.write("stamps/cronsafe state", text)
+        files = "evening.cron with evening.json and evening.cert"
+        if state["anacrontab"]:
+            files += f" and {state['anacrontab']}"
+        out = f"running since {state['since']}, seen at {state['at']}\n{files}, capacity 3\n{lines}"
+        out += f"line 2 due 2024-09-13 23:30 waits\n{COUNTS}"
+        wanted(f"status of {members}", (status, out, err), room.ask("status", "stamps"))
+        as_it_is = room.ask("status", "--json", "stamps")
+        wanted(f"status --json of {members}", (status, text, err), as_it_is)
+    os.close(folder)
+    unused = (2, "", "cronsafe: no daemon uses stamps\n")
+    wanted("status of nobody", unused, room.ask("status", "stamps"))
+
+
+def states_that_cant_be_read(room):
+    """What is no state: no file, another kind of file, too much, no JSON or another.
+
+    For a `status` that waits for a pipe, follows a link, or believes what it reads.
+    """
+    folder = os.open(room.folder / "stamps", os.O_RDONLY)
+    fcntl.flock(folder, fcntl.LOCK_EX)
+    path = room.folder / "stamps" / "cronsafe state"
+    unread = (6, "", "cronsafe: can't read the state in stamps\n")
+    now = moment_text(int(time.time()))
+    fine = {**STATE, "at": now}
+    room.write("fine", json.dumps(fine))
+
+    def look(what):
+        for words in (["stamps"], ["stamps", "--json"]):
+            wanted(f"status of {what}", unread, room.ask("status", *words))
+
+    look("nothing")
+    path.mkdir()
+    look("a folder")
+    path.rmdir()
+    os.mkfifo(path)
+    look("a pipe")
+    path.unlink()
+    path.symlink_to(room.folder / "fine")
+    look("a link")
+    path.unlink()
+    wrong = [
+        *({key: it for key, it in fine.items() if key != left_out} for left_out in list(fine)[1:]),
+        {**fine, "at": "2024-02-30T00:00:00Z"},
+        {**fine, "at": now[:-1]},
+        {**fine, "since": f"{now} "},
+        {**fine, "table": "red \x1b[31m"},
+        {**fine, "capacity": -1},
+        {**fine, "skipped": 2**64},
+        {**fine, "running": [{"run": "a", "since": now}]},
+        {**fine, "running": {}},
+        {**fine, "waiting": [1]},
+        {**fine, "stopping": None},
+        {**fine, "stamp_fault_at": "never"},
+    ]
+    texts = ["", "{}", "[]", "1", json.dumps(fine)[:-1], json.dumps(fine) + " " * 2**20]
+    for text in (*texts, *map(json.dumps, wrong), json.dumps(fine).replace("evening", "\udcff")):
+        path.write_bytes(text.encode("utf-8", "surrogateescape"))
+        look(text[:200])
+    path.write_text(json.dumps(fine))
+    wanted("status of a state", 0, room.ask("status", "stamps")[0])
+    os.close(folder)
+
+
+def shown_name(room):
+    """An identifier that would make a line and colours of its own.
+
+    For a log with times that a name can forge or that a terminal obeys.
+    """
+    name = "a\x1b[31m\rb"
+    room.take(declared(1, [], [name]), "", f"7 0 {name} true\n")
+    early_minute()
+    room.run(*ONCE, "--log", "log", seconds=SOON)
+    _, texts = moments_and_texts(room.read("log").split("\n")[:-1])
+    wanted("the name", "started job a\\x1b[31m\\x0db at", texts[1][: texts[1].index(" at") + 3])
+
+
+def learned_log(room):
+    """`learn` reads a log with times."""
+    room.take(declared(2, [1]), "* * * * * sleep 2\n")
+    early_minute()
+    room.run("--minutes", "2", "--log", "log", seconds=4 * MINUTE)
+    status, _, told = room.call("learn", "crontab", "log")
+    wanted("status of learn", 0, status)
+    wanted("runs of learn", True, "1 run" in told)
+
+
+def closed_streams(room):
+    """A daemon that is started without standard input, output or error, or without any of them.
+
+    For one whose stamp, log or lock gets the number of a stream that was closed, so that lines and
+    what jobs print are written into it, or jobs read it.
+    """
+    command = "cat; echo to_output; echo to_error >&2; (ls -l /proc/$$/fd >fds); true"
+    for closed in ("<&-", ">&-", "2>&-", "<&- >&- 2>&-"):
+        minute, _ = take_job(room, command)
+        words = room.words(*ONCE, "--log", "log")
+        room.start(["sh", "-c", f'exec "$@" {closed}', "sh", *words])
+        room.ends(0)
+        room.holds(stamps={"a": stamp_text(minute)})
+        wanted("log", 4, len(room.read("log").splitlines()))
+        files = [it.split(" -> ")[1] for it in room.read("fds").splitlines() if " -> " in it]
+        for stream, what in enumerate(("<&-", ">&-", "2>&-")):
+            if what in closed.split():
+                wanted(f"stream {stream} with {closed}", "/dev/null", files[stream])
+        wanted("stamps or log", [], [it for it in files if it.endswith(("stamps/a", "/log"))])
+        (room.folder / "stamps" / "a").unlink()
+        (room.folder / "log").unlink()
+
+
+def pipes_among_stamps(room):
+    """Pipes and a link in place of a stamp, of one that is being written, and of a state.
+
+    For a daemon that waits for a pipe for ever, or writes into what a link leads to.
+    """
+    minute, run = take_job(room)
+    folder = room.folder / "stamps"
+    for name in ("a", "a new", "cronsafe state new"):
+        os.mkfifo(folder / name)
+    room.run(*ONCE, seconds=SOON)
+    room.holds([*runs(run), "stamp not read a"], said="", ran="x\n")
+    wanted("stamp", stamp_text(minute), (folder / "a").read_text())
+    (folder / "a").unlink()
+    room.write("elsewhere", "20240101\n")
+    (folder / "a").symlink_to(room.folder / "elsewhere")
+    room.run(*ONCE, seconds=SOON)
+    room.holds(runs(run), said="", ran="x\nx\n", elsewhere="20240101\n")
+    wanted("stamp", stamp_text(minute), (folder / "a").read_text())
+
+
+def clock_put_back(room):
+    """A clock that is put back by three minutes, catches up, and is put back by two hours.
+
+    For a daemon that ends where it should wait or goes on where it should end, that tells it each
+    second or only once its runs have ended, or runs a job twice.
+    """
+    take_job(room, "echo x >>ran; sleep 100")
+    room.step("--log", "log")
+    room.wait_for("a run", lambda: room.read("ran"))
+    ends = (-180, "waiting until it has passed"), (-7200, "ending, for it had shown")
+    for seconds, end in ends:
+        room.shift(seconds)
+        room.wait_for(end, lambda end=end: end in room.read("log"))
+        room.shift(0 if seconds > -3600 else seconds)
+        time.sleep(3)
+    _, texts = moments_and_texts(room.read("log").splitlines())
+    backs = [it for it in texts if it.startswith("clock back to ")]
+    wanted("lines of clocks that went back", 2, len(backs))
+    for line, minutes in zip(backs, (3, 120)):
+        found = re.findall(r"\d{4}-\d\d-\d\d \d\d:\d\d", line)
+        shown, latest = (calendar.timegm(time.strptime(it, "%Y-%m-%d %H:%M")) // 60 for it in found)
+        wanted(f"minutes in '{line}'", minutes, latest - shown)
+    wanted("the daemon while its run goes on", None, room.status())
+    wanted("runs", "x\n", room.read("ran"))
+
+
+def day_of_steps(room):
+    """A day of two jobs, by a clock that goes on by a minute in a hundredth of a second.
+
+    For a daemon that loses minutes, runs or lines, or keeps more memory the longer it goes on.
+    """
+    hourly, twice = "7 * * * * echo x >>hours", "*/30 * * * * echo x >>halves"
+    room.take(declared(2, [1, 2], line1={"max": 50}, line2={"max": 25}), f"{hourly}\n{twice}\n")
+    # it runs nothing in its first minute, and ends before its last
+    daemon = room.step("--minutes", "1441", seconds=60)
+    room.wait_for("an hour", lambda: len(room.read("hours")) >= 2)
+    early = resident(daemon)
+    room.wait_for("a day", lambda: len(room.read("hours")) >= 46, 6 * MINUTE)
+    late = resident(daemon)
+    room.ends(0, 2 * MINUTE)
+    wanted("runs of an hour", 24, len(room.read("hours").split()))
+    wanted("runs of half an hour", 48, len(room.read("halves").split()))
+    wanted("starts", 72, room.read("printed").count("started "))
+    if late > early + 512 or late > 20480:
+        raise Fault(f"it takes {late} KiB after a day, and {early} after an hour")
+
+
+def resident(daemon):
+    """Returns the memory of a process, in KiB."""
+    with open(f"/proc/{daemon.pid}/status", encoding="ascii") as lines:
+        return next(int(it.split()[1]) for it in lines if it.startswith("VmRSS:"))
+
+
+def many_at_once(room):
+    """64 runs that start in one minute. For a daemon that loses one, or runs them one by one."""
+    minute = (early_minute() + 2) % 60
+    table = "".join(f"{minute} * * * * sleep 4; echo x >>ran{it}\n" for it in range(64))
+    terms = {f"line{it}": {"max": 50} for it in range(1, 65)}
+    room.take(declared(64, range(1, 65), **terms), table)
+    room.step(seconds=1)
+    room.wait_for("all runs", lambda: room.read("printed").count("ended ") >= 64, 2 * MINUTE)
+    wanted("runs", ["x\n"] * 64, [room.read(f"ran{it}") for it in range(64)])
+    starts = [it.startswith("started ") for it in room.read("printed").splitlines()[:64]]
+    if sum(starts) < 48:
+        raise Fault(f"only {sum(starts)} of the first 64 lines tell of a start")
+
+
+def job_with_a_child(room):
+    """A job that leaves a process with its outputs open. For a daemon that waits for that."""
+    _, run = take_job(room, "sleep 1000 & echo x >>ran")
+    room.run(*ONCE, seconds=SOON)
+    room.holds(runs(run), said="", ran="x\n")
+
+
+def killed_anywhere(room):
+    """Daemons that are killed a moment after their start, and what one does that comes next.
+
+    For a daemon that writes a stamp before the run has ended or half of one, or that runs a job
+    again on the day of its stamp, or loses it.
+    """
+    take_job(room, "echo a >>ran")
+    with ThreadPoolExecutor(8) as pool:
+        list(pool.map(lambda which: killed_at(room, which), range(64)))
+
+
+def killed_at(room, which):
+    """Kills a daemon of its own so many hundredths of a second after it came, and runs one more."""
+    own = Room(room.program, room.folder / f"killed {which}", room.libraries)
+    for name in ("crontab", "anacrontab", "declarations", "certificate"):
+        own.write(name, room.read(name))
+    own.options, day = room.options, early_minute()
+    try:
+        own.start(own.words("--minutes", "0"))
+        time.sleep(which / 40)
+        own.send(signal.SIGKILL)
+        own.wait_for("its end", lambda: own.status() is not None)
+        time.sleep(0.2)
+        failures.look_at_second_call(own, day)
+    except Fault as fault:
+        raise Fault(f"killed after {which} fortieths of a second: {fault}") from None
+    finally:
+        own.close()
 
 
 def refused_certificate(room):
@@ -376,9 +886,13 @@ def outage(room):
 
 
 TESTS = [
-    *(jobs_are_run, no_minutes, unwritable_folder, unwritable_stamps, no_folder),
+    *(jobs_are_run, no_minutes, unwritable_folder, unwritable_stamps, no_folder, second_daemon),
     *(refused_certificate, runs_that_wait, skipped_run, lost_log, ended_by_a_signal, overruns),
     *(job_not_started, ways_to_end, outage),
+    *(stopped, stopped_twice, stop_that_stays, timed_log, log_of_a_stop, log_that_cant_be_written),
+    *(shown_name, learned_log, closed_streams, clock_put_back, day_of_steps, many_at_once),
+    *(job_with_a_child, killed_anywhere),
+    *(pipes_among_stamps, told_state, late_state, states_by_hand, states_that_cant_be_read),
     test_of_stamp("no_stamp", None, True),
     test_of_stamp("stamp_of_six_days", 6, False),
     test_of_stamp("stamp_of_seven_days", 7, True),

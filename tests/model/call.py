@@ -30,18 +30,22 @@ CALLS = {
     b"advise": (("TABLE", "DECLS"), ("ANACRONTAB", "within")),
     b"room": (("TABLE", "DECLS"), ("ANACRONTAB",)),
     b"replay": (("TABLE", "SCRIPT"), ("ANACRONTAB", "DECLARATIONS", "max")),
-    b"lint": (("TABLE", "DECLS"), ("ANACRONTAB",)),
+    b"lint": (("TABLE", "DECLS"), ("ANACRONTAB", "ZONE", "only", "except")),
     b"draft": (("TABLE",), ("ANACRONTAB", "max", "UPDATE")),
     b"gather": ((), ("root", "SYSTEM", "USER")),
 }
 # How many of the last words of a subcommand may be left out.
 LEFT_OUT = {b"lint": 1}
 # The option of a subcommand that has no value.
-FLAGS = {b"make": "compact", b"replay": "judge"}
+FLAGS = {b"make": "compact", b"replay": "judge", b"lint": "faults-only"}
 # The options that may be given more than once.
-LISTS = ("SYSTEM", "USER")
+LISTS = ("SYSTEM", "USER", "only", "except")
 NUMBERS = ("max", "from", "to", "within")
 HELP = (b"help", b"-h", b"--help")
+# What `lint` calls odd by name.
+ODD = b"""EachMinute UnevenStep BothDays PercentSign LongCommand Background Unexpanded TimeZone
+ValueComment Backslash CarriageReturn SameLine NoNewline UnusedGroup OtherLock MixedLocks NoOwnLock
+RebootLock ShortMax SummerTime CommandComment""".lower().split()
 # Settings that other programs know and this one passes over.
 WITHOUT_EFFECT = (b"CRON_TZ", b"RANDOM_DELAY", b"START_HOURS_RANGE")
 
@@ -98,9 +102,10 @@ def asks_help(words):
 def words_of_check(words):
     """Returns the words that check the certificate of a call, which `made` is of one of `make`."""
     command, *words = [it for it in words if it != b"--compact"]
-    if b"--minutes" in words:
-        at = words.index(b"--minutes")
-        del words[at : at + 2]
+    for option in (b"--log", b"--minutes"):
+        if option in words:
+            at = words.index(option)
+            del words[at : at + 2]
     if command == b"make":
         words.insert(2, b"made")
     if command == b"run":
@@ -154,7 +159,7 @@ def asked(words):
         raise NoCall
     found.update(zip(plain, values))
     paths = [value for name, value in found.items() if name.isupper() and name not in LISTS]
-    if [*paths, *chain(*(found.get(name, []) for name in LISTS))].count(b"-") > 1:
+    if [*paths, *chain(*(found.get(name, []) for name in LISTS if name.isupper()))].count(b"-") > 1:
         raise NoCall
     found |= {it: number_of(found[it]) for it in NUMBERS if it in found}
     if not 1 <= found.get("within", 1) < DAY:
@@ -310,9 +315,13 @@ class Call:
 
     def lint(self, found):
         """Tells whether there is a fault; all files are read before one is looked at."""
-        for role in ("TABLE", "ANACRONTAB", "DECLS"):
+        if any(it.lower() not in ODD for it in [*found.get("only", []), *found.get("except", [])]):
+            raise NoCall
+        for role in ("TABLE", "ANACRONTAB", "DECLS", "ZONE"):
             if role in found:
                 self.bytes_of(found[role])
+        if "ZONE" in found and not self.bytes_of(found["ZONE"]).startswith(b"TZif"):
+            return 3, None
         try:
             tables = self.read_tables(found)
             if "DECLS" in found:

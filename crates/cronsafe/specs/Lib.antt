@@ -3,3 +3,5 @@ pub mod Ending
 pub mod Serve
 pub mod Run
 pub mod Served
+pub mod Stopping
+pub mod Telling

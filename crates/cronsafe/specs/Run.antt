@@ -1,5 +1,5 @@
 -- What a run of the program writes, and the status that it answers.
-use Rattle.std.specs.Prelude.{◌⊎◌, ℕ, ℤ, List, Option}
+use Rattle.std.specs.Prelude.{◌⊎◌, ℕ, List, Option}
 use Rattle.clap.specs.Words.{Text}
 use Rattle.cs_io.specs.Files.{Failed, Reads}
 use Rattle.cs_cli.specs.Answer.{IfEnds}
@@ -8,30 +8,37 @@ use Rattle.cs_cli.specs.declared.answer.Answer.TheVariants as answers
 use Rattle.cs_files.specs.RanOut.{RanOutOn}
 use Rattle.cs_files.specs.Trouble.{IsHonest}
 use Rattle.cronsafe.specs.Call.{Answers}
+use Rattle.cronsafe.specs.declared.now.Now.{Now}
 use Rattle.cronsafe.specs.Ending.{Ends, RunsOutBehind, Sink}
 use Rattle.cronsafe.specs.Serve.{Serves}
+use Rattle.cronsafe.specs.Stopping.{Stops}
+use Rattle.cronsafe.specs.Telling.{Tells}
 
--- an ending is carried out, or an order
+-- an ending is carried out, or an order, or a daemon is stopped, or it's told what it does
 abbrev pub CarriesOut : Answer → Sink → Sink → Sink → Sink → ℕ → Type 0
 CarriesOut (answers.Ends ending) out-old out-new err-old err-new status =
     Ends ending out-old out-new err-old err-new status
 CarriesOut (answers.Runs order) out-old out-new err-old err-new status =
     Serves order out-old out-new err-old err-new status
+CarriesOut (answers.Stops words) out-old out-new err-old err-new status =
+    Stops words.stamps.now out-old out-new err-old err-new status
+CarriesOut (answers.Tells words) out-old out-new err-old err-new status =
+    Tells words.stamps.now out-old out-new err-old err-new status
 
 -- the words are answered so, and the answer is carried out
-abbrev pub Carries : ℤ → List Text → (List ℕ → Option (List ℕ)) → Failed → Failed → Reads
+abbrev pub Carries : Now → List Text → (List ℕ → Option (List ℕ)) → Failed → Failed → Reads
     → Answer → Sink → Sink → Sink → Sink → ℕ → Type 0
-Carries offset words files before failed reads answer out-old out-new err-old err-new status =
-    Answers offset words files before failed answer
+Carries now words files before failed reads answer out-old out-new err-old err-new status =
+    Answers now words files before failed answer
     × IfEnds (IsHonest failed reads) answer
     × CarriesOut answer out-old out-new err-old err-new status
 
 -- the words are answered, or memory ran out, behind what is to be warned of by then
-abbrev pub Runs : ℤ → List Text → (List ℕ → Option (List ℕ)) → Failed → Failed → Reads → Reads
+abbrev pub Runs : Now → List Text → (List ℕ → Option (List ℕ)) → Failed → Failed → Reads → Reads
     → Sink → Sink → Sink → Sink → ℕ → Type 0
-Runs offset words files before failed reads-old reads-new out-old out-new err-old err-new status =
+Runs now words files before failed reads-old reads-new out-old out-new err-old err-new status =
     ((answer : Answer)
-    × Carries offset words files before failed reads-new answer out-old out-new err-old err-new
+    × Carries now words files before failed reads-new answer out-old out-new err-old err-new
     status)
     ⊎ ((warnings : Option (List ℕ)) × RanOutOn words files before reads-old reads-new warnings
     × RunsOutBehind warnings out-old out-new err-old err-new status)

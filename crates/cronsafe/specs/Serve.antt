@@ -1,6 +1,6 @@
 -- What comes of an order to run tables.
 use Rattle.std.specs.Prelude.{◌≡◌, ◌≢◌, ◌⊎◌, ◌+◌, ◌<◌, ◌≤◌, ◌++◌, ℕ, List, [], Option, None, Some}
-use Rattle.std.specs.Prelude.{IfSome, codes, slice_index_or, sum}
+use Rattle.std.specs.Prelude.{IfSome, codes, option_map, slice_index_or, sum, unwrap_or}
 use Rattle.arrayvec.specs.ArrayVec.{array_vec_len}
 use Rattle.cs_check.specs.Checked.{plan_in}
 use Rattle.cs_check.specs.declared.checked.Checked.{Checked}
@@ -16,14 +16,32 @@ use Rattle.cs_keep.specs.Closed.{checked_in, keeping_in}
 use Rattle.cs_keep.specs.Keeping.{IsKept}
 use Rattle.cs_files.specs.Response.{Ending, complaint}
 use Rattle.cs_cli.specs.declared.answer.Order.{Order}
-use Rattle.cronsafe.specs.Ending.{Ends, RunsOut, Sink, Tries}
+use Rattle.cronsafe.specs.Ending.{Ends, Sink, Tries}
+use Rattle.cronsafe.specs.declared.obstacle.Obstacle.{Obstacle}
+use Rattle.cronsafe.specs.declared.obstacle.Obstacle.TheVariants.{InUse, NoFolder, NoLog, StopStays, Unlocked}
 
--- the path of the stamps names no folder: that is told behind the warnings
-abbrev pub without_folder : Order → Ending
-without_folder order = record {
+-- what is said where an order isn't served, in front of a path
+abbrev pub in_front : Obstacle → List ℕ
+in_front NoFolder = codes "no folder "
+in_front InUse = codes "another daemon uses "
+in_front Unlocked = codes "can't lock "
+in_front StopStays = codes "can't remove 'cronsafe stop' from "
+in_front NoLog = codes "can't write "
+
+-- the path: that of the log, or of the folder of stamps
+abbrev pub named : Obstacle → Order → List ℕ
+named NoFolder order = order.stamps.now
+named InUse order = order.stamps.now
+named Unlocked order = order.stamps.now
+named StopStays order = order.stamps.now
+named NoLog order = unwrap_or (option_map (λ path. path.now) order.log) []
+
+-- that is told behind the warnings
+abbrev pub unserved : Obstacle → Order → Ending
+unserved obstacle order = record {
   status = 6;
   out = [];
-  err = order.warnings ++ complaint (codes "no folder " ++ order.stamps.now);
+  err = order.warnings ++ complaint (in_front obstacle ++ named obstacle order);
 }
 
 -- what a clock and a store of stamps have told: the clock's last answer, its greatest minute, how
@@ -94,11 +112,28 @@ abbrev pub IsServed : Order → Sink → Sink → ℕ → Type 0
 IsServed order err-old err-new status =
     (after : Tellings) × IsServedBy order.checked no_tellings after err-old err-new status
 
--- there is no folder of stamps, which is told behind the warnings; or the warnings are told, and then
--- memory ran out, and nothing is run, or it was run
+-- the warnings are told first
+abbrev pub IsServedBehind : Order → Sink → Sink → ℕ → Type 0
+IsServedBehind order err-old err-new status =
+    (warned : Sink) × Tries order.warnings err-old warned × IsServed order warned err-new status
+
+-- the warnings are told, and then that memory ran out
+abbrev pub RunsOutBehind : Order → Sink → Sink → ℕ → Type 0
+RunsOutBehind order err-old err-new status = (status ≡ 5)
+    × ((warned : Sink) × Tries order.warnings err-old warned
+    × Tries (codes "cronsafe: out of memory\n") warned err-new)
+
+-- it isn't served, which is told behind the warnings; or memory ran out
+abbrev pub Refuses : Obstacle → Order → Sink → Sink → Sink → Sink → ℕ → Type 0
+Refuses obstacle order out-old out-new err-old err-new status =
+    Ends (unserved obstacle order) out-old out-new err-old err-new status
+    ⊎ ((out-new ≡ out-old) × RunsOutBehind order err-old err-new status)
+
+-- it isn't served, which is told behind the warnings; or memory ran out, and nothing is run; or it was
+-- run
 abbrev pub Serves : Order → Sink → Sink → Sink → Sink → ℕ → Type 0
 Serves order out-old out-new err-old err-new status =
-    Ends (without_folder order) out-old out-new err-old err-new status
-    ⊎ ((warned : Sink) × Tries order.warnings err-old warned
-    × (RunsOut out-old out-new warned err-new status
-    ⊎ IsServed order warned err-new status))
+    ((obstacle : Obstacle)
+    × Ends (unserved obstacle order) out-old out-new err-old err-new status)
+    ⊎ (((out-new ≡ out-old) × RunsOutBehind order err-old err-new status)
+    ⊎ IsServedBehind order err-old err-new status)

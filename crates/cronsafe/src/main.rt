@@ -1,21 +1,27 @@
 //! The program `cronsafe`, over its words, its inputs and two outputs, and over the machine.
 #![tactic(auto)]
 
+mod diary;
 mod ending;
 mod laws;
-mod offset;
+mod now;
+mod obstacle;
 mod program;
 mod responding;
 mod run;
 mod serve;
+mod stopping;
+mod telling;
 
 use crate::program::run_program;
 use cs_io::Printer;
-use cs_machine::ShellRunner;
+use cs_machine::{ShellRunner, hold_streams};
 use std::io::IsTerminal;
 use std::process::ExitCode;
 
 fn main(rt: HostRuntime) -> ExitCode {
+    // before anything else is opened
+    let _held = hold_streams(&rt);
     let is_watched = rt.stderr().is_terminal();
     let mut out = Printer::new(rt.stdout());
     let mut err = Printer::new(rt.stderr());
@@ -25,6 +31,6 @@ fn main(rt: HostRuntime) -> ExitCode {
         is_watched,
         &mut out,
         &mut err,
-        || ShellRunner::new(&rt, alloc),
+        || ShellRunner::new(&rt, alloc, rt.stdout(), rt.stderr()),
     )
 }

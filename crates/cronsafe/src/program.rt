@@ -1,11 +1,15 @@
 //! The program over the machine's words, files and clock.
-use crate::offset::local_offset;
+use crate::now::{Now, local_offset, read_clock};
 use crate::run::run_words;
+use crate::serve::{farewell, status_for};
 use cs_args::{Request, parse_words};
+use cs_daemon::Cause;
 use cs_device::Runner;
 use cs_files::Status;
 use cs_io::{Machine, Output};
+use jiff_core::Timestamp;
 use std::alloc::Global;
+use std::fs::File;
 use std::io::{ErrorKind, Write};
 use std::process::ExitCode;
 use std::rt::{Clock, Env, Files};
@@ -35,10 +39,33 @@ fn announce<E: Output>(alloc: Global, words: &[String], err: &mut E) {
     }
 }
 
+/// Whether what the words ask can't be answered without a clock.
+fn asks_time(alloc: Global, words: &[String]) -> bool {
+    match parse_words(alloc, words) {
+        Ok(Request::Lint(request)) => request.zone.is_some(),
+        _ => false,
+    }
+}
+
+/// What time it is. Where it isn't known and isn't asked for, it is 1970-01-01 00:00 UTC.
+fn time_for<R: Clock + Env + Files + AllocGlobal>(rt: &R, words: &[String]) -> Option<Now> {
+    let Some(instant) = read_clock(rt) else {
+        if asks_time(rt.alloc(), words) {
+            return None;
+        }
+        return Some(Now {
+            offset: 0,
+            instant: Timestamp::UNIX_EPOCH,
+        });
+    };
+    let offset = local_offset(rt, instant).unwrap_or(0);
+    Some(Now { offset, instant })
+}
+
 /// Runs the program on the machine's words, files and clock, with these two outputs, the second of
 /// which someone may watch. Commands are run by runners that `new_runner` makes.
 pub(crate) fn run_program<
-    R: Files + Input + Env + Clock + AllocGlobal + Threads + Wait + Sync,
+    R: Files<File = File> + Input + Env + Clock + AllocGlobal + Threads + Wait + Sync,
     O: Output + Write + Send,
     E: Output,
     W: Runner + Send + Drop,
@@ -60,6 +87,9 @@ pub(crate) fn run_program<
     if is_watched {
         announce(alloc, words, err);
     }
-    let offset = local_offset(rt).unwrap_or(0);
-    ExitCode::from(run_words(rt, alloc, words, offset, &mut inputs, out, err, new_runner))
+    let Some(now) = time_for(rt, words) else {
+        let _ = err.print(farewell(Cause::ClockFailed).as_bytes());
+        return ExitCode::from(status_for(Cause::ClockFailed).code());
+    };
+    ExitCode::from(run_words(rt, alloc, words, now, &mut inputs, out, err, new_runner))
 }

@@ -7,14 +7,18 @@ ghost use Rattle.cs_files.specs.Turn.{ReadsInTurn};
 ghost use Rattle.cronsafe.specs.Run.{CarriesOut, Runs};
 
 use crate::ending::{finish, run_out_behind};
+use crate::now::Now;
 use crate::responding::respond;
 use crate::serve::serve;
+use crate::stopping::stop;
+use crate::telling::tell_status;
 use cs_cli::Answer;
 use cs_device::Runner;
 use cs_files::Status;
 use cs_io::{Folders, Output};
 use std::alloc::Global;
 use std::convert::AsStr;
+use std::fs::File;
 use std::io::Write;
 use std::rt::{Clock, Files};
 use std::sync::Wait;
@@ -22,7 +26,7 @@ use std::thread::Threads;
 
 /// Carries out an answer, and gives the status.
 fn carry_out<
-    R: Threads + Wait + Sync + Files + Clock,
+    R: Threads + Wait + Sync + Files<File = File> + Clock,
     O: Output + Write + Send,
     E: Output,
     W: Runner + Send + Drop,
@@ -39,20 +43,23 @@ fn carry_out<
     match answer {
         Answer::Ends(response) => finish(&response, out, err),
         Answer::Runs(order) => serve(rt, alloc, order, out, err, new_runner),
+        Answer::Stops(words) => stop(rt, alloc, words, out, err),
+        Answer::Tells(words) => tell_status(rt, alloc, words, out, err),
     }
 }
 
 /// Runs the program on its words, of which the first is its name, and gives the status that the
 /// process ends with: 0 done, safe, help or the version, 1 unsafe, or an event or a certificate was
-/// refused, or the history of a run is full, 2 unknown, 3 a fault in the words or in a file, 4 no
+/// refused, the history of a run is full, or a daemon has a late run or a stamp that it couldn't
+/// write, 2 unknown, or no daemon to stop or to tell of, 3 a fault in the words or in a file, 4 no
 /// call, 5 want of memory, 6 a file that can't be read, standard output that can't be written, no
 /// folder of stamps, or a clock that can't be read or goes back.
 ///
 /// The words of `run` come back when the run has ended, and its log is written to standard output. Its
-/// commands are run by runners that `new_runner` makes. A draft tells the offset of clocks: the minutes
-/// by which they are ahead of UTC.
+/// commands are run by runners that `new_runner` makes. A draft tells the offset of clocks, and `lint`
+/// the changes of a time zone's clocks after the instant.
 pub(crate) fn run_words<
-    R: Threads + Wait + Sync + Files + Clock,
+    R: Threads + Wait + Sync + Files<File = File> + Clock,
     S: AsStr,
     I: Folders,
     O: Output + Write + Send,
@@ -63,7 +70,7 @@ pub(crate) fn run_words<
     rt: &R,
     alloc: Global,
     words: &[S],
-    offset: i16,
+    now: Now,
     inputs: &mut I,
     out: &mut O,
     err: &mut E,
@@ -72,7 +79,7 @@ pub(crate) fn run_words<
     requires { F.IsAlwaysCallable new_runner }
     // Where each path of known bytes stands at its front.
     ensures value { IsFresh (I.whole inputs.old) (I.left inputs.old)
-        → Runs offset (map S.text words.now) (I.whole inputs.old) (I.failed inputs.old)
+        → Runs now (map S.text words.now) (I.whole inputs.old) (I.failed inputs.old)
         (I.failed inputs.new)
         (I.reads inputs.old) (I.reads inputs.new)
         (sink (O.Output.contents out.old) (O.Output.failed out.old))
@@ -83,7 +90,7 @@ pub(crate) fn run_words<
     ensures turn { ReadsInTurn (map S.text words.now)
         (I.reads inputs.old) (I.reads inputs.new) }
 {
-    match respond(rt, alloc, words, offset, inputs) {
+    match respond(rt, alloc, words, now, inputs) {
         Ok(answer) => carry_out(rt, alloc, answer, out, err, new_runner).code(),
         Err(ran_out) => run_out_behind(&ran_out, err).code(),
     }

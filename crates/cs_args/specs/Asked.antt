@@ -9,18 +9,22 @@ use Rattle.cs_args.specs.CommandLine.{Asked, AskedCheck, AskedReplay, Asking, As
 use Rattle.cs_args.specs.CommandLine.{AskedChart, AskedDraft, AskedGather, AskedLint, Chart, Draft, Explain, Gather, Lint}
 use Rattle.cs_args.specs.CommandLine.{chart_in, draft_in, gather_in, lint_in}
 use Rattle.cs_args.specs.CommandLine.{Advise, AskedAdvise, Room, advise_in}
+use Rattle.cs_args.specs.CommandLine.{AskedLearn, Learn, learn_in}
 use Rattle.cs_args.specs.declared.request.AdviseWords.{AdviseWords}
 use Rattle.cs_args.specs.declared.request.ChartWords.{ChartWords}
 use Rattle.cs_args.specs.declared.request.DraftWords.{DraftWords}
 use Rattle.cs_args.specs.declared.request.GatherWords.{GatherWords}
+use Rattle.cs_args.specs.declared.request.LearnWords.{LearnWords}
 use Rattle.cs_args.specs.declared.request.LintWords.{LintWords}
 use Rattle.cs_args.specs.declared.request.CheckWords.{CheckWords}
-use Rattle.cs_args.specs.CommandLine.{AskedJudge, AskedMake, AskedRun, Judge, Make, Run, judge_in, make_in, run_in}
+use Rattle.cs_args.specs.CommandLine.{AskedJudge, AskedMake, AskedRun, AskedStatus, AskedStop, Judge, Make, Run, Status, Stop, judge_in, make_in, run_in}
 use Rattle.cs_args.specs.declared.request.JudgeWords.{JudgeWords}
 use Rattle.cs_args.specs.declared.request.MakeWords.{MakeWords}
 use Rattle.cs_args.specs.declared.request.DayWords.{DayWords}
 use Rattle.cs_args.specs.declared.request.ReplayWords.{ReplayWords}
 use Rattle.cs_args.specs.declared.request.RunWords.{RunWords}
+use Rattle.cs_args.specs.declared.request.StatusWords.{StatusWords}
+use Rattle.cs_args.specs.declared.request.StopWords.{StopWords}
 use Rattle.cs_args.specs.declared.request.Request.{Request}
 use Rattle.cs_args.specs.declared.request.Request.TheVariants as request
 use Rattle.cs_args.specs.declared.request.UsageFault.{UsageFault}
@@ -55,7 +59,18 @@ asked_check c = record {
 }
 
 abbrev pub asked_run : RunWords → AskedRun
-asked_run r = record { check = asked_check r.check; stamps = r.stamps.now; minutes = r.minutes }
+asked_run r = record {
+  check = asked_check r.check;
+  stamps = r.stamps.now;
+  minutes = r.minutes;
+  log = option_map (λ path. path.now) r.log;
+}
+
+abbrev pub asked_stop : StopWords → AskedStop
+asked_stop s = record { stamps = s.stamps.now; now = s.now }
+
+abbrev pub asked_status : StatusWords → AskedStatus
+asked_status s = record { stamps = s.stamps.now; json = s.json }
 
 abbrev pub asked_judge : JudgeWords → AskedJudge
 asked_judge j = record {
@@ -85,11 +100,23 @@ asked_draft d = record {
   update = option_map (λ path. path.now) d.update;
 }
 
+abbrev pub asked_learn : LearnWords → AskedLearn
+asked_learn l = record {
+  table = l.table.now;
+  logs = map (λ path. path.now) l.logs.items;
+  factor = l.factor.now;
+  update = option_map (λ path. path.now) l.update;
+}
+
 abbrev pub asked_lint : LintWords → AskedLint
 asked_lint l = record {
   table = l.table.now;
   declarations = option_map (λ path. path.now) l.declarations;
   anacrontab = option_map (λ path. path.now) l.anacrontab;
+  zone = option_map (λ path. path.now) l.zone;
+  only = map (λ name. name.now) l.only.items;
+  except = map (λ name. name.now) l.except.items;
+  faults_only = l.faults_only;
 }
 
 abbrev pub asked_chart : ChartWords → AskedChart
@@ -105,12 +132,15 @@ asking (request.Day d) = Day (asked d)
 asking (request.Replay r) = Replay (asked_replay r)
 asking (request.Check c) = Check (asked_check c)
 asking (request.Run r) = Run (asked_run r)
+asking (request.Stop s) = Stop (asked_stop s)
+asking (request.Status s) = Status (asked_status s)
 asking (request.Judge j) = Judge (asked_judge j)
 asking (request.Make m) = Make (asked_make m)
 asking (request.Advise a) = Advise (asked_advise a)
 asking (request.Room r) = Room (asked_judge r)
 asking (request.Gather g) = Gather (asked_gather g)
 asking (request.Draft d) = Draft (asked_draft d)
+asking (request.Learn l) = Learn (asked_learn l)
 asking (request.Lint l) = Lint (asked_lint l)
 asking (request.Chart c) = Chart (asked_chart c)
 asking (request.Explain name) = Explain (option_map (λ name. name.now) name)
@@ -173,6 +203,9 @@ GatherAsked rows = AnswersFor asked_gather (gather_in rows)
 
 abbrev pub DraftAsked : List Row → Result DraftWords UsageFault → Type 0
 DraftAsked rows = AnswersFor asked_draft (draft_in rows)
+
+abbrev pub LearnAsked : List Row → Result LearnWords UsageFault → Type 0
+LearnAsked rows = AnswersFor asked_learn (learn_in rows)
 
 abbrev pub LintAsked : List Row → Result LintWords UsageFault → Type 0
 LintAsked rows = AnswersFor asked_lint (lint_in rows)

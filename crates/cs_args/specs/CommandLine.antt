@@ -29,6 +29,10 @@ option_rule id = record (new_rule id) { long = Some id; value_names = 1 }
 abbrev pub list_rule : Text → Rule
 list_rule id = record (option_rule id) { action = Some Append }
 
+-- an argument that stands without a name, and has to, once or more often
+abbrev pub many_rule : Text → Rule
+many_rule id = record (required_rule id) { action = Some Append }
+
 -- an option with no value, `--NAME`
 abbrev pub flag_rule : Text → Rule
 flag_rule id = record (new_rule id) { long = Some id; action = Some SetTrue }
@@ -71,12 +75,24 @@ unfoldable pub check_app : App
 check_app =
     with_rule (with_certificate (new_app (codes "check"))) (option_rule (codes "anacrontab"))
 
--- `run TABLE DECLS CERT STAMPS [--anacrontab FILE] [--minutes N]`
+-- `run TABLE DECLS CERT STAMPS [--anacrontab FILE] [--minutes N] [--log FILE]`
 unfoldable pub run_app : App
 run_app =
-    with_rule (with_rule (with_rule (with_certificate (new_app (codes "run")))
+    with_rule (with_rule (with_rule (with_rule (with_certificate (new_app (codes "run")))
     (required_rule (codes "STAMPS"))) (option_rule (codes "anacrontab")))
-    (option_rule (codes "minutes"))
+    (option_rule (codes "minutes"))) (option_rule (codes "log"))
+
+-- `stop STAMPS [--now]`
+unfoldable pub stop_app : App
+stop_app =
+    with_rule (with_rule (new_app (codes "stop")) (required_rule (codes "STAMPS")))
+    (flag_rule (codes "now"))
+
+-- `status STAMPS [--json]`
+unfoldable pub status_app : App
+status_app =
+    with_rule (with_rule (new_app (codes "status")) (required_rule (codes "STAMPS")))
+    (flag_rule (codes "json"))
 
 -- `NAME TABLE DECLS [--anacrontab FILE]`
 abbrev pub plan_app : Text → App
@@ -113,11 +129,27 @@ draft_app =
     (required_rule (codes "TABLE"))) (option_rule (codes "anacrontab")))
     (option_rule (codes "max"))) (option_rule (codes "update"))
 
--- `lint TABLE [DECLS] [--anacrontab FILE]`
+-- `learn TABLE LOG.. [--factor F] [--update OLD]`
+unfoldable pub learn_app : App
+learn_app =
+    with_rule (with_rule (with_rule (with_rule (new_app (codes "learn"))
+    (required_rule (codes "TABLE"))) (many_rule (codes "LOG")))
+    (option_rule (codes "factor"))) (option_rule (codes "update"))
+
+-- `[--only NAME].. [--except NAME].. [--faults-only]`
+abbrev pub with_names : App → App
+with_names app =
+    with_rule (with_rule (with_rule app (list_rule (codes "only"))) (list_rule (codes "except")))
+    (flag_rule (codes "faults-only"))
+
+-- `lint TABLE [DECLS] [--anacrontab FILE] [--zone FILE] [--only NAME].. [--except NAME]..
+-- [--faults-only]`
 unfoldable pub lint_app : App
 lint_app =
-    with_rule (with_rule (with_rule (new_app (codes "lint")) (required_rule (codes "TABLE")))
-    (new_rule (codes "DECLS"))) (option_rule (codes "anacrontab"))
+    with_names
+    (with_rule (with_rule (with_rule (with_rule (new_app (codes "lint"))
+    (required_rule (codes "TABLE"))) (new_rule (codes "DECLS")))
+    (option_rule (codes "anacrontab"))) (option_rule (codes "zone")))
 
 -- `chart TABLE DATE [MAX] [--anacrontab FILE] [--from M] [--to M] [--days N] [--declarations FILE]
 -- [--story FILE]`
@@ -153,13 +185,17 @@ up_to_room_app =
     with_subcommand (with_subcommand (with_subcommand judge_and_check_app make_app.top)
     advise_app.top) room_app.top
 
--- and with `run` and `gather`
+-- and with `run`, `stop`, `status` and `gather`
 unfoldable pub up_to_gather_app : App
-up_to_gather_app = with_subcommand (with_subcommand up_to_room_app run_app.top) gather_app.top
+up_to_gather_app =
+    with_subcommand (with_subcommand (with_subcommand (with_subcommand up_to_room_app run_app.top)
+    stop_app.top) status_app.top) gather_app.top
 
--- and with `draft` and `lint`
+-- and with `draft`, `learn` and `lint`
 unfoldable pub up_to_lint_app : App
-up_to_lint_app = with_subcommand (with_subcommand up_to_gather_app draft_app.top) lint_app.top
+up_to_lint_app =
+    with_subcommand (with_subcommand (with_subcommand up_to_gather_app draft_app.top)
+    learn_app.top) lint_app.top
 
 -- and with `day` and `chart`
 unfoldable pub up_to_chart_app : App
@@ -209,12 +245,23 @@ pub record AskedCheck : Type 0 where
   pub certificate : Text
   pub anacrontab : Option Text
 
--- what `run` is asked: what `check` is, the path of a folder of stamps, and after how many minutes
--- the clock stops, if it does
+-- what `run` is asked: what `check` is, the path of a folder of stamps, after how many minutes the
+-- clock stops, if it does, and the path of a log, if there is one
 pub record AskedRun : Type 0 where
   pub check : AskedCheck
   pub stamps : Text
   pub minutes : Option ℕ
+  pub log : Option Text
+
+-- what `stop` is asked: the path of a folder of stamps, and whether the end isn't waited for
+pub record AskedStop : Type 0 where
+  pub stamps : Text
+  pub now : Bool
+
+-- what `status` is asked: the path of a folder of stamps, and whether the state is told as JSON
+pub record AskedStatus : Type 0 where
+  pub stamps : Text
+  pub json : Bool
 
 -- what `judge` is asked: the paths of a table, of declarations and of an anacrontab
 pub record AskedJudge : Type 0 where
@@ -246,11 +293,24 @@ pub record AskedDraft : Type 0 where
   pub anacrontab : Option Text
   pub update : Option Text
 
--- what `lint` is asked: the paths of a table, of declarations and of an anacrontab
+-- what `learn` is asked: the paths of a table, of logs and of declarations to update, and the text
+-- of a factor
+pub record AskedLearn : Type 0 where
+  pub table : Text
+  pub logs : List Text
+  pub factor : Text
+  pub update : Option Text
+
+-- what `lint` is asked: the paths of a table, of declarations, of an anacrontab and of a time zone,
+-- the names of the findings to tell and of those to leave out, and whether to tell faults alone
 pub record AskedLint : Type 0 where
   pub table : Text
   pub declarations : Option Text
   pub anacrontab : Option Text
+  pub zone : Option Text
+  pub only : List Text
+  pub except : List Text
+  pub faults_only : Bool
 
 -- what `chart` is asked: what `day` is, for how many days, and the paths of declarations and of a
 -- script
@@ -266,12 +326,15 @@ pub data Asking : Type 0 where
   Replay : AskedReplay → Asking
   Check : AskedCheck → Asking
   Run : AskedRun → Asking
+  Stop : AskedStop → Asking
+  Status : AskedStatus → Asking
   Judge : AskedJudge → Asking
   Make : AskedMake → Asking
   Advise : AskedAdvise → Asking
   Room : AskedJudge → Asking
   Gather : AskedGather → Asking
   Draft : AskedDraft → Asking
+  Learn : AskedLearn → Asking
   Lint : AskedLint → Asking
   Chart : AskedChart → Asking
   Explain : Option Text → Asking
@@ -384,9 +447,24 @@ minutes_of (Some text) = option_map Some (number_of text)
 abbrev pub run_in : List Row → Option AskedRun
 run_in rows =
     let stamps = value_or [] (codes "STAMPS") rows in
+    let log = first_of (codes "log") rows in
     option_and_then (λ minutes. option_map
-    (λ check. record { check = check; stamps = stamps; minutes = minutes }) (check_in rows))
-    (minutes_of (first_of (codes "minutes") rows))
+    (λ check. record { check = check; stamps = stamps; minutes = minutes; log = log })
+    (check_in rows)) (minutes_of (first_of (codes "minutes") rows))
+
+-- what the entries of `stop` ask
+abbrev pub stop_in : List Row → AskedStop
+stop_in rows = record {
+  stamps = value_or [] (codes "STAMPS") rows;
+  now = has_flag (codes "now") rows;
+}
+
+-- what the entries of `status` ask
+abbrev pub status_in : List Row → AskedStatus
+status_in rows = record {
+  stamps = value_or [] (codes "STAMPS") rows;
+  json = has_flag (codes "json") rows;
+}
 
 -- what the entries of `judge` and of `room` ask: standard input is named once at most
 abbrev pub judge_in : List Row → Option AskedJudge
@@ -453,14 +531,40 @@ draft_in rows =
     option_and_then (λ max. draft_with rows max)
     (number_of (value_or (codes "60") (codes "max") rows))
 
+-- standard input is named more than once among a table, logs and declarations to update
+abbrev pub has_dashes : AskedLearn → Bool
+has_dashes a =
+    nat_lt 1 (count_by is_dash (a.table ∷ unwrap_or a.update [] ∷ []) + count_by is_dash a.logs)
+
+-- what the entries of `learn` ask: the factor is by default 1.5, and standard input is named once at
+-- most
+abbrev pub learn_in : List Row → Option AskedLearn
+learn_in rows =
+    let asked : AskedLearn = record {
+      table = value_or [] (codes "TABLE") rows;
+      logs = values_in (codes "LOG") rows;
+      factor = value_or (codes "1.5") (codes "factor") rows;
+      update = first_of (codes "update") rows;
+    } in
+    if has_dashes asked then None else Some asked
+
 -- what the entries of `lint` ask: standard input is named once at most
 abbrev pub lint_in : List Row → Option AskedLint
 lint_in rows =
     let table = value_or [] (codes "TABLE") rows in
     let declarations = first_of (codes "DECLS") rows in
     let anacrontab = first_of (codes "anacrontab") rows in
-    if are_dashes table [] anacrontab declarations then None
-    else Some (record { table = table; declarations = declarations; anacrontab = anacrontab })
+    let zone = first_of (codes "zone") rows in
+    if are_dashes table (unwrap_or zone []) anacrontab declarations then None
+    else Some (record {
+      table = table;
+      declarations = declarations;
+      anacrontab = anacrontab;
+      zone = zone;
+      only = values_in (codes "only") rows;
+      except = values_in (codes "except") rows;
+      faults_only = has_flag (codes "faults-only") rows;
+    })
 
 -- so many days are from one to a week
 abbrev pub is_up_to_a_week : ℕ → Bool
@@ -505,14 +609,15 @@ chart_in rows = option_and_then (λ max. chart_up_to max rows)
 abbrev pub is_planned_name : Text → Bool
 is_planned_name name =
     bytes_eq name (codes "check") || (bytes_eq name (codes "run")
+    || (bytes_eq name (codes "stop") || (bytes_eq name (codes "status")
     || (bytes_eq name (codes "judge") || (bytes_eq name (codes "make")
-    || (bytes_eq name (codes "advise") || bytes_eq name (codes "room")))))
+    || (bytes_eq name (codes "advise") || bytes_eq name (codes "room")))))))
 
 abbrev pub is_shown_name : Text → Bool
 is_shown_name name =
     bytes_eq name (codes "gather") || (bytes_eq name (codes "draft")
-    || (bytes_eq name (codes "lint")
-    || (bytes_eq name (codes "chart") || bytes_eq name (codes "explain"))))
+    || (bytes_eq name (codes "learn") || (bytes_eq name (codes "lint")
+    || (bytes_eq name (codes "chart") || bytes_eq name (codes "explain")))))
 
 abbrev pub is_subcommand : Text → Bool
 is_subcommand name =
@@ -530,12 +635,15 @@ asked_by name rows =
     if bytes_eq name (codes "replay") then option_map Replay (replay_in rows)
     else if bytes_eq name (codes "check") then option_map Check (check_in rows)
     else if bytes_eq name (codes "run") then option_map Run (run_in rows)
+    else if bytes_eq name (codes "stop") then Some (Stop (stop_in rows))
+    else if bytes_eq name (codes "status") then Some (Status (status_in rows))
     else if bytes_eq name (codes "judge") then option_map Judge (judge_in rows)
     else if bytes_eq name (codes "make") then option_map Make (make_in rows)
     else if bytes_eq name (codes "advise") then option_map Advise (advise_in rows)
     else if bytes_eq name (codes "room") then option_map Room (judge_in rows)
     else if bytes_eq name (codes "gather") then option_map Gather (gather_in rows)
     else if bytes_eq name (codes "draft") then option_map Draft (draft_in rows)
+    else if bytes_eq name (codes "learn") then option_map Learn (learn_in rows)
     else if bytes_eq name (codes "lint") then option_map Lint (lint_in rows)
     else if bytes_eq name (codes "chart") then option_map Chart (chart_in rows)
     else if bytes_eq name (codes "explain") then Some (Explain (first_of (codes "NAME") rows))

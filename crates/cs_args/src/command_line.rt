@@ -6,13 +6,14 @@ ghost use Rattle.clap.specs.Words.{first_of, found_of, rows_of};
 ghost use Rattle.cs_args.specs.CommandLine.{are_dashes, has_flag, is_dash, is_dash_in, is_twice_standard, max_beside, minutes_of, number_of, value_or, values_in};
 ghost use Rattle.cs_args.specs.Asked.{CheckAsked, DayAsked, DayAskedUpTo, FaultOf, HelpAsked, NumberAsked, Parses, ReplayAsked, RequestAsked};
 ghost use Rattle.cs_args.specs.Asked.{AdviseAsked, JudgeAsked, MakeAsked, MaxAsked, MinutesAsked, RunAsked};
-ghost use Rattle.cs_args.specs.Asked.{ChartAsked, DraftAsked, GatherAsked, LintAsked};
-ghost use Rattle.cs_args.specs.CommandLine.{is_below_a_day, is_up_to_a_week};
+ghost use Rattle.cs_args.specs.Asked.{asked_status, asked_stop};
+ghost use Rattle.cs_args.specs.Asked.{ChartAsked, DraftAsked, GatherAsked, LearnAsked, LintAsked};
+ghost use Rattle.cs_args.specs.CommandLine.{is_below_a_day, is_up_to_a_week, status_in, stop_in};
 
 use crate::commands::{Subcommand, command};
 use crate::request::{
-    AdviseWords, ChartWords, CheckWords, DayWords, DraftWords, GatherWords, JudgeWords, LintWords,
-    MakeWords, ReplayWords, Request, RunWords, UsageFault,
+    AdviseWords, ChartWords, CheckWords, DayWords, DraftWords, GatherWords, JudgeWords, LearnWords,
+    LintWords, MakeWords, ReplayWords, Request, RunWords, StatusWords, StopWords, UsageFault,
 };
 use clap::error::ErrorKind;
 use clap::{ArgMatches, Error};
@@ -271,7 +272,28 @@ fn run_words<'a>(alloc: Global, given: &ArgMatches<'a>) -> Result<RunWords<'a>, 
         check,
         stamps: text_of(given, "STAMPS", ""),
         minutes,
+        log: value_of(given, "log"),
     })
+}
+
+/// What the entries of `stop` ask.
+fn stop_words<'a>(given: &ArgMatches<'a>) -> StopWords<'a>
+    ensures { asked_stop result ≡ stop_in (rows_of (found_of given.now)) }
+{
+    StopWords {
+        stamps: text_of(given, "STAMPS", ""),
+        now: has_flag(given, "now"),
+    }
+}
+
+/// What the entries of `status` ask.
+fn status_words<'a>(given: &ArgMatches<'a>) -> StatusWords<'a>
+    ensures { asked_status result ≡ status_in (rows_of (found_of given.now)) }
+{
+    StatusWords {
+        stamps: text_of(given, "STAMPS", ""),
+        json: has_flag(given, "json"),
+    }
 }
 
 /// What the entries of `judge` and `room` ask, and of `make` and `advise` the same of them.
@@ -377,6 +399,24 @@ fn draft_words<'a>(alloc: Global, given: &ArgMatches<'a>) -> Result<DraftWords<'
     })
 }
 
+/// What the entries of `learn` ask.
+fn learn_words<'a>(alloc: Global, given: &ArgMatches<'a>) -> Result<LearnWords<'a>, UsageFault>
+    ensures { LearnAsked (rows_of (found_of given.now)) result }
+{
+    let table = text_of(given, "TABLE", "");
+    let logs = values_of(alloc, given, "LOG")?;
+    let update = value_of(given, "update");
+    if dash_count(&[table, update.unwrap_or("")]) + dash_count(&logs) > 1 {
+        return Err(UsageFault::NoCall(twice_standard(alloc, Subcommand::Learn)?));
+    }
+    Ok(LearnWords {
+        table,
+        logs,
+        factor: text_of(given, "factor", "1.5"),
+        update,
+    })
+}
+
 /// What the entries of `lint` ask.
 fn lint_words<'a>(alloc: Global, given: &ArgMatches<'a>) -> Result<LintWords<'a>, UsageFault>
     ensures { LintAsked (rows_of (found_of given.now)) result }
@@ -384,13 +424,18 @@ fn lint_words<'a>(alloc: Global, given: &ArgMatches<'a>) -> Result<LintWords<'a>
     let table = text_of(given, "TABLE", "");
     let declarations = value_of(given, "DECLS");
     let anacrontab = value_of(given, "anacrontab");
-    if are_dashes(table, "", anacrontab, declarations) {
+    let zone = value_of(given, "zone");
+    if are_dashes(table, zone.unwrap_or(""), anacrontab, declarations) {
         return Err(UsageFault::NoCall(twice_standard(alloc, Subcommand::Lint)?));
     }
     Ok(LintWords {
         table,
         declarations,
         anacrontab,
+        zone,
+        only: values_of(alloc, given, "only")?,
+        except: values_of(alloc, given, "except")?,
+        faults_only: has_flag(given, "faults-only"),
     })
 }
 
@@ -532,6 +577,13 @@ fn draft_request<'a>(alloc: Global, given: &ArgMatches<'a>) -> Result<Request<'a
     Ok(Request::Draft(draft_words(alloc, given)?))
 }
 
+/// The request of the entries of `learn`.
+fn learn_request<'a>(alloc: Global, given: &ArgMatches<'a>) -> Result<Request<'a>, UsageFault>
+    ensures { RequestAsked (codes "learn") (rows_of (found_of given.now)) result }
+{
+    Ok(Request::Learn(learn_words(alloc, given)?))
+}
+
 /// The request of the entries of `lint`.
 fn lint_request<'a>(alloc: Global, given: &ArgMatches<'a>) -> Result<Request<'a>, UsageFault>
     ensures { RequestAsked (codes "lint") (rows_of (found_of given.now)) result }
@@ -572,12 +624,15 @@ fn asked_by<'a>(
         "replay" => replay_request(alloc, given),
         "check" => check_request(alloc, given),
         "run" => run_request(alloc, given),
+        "stop" => Ok(Request::Stop(stop_words(given))),
+        "status" => Ok(Request::Status(status_words(given))),
         "judge" => judge_request(alloc, given),
         "make" => make_request(alloc, given),
         "advise" => advise_request(alloc, given),
         "room" => room_request(alloc, given),
         "gather" => gather_request(alloc, given),
         "draft" => draft_request(alloc, given),
+        "learn" => learn_request(alloc, given),
         "lint" => lint_request(alloc, given),
         "chart" => chart_request(alloc, given),
         "help" => help_request(alloc, given),

@@ -3,9 +3,10 @@ ghost use Rattle.std.specs.Prelude.{◌≡◌, IfOk, false, is_some};
 ghost use Rattle.clap.specs.Words.{App, app_of, new_app, new_rule, rule_of, with_rule, with_subcommand};
 ghost use Rattle.cs_args.specs.CommandLine.{IsLocal, check_app, cronsafe_app, day_app, help_app, judge_and_check_app};
 ghost use Rattle.cs_args.specs.CommandLine.{advise_app, judge_app, make_app, plan_app, replay_app};
-ghost use Rattle.cs_args.specs.CommandLine.{room_app, run_app, with_certificate};
+ghost use Rattle.cs_args.specs.CommandLine.{room_app, run_app, status_app, stop_app, with_certificate};
 ghost use Rattle.cs_args.specs.CommandLine.{top_app, up_to_chart_app, up_to_gather_app, up_to_room_app};
 ghost use Rattle.cs_args.specs.CommandLine.{chart_app, draft_app, explain_app, gather_app, lint_app};
+ghost use Rattle.cs_args.specs.CommandLine.{learn_app, many_rule, with_names};
 ghost use Rattle.cs_args.specs.CommandLine.{up_to_explain_app, up_to_lint_app};
 ghost use Rattle.cs_args.specs.CommandLine.{is_planned_name, is_shown_name};
 ghost use Rattle.cs_args.specs.CommandLine.{flag_rule, is_subcommand, list_rule, option_rule, required_rule, with_hours, with_terms, with_words};
@@ -13,12 +14,15 @@ ghost use Rattle.cs_args.specs.CommandLine.{flag_rule, is_subcommand, list_rule,
 use crate::texts::{
     ABOUT, ADVISE_ABOUT, ADVISE_EXAMPLE, ANACRONTAB_HELP, CERTIFICATE_HELP, CHART_ABOUT,
     CHART_EXAMPLE, CHART_MAX_HELP, CHECK_ABOUT, CHECK_EXAMPLE, COMMAND_HELP, COMPACT_HELP,
-    DATE_HELP, DAY_ABOUT, DAY_EXAMPLE, DAYS_HELP, DECLARATIONS_HELP, DRAFT_ABOUT, DRAFT_EXAMPLE,
-    DRAFT_MAX_HELP, EXAMPLE, EXPLAIN_ABOUT, EXPLAIN_EXAMPLE, FROM_HELP, GATHER_ABOUT,
-    GATHER_EXAMPLE, HELP_ABOUT, JUDGE_ABOUT, JUDGE_EXAMPLE, JUDGE_HELP, LINT_ABOUT, LINT_EXAMPLE,
-    MAKE_ABOUT, MAKE_EXAMPLE, MAX_HELP, MINUTES_HELP, NAME_HELP, REPLAY_ABOUT, REPLAY_EXAMPLE,
-    REPLAY_MAX_HELP, ROOM_ABOUT, ROOM_EXAMPLE, ROOT_HELP, RUN_ABOUT, RUN_EXAMPLE, SCRIPT_HELP,
-    STAMPS_HELP, STORY_HELP, SYSTEM_HELP, TABLE_HELP, TO_HELP, UPDATE_HELP, USER_HELP, WITHIN_HELP,
+    DAEMON_STAMPS_HELP, DATE_HELP, DAY_ABOUT, DAY_EXAMPLE, DAYS_HELP, DECLARATIONS_HELP,
+    DRAFT_ABOUT, DRAFT_EXAMPLE, DRAFT_MAX_HELP, EXAMPLE, EXCEPT_HELP, EXPLAIN_ABOUT,
+    EXPLAIN_EXAMPLE, FACTOR_HELP, FAULTS_ONLY_HELP, FROM_HELP, GATHER_ABOUT, GATHER_EXAMPLE,
+    HELP_ABOUT, JUDGE_ABOUT, JUDGE_EXAMPLE, JUDGE_HELP, LEARN_ABOUT, LEARN_EXAMPLE, LINT_ABOUT,
+    LINT_EXAMPLE, LOG_HELP, MAKE_ABOUT, MAKE_EXAMPLE, MAX_HELP, MINUTES_HELP, NAME_HELP, NOW_HELP,
+    ONLY_HELP, REPLAY_ABOUT, REPLAY_EXAMPLE, REPLAY_MAX_HELP, ROOM_ABOUT, ROOM_EXAMPLE, ROOT_HELP,
+    RUN_ABOUT, RUN_EXAMPLE, RUN_LOG_HELP, SCRIPT_HELP, STAMPS_HELP, STATUS_ABOUT, STATUS_EXAMPLE,
+    STATUS_JSON_HELP, STOP_ABOUT, STOP_EXAMPLE, STORY_HELP, SYSTEM_HELP, TABLE_HELP, TO_HELP,
+    UPDATE_HELP, USER_HELP, WITHIN_HELP, ZONE_HELP,
 };
 use crate::version::version_text;
 use clap::error::ErrorKind;
@@ -44,12 +48,20 @@ fn option_arg<'a>(alloc: Global, name: &'a str, value: &'a str, help: &'a str) -
         .help(help)
 }
 
-/// An option with one value, `--NAME FILE`, which can be given more than once.
-fn list_arg<'a>(alloc: Global, name: &'a str, help: &'a str) -> Arg<'a>
+/// An option with one value, `--NAME VALUE`, which can be given more than once.
+fn list_arg<'a>(alloc: Global, name: &'a str, value: &'a str, help: &'a str) -> Arg<'a>
     ensures rule { rule_of result ≡ list_rule name.now }
     ensures local { result.global ≡ false }
 {
-    option_arg(alloc, name, "FILE", help).action(ArgAction::Append)
+    option_arg(alloc, name, value, help).action(ArgAction::Append)
+}
+
+/// An argument that stands without a name, and has to, once or more often.
+fn many_arg<'a>(alloc: Global, id: &'a str, help: &'a str) -> Arg<'a>
+    ensures rule { rule_of result ≡ many_rule id.now }
+    ensures local { result.global ≡ false }
+{
+    required_arg(alloc, id, help).action(ArgAction::Append)
 }
 
 /// An option with no value, `--NAME`.
@@ -143,7 +155,7 @@ fn with_list<'a>(
         → IfOk result (λ c. app_of c ≡ with_rule app (list_rule name.now)) }
     ensures local { IfOk command.entry IsLocal → IfOk result IsLocal }
 {
-    with_arg(command, list_arg(alloc, name, help))
+    with_arg(command, list_arg(alloc, name, "FILE", help))
 }
 
 /// A command with `TABLE DATE`.
@@ -237,7 +249,7 @@ fn check_command<'a>(alloc: Global) -> Result<Command<'a>, AllocError>
     with_option(alloc, command, "anacrontab", "FILE", ANACRONTAB_HELP)
 }
 
-/// `run TABLE DECLS CERT STAMPS [--anacrontab FILE] [--minutes N]`.
+/// `run TABLE DECLS CERT STAMPS [--anacrontab FILE] [--minutes N] [--log FILE]`.
 #[tactic(auto, unfolding(crate::specs::CommandLine::run_app))]
 fn run_command<'a>(alloc: Global) -> Result<Command<'a>, AllocError>
     ensures app { IfOk result (λ c. app_of c ≡ run_app) }
@@ -247,7 +259,30 @@ fn run_command<'a>(alloc: Global) -> Result<Command<'a>, AllocError>
     let command = with_certificate(alloc, command);
     let command = with_required(alloc, command, "STAMPS", STAMPS_HELP);
     let command = with_option(alloc, command, "anacrontab", "FILE", ANACRONTAB_HELP);
-    with_option(alloc, command, "minutes", "N", MINUTES_HELP)
+    let command = with_option(alloc, command, "minutes", "N", MINUTES_HELP);
+    with_option(alloc, command, "log", "FILE", RUN_LOG_HELP)
+}
+
+/// `stop STAMPS [--now]`.
+#[tactic(auto, unfolding(crate::specs::CommandLine::stop_app))]
+fn stop_command<'a>(alloc: Global) -> Result<Command<'a>, AllocError>
+    ensures app { IfOk result (λ c. app_of c ≡ stop_app) }
+    ensures local { IfOk result IsLocal }
+{
+    let command = described(alloc, "stop", STOP_ABOUT, STOP_EXAMPLE);
+    let command = with_required(alloc, command, "STAMPS", DAEMON_STAMPS_HELP);
+    with_arg(command, flag_arg(alloc, "now", NOW_HELP))
+}
+
+/// `status STAMPS [--json]`.
+#[tactic(auto, unfolding(crate::specs::CommandLine::status_app))]
+fn status_command<'a>(alloc: Global) -> Result<Command<'a>, AllocError>
+    ensures app { IfOk result (λ c. app_of c ≡ status_app) }
+    ensures local { IfOk result IsLocal }
+{
+    let command = described(alloc, "status", STATUS_ABOUT, STATUS_EXAMPLE);
+    let command = with_required(alloc, command, "STAMPS", DAEMON_STAMPS_HELP);
+    with_arg(command, flag_arg(alloc, "json", STATUS_JSON_HELP))
 }
 
 /// `NAME TABLE DECLS [--anacrontab FILE]`.
@@ -329,7 +364,35 @@ fn draft_command<'a>(alloc: Global) -> Result<Command<'a>, AllocError>
     with_option(alloc, command, "update", "OLD", UPDATE_HELP)
 }
 
-/// `lint TABLE [DECLS] [--anacrontab FILE]`.
+/// `learn TABLE LOG.. [--factor F] [--update OLD]`.
+#[tactic(auto, unfolding(crate::specs::CommandLine::learn_app))]
+fn learn_command<'a>(alloc: Global) -> Result<Command<'a>, AllocError>
+    ensures app { IfOk result (λ c. app_of c ≡ learn_app) }
+    ensures local { IfOk result IsLocal }
+{
+    let command = described(alloc, "learn", LEARN_ABOUT, LEARN_EXAMPLE);
+    let command = with_required(alloc, command, "TABLE", TABLE_HELP);
+    let command = with_arg(command, many_arg(alloc, "LOG", LOG_HELP));
+    let command = with_option(alloc, command, "factor", "F", FACTOR_HELP);
+    with_option(alloc, command, "update", "OLD", UPDATE_HELP)
+}
+
+/// A command with `[--only NAME].. [--except NAME].. [--faults-only]`.
+fn with_names<'a>(
+    alloc: Global,
+    command: Result<Command<'a>, AllocError>,
+) -> Result<Command<'a>, AllocError>
+    ensures app { (app : App) → IfOk command.entry (λ c. app_of c ≡ app)
+        → IfOk result (λ c. app_of c ≡ with_names app) }
+    ensures local { IfOk command.entry IsLocal → IfOk result IsLocal }
+{
+    let command = with_arg(command, list_arg(alloc, "only", "NAME", ONLY_HELP));
+    let command = with_arg(command, list_arg(alloc, "except", "NAME", EXCEPT_HELP));
+    with_arg(command, flag_arg(alloc, "faults-only", FAULTS_ONLY_HELP))
+}
+
+/// `lint TABLE [DECLS] [--anacrontab FILE] [--zone FILE] [--only NAME].. [--except NAME]..
+/// [--faults-only]`.
 #[tactic(auto, unfolding(crate::specs::CommandLine::lint_app))]
 fn lint_command<'a>(alloc: Global) -> Result<Command<'a>, AllocError>
     ensures app { IfOk result (λ c. app_of c ≡ lint_app) }
@@ -338,7 +401,9 @@ fn lint_command<'a>(alloc: Global) -> Result<Command<'a>, AllocError>
     let command = described(alloc, "lint", LINT_ABOUT, LINT_EXAMPLE);
     let command = with_required(alloc, command, "TABLE", TABLE_HELP);
     let command = with_optional(alloc, command, "DECLS", DECLARATIONS_HELP);
-    with_option(alloc, command, "anacrontab", "FILE", ANACRONTAB_HELP)
+    let command = with_option(alloc, command, "anacrontab", "FILE", ANACRONTAB_HELP);
+    let command = with_option(alloc, command, "zone", "FILE", ZONE_HELP);
+    with_names(alloc, command)
 }
 
 /// `chart TABLE DATE [MAX] [--anacrontab FILE] [--from M] [--to M] [--days N] [--declarations FILE]
@@ -424,21 +489,24 @@ fn up_to_room<'a>(alloc: Global) -> Result<Command<'a>, AllocError>
     with_subcommand(cronsafe, room_command(alloc))
 }
 
-/// And with `run` and `gather`.
+/// And with `run`, `stop`, `status` and `gather`.
 #[tactic(auto, unfolding(crate::specs::CommandLine::up_to_gather_app))]
 fn up_to_gather<'a>(alloc: Global) -> Result<Command<'a>, AllocError>
     ensures { IfOk result (λ c. app_of c ≡ up_to_gather_app) }
 {
     let cronsafe = with_subcommand(up_to_room(alloc), run_command(alloc));
+    let cronsafe = with_subcommand(cronsafe, stop_command(alloc));
+    let cronsafe = with_subcommand(cronsafe, status_command(alloc));
     with_subcommand(cronsafe, gather_command(alloc))
 }
 
-/// And with `draft` and `lint`.
+/// And with `draft`, `learn` and `lint`.
 #[tactic(auto, unfolding(crate::specs::CommandLine::up_to_lint_app))]
 fn up_to_lint<'a>(alloc: Global) -> Result<Command<'a>, AllocError>
     ensures { IfOk result (λ c. app_of c ≡ up_to_lint_app) }
 {
     let cronsafe = with_subcommand(up_to_gather(alloc), draft_command(alloc));
+    let cronsafe = with_subcommand(cronsafe, learn_command(alloc));
     with_subcommand(cronsafe, lint_command(alloc))
 }
 
@@ -483,25 +551,31 @@ pub(crate) enum Subcommand {
     Replay,
     Check,
     Run,
+    Stop,
+    Status,
     Judge,
     Make,
     Advise,
     Room,
     Gather,
     Draft,
+    Learn,
     Lint,
     Chart,
     Explain,
     Help,
 }
 
-/// The subcommand of a name, if it takes declarations and wants a verdict, advice or a run.
+/// The subcommand of a name, if it takes declarations and wants a verdict, advice or a run, or ends
+/// a run or asks what it does.
 fn planned_by(name: &str) -> Option<Subcommand>
     ensures { is_some result ≡ is_planned_name name.now }
 {
     match name {
         "check" => Some(Subcommand::Check),
         "run" => Some(Subcommand::Run),
+        "stop" => Some(Subcommand::Stop),
+        "status" => Some(Subcommand::Status),
         "judge" => Some(Subcommand::Judge),
         "make" => Some(Subcommand::Make),
         "advise" => Some(Subcommand::Advise),
@@ -517,6 +591,7 @@ fn shown_by(name: &str) -> Option<Subcommand>
     match name {
         "gather" => Some(Subcommand::Gather),
         "draft" => Some(Subcommand::Draft),
+        "learn" => Some(Subcommand::Learn),
         "lint" => Some(Subcommand::Lint),
         "chart" => Some(Subcommand::Chart),
         "explain" => Some(Subcommand::Explain),
@@ -544,12 +619,15 @@ impl Subcommand {
             Subcommand::Replay => "cronsafe replay",
             Subcommand::Check => "cronsafe check",
             Subcommand::Run => "cronsafe run",
+            Subcommand::Stop => "cronsafe stop",
+            Subcommand::Status => "cronsafe status",
             Subcommand::Judge => "cronsafe judge",
             Subcommand::Make => "cronsafe make",
             Subcommand::Advise => "cronsafe advise",
             Subcommand::Room => "cronsafe room",
             Subcommand::Gather => "cronsafe gather",
             Subcommand::Draft => "cronsafe draft",
+            Subcommand::Learn => "cronsafe learn",
             Subcommand::Lint => "cronsafe lint",
             Subcommand::Chart => "cronsafe chart",
             Subcommand::Explain => "cronsafe explain",
@@ -564,12 +642,15 @@ impl Subcommand {
             Subcommand::Replay => replay_command(alloc),
             Subcommand::Check => check_command(alloc),
             Subcommand::Run => run_command(alloc),
+            Subcommand::Stop => stop_command(alloc),
+            Subcommand::Status => status_command(alloc),
             Subcommand::Judge => judge_command(alloc),
             Subcommand::Make => make_command(alloc),
             Subcommand::Advise => advise_command(alloc),
             Subcommand::Room => room_command(alloc),
             Subcommand::Gather => gather_command(alloc),
             Subcommand::Draft => draft_command(alloc),
+            Subcommand::Learn => learn_command(alloc),
             Subcommand::Lint => lint_command(alloc),
             Subcommand::Chart => chart_command(alloc),
             Subcommand::Explain => explain_command(alloc),

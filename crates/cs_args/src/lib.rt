@@ -11,7 +11,7 @@ mod version;
 pub use command_line::parse_words;
 pub use question::{Question, WordFault};
 pub use request::{
-    AdviseWords, ChartWords, CheckWords, DayWords, DraftWords, GatherWords, JudgeWords, LintWords,
-    MakeWords, ReplayWords, Request, RunWords, UsageFault,
+    AdviseWords, ChartWords, CheckWords, DayWords, DraftWords, GatherWords, JudgeWords, LearnWords,
+    LintWords, MakeWords, ReplayWords, Request, RunWords, StatusWords, StopWords, UsageFault,
 };
 pub use version::version_text;

@@ -60,6 +60,27 @@ pub struct RunWords<'a> {
     pub stamps: &'a str,
     /// After how many minutes the clock stops; never where there is no number.
     pub minutes: Option<u64>,
+    /// The path of a file to whose end the log goes, or `-` for standard output; standard output
+    /// where there is none, and then without times.
+    pub log: Option<&'a str>,
+}
+
+/// What `stop` is asked.
+#[derive(Clone, Copy, Debug)]
+pub struct StopWords<'a> {
+    /// The path of the folder of stamps that the daemon uses.
+    pub stamps: &'a str,
+    /// Whether the daemon's end isn't waited for.
+    pub now: bool,
+}
+
+/// What `status` is asked.
+#[derive(Clone, Copy, Debug)]
+pub struct StatusWords<'a> {
+    /// The path of the folder of stamps that the daemon uses.
+    pub stamps: &'a str,
+    /// Whether the state is told as JSON, and not for people.
+    pub json: bool,
 }
 
 /// What `judge` is asked.
@@ -116,8 +137,21 @@ pub struct DraftWords<'a> {
     pub update: Option<&'a str>,
 }
 
+/// What `learn` is asked.
+#[derive(Debug, Drop)]
+pub struct LearnWords<'a> {
+    /// The path of a crontab.
+    pub table: &'a str,
+    /// The paths of logs, in order.
+    pub logs: Vec<&'a str>,
+    /// By how much a longest time is to be longer than the longest run, as it is written.
+    pub factor: &'a str,
+    /// The path of the declarations to update.
+    pub update: Option<&'a str>,
+}
+
 /// What `lint` is asked.
-#[derive(Clone, Copy, Debug)]
+#[derive(Debug, Drop)]
 pub struct LintWords<'a> {
     /// The path of a crontab.
     pub table: &'a str,
@@ -125,6 +159,14 @@ pub struct LintWords<'a> {
     pub declarations: Option<&'a str>,
     /// The path of an anacrontab.
     pub anacrontab: Option<&'a str>,
+    /// The path of a file of a time zone.
+    pub zone: Option<&'a str>,
+    /// The names of the findings to tell; all where there is none.
+    pub only: Vec<&'a str>,
+    /// The names of the findings to leave out.
+    pub except: Vec<&'a str>,
+    /// Whether only faults are told, and nothing that is odd.
+    pub faults_only: bool,
 }
 
 /// What `chart` is asked.
@@ -151,6 +193,10 @@ pub enum Request<'a> {
     Check(CheckWords<'a>),
     /// A run of checked tables on the machine's clock.
     Run(RunWords<'a>),
+    /// The end of a daemon.
+    Stop(StopWords<'a>),
+    /// What a daemon does.
+    Status(StatusWords<'a>),
     /// Whether a plan is safe, or a history that breaks it.
     Judge(JudgeWords<'a>),
     /// A certificate of a plan, or a history that breaks it.
@@ -163,6 +209,8 @@ pub enum Request<'a> {
     Gather(GatherWords<'a>),
     /// Declarations to begin from.
     Draft(DraftWords<'a>),
+    /// Declarations whose longest times are learned from logs.
+    Learn(LearnWords<'a>),
     /// All that is wrong or odd in files.
     Lint(LintWords<'a>),
     /// A picture of some days of the tables.

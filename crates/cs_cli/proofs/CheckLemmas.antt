@@ -13,7 +13,7 @@ use Rattle.clap.specs.Words.{Text}
 use Rattle.cs_files.specs.Response.{Ending}
 use Rattle.cs_files.specs.Trouble.{Trouble, ends, trouble_status}
 use Rattle.cs_io.specs.Files.{Failed}
-use Rattle.cs_files.specs.Trouble.{InAnacrontab, InCertificate, InCrontab, InDeclarations, InGathered, InScript, InWords, Unread}
+use Rattle.cs_files.specs.Trouble.{InAnacrontab, InCertificate, InCrontab, InDeclarations, InGathered, InScript, InWords, NoTimeZone, Unread}
 
 -- what was accepted is what was read
 pub are_read : (files : List ℕ → Option (List ℕ)) (a : AskedCheck) (tables : Table × JobTable) (before : Failed) (plan : Declared) (x : Content) (found : Result Checked Ending)
@@ -35,6 +35,7 @@ fails (InGathered path fault) = λ e. absurd (cc)
 fails (InDeclarations fault) = λ e. absurd (cc)
 fails (InScript fault) = λ e. absurd (cc)
 fails (InCertificate fault) = λ e. absurd (cc)
+fails (NoTimeZone path) = λ e. absurd (cc)
 
 pub fault_fails : (w : List ℕ) (o : Option Trouble) (r : Ending) → option_map (ends w) o ≡ Some r → r.status ≢ 0
 fault_fails w None r e = absurd (cc)

@@ -32,7 +32,7 @@ use Rattle.cs_args.specs.CommandLine.{AskedCheck, AskedJudge, AskedMake, AskedRu
 use Rattle.cs_io.specs.Files.{Failed}
 use Rattle.cs_files.specs.Reads.{AndThen, Gives, GivesSome, MeansTable, ReadsAs, ReadsDeclared, ReadsEntries, ReadsJobs, ReadsTables, behind, planned}
 use Rattle.cs_files.specs.Response.{Ending}
-use Rattle.cs_files.specs.Trouble.{InAnacrontab, InCertificate, InCrontab, InDeclarations, InGathered, InScript, InWords, Trouble, Unread, trouble_status}
+use Rattle.cs_files.specs.Trouble.{InAnacrontab, InCertificate, InCrontab, InDeclarations, InGathered, InScript, InWords, NoTimeZone, Trouble, Unread, trouble_status}
 use Rattle.cs_cli.specs.Answer.{IsOfOthers, IsOrder}
 use Rattle.cs_cli.specs.Check.{AnswersCheck, IsProofOf, verdict_text}
 use Rattle.cs_cli.specs.Judge.{AnswersJudge, AnswersMake, AnswersWanted, IsJudged, IsJudgedAt, JudgesPlan, outcome_status, wanted_of}
@@ -151,6 +151,7 @@ ordered_schedule files a before after order given certificate hold holds ordered
   own = ordered.own;
   stamps = ordered.stamps;
   minutes = ordered.minutes;
+  log = ordered.log;
 }
 
 pub ordered_checked : (files : List ℕ → Option (List ℕ)) (a : AskedRun) (before after : Failed) (order : Order)
@@ -213,6 +214,7 @@ troubled (InGathered path fault) three six = three refl
 troubled (InDeclarations fault) three six = three refl
 troubled (InScript fault) three six = three refl
 troubled (InCertificate fault) three six = three refl
+troubled (NoTimeZone path) three six = three refl
 
 answered_by : (wanted : Wanted) (files : List ℕ → Option (List ℕ)) (a : AskedJudge) (before after : Failed) (w : List ℕ) (both : Table × JobTable) (given : Given) (r : Result Ending Trouble)
     → Hold files a.table a.anacrontab a.declarations given → ReadsTables files a.table a.anacrontab before before (Ok both)

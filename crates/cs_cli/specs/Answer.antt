@@ -1,28 +1,34 @@
--- What a call comes to: an answer that ends it, or an order to run tables.
-use Rattle.std.specs.Prelude.{◌≡◌, ◌≢◌, ◌⊎◌, ℕ, Bool, true, false, List, [], ◌++◌, Option, codes, ⊤}
+-- What a call comes to: an answer that ends it, an order to run tables, or words to stop a daemon or
+-- to tell what it does.
+use Rattle.std.specs.Prelude.{◌≡◌, ◌≢◌, ◌⊎◌, ℕ, Bool, true, false, List, [], ◌++◌, Option, codes, option_map, ⊤}
 use Rattle.cs_gather.specs.Gather.{is_gathered}
 use Rattle.cs_report.specs.Warning.{plan_notes}
 use Rattle.cs_check.specs.declared.checked.Checked.{Checked}
 use Rattle.cs_decl.specs.Plan.{as_plan}
 use Rattle.cs_check.specs.Checked.{IsHeadline, plan_in}
+use Rattle.cs_args.specs.Asked.{asked_check}
 use Rattle.cs_args.specs.CommandLine.{AskedRun}
 use Rattle.cs_io.specs.Files.{Failed}
 use Rattle.cs_cli.specs.Check.{AnswersCheck, IsProofOf, safe_text}
 use Rattle.cs_cli.specs.Safe.{IsAcceptance}
 use Rattle.cs_files.specs.Response.{Ending, complaint, done}
 use Rattle.cs_cli.specs.declared.answer.Answer.{Answer}
-use Rattle.cs_cli.specs.declared.answer.Answer.TheVariants.{Ends, Runs}
+use Rattle.cs_cli.specs.declared.answer.Answer.TheVariants.{Ends, Runs, Stops, Tells}
 use Rattle.cs_cli.specs.declared.answer.Order.{Order}
 
 -- it ends, and this holds of how
 abbrev pub EndsAs : (Ending → Type 0) → Answer → Type 0
 EndsAs P (Ends ending) = P ending
 EndsAs P (Runs order) = ⊥
+EndsAs P (Stops words) = ⊥
+EndsAs P (Tells words) = ⊥
 
 -- where it ends, this holds of how
 abbrev pub IfEnds : (Ending → Type 0) → Answer → Type 0
 IfEnds P (Ends ending) = P ending
 IfEnds P (Runs order) = ⊤
+IfEnds P (Stops words) = ⊤
+IfEnds P (Tells words) = ⊤
 
 -- the crontab of what was checked was gathered
 abbrev pub is_of_gathered : Checked → Bool
@@ -30,15 +36,17 @@ is_of_gathered checked = is_gathered (plan_in checked).crontab.settings
 
 -- `check` would answer `safe` and the same warnings and notes, and what is to be run is the plan and
 -- the certificate that the files denote, of which every legal history in time is safe, with the
--- stamps and the minutes that were asked
+-- files, the stamps, the minutes and the log that were asked
 pub record IsOrder (a : AskedRun) (files : List ℕ → Option (List ℕ)) (before failed : Failed)
     (order : Order) : Type 0 where
   pub safe : AnswersCheck a.check files before failed (done safe_text order.warnings)
   pub proof : IsProofOf files a.check before order.checked
   pub headline : IsHeadline (as_plan (plan_in order.checked))
   pub own : is_of_gathered order.checked ≡ false
+  pub named : asked_check order.files ≡ a.check
   pub stamps : order.stamps.now ≡ a.stamps
   pub minutes : order.minutes ≡ a.minutes
+  pub log : option_map (λ path. path.now) order.log ≡ a.log
 
 -- the fault of a crontab that was gathered: `run` starts each command as its own user
 abbrev pub gathered_fault : List ℕ
@@ -63,3 +71,5 @@ AnswersRun a files before failed (Ends ending) =
     (AnswersCheck a.check files before failed ending × (ending.status ≢ 0))
     ⊎ IsOfOthers a files before failed ending
 AnswersRun a files before failed (Runs order) = IsOrder a files before failed order
+AnswersRun a files before failed (Stops words) = ⊥
+AnswersRun a files before failed (Tells words) = ⊥

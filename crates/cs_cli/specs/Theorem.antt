@@ -1,5 +1,5 @@
 -- What the words of `check`, `judge`, `make` and `run` say of the bytes of their files.
-use Rattle.std.specs.Prelude.{◌≡◌, ◌⊎◌, ℕ, true, false, List, [], ◌∷◌, ◌++◌, Option, Some, None, Ok, ⊤}
+use Rattle.std.specs.Prelude.{◌≡◌, ◌⊎◌, ℕ, true, false, List, [], ◌∷◌, ◌++◌, Option, option_map, Some, None, Ok, ⊤}
 use Rattle.clap.specs.Words.{Text}
 use Rattle.cs_crontab.specs.Crontab.{Table}
 use Rattle.cs_crontab.specs.Faults.{Means}
@@ -91,7 +91,7 @@ pub record IsCalmSchedule (given : Given) (certificate : List ℕ) : Type 0 wher
   pub calm : IsCalmPlan schedule.plan schedule.content
 
 -- an order to run is of such a plan and certificate, of a crontab that wasn't gathered, with the
--- folder and the minutes that were asked
+-- folder, the minutes and the log that were asked
 pub record IsOrdered (given : Given) (certificate : List ℕ) (a : AskedRun) (order : Order) : Type 0
   where
     pub schedule : IsSafeSchedule given certificate
@@ -100,6 +100,7 @@ pub record IsOrdered (given : Given) (certificate : List ℕ) (a : AskedRun) (or
     pub own : is_gathered schedule.plan.crontab.settings ≡ false
     pub stamps : order.stamps.now ≡ a.stamps
     pub minutes : order.minutes ≡ a.minutes
+    pub log : option_map (λ path. path.now) order.log ≡ a.log
 
 -- the crontab of such a plan was gathered, which is told on standard error alone
 pub record IsGatheredSchedule (given : Given) (certificate : List ℕ) (ending : Ending) : Type 0

@@ -2,6 +2,7 @@
 ghost use Rattle.std.specs.Prelude.{◌≡◌, ◌++◌, [], IfOk, codes};
 ghost use Rattle.cs_files.specs.Response.{complaint};
 
+use cs_args::{CheckWords, StatusWords, StopWords};
 use cs_check::Checked;
 use cs_civil::Bytes;
 use cs_files::{Response, Status};
@@ -14,6 +15,10 @@ pub enum Answer<'a> {
     Ends(Response),
     /// Tables are to be run so.
     Runs(Order<'a>),
+    /// A daemon is to be stopped so.
+    Stops(StopWords<'a>),
+    /// It is to be told what a daemon does.
+    Tells(StatusWords<'a>),
 }
 
 /// What is to be run, and how.
@@ -23,24 +28,29 @@ pub struct Order<'a> {
     pub checked: Checked,
     /// What is to be warned of, and behind it the notes on the plan.
     pub warnings: Bytes,
+    /// The paths of the files that say what is to be run.
+    pub files: CheckWords<'a>,
     /// The path of a folder of stamps.
     pub stamps: &'a str,
     /// After how many minutes the clock stops; never where there is no number.
     pub minutes: Option<u64>,
+    /// The path of a file to whose end the log goes, or `-` for standard output; standard output
+    /// where there is none, and then without times.
+    pub log: Option<&'a str>,
 }
 
 impl Order<'_> {
-    /// What is answered where the path of the stamps names no folder. The only error is want of
-    /// memory.
-    pub fn without_folder(&self, alloc: Global) -> Result<Response, AllocError>
+    /// What is answered where what is at this path can't be used, such as the folder of the stamps:
+    /// why, in front of the path. The only error is want of memory.
+    pub fn without(&self, alloc: Global, why: &str, path: &str) -> Result<Response, AllocError>
         ensures { IfOk result (λ r. r ≡ record {
           status = 6;
           out = [];
-          err = self.now.warnings ++ complaint (codes "no folder " ++ self.now.stamps.now);
+          err = self.now.warnings ++ complaint (why.now ++ path.now);
         }) }
     {
-        let mut fault = Vec::from_slice(alloc, b"no folder ".as_slice())?;
-        fault.extend_from_slice(self.stamps.as_bytes())?;
+        let mut fault = Vec::from_slice(alloc, why.as_bytes())?;
+        fault.extend_from_slice(path.as_bytes())?;
         Response::fault(
             alloc,
             Status::DeviceFailed,

@@ -33,8 +33,9 @@ fn refuse_gathered(alloc: Global, warnings: Bytes) -> Result<Response, RanOut>
     }
 }
 
-/// Answers `run TABLE DECLS CERT STAMPS [--anacrontab FILE] [--minutes N]`: like `check` where that
-/// doesn't answer `safe`, else with what to run, but with a fault where the crontab was gathered.
+/// Answers `run TABLE DECLS CERT STAMPS [--anacrontab FILE] [--minutes N] [--log FILE]`: like `check`
+/// where that doesn't answer `safe`, else with what to run, but with a fault where the crontab was
+/// gathered.
 /// The only error is want of memory.
 pub fn answer_run<'a, R: Threads + Sync, I: Inputs>(
     rt: &R,
@@ -63,8 +64,10 @@ pub fn answer_run<'a, R: Threads + Sync, I: Inputs>(
             Ok(Answer::Runs(Order {
                 checked,
                 warnings,
+                files: request.check,
                 stamps: request.stamps,
                 minutes: request.minutes,
+                log: request.log,
             }))
         }
         Examined::Ended(answer) => Ok(Answer::Ends(answer)),

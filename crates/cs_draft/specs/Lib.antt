@@ -3,6 +3,7 @@ pub mod Shell
 pub mod Named
 pub mod Fronts
 pub mod Paths
+pub mod Subshell
 pub mod Locks
 pub mod Durations
 pub mod Timeouts

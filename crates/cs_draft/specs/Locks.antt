@@ -1,7 +1,9 @@
--- Which lock a command takes by flock(1), as util-linux has it: `flock [options] file command`.
+-- Which lock a command takes by flock(1), as util-linux has it: `flock [options] file command`, or
+-- `flock [options] number` in a subshell.
 use Rattle.std.specs.Prelude.{ℕ, zero, suc, List, [], ◌∷◌, ◌++◌, length, map, codes, bytes_eq, Option, None, Some, is_some, option_map, Bool, true, false, not, ◌&&◌, ◌||◌, ◌==◌, if◌then◌else◌}
-use Rattle.std.specs.List.{before_first, count_by, ends_with, filter_map, fold, list_all, list_any, slice_split}
+use Rattle.std.specs.List.{before_first, count_by, ends_with, filter_map, find, fold, list_all, list_any, slice_split}
 use Rattle.std.specs.Str.{is_utf8}
+use Rattle.cs_table.specs.SettingReading.{◌>>=◌}
 use Rattle.cs_table.specs.Text.{after, begins_with, is_blank, is_digit, is_nothing}
 use Rattle.cs_history.specs.declared.mode.Mode.{Mode}
 use Rattle.cs_history.specs.declared.mode.Mode.TheVariants as modes
@@ -10,6 +12,7 @@ use Rattle.cs_draft.specs.Fronts.{behind_fronts, behind_word, first_word, passed
 use Rattle.cs_draft.specs.Named.{locks_in}
 use Rattle.cs_draft.specs.Paths.{is_direct, real_path}
 use Rattle.cs_draft.specs.Shell.{has_lone_ampersand, is_of, is_one_program, shell_text}
+use Rattle.cs_draft.specs.Subshell.{behind_body, digit_of, is_for_all, is_kept, opened}
 use Rattle.cs_draft.specs.declared.flock.Flag.{Flag}
 use Rattle.cs_draft.specs.declared.flock.Flag.TheVariants.{Shared, Exclusive, AtOnce, Unseen}
 
@@ -35,9 +38,7 @@ flag_of option =
     else if is_among (codes "-n" ∷ codes "--nb" ∷ codes "--nonblock" ∷ codes "--nonblocking" ∷ [])
     option
     then Some AtOnce
-    else if is_among
-    (codes "-o" ∷ codes "--close" ∷ codes "-F" ∷ codes "--no-fork" ∷ codes "--verbose" ∷ [])
-    option
+    else if is_among (codes "-o" ∷ codes "--close" ∷ codes "--verbose" ∷ []) option
     then Some Unseen
     else None
 
@@ -209,9 +210,77 @@ is_whole text = is_one_program (shell_text text) && not (may_run_on text)
 unfoldable pub flock_lock : List ℕ → Option (List ℕ × Mode)
 flock_lock text = if is_whole text then words_lock (after is_blank (before_percent text)) else None
 
--- .. or where another program that locks files is named in it
+-- ---- the lock of a subshell
+
+-- the mode that options ask for
+abbrev pub mode_by : List (List ℕ) → Option Mode
+mode_by options =
+    if are_known options then mode_of (shared_by false options) (at_once_by false options) else None
+
+-- the same of those at the front, and what is behind them
+abbrev pub asked_by : List ℕ → Option (Mode × List ℕ)
+asked_by text = option_map (λ mode. (mode, behind_options text)) (mode_by (options_of text))
+
+abbrev pub gives_up : Mode → Bool
+gives_up modes.Plain = false
+gives_up modes.Skip = false
+gives_up modes.Try = true
+gives_up modes.Wait = false
+gives_up modes.Shared = false
+
+-- the digit of a descriptor and the mode of its lock, where nothing else is run without that
+abbrev pub locked_by : Mode × List ℕ → Option (ℕ × Mode)
+locked_by asked =
+    if is_for_all (gives_up asked.0) (first_word asked.1) (behind_word asked.1)
+    then option_map (λ digit. (digit, asked.0)) (digit_of (first_word asked.1))
+    else None
+
+-- the same of a text that begins with `flock`, or a path to it
+unfoldable pub descriptor_lock : List ℕ → Option (ℕ × Mode)
+descriptor_lock text =
+    if is_flock (first_word text) && is_path (first_word text)
+    then asked_by (behind_word text) >>= locked_by
+    else None
+
+-- the word opens a file whose name stands for itself, or turns output to where other output goes
+unfoldable pub redirects : List ℕ → Bool
+redirects word = is_among ([] ∷ codes "2>&1" ∷ codes "1>&2" ∷ codes ">&2" ∷ []) word
+    || (not (is_nothing (opened word)) && not (is_shell_word (opened word)))
+
+abbrev pub file_opened : List ℕ → Option (List ℕ)
+file_opened word = if is_file (opened word) then Some (opened word) else None
+
+-- the file of the descriptor, of which one word tells among redirections
+unfoldable pub file_behind : ℕ → List ℕ → Option (List ℕ)
+file_behind digit text =
+    if list_all redirects (slice_split is_blank text)
+    && count_by (begins_with digit) (slice_split is_blank text) == 1
+    then find (begins_with digit) (slice_split is_blank text) >>= file_opened
+    else None
+
+-- the lock of what is behind the `(` of a subshell
+unfoldable pub inner_lock : List ℕ → Option (List ℕ × Mode)
+inner_lock text = do
+  lock ← descriptor_lock text
+  behind ← behind_body lock.0 None 32 text
+  file ← file_behind lock.0 behind
+  Some (file, lock.1)
+
+-- The lock that a subshell holds to its end: flock(1) takes that of a descriptor, which is opened
+-- for the whole subshell.
+unfoldable pub subshell_lock : List ℕ → Option (List ℕ × Mode)
+subshell_lock [] = None
+subshell_lock (byte ∷ text) =
+    if byte == 40 && is_kept text then inner_lock (after is_blank text) else None
+
+-- ---- the lock of a command
+
+-- the one lock of a text in which no other program that locks files is named
 unfoldable pub text_lock : List ℕ → Option (List ℕ × Mode)
-text_lock text = if locks_in text == 1 then flock_lock text else None
+text_lock text =
+    if not (locks_in text == 1) then None
+    else if begins_with 40 text then subshell_lock text
+    else flock_lock text
 
 -- The file whose lock the command takes, and the mode; none where it takes no lock, or one that
 -- isn't of the whole command, or that no mode is like.

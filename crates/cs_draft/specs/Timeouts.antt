@@ -103,7 +103,11 @@ limit_in text =
     if is_held text then declarable (found_in behind_carrier limit_by (length text) None text)
     else None
 
--- The longest time of a run in minutes: the asked one, unless timeout(1) limits all of the command
--- that is behind guards. Of several calls of it the least counts.
+-- The limit in minutes that timeout(1) sets to all of the command that is behind guards. Of several
+-- calls of it the least counts.
+abbrev pub time_limit : List ℕ → Option ℕ
+time_limit command = limit_in (behind_guards command)
+
+-- the longest time of a run in minutes: the asked one, unless there is such a limit
 abbrev pub asked_for : ℕ → List ℕ → ℕ
-asked_for asked command = unwrap_or (limit_in (behind_guards command)) asked
+asked_for asked command = unwrap_or (time_limit command) asked

@@ -3,7 +3,7 @@ ghost use Rattle.std.specs.Prelude.{◌≡◌, ◌∷◌, [], ◌&&◌, ◌==◌
 ghost use Rattle.std.specs.List.{list_any};
 ghost use Rattle.cs_json.specs.Shape.{is_among};
 ghost use Rattle.cs_table.specs.Text.{after, begins_with, is_digit};
-ghost use Rattle.cs_draft.specs.Locks.{and_at_once, and_shared, are_known, at_once_by};
+ghost use Rattle.cs_draft.specs.Locks.{and_at_once, and_shared, are_known, asked_by, at_once_by};
 ghost use Rattle.cs_draft.specs.Locks.{begins_among, behind_option, behind_options, call_lock};
 ghost use Rattle.cs_draft.specs.Locks.{flag_of, has_no_wait, has_word, is_command, is_file};
 ghost use Rattle.cs_draft.specs.Locks.{is_flock, is_no_wait, is_option, is_path, is_shell_byte};
@@ -40,6 +40,7 @@ fn reason_of(option: &[u8]) -> Unlocked {
     match option {
         b"-w" => Unlocked::Timed,
         b"-E" => Unlocked::OwnStatus,
+        b"-F" | b"--no-fork" => Unlocked::HandedOn,
         b"-u" | b"--unlock" => Unlocked::Unlocking,
         b"-h" | b"-V" | b"--help" | b"--version" => Unlocked::Telling,
         _ if is_valued(option, b"--wait") || is_valued(option, b"--timeout") => Unlocked::Timed,
@@ -68,11 +69,10 @@ fn is_at_once(option: &[u8]) -> bool
 }
 
 fn is_unseen(option: &[u8]) -> bool
-    ensures { result ≡ is_among (codes "-o" ∷ codes "--close" ∷ codes "-F" ∷ codes "--no-fork"
-        ∷ codes "--verbose" ∷ []) option.now }
+    ensures { result ≡ is_among (codes "-o" ∷ codes "--close" ∷ codes "--verbose" ∷ []) option.now }
 {
     match option {
-        b"-o" | b"--close" | b"-F" | b"--no-fork" | b"--verbose" => true,
+        b"-o" | b"--close" | b"--verbose" => true,
         _ => false,
     }
 }
@@ -315,6 +315,17 @@ fn options(text: &[u8]) -> (Asked, &[u8])
     (asked, without_mark(rest))
 }
 
+/// The mode that the options at the front ask for, and what stands behind them and their mark.
+pub(crate) fn asked_mode(text: &[u8]) -> Option<(Mode, &[u8])>
+    ensures { option_map (λ asked. (asked.0, asked.1.now)) result ≡ asked_by text.now }
+{
+    let (asked, behind) = options(text);
+    match asked.mode() {
+        Ok(mode) => Some((mode, behind)),
+        Err(_) => None,
+    }
+}
+
 /// What stands behind a call of flock(1) whose options are known.
 #[tactic(auto, unfolding(crate::specs::Timeouts::behind_flock))]
 pub(crate) fn behind_flock(rest: &[u8]) -> Option<&[u8]>
@@ -356,7 +367,7 @@ fn has_shell_byte(word: &[u8]) -> bool
 /// Whether the word doesn't stand for itself in a shell: it holds such a byte, or begins with `~`
 /// or `#`.
 #[tactic(auto, unfolding(crate::specs::Locks::is_shell_word))]
-fn is_shell_word(word: &[u8]) -> bool
+pub(crate) fn is_shell_word(word: &[u8]) -> bool
     ensures { result ≡ is_shell_word word.now }
 {
     begins_shell_word(word) || has_shell_byte(word)
@@ -371,7 +382,7 @@ fn has_equals_sign(word: &[u8]) -> bool
 /// Whether a shell takes the word as the path of a program: it stands for itself, and is no
 /// assignment.
 #[tactic(auto, unfolding(crate::specs::Locks::is_path))]
-fn is_path(word: &[u8]) -> bool
+pub(crate) fn is_path(word: &[u8]) -> bool
     ensures { result ≡ is_path word.now }
 {
     !is_shell_word(word) && !has_equals_sign(word)
@@ -402,7 +413,7 @@ fn reason_of_word(word: &[u8]) -> Unlocked {
 
 /// The path of the file that the word stands for.
 #[tactic(auto, unfolding(crate::specs::Locks::is_file))]
-fn file_path(word: &[u8]) -> Result<&str, Unlocked>
+pub(crate) fn file_path(word: &[u8]) -> Result<&str, Unlocked>
     ensures { MatchResult result (λ file. (file.now ≡ word.now) × (is_file word.now ≡ true))
         (λ e. is_file word.now ≡ false) }
 {

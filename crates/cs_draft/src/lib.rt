@@ -24,6 +24,7 @@ mod parts;
 mod paths;
 mod sheet;
 mod shell;
+mod subshell;
 mod terms;
 mod timeouts;
 mod times;
@@ -34,3 +35,4 @@ mod warned;
 
 pub use draft::{Draft, Drawing, draw_up, update};
 pub use lock::{Lock, lock_of};
+pub use timeouts::{asked_for, time_limit};

@@ -1,8 +1,8 @@
 //! The lock that a command of a crontab takes.
-ghost use Rattle.std.specs.Prelude.{◌≡◌, ◌==◌, IfOk, MatchResult, None, Some, false, position, true};
+ghost use Rattle.std.specs.Prelude.{◌≡◌, ◌≢◌, ◌==◌, ◌⊎◌, IfOk, MatchResult, None, Some, false, position, true};
 ghost use Rattle.std.specs.List.{count_by, slice_split};
 ghost use Rattle.cs_table.specs.Text.{begins_with, is_blank};
-ghost use Rattle.cs_draft.specs.Locks.{before_percent, flock_lock, hand_text, hands_text, is_whole, may_run_on, text_lock};
+ghost use Rattle.cs_draft.specs.Locks.{before_percent, flock_lock, hand_text, hands_text, is_whole, may_run_on, subshell_lock, text_lock};
 ghost use Rattle.cs_draft.specs.Locking.{IsLock};
 ghost use Rattle.cs_draft.specs.Named.{locks_in};
 ghost use Rattle.cs_draft.specs.Shell.{is_one_program, shell_text};
@@ -12,6 +12,7 @@ use crate::fronts::behind_fronts;
 use crate::named::{locks_in, names_lock};
 use crate::paths::real_path;
 use crate::shell::{has_lone_ampersand, one_program};
+use crate::subshell::subshell_lock;
 use crate::unlocked::Unlocked;
 use cs_civil::Bytes;
 use cs_crontab::command_parts;
@@ -139,8 +140,29 @@ fn has_one_lock(text: &[u8]) -> bool
     locks_in(text) == 1
 }
 
-/// The lock of such a text in which no other program that locks files is named. The only error is
-/// want of memory.
+fn begins_with_parenthesis(text: &[u8]) -> bool
+    ensures { result ≡ begins_with 40 text.now }
+{
+    match text {
+        [b'(', ..] => true,
+        _ => false,
+    }
+}
+
+/// The one lock of a text that begins with a subshell.
+fn one_subshell_lock(text: &[u8]) -> Result<(&str, Mode), Unlocked>
+    ensures { MatchResult result
+        (λ lock. (locks_in text.now ≡ 1) × (subshell_lock text.now ≡ Some (lock.0.now, lock.1)))
+        (λ e. (locks_in text.now ≢ 1) ⊎ (subshell_lock text.now ≡ None)) }
+{
+    match subshell_lock(text) {
+        Some(lock) if has_one_lock(text) => Ok(lock),
+        _ => Err(Unlocked::Unread),
+    }
+}
+
+/// The lock of a text in which no other program that locks files is named; or why there is none. The
+/// only error is want of memory.
 #[tactic(auto, unfolding(crate::specs::Locks::text_lock))]
 fn text_lock<'a>(
     alloc: Global,
@@ -150,6 +172,9 @@ fn text_lock<'a>(
         (λ lock. text_lock text.now ≡ Some (lock.0.now, lock.1))
         (λ e. text_lock text.now ≡ None)) }
 {
+    if begins_with_parenthesis(text) {
+        return Ok(one_subshell_lock(text));
+    }
     match flock_lock(alloc, text)? {
         Ok(lock) if has_one_lock(text) => Ok(Ok(lock)),
         Ok(_) => Ok(Err(Unlocked::Two)),

@@ -1,7 +1,7 @@
 //! Whether a shell that is given a text runs one program, waits for its end, and does nothing
 //! besides (sh(1)).
-ghost use Rattle.std.specs.Prelude.{◌≡◌, MatchResult, false, not, option_map, true};
-ghost use Rattle.std.specs.List.{find};
+ghost use Rattle.std.specs.Prelude.{◌≡◌, ◌==◌, MatchResult, false, not, option_map, true};
+ghost use Rattle.std.specs.List.{find, list_any};
 ghost use Rattle.cs_table.specs.Text.{begins_with};
 ghost use Rattle.cs_draft.specs.Shell.{are_plain, has_lone_ampersand, is_closing, is_harmless, is_inner, is_name_byte, is_one_program, is_plain, is_variable, quote_behind};
 
@@ -9,7 +9,7 @@ use crate::unlocked::Unlocked;
 
 /// The quote that is open behind a byte, where this one or none is open before it.
 #[tactic(auto, unfolding(crate::specs::Shell::quote_behind))]
-fn quote_behind(quote: Option<u8>, byte: u8) -> Option<u8>
+pub(crate) fn quote_behind(quote: Option<u8>, byte: u8) -> Option<u8>
     ensures { result ≡ quote_behind quote byte }
 {
     match quote {
@@ -130,6 +130,13 @@ pub(crate) fn is_one_program(text: &[u8]) -> bool
         Ok(()) => true,
         Err(_) => false,
     }
+}
+
+/// Whether a `%` stands in the text, which crontabs and anacrontabs take for different things.
+pub(crate) fn has_percent(text: &[u8]) -> bool
+    ensures { result ≡ list_any (λ b. b == 37) text.now }
+{
+    text.contains(&b'%')
 }
 
 fn begins_with_ampersand(text: &[u8]) -> bool

@@ -1,12 +1,12 @@
 //! How long a command may run at most, as timeout(1) ends it.
-ghost use Rattle.std.specs.Prelude.{◌≡◌, ◌==◌, ◌∷◌, [], None, Some, codes, length, option_map};
+ghost use Rattle.std.specs.Prelude.{◌≡◌, ◌∷◌, [], None, Some, codes, length, option_map};
 ghost use Rattle.cs_json.specs.Shape.{is_among};
-ghost use Rattle.std.specs.List.{count_by, list_any, slice_split};
+ghost use Rattle.std.specs.List.{count_by, slice_split};
 ghost use Rattle.cs_draft.specs.Named.{is_called, is_parting};
 ghost use Rattle.cs_draft.specs.Fronts.{behind_option};
 ghost use Rattle.cs_draft.specs.Timeouts.{asked_for, behind_carrier, declarable, found_in};
 ghost use Rattle.cs_draft.specs.Timeouts.{is_held, kill_by, kill_of, lesser, limit_by, limit_for};
-ghost use Rattle.cs_draft.specs.Timeouts.{limit_in, limit_of, names_setsid};
+ghost use Rattle.cs_draft.specs.Timeouts.{limit_in, limit_of, names_setsid, time_limit};
 ghost use Rattle.cs_draft.specs.declared.fronts.Runner.TheVariants.{Timeout};
 
 use crate::durations::seconds_of;
@@ -17,7 +17,7 @@ use crate::fronts::{
 };
 use crate::lock::may_run_on;
 use crate::named::{is_called, is_parting};
-use crate::shell::is_one_program;
+use crate::shell::{has_percent, is_one_program};
 use cs_decl::MAX_MINUTES;
 
 // ---- one call of timeout(1)
@@ -169,12 +169,6 @@ fn names_setsid(text: &[u8]) -> bool
     setsids_in(text) != 0
 }
 
-fn has_percent(text: &[u8]) -> bool
-    ensures { result ≡ list_any (λ b. b == 37) text.now }
-{
-    text.contains(&b'%')
-}
-
 /// Whether the shell runs one program for the text, and waits for the end of all that this runs.
 #[tactic(auto, unfolding(crate::specs::Timeouts::is_held))]
 fn is_held(text: &[u8]) -> bool
@@ -205,10 +199,17 @@ fn limit_in(text: &[u8]) -> Option<u64>
     }
 }
 
-/// The longest time of a run in minutes: the asked one, unless timeout(1) limits all of the command
-/// that stands behind guards.
-pub(crate) fn asked_for(asked: u64, command: &[u8]) -> u64
+/// Returns the limit in minutes, at most 4,320, that timeout(1) sets to all of the command that
+/// stands behind guards: the least one of several. `None` where it sets none that can be declared.
+pub fn time_limit(command: &[u8]) -> Option<u64>
+    ensures { result ≡ time_limit command.now }
+{
+    limit_in(behind_guards(command))
+}
+
+/// The longest time of a run in minutes: the asked one, unless timeout(1) sets a limit.
+pub fn asked_for(asked: u64, command: &[u8]) -> u64
     ensures { result ≡ asked_for asked command.now }
 {
-    limit_in(behind_guards(command)).unwrap_or(asked)
+    time_limit(command).unwrap_or(asked)
 }

@@ -5,6 +5,8 @@ pub enum Unlocked {
     Timed,
     /// The option `-E`: no mode has an exit status of its own.
     OwnStatus,
+    /// The option `-F`: the command itself holds the lock, for as long as it doesn't close it.
+    HandedOn,
     /// The option `-u`: the lock is given back.
     Unlocking,
     /// The options `-h` and `-V`, with which no command is run.
@@ -49,6 +51,7 @@ impl Unlocked {
         match self {
             Unlocked::Timed => "no mode has a time limit, as flock -w has",
             Unlocked::OwnStatus => "no mode sets the exit status, as flock -E does",
+            Unlocked::HandedOn => "flock -F leaves the lock to the command, which may close it",
             Unlocked::Unlocking => "flock -u releases a lock",
             Unlocked::Telling => "flock -h and flock -V run no command",
             Unlocked::UnknownOption => "its flock has an unknown option",

@@ -41,11 +41,12 @@ fn guess_among(alloc: Global, sought: &str, kind: Kind, first: Guess) -> Result<
     Ok(guess)
 }
 
-/// The name that at most 3 edits lead to from this one, each of which puts, takes or changes a
-/// letter: of several the one with the fewest, of those the first in the order of
-/// [`names`](crate::names). None where there is none, or the name is longer than 40 bytes. Capital
-/// and small letters are alike. The only error is want of memory.
-pub fn nearest(alloc: Global, name: &str) -> Result<Option<&'static str>, AllocError> {
+/// The name of one of these kinds that is nearest, as [`nearest`] has it.
+fn nearest_of(
+    alloc: Global,
+    name: &str,
+    kinds: &[Kind],
+) -> Result<Option<&'static str>, AllocError> {
     if name.len() > LONGEST_NAME {
         return Ok(None);
     }
@@ -54,8 +55,21 @@ pub fn nearest(alloc: Global, name: &str) -> Result<Option<&'static str>, AllocE
         edits: MOST_EDITS + 1,
         name: None,
     };
-    for kind in KINDS {
-        guess = guess_among(alloc, sought.as_str(), kind, guess)?;
+    for kind in kinds {
+        guess = guess_among(alloc, sought.as_str(), *kind, guess)?;
     }
     Ok(guess.name)
+}
+
+/// The name that at most 3 edits lead to from this one, each of which puts, takes or changes a
+/// letter: of several the one with the fewest, of those the first in the order of
+/// [`names`](crate::names). None where there is none, or the name is longer than 40 bytes. Capital
+/// and small letters are alike. The only error is want of memory.
+pub fn nearest(alloc: Global, name: &str) -> Result<Option<&'static str>, AllocError> {
+    nearest_of(alloc, name, &KINDS)
+}
+
+/// The same among the names of what `lint` calls odd.
+pub fn nearest_odd(alloc: Global, name: &str) -> Result<Option<&'static str>, AllocError> {
+    nearest_of(alloc, name, &[Kind::Odd])
 }

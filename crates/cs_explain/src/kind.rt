@@ -1,4 +1,7 @@
 //! The kinds of inputs and answers that have names of their own.
+ghost use Rattle.std.specs.Prelude.{◌≡◌, map};
+ghost use Rattle.cs_explain.specs.Odd.{odd_names};
+
 use crate::meaning::Meaning;
 use crate::{
     anacrontab, call, certificate, crontab, declarations, event, odd, refused, script, system,
@@ -55,7 +58,10 @@ impl Kind {
     }
 
     /// Its names with what they mean, in the order of their numbers.
-    pub(crate) fn meanings(self) -> &'static [Meaning] {
+    #[tactic(auto, unfolding(crate::specs::Odd::odd_names))]
+    pub(crate) fn meanings(self) -> &'static [Meaning]
+        ensures { self ≡ Kind.Odd → map (λ meaning. meaning.name.now) result.now ≡ odd_names }
+    {
         match self {
             Kind::Crontab => crontab::MEANINGS.as_slice(),
             Kind::System => system::MEANINGS.as_slice(),

@@ -17,5 +17,5 @@ mod system;
 mod texts;
 mod unknown;
 
-pub use guess::nearest;
-pub use texts::{explain, names};
+pub use guess::{nearest, nearest_odd};
+pub use texts::{explain, names, odd_name};

@@ -1,4 +1,6 @@
 //! A name that the program prints, and what it means.
+ghost use Rattle.std.specs.Prelude.{◌≡◌};
+ghost use Rattle.cs_explain.specs.Odd.{is_alike};
 
 /// A name that the program prints of one kind of input, and what it means.
 #[derive(Clone, Copy, Debug)]
@@ -16,7 +18,9 @@ pub(crate) struct Meaning {
 
 impl Meaning {
     /// Whether it is the meaning of that name, whose letters may be capital or small.
-    pub(crate) fn is_of(&self, name: &str) -> bool {
+    pub(crate) fn is_of(&self, name: &str) -> bool
+        ensures { result ≡ is_alike name.now self.now.name.now }
+    {
         self.name.eq_ignore_ascii_case(name)
     }
 }

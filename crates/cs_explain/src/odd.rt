@@ -2,7 +2,7 @@
 use crate::meaning::Meaning;
 
 /// By what they are about: schedules, commands, settings, lines, the table, declarations.
-pub(crate) static MEANINGS: [Meaning; 14] = [
+pub(crate) static MEANINGS: [Meaning; 21] = [
     Meaning {
         name: "EachMinute",
         short: "the minute is *, and the hour one number",
@@ -35,6 +35,15 @@ right:
   0 12 13 * * [ "$(date +\%u)" = 5 ] && /usr/bin/report"#,
     },
     Meaning {
+        name: "SummerTime",
+        short: "a line is due in minutes that summer time skips or repeats",
+        text: "'cronsafe lint --zone FILE' tells it. Debian's cron runs a line of skipped
+minutes right after them, beside what is due then, and one of repeated minutes
+the first time alone. A line with * in front of its minute goes by the clocks:
+its runs are left out, or come both times. Move the line out of these hours, so
+from 30 2 * * * to 30 4 * * *, or see that nothing is lost by either.",
+    },
+    Meaning {
         name: "PercentSign",
         short: "a command holds a % without a backslash before it",
         text: r#"The command ends there, even within quotes. The rest is its standard input, in
@@ -60,6 +69,17 @@ wrong:
   0 3 * * * /usr/bin/backup &
 right:
   0 3 * * * /usr/bin/backup",
+    },
+    Meaning {
+        name: "CommandComment",
+        short: "a # follows a blank in a command, and no quote or backslash it",
+        text: "A comment has a line of its own: behind a command it is a part of it, which the
+shell passes over.
+wrong:
+  30 23 * * * /usr/bin/backup # nightly
+right:
+  # nightly
+  30 23 * * * /usr/bin/backup",
     },
     Meaning {
         name: "Unexpanded",
@@ -139,5 +159,86 @@ wrong declarations:
 right declarations:
   {"capacity": 1, "groups": [{"name": "disk", "exclusive": true}],
    "cron": [{"line": 1, "max": 30, "group": "disk"}]}"#,
+    },
+    Meaning {
+        name: "OtherLock",
+        short: "flock locks a command, and its entry has no group or another mode",
+        text: r#"The command takes its lock whatever is declared. So its entry needs a group for
+that lock, and the mode of its flock: try or skip for -n, shared for -s, else
+wait. Or take flock away, and have 'cronsafe run' take the lock.
+crontab:
+  30 23 * * * flock -n /run/lock/disk /usr/bin/backup
+wrong declarations:
+  {"capacity": 1, "groups": [{"name": "disk", "exclusive": true}],
+   "cron": [{"line": 1, "max": 30, "group": "disk", "mode": "wait"}]}
+right declarations:
+  {"capacity": 1, "groups": [{"name": "disk", "exclusive": true}],
+   "cron": [{"line": 1, "max": 30, "group": "disk", "mode": "try"}]}"#,
+    },
+    Meaning {
+        name: "MixedLocks",
+        short: "one lock file is in two groups, or two lock files are in one group",
+        text: r#"Commands that lock one file keep each other waiting or out, and those that lock
+two files don't, whatever their groups are. Give each lock file its own group.
+crontab:
+  0 3 * * * flock /run/lock/disk /usr/bin/backup
+  0 4 * * * flock /run/lock/tape /usr/bin/archive
+wrong declarations:
+  {"capacity": 2, "groups": [{"name": "disk", "exclusive": true}],
+   "cron": [{"line": 1, "max": 30, "group": "disk", "mode": "wait"},
+            {"line": 2, "max": 30, "group": "disk", "mode": "wait"}]}
+right declarations:
+  {"capacity": 2, "groups": [{"name": "disk", "exclusive": true},
+                             {"name": "tape", "exclusive": true}],
+   "cron": [{"line": 1, "max": 30, "group": "disk", "mode": "wait"},
+            {"line": 2, "max": 30, "group": "tape", "mode": "wait"}]}"#,
+    },
+    Meaning {
+        name: "NoOwnLock",
+        short: "an entry takes a lock, its command takes none, and another does",
+        text: r#"'cronsafe run' takes the lock for the command, but cron doesn't: under cron the
+runs of the group may overlap. Put flock before this command as well, or take
+flock away from the others and leave all locks to 'cronsafe run'.
+declarations:
+  {"capacity": 2, "groups": [{"name": "disk", "exclusive": true},
+                             {"name": "tape", "exclusive": true}],
+   "cron": [{"line": 1, "max": 30, "group": "disk", "mode": "try"},
+            {"line": 2, "max": 30, "group": "tape", "mode": "wait"}]}
+wrong:
+  30 23 * * * /usr/bin/backup
+  0 4 * * * flock /run/lock/tape /usr/bin/archive
+right:
+  30 23 * * * flock -n /run/lock/disk /usr/bin/backup
+  0 4 * * * flock /run/lock/tape /usr/bin/archive"#,
+    },
+    Meaning {
+        name: "RebootLock",
+        short: "an @reboot command may take the lock of a group",
+        text: r#"The plan has no @reboot line: it doesn't count with a run that takes the lock at
+startup and holds it while others wait for it, or find it held. Give such a
+command a lock file of its own.
+declarations:
+  {"capacity": 1, "groups": [{"name": "disk", "exclusive": true}],
+   "cron": [{"line": 1, "max": 30, "group": "disk", "mode": "wait"}],
+   "left_out": [{"line": 2}]}
+wrong:
+  30 23 * * * flock /run/lock/disk /usr/bin/backup
+  @reboot flock /run/lock/disk /usr/bin/mirror
+right:
+  30 23 * * * flock /run/lock/disk /usr/bin/backup
+  @reboot flock /run/lock/mirror /usr/bin/mirror"#,
+    },
+    Meaning {
+        name: "ShortMax",
+        short: "a command's timeout allows more minutes than its max",
+        text: r#"The run may go on until timeout ends it, past the longest time that the plan
+counts with. Its minutes are those of the timeout and of its -k, rounded up, and
+one more for the end. Raise the max, or shorten the timeout.
+declarations:
+  {"capacity": 1, "cron": [{"line": 1, "max": 30}]}
+wrong:
+  30 23 * * * timeout 1h /usr/bin/backup
+right:
+  30 23 * * * timeout 29m /usr/bin/backup"#,
     },
 ];

@@ -1,4 +1,8 @@
 //! The texts that explain one name, and that list all.
+ghost use Rattle.std.specs.Prelude.{◌≡◌, option_map};
+ghost use Rattle.std.specs.List.{find};
+ghost use Rattle.cs_explain.specs.Odd.{is_alike, odd_named};
+
 use crate::kind::{KINDS, Kind};
 use crate::meaning::Meaning;
 use std::alloc::{AllocError, Global};
@@ -22,10 +26,17 @@ fn push_line(text: &mut String, meaning: &Meaning) -> Result<(), AllocError> {
     text.push_str("\n")
 }
 
+/// The one of these meanings that is that of the name; none where there is none.
+fn meaning_of<'a>(meanings: &'a [Meaning], name: &str) -> Option<&'a Meaning>
+    ensures { option_map (λ meaning. meaning.now) result
+        ≡ find (λ meaning. is_alike name.now meaning.name.now) meanings.now }
+{
+    meanings.iter().find(|meaning| meaning.is_of(name))
+}
+
 /// Writes what the name means for a kind behind the text; nothing where that has no such name.
 fn push_meaning(text: &mut String, kind: Kind, name: &str) -> Result<(), AllocError> {
-    let meanings = kind.meanings();
-    let Some(meaning) = meanings.iter().find(|meaning| meaning.is_of(name)) else {
+    let Some(meaning) = meaning_of(kind.meanings(), name) else {
         return Ok(());
     };
     push_heading(text, kind)?;
@@ -56,6 +67,15 @@ pub fn explain(alloc: Global, name: &str) -> Result<Option<String>, AllocError> 
         return Ok(None);
     }
     Ok(Some(text))
+}
+
+/// The name as it is listed among those of what `lint` calls odd; none where it isn't. Capital and
+/// small letters are alike.
+pub fn odd_name(name: &str) -> Option<&'static str>
+    ensures { option_map (λ found. found.now) result ≡ odd_named name.now }
+{
+    let meaning = meaning_of(Kind::Odd.meanings(), name)?;
+    Some(meaning.name)
 }
 
 /// All names, a line each with a short meaning, under a line for each kind of input or answer. The

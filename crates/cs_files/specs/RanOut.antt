@@ -6,7 +6,7 @@ use Rattle.cs_anacrontab.specs.Anacrontab.{Table as JobTable}
 use Rattle.cs_report.specs.Warning.{warnings as warnings_text}
 use Rattle.cs_io.specs.Files.{AreReadInTurn, Failed, Reads}
 use Rattle.cs_args.specs.CommandLine.{Asking, Asks, Chart, Check, Day, Draft, Explain, Gather, Help}
-use Rattle.cs_args.specs.CommandLine.{Advise, Judge, Lint, Make, Replay, Room, Run}
+use Rattle.cs_args.specs.CommandLine.{Advise, Judge, Learn, Lint, Make, Replay, Room, Run, Status, Stop}
 use Rattle.cs_files.specs.Reads.{ReadsTables}
 use Rattle.cs_files.specs.Turn.{lint_paths, table_paths}
 
@@ -36,12 +36,15 @@ IsWarnedOf (Day a) files = IsWarned files a.table a.anacrontab
 IsWarnedOf (Replay a) files = IsWarned files a.table a.anacrontab
 IsWarnedOf (Check a) files = IsWarned files a.table a.anacrontab
 IsWarnedOf (Run a) files = IsWarned files a.check.table a.check.anacrontab
+IsWarnedOf (Stop a) files = λ before. IsUnwarned []
+IsWarnedOf (Status a) files = λ before. IsUnwarned []
 IsWarnedOf (Judge a) files = IsWarned files a.table a.anacrontab
 IsWarnedOf (Make a) files = IsWarned files a.judge.table a.judge.anacrontab
 IsWarnedOf (Advise a) files = IsWarned files a.judge.table a.judge.anacrontab
 IsWarnedOf (Room a) files = IsWarned files a.table a.anacrontab
 IsWarnedOf (Gather a) files = λ before old new warnings. warnings ≡ None
 IsWarnedOf (Draft a) files = IsWarned files a.table a.anacrontab
+IsWarnedOf (Learn a) files = IsWarned files a.table None
 IsWarnedOf (Lint a) files = λ before. IsUnwarned (lint_paths a)
 IsWarnedOf (Chart a) files = IsWarned files a.day.table a.day.anacrontab
 IsWarnedOf (Explain name) files = λ before. IsUnwarned []

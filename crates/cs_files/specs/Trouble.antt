@@ -35,10 +35,10 @@ use Rattle.cs_files.specs.Response.{Ending, complaint}
 use Rattle.cs_files.specs.declared.fault.Fault.{Fault}
 use Rattle.cs_files.specs.declared.fault.Fault.TheVariants.{Anacrontab, CannotRead, Certificate}
 use Rattle.cs_files.specs.declared.fault.Fault.TheVariants.{Crontab, Declarations, OutOfMemory}
-use Rattle.cs_files.specs.declared.fault.Fault.TheVariants.{Gathered, Script, Words}
+use Rattle.cs_files.specs.declared.fault.Fault.TheVariants.{Gathered, NoZone, Script, Words}
 
--- why a call ends: its words hold a fault, this path can't be read, or what was read holds a fault;
--- of a crontab it is said too whether it reads as an anacrontab
+-- why a call ends: its words hold a fault, this path can't be read, what was read holds a fault, or
+-- what is at this path is no time zone; of a crontab it is said too whether it reads as an anacrontab
 pub data Trouble : Type 0 where
   InWords : WordFault → Trouble
   Unread : Text → Reason → Trouble
@@ -48,6 +48,7 @@ pub data Trouble : Type 0 where
   InDeclarations : DeclaredFault → Trouble
   InScript : ScriptFault → Trouble
   InCertificate : CertFault → Trouble
+  NoTimeZone : Text → Trouble
 
 -- `crontab line 2: 5 BadNumber`: the line with a fault, or 0 for all of the crontab, and the fault
 abbrev pub crontab_line : Found LineFault → List ℕ
@@ -72,6 +73,10 @@ gathered_line path fault = (path ++ codes " line ")
 -- `certificate: 5 TooDeep`
 abbrev pub certificate_line : CertFault → List ℕ
 certificate_line fault = codes "certificate: " ++ certificate_fault_text fault
+
+-- `PATH: no time zone file`
+abbrev pub no_zone_line : Text → List ℕ
+no_zone_line path = path ++ codes ": no time zone file"
 
 -- `declarations: 6 BadMax at cron 2`
 abbrev pub declared_line : DeclaredFault → List ℕ
@@ -112,6 +117,7 @@ trouble_text (InGathered path fault) = gathered_line path fault
 trouble_text (InDeclarations fault) = declared_line fault ++ lint_hint fault.1
 trouble_text (InScript fault) = script_line fault
 trouble_text (InCertificate fault) = certificate_line fault
+trouble_text (NoTimeZone path) = no_zone_line path
 
 -- 6 where a path can't be read, and 3 for each fault
 abbrev pub trouble_status : Trouble → ℕ
@@ -123,6 +129,7 @@ trouble_status (InGathered path fault) = 3
 trouble_status (InDeclarations fault) = 3
 trouble_status (InScript fault) = 3
 trouble_status (InCertificate fault) = 3
+trouble_status (NoTimeZone path) = 3
 
 -- what is answered of it, behind what is to be warned of
 abbrev pub ends : List ℕ → Trouble → Ending
@@ -166,6 +173,7 @@ trouble (Gathered path fault) = gathered_trouble path.now fault
 trouble (Declarations fault) = declared_trouble fault
 trouble (Script fault) = script_trouble fault
 trouble (Certificate fault) = certificate_trouble fault
+trouble (NoZone path) = Some (NoTimeZone path.now)
 trouble OutOfMemory = None
 
 -- this is the text of what a fault says

@@ -3,9 +3,9 @@ use Rattle.std.specs.Prelude.{◌≡◌, ◌⊎◌, ◌++◌, List, [], ◌∷�
 use Rattle.clap.specs.Words.{Text}
 use Rattle.cs_io.specs.Files.{AreReadInTurn, Reads}
 use Rattle.cs_args.specs.CommandLine.{Asking, Asks, Chart, Check, Day, Draft, Explain, Gather, Help}
-use Rattle.cs_args.specs.CommandLine.{Advise, Judge, Lint, Make, Replay, Room, Run}
+use Rattle.cs_args.specs.CommandLine.{Advise, Judge, Learn, Lint, Make, Replay, Room, Run, Status, Stop}
 use Rattle.cs_args.specs.CommandLine.{AskedChart, AskedCheck, AskedDraft, AskedGather, AskedJudge}
-use Rattle.cs_args.specs.CommandLine.{AskedLint, AskedReplay}
+use Rattle.cs_args.specs.CommandLine.{AskedLearn, AskedLint, AskedReplay}
 
 -- the path of a file that may be left out
 abbrev pub some_path : Option Text → List Text
@@ -29,8 +29,11 @@ judge_paths a = table_paths a.table a.anacrontab ++ (a.declarations ∷ [])
 abbrev pub draft_paths : AskedDraft → List Text
 draft_paths a = table_paths a.table a.anacrontab ++ some_path a.update
 
+abbrev pub learn_paths : AskedLearn → List Text
+learn_paths a = (a.table ∷ some_path a.update) ++ a.logs
+
 abbrev pub lint_paths : AskedLint → List Text
-lint_paths a = table_paths a.table a.anacrontab ++ some_path a.declarations
+lint_paths a = (table_paths a.table a.anacrontab ++ some_path a.declarations) ++ some_path a.zone
 
 abbrev pub chart_paths : AskedChart → List Text
 chart_paths a = table_paths a.day.table a.day.anacrontab
@@ -51,12 +54,15 @@ ReadsAsked (Day a) = AreReadInTurn (table_paths a.table a.anacrontab)
 ReadsAsked (Replay a) = AreReadInTurn (replay_paths a)
 ReadsAsked (Check a) = AreReadInTurn (check_paths a)
 ReadsAsked (Run a) = AreReadInTurn (check_paths a.check)
+ReadsAsked (Stop a) = AreReadInTurn []
+ReadsAsked (Status a) = AreReadInTurn []
 ReadsAsked (Judge a) = AreReadInTurn (judge_paths a)
 ReadsAsked (Make a) = AreReadInTurn (judge_paths a.judge)
 ReadsAsked (Advise a) = AreReadInTurn (judge_paths a.judge)
 ReadsAsked (Room a) = AreReadInTurn (judge_paths a)
 ReadsAsked (Gather a) = AreReadToGather a
 ReadsAsked (Draft a) = AreReadInTurn (draft_paths a)
+ReadsAsked (Learn a) = AreReadInTurn (learn_paths a)
 ReadsAsked (Lint a) = AreReadInTurn (lint_paths a)
 ReadsAsked (Chart a) = AreReadInTurn (chart_paths a)
 ReadsAsked (Explain name) = AreReadInTurn []

@@ -5,7 +5,7 @@ ghost use Rattle.cs_args.specs.Words.{word_fault};
 ghost use Rattle.cs_io.specs.Reasons.{reason_text};
 ghost use Rattle.cs_files.specs.Response.{status_of};
 ghost use Rattle.cs_files.specs.Trouble.{Says, certificate_trouble, declared_trouble, ends};
-ghost use Rattle.cs_files.specs.Trouble.{gathered_trouble, jobs_hint, lint_hint, lint_text};
+ghost use Rattle.cs_files.specs.Trouble.{gathered_trouble, jobs_hint, lint_hint, lint_text, no_zone_line};
 ghost use Rattle.cs_files.specs.Trouble.{jobs_trouble, script_trouble, table_trouble, trouble};
 ghost use Rattle.cs_files.specs.Trouble.{trouble_status, word_hint};
 ghost use Rattle.cs_files.specs.declared.fault.Fault.TheVariants.{Anacrontab, Crontab, Declarations};
@@ -44,6 +44,8 @@ pub enum Fault<'a> {
     Script(ScriptError),
     /// The text of the certificate holds a fault.
     Certificate(CertError),
+    /// The file at this path, which is to be that of a time zone, is none.
+    NoZone(&'a str),
     /// Memory ran out.
     OutOfMemory,
 }
@@ -199,6 +201,13 @@ fn certificate_text(alloc: Global, fault: CertError) -> Result<Vec<u8>, AllocErr
     }
 }
 
+/// What is told of a file that is no time zone's.
+fn no_zone_text(alloc: Global, path: &str) -> Result<Vec<u8>, AllocError>
+    ensures { IfOk result (λ text. text.items ≡ no_zone_line path.now) }
+{
+    named_text(alloc, path.as_bytes(), b": no time zone file".as_slice())
+}
+
 /// Adds which call tells the line and the column.
 #[tactic(auto, unfolding(crate::specs::Trouble::lint_text))]
 fn push_lint_text(text: &mut Vec<u8>) -> Result<(), AllocError>
@@ -269,6 +278,7 @@ impl Fault<'_> {
             Fault::Declarations(fault) => declared_text(alloc, fault),
             Fault::Script(fault) => script_text(alloc, *fault),
             Fault::Certificate(fault) => certificate_text(alloc, *fault),
+            Fault::NoZone(path) => no_zone_text(alloc, path),
             Fault::OutOfMemory => Err(AllocError),
         }
     }
@@ -287,6 +297,7 @@ impl Fault<'_> {
             Fault::Declarations(_) => Status::BadInput,
             Fault::Script(_) => Status::BadInput,
             Fault::Certificate(_) => Status::BadInput,
+            Fault::NoZone(_) => Status::BadInput,
         }
     }
 

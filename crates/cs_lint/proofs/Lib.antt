@@ -2,3 +2,5 @@ pub mod FirstLemmas
 pub mod EachLemmas
 pub mod PlacesLemmas
 pub mod OddLemmas
+pub mod WantedLemmas
+pub mod ClockLemmas

@@ -3,3 +3,8 @@ pub mod Kept
 pub mod Each
 pub mod Noted
 pub mod Odd
+pub mod Wanted
+pub mod Planned
+pub mod Clock
+pub mod Startup
+pub mod Looks

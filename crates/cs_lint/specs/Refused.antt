@@ -54,6 +54,19 @@ AreRefused table jobs declarations =
     ⊎ ((t : Table) × (j : JobTable) × Means table (Ok t) × MeansSome jobs (Ok j)
     × HasNoPlan t j declarations))
 
+-- The declarations make that plan of the tables.
+abbrev pub IsPlan : Declared → Table → JobTable → List ℕ → Type 0
+IsPlan plan table jobs text =
+    (d : Entries) × (declared_by text ≡ Ok d) × (joined table jobs d ≡ Ok plan)
+
+-- The files make that plan; or none, as there are no declarations or the files are refused.
+abbrev pub IsPlanOf : Option Declared → List ℕ → Option (List ℕ) → Option (List ℕ) → Type 0
+IsPlanOf None table jobs declarations =
+    (declarations ≡ None) ⊎ AreRefused table jobs declarations
+IsPlanOf (Some plan) table jobs declarations =
+    (text : List ℕ) × (t : Table) × (j : JobTable) × (declarations ≡ Some text)
+    × Means table (Ok t) × MeansSome jobs (Ok j) × IsPlan plan t j text
+
 -- Both tables are fine, and so are the declarations.
 abbrev pub AreTaken : List ℕ → Option (List ℕ) → Option (List ℕ) → Type 0
 AreTaken table jobs declarations =
@@ -110,10 +123,10 @@ Finds (Some (OfPlan first)) table jobs declarations =
     (t : Table) × (j : JobTable) × Means table (Ok t) × MeansSome jobs (Ok j)
     × IsFirstOfPlan t j declarations first
 
--- of declarations beside tables that are fine
-abbrev pub FindsInPlan : Option FirstFault → Table → JobTable → Option (List ℕ) → Type 0
-FindsInPlan None table jobs declarations = HasPlan table jobs declarations
-FindsInPlan (Some first) table jobs declarations = IsFirstOfPlan table jobs declarations first
+-- of declarations beside tables that are fine: the plan, or their first fault
+abbrev pub FindsPlan : Result Declared FirstFault → Table → JobTable → List ℕ → Type 0
+FindsPlan (Ok plan) table jobs text = IsPlan plan table jobs text
+FindsPlan (Err first) table jobs text = IsFirstOfPlan table jobs (Some text) first
 
 -- of an anacrontab: its jobs, or its first fault
 abbrev pub FindsJobs : Result JobTable FirstFault → Option (List ℕ) → Type 0

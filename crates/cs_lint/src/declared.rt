@@ -5,6 +5,7 @@ use crate::object::{Kind, Tell};
 use crate::parts::Parts;
 use crate::shape::{find_in_object, has_meant};
 use crate::table::Table;
+use crate::wanted::Wanted;
 use cs_decl::{DeclFault, MAX_GROUPS};
 use cs_diagnostics::{
     Done, Findings, Object, Span, Words, nearest, no_json, parts, quoted, shown, trimmed,
@@ -16,7 +17,7 @@ use std::alloc::{AllocError, Global};
 /// Declarations that are looked at.
 #[derive(Drop)]
 pub(crate) struct Declared<'v> {
-    pub(crate) tell: Tell,
+    pub(crate) tell: Tell<'v>,
     bytes: &'v [u8],
     groups: IndexSet<&'v str>,
     /// Where they are named, and those that entries are in.
@@ -46,12 +47,14 @@ impl<'v> Declared<'v> {
         json: &'v Result<Value, Error>,
         table: &Table<'_>,
         jobs: Option<&Table<'_>>,
+        wanted: Wanted<'v>,
     ) -> Result<Declared<'v>, AllocError> {
         let mut findings = Findings::new(alloc, bytes)?;
         findings.about = Some(0);
         let mut declared = Declared {
             tell: Tell {
                 findings,
+                wanted,
                 kind: Kind::Whole,
                 index: 0,
             },
@@ -125,8 +128,7 @@ impl<'v> Declared<'v> {
         for (name, span) in self.group_names.iter() {
             if !self.named_groups.contains(*name) {
                 let why = "no entry is in this group: remove it, or set an entry's \"group\"";
-                let words = format_args!("UnusedGroup: {why}");
-                self.tell.findings.odd(*span, words)?;
+                self.tell.odd(*span, "UnusedGroup", why)?;
             }
         }
         Ok(())

@@ -1,26 +1,31 @@
 //! What is found in the files of a call.
-ghost use Rattle.std.specs.Prelude.{◌≡◌, ◌≢◌, ℕ, List, Option, Some, true, IfOk, OnOk};
+ghost use Rattle.std.specs.Prelude.{◌≡◌, ◌≢◌, ◌||◌, ℕ, List, Option, Some, true, false, IfOk, OnOk};
 ghost use Rattle.std.specs.Option.{option_map};
 ghost use Rattle.cs_diagnostics.specs.Told.{IsFull, IsToldIn, is_full};
 ghost use Rattle.cs_diagnostics.specs.declared.findings.FirstFault.{FirstFault};
 ghost use Rattle.cs_diagnostics.specs.declared.render.File.{File};
+ghost use Rattle.cs_decl.specs.Plan.{Declared as DeclaredPlan};
 ghost use Rattle.cs_lint.specs.Each.{KeepsJobLines, KeepsLines, TellsEachLine};
 ghost use Rattle.cs_lint.specs.declared.refusal.Refusal.{Refusal};
 ghost use Rattle.cs_lint.specs.declared.table.Kind.TheVariants.{Crontab};
 ghost use Rattle.cs_lint.specs.Kept.{Keeps, KeepsSome, is_found};
+ghost use Rattle.cs_lint.specs.Startup.{is_odd_some};
 ghost use Rattle.cs_lint.specs.Odd.{is_odd_table};
-ghost use Rattle.cs_lint.specs.declared.report.Verdict.TheVariants.{Clean};
-ghost use Rattle.cs_lint.specs.Refused.{Finds, Judges, TellsFirst};
+ghost use Rattle.cs_lint.specs.declared.report.Verdict.TheVariants.{Clean, Odd};
+ghost use Rattle.cs_lint.specs.Refused.{Finds, IsPlanOf, Judges, TellsFirst};
 
 use crate::declared::Declared;
 use crate::each::keep_lines;
-use crate::odd_lines::find_odd_lines;
+use crate::looks::{Look, find_in_lines};
 use crate::places::{notes_on, places_in};
-use crate::refusal::{Refusal, first_refusal};
+use crate::planned::find_odd_plan;
+use crate::refusal::{Looked, Refusal, look_at};
 use crate::report::{Report, Verdict};
 use crate::table::{Kind, Table};
+use crate::wanted::Wanted;
 use cs_civil::Bytes;
-use cs_diagnostics::{Done, File, Findings, Note, parsed};
+use cs_decl::Plan;
+use cs_diagnostics::{Done, File, Findings, Span, parsed};
 use cs_gather::Place;
 use std::alloc::{AllocError, Global};
 
@@ -49,45 +54,69 @@ fn look_at_declarations(
     table: &mut Table<'_>,
     jobs: &mut Table<'_>,
     has_jobs: bool,
+    wanted: Wanted<'_>,
 ) -> Result<Findings, AllocError> {
     let json = parsed(alloc, bytes)?;
     let given: Option<&Table<'_>> = if has_jobs { Some(&*jobs) } else { None };
-    let found = Declared::at(alloc, bytes, &json, table, given)?;
+    let found = Declared::at(alloc, bytes, &json, table, given, wanted)?;
     table.find_beside(&found)?;
     jobs.find_beside(&found)?;
     Ok(found.tell.findings)
 }
 
 impl Found {
+    /// What is found by the way, and where the commands of the crontab stand, by line.
     fn at(
         alloc: Global,
         table: &[u8],
         places: &[Place],
         jobs: Option<&[u8]>,
         declarations: Option<&[u8]>,
-    ) -> Result<Found, AllocError> {
-        let mut table = Table::at(alloc, table, places, Kind::Crontab)?;
-        let mut look = Table::at(alloc, jobs.unwrap_or(&[]), &[], Kind::Anacrontab)?;
+        wanted: Wanted<'_>,
+    ) -> Result<(Found, Vec<(u32, Span)>), AllocError> {
+        let bytes = table;
+        let mut table = Table::at(alloc, bytes, places, Kind::Crontab, wanted)?;
+        let mut look = Table::at(alloc, jobs.unwrap_or(&[]), &[], Kind::Anacrontab, wanted)?;
         let declared = match declarations {
             Some(bytes) => {
-                look_at_declarations(alloc, bytes, &mut table, &mut look, jobs.is_some())?
+                look_at_declarations(alloc, bytes, &mut table, &mut look, jobs.is_some(), wanted)?
             }
             None => Findings::new(alloc, &[])?,
         };
-        Ok(Found {
+        let commands = table.places_of_commands(bytes)?;
+        let found = Found {
             table: table.findings,
             jobs: look.findings,
             declared,
-        })
+        };
+        Ok((found, commands))
     }
 
     /// The same with what is odd in each line of the crontab.
-    fn with_odd_lines(self, table: &[u8]) -> Result<Found, AllocError>
-        ensures { IfOk result (λ found. is_odd_table table.now ≡ true
-            → found.table.has_oddities ≡ true) }
+    fn with_odd_lines(self, wanted: &Wanted<'_>, table: &[u8]) -> Result<Found, AllocError>
+        ensures { IfOk result (λ found. found.table.has_oddities
+            ≡ (self.table.has_oddities || is_odd_table wanted.now table.now)) }
     {
         let mut found = self;
-        find_odd_lines(&mut found.table, table)?;
+        find_in_lines(&mut found.table, wanted, &Look::Oddities, table)?;
+        Ok(found)
+    }
+
+    /// The same with what is odd about a plan, whose commands stand at those places.
+    fn with_odd_plan(
+        self,
+        wanted: &Wanted<'_>,
+        commands: &[(u32, Span)],
+        table: &[u8],
+        plan: &Option<Plan>,
+    ) -> Result<Found, AllocError>
+        ensures { IfOk result (λ found. found.table.has_oddities
+            ≡ (self.table.has_oddities || is_odd_some wanted.now table.now plan.now)) }
+    {
+        let mut found = self;
+        if let Some(plan) = plan {
+            find_odd_plan(&mut found.table, wanted, commands, table, plan)?;
+        }
         Ok(found)
     }
 
@@ -121,6 +150,34 @@ impl Found {
         Ok(found)
     }
 
+    /// What is found in the files of a call, of which their readers answer that: by the way, in
+    /// each line, in the plan, why they are refused, and what is wrong with each line.
+    fn of(
+        alloc: Global,
+        table: &[u8],
+        places: &[Place],
+        jobs: Option<&[u8]>,
+        declarations: Option<&[u8]>,
+        looked: &Looked<'_>,
+        wanted: &Wanted<'_>,
+    ) -> Result<Found, AllocError>
+        ensures odd { IfOk result (λ found. is_odd_table wanted.now table.now ≡ true
+            → found.table.has_oddities ≡ true) }
+        ensures planned { IfOk result (λ found.
+            is_odd_some wanted.now table.now looked.now.plan ≡ true
+            → found.table.has_oddities ≡ true) }
+        ensures kept { IfOk result (KeepsSome looked.now.refusal) }
+        ensures table { IfOk result (λ found. KeepsLines Crontab table.now found.table) }
+        ensures jobs { IfOk result (λ found.
+            KeepsJobLines (option_map (λ t. t.now) jobs.entry) found.jobs) }
+    {
+        let (look, commands) = Found::at(alloc, table, places, jobs, declarations, *wanted)?;
+        let odd = look.with_odd_lines(wanted, table)?;
+        let odder = odd.with_odd_plan(wanted, commands.as_slice(), table, &looked.plan)?;
+        let kept = odder.with(&looked.refusal)?;
+        kept.with_lines(table, jobs)
+    }
+
     /// Adds why the files are refused, where nothing tells it yet.
     fn keep(&mut self, refusal: &Refusal<'_>) -> Done
         ensures kept { OnOk result (Keeps refusal.now self.new) }
@@ -134,20 +191,26 @@ impl Found {
         }
     }
 
-    fn is_odd(&self) -> bool
-        ensures { self.now.table.has_oddities ≡ true → result ≡ true }
+    /// Whether something that is told is odd.
+    fn is_odd(&self, wanted: &Wanted<'_>) -> bool
+        ensures odd { wanted.now.faults_only ≡ false → self.now.table.has_oddities ≡ true
+            → result ≡ true }
+        ensures faults { wanted.now.faults_only ≡ true → result ≡ false }
     {
+        if wanted.faults_only {
+            return false;
+        }
         self.table.has_oddities || self.jobs.has_oddities || self.declared.has_oddities
     }
 
-    /// What is told of it, with the notes on the lines of the crontab.
+    /// What is told of it, with notes on the lines of the crontab that stand at those places.
     fn text(
         &self,
         alloc: Global,
         table: &File<'_>,
         jobs: &File<'_>,
         declarations: &File<'_>,
-        notes: &[Note],
+        places: &[Place],
     ) -> Result<Bytes, AllocError>
         ensures told { IfOk result (λ text. (first : FirstFault)
             → is_found first self.now ≡ true → IsToldIn text first) }
@@ -156,10 +219,12 @@ impl Found {
         ensures jobs { IfOk result (λ text. is_full self.now.jobs ≡ true
             → IsFull jobs.now.path.now text) }
     {
+        let notes = notes_on(alloc, places)?;
         let mut text = Vec::new(alloc);
-        self.table.tell(table, notes, &mut text)?;
+        self.table.tell(table, notes.as_slice(), &mut text)?;
         self.jobs.tell(jobs, &[], &mut text)?;
-        self.declared.tell(declarations, notes, &mut text)?;
+        self.declared
+            .tell(declarations, notes.as_slice(), &mut text)?;
         Ok(Bytes::from_vec(text))
     }
 }
@@ -169,6 +234,7 @@ fn verdict_of(refusal: &Option<Refusal<'_>>, is_odd: bool) -> Verdict
     ensures value { (table : List ℕ) (jobs declarations : Option (List ℕ))
         → Finds refusal.now table jobs declarations → Judges result table jobs declarations }
     ensures odd { is_odd ≡ true → result ≢ Clean }
+    ensures only { is_odd ≡ false → result ≢ Odd }
 {
     match refusal {
         Some(_) => Verdict::Faulty,
@@ -198,13 +264,14 @@ fn some_file<'a>(file: Option<&File<'a>>) -> File<'a>
 /// with the place that the line comes from. What is wrong begins with the fault's number and name,
 /// as the readers answer it. Not only the first fault is told: of a line each field and each
 /// item by itself, of declarations each member and each entry, and of both what doesn't fit
-/// together. A table of more than 1 MiB isn't looked at any further. The only error is want of
-/// memory.
+/// together. What is odd is told as far as it's wanted. A table of more than 1 MiB isn't looked at
+/// any further. The only error is want of memory.
 pub fn lint(
     alloc: Global,
     table: &File<'_>,
     jobs: Option<&File<'_>>,
     declarations: Option<&File<'_>>,
+    wanted: &Wanted<'_>,
 ) -> Result<Report, AllocError>
     // It is `Faulty` exactly where the readers refuse the files.
     ensures verdict { IfOk result (λ report. Judges report.verdict table.now.bytes.now
@@ -217,20 +284,34 @@ pub fn lint(
     // Each line of a table that has a fault of its own is told at its column, up to 100 faults.
     ensures each { IfOk result (λ report. TellsEachLine report.text table.now
         (option_map (λ file. file.now) jobs.entry)) }
-    // It is not `Clean` where something is odd in a line of the crontab.
-    ensures odd { IfOk result (λ report. is_odd_table table.now.bytes.now ≡ true
+    // It is not `Clean` where something that is told is odd in a line of the crontab.
+    ensures odd { IfOk result (λ report. is_odd_table wanted.now table.now.bytes.now ≡ true
         → report.verdict ≢ Clean) }
+    // .. or about the plan that the files make.
+    ensures planned { IfOk result (λ report. (plan : Option DeclaredPlan)
+        × IsPlanOf plan table.now.bytes.now
+        (option_map (λ file. file.now.bytes.now) jobs.entry)
+        (option_map (λ file. file.now.bytes.now) declarations.entry)
+        × (is_odd_some wanted.now table.now.bytes.now plan ≡ true → report.verdict ≢ Clean)) }
+    // It is never `Odd` where faults alone are told.
+    ensures faults { IfOk result (λ report. wanted.now.faults_only ≡ true
+        → report.verdict ≢ Odd) }
 {
     let (job_bytes, terms) = (bytes_of(jobs), bytes_of(declarations));
-    let refusal = first_refusal(alloc, table.bytes, job_bytes, terms)?;
+    let looked = look_at(alloc, table.bytes, job_bytes, terms)?;
     let places = places_in(alloc, table.bytes)?;
-    let notes = notes_on(alloc, places.as_slice())?;
-    let look = Found::at(alloc, table.bytes, places.as_slice(), job_bytes, terms)?;
-    let odd = look.with_odd_lines(table.bytes)?;
-    let kept = odd.with(&refusal)?;
-    let found = kept.with_lines(table.bytes, job_bytes)?;
+    let places = places.as_slice();
+    let found = Found::of(
+        alloc,
+        table.bytes,
+        places,
+        job_bytes,
+        terms,
+        &looked,
+        wanted,
+    )?;
     let (jobs, declarations) = (some_file(jobs), some_file(declarations));
-    let text = found.text(alloc, table, &jobs, &declarations, notes.as_slice())?;
-    let verdict = verdict_of(&refusal, found.is_odd());
+    let text = found.text(alloc, table, &jobs, &declarations, places)?;
+    let verdict = verdict_of(&looked.refusal, found.is_odd(wanted));
     Ok(Report { text, verdict })
 }

@@ -149,13 +149,14 @@ fn unknown_word(alloc: Global, word: &[u8], known: &str) -> Result<Option<Wrong>
 }
 
 fn reversed_words(alloc: Global, part: Part, item: &[u8]) -> Words {
+    let why = "a range goes up, and Debian's cron takes this as none";
     let mut ends = item.split(|byte| matches!(byte, b'-' | b'/'));
     let (Some(from), Some(to), None) = (ends.next(), ends.next(), ends.next()) else {
-        return format!(in alloc; "a range goes up: put the smaller number first");
+        return format!(in alloc; "{why}: put the smaller number first");
     };
     let (from, to) = (shown(alloc, from)?, shown(alloc, to)?);
     let (first, last) = (part.first(), part.last());
-    format!(in alloc; "a range goes up: did you mean {from}-{last},{first}-{to}?")
+    format!(in alloc; "{why}: did you mean {from}-{last},{first}-{to}?")
 }
 
 fn lone_step_words(alloc: Global, part: Part, item: &[u8]) -> Words {

@@ -28,7 +28,7 @@ pub(crate) struct Name<'v> {
 
 impl<'v> Name<'v> {
     /// That of the entry that is looked at, with the place of its parts.
-    pub(crate) fn of(entry: &Object<'v>, tell: &Tell, parts: usize) -> Name<'v> {
+    pub(crate) fn of(entry: &Object<'v>, tell: &Tell<'_>, parts: usize) -> Name<'v> {
         let takes_lock = match entry.text("mode") {
             Some((mode, _)) => mode != "none",
             None => entry.has("mode"),
@@ -243,7 +243,7 @@ impl<'v> Declared<'v> {
                 let advice = "lower \"max\", or set \"mode\"";
                 let due = format_args!("due again after {gap} minutes: {advice}");
                 let words = format_args!("line {} may overlap itself, {due}", begun.number);
-                self.tell.findings.odd(span, words)
+                self.tell.odd(span, "", words)
             }
             _ => Ok(()),
         }
@@ -263,7 +263,7 @@ impl<'v> Declared<'v> {
         };
         let advice = "add \"command\", as 'cronsafe draft' does";
         let words = format_args!("nothing binds this entry{more} to a command: {advice}");
-        self.tell.findings.odd(span, words)
+        self.tell.odd(span, "", words)
     }
 }
 

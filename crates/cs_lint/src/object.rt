@@ -1,4 +1,5 @@
 //! The kinds of objects of declarations, and what is told of one.
+use crate::wanted::Wanted;
 use cs_decl::DeclFault;
 use cs_diagnostics::{Done, Findings, Span};
 use std::fmt::Display;
@@ -33,14 +34,15 @@ impl Kind {
 
 /// What is found in declarations, and the object that is looked at.
 #[derive(Drop)]
-pub(crate) struct Tell {
+pub(crate) struct Tell<'w> {
     pub(crate) findings: Findings,
+    pub(crate) wanted: Wanted<'w>,
     pub(crate) kind: Kind,
     /// Its place in its list, counted from 0.
     pub(crate) index: usize,
 }
 
-impl Tell {
+impl Tell<'_> {
     pub(crate) fn look_at(&mut self, kind: Kind, index: usize) {
         self.kind = kind;
         self.index = index;
@@ -55,6 +57,12 @@ impl Tell {
         let number = self.index.saturating_add(1);
         let words = format_args!("{fault} at {list} {number}: {why}");
         self.findings.fault(span, words)
+    }
+
+    /// Adds something odd of that name, where it's told.
+    pub(crate) fn odd(&mut self, span: Span, name: &str, why: impl Display + Drop) -> Done {
+        let wanted = self.wanted;
+        wanted.odd(&mut self.findings, span, name, why)
     }
 
     /// Adds that an item of a list is no object.

@@ -1,12 +1,12 @@
 //! What is odd in the lines of a crontab, each by itself.
 ghost use Rattle.std.specs.Prelude.{◌≡◌, ◌||◌, OnOk};
-ghost use Rattle.cs_lint.specs.Odd.{is_odd_line, is_odd_table};
+ghost use Rattle.cs_lint.specs.Odd.{is_odd_line};
 
 use crate::line::{word_behind, word_from};
+use crate::wanted::Wanted;
 use cs_diagnostics::{Done, Findings, Span};
 use cs_odd::{MAX_COMMAND, Oddity, from_percent, oddities_in};
-use cs_table::MAX_TABLE;
-use cs_table::text::first_line;
+use cs_table::text::is_blank;
 
 /// From the first of two words of a line to the end of the second, both counted from 0.
 fn words(line: &[u8], first: usize, last: usize) -> Span {
@@ -17,6 +17,18 @@ fn words(line: &[u8], first: usize, last: usize) -> Span {
 fn start_of_command(line: &[u8]) -> usize {
     let has_word = word_behind(line, 0).bytes(line).starts_with(b"@");
     word_behind(line, if has_word { 1 } else { 5 }).from
+}
+
+/// The byte at which the last `#` behind a blank stands; 0 where there is none.
+fn last_comment(text: &[u8]) -> usize {
+    let (mut last, mut is_behind_blank) = (0usize, false);
+    for (at, byte) in text.iter().enumerate() {
+        if *byte == b'#' && is_behind_blank {
+            last = at;
+        }
+        is_behind_blank = is_blank(*byte);
+    }
+    last
 }
 
 /// Where that is in a line that has it.
@@ -38,6 +50,10 @@ fn place_of(oddity: Oddity, line: &[u8]) -> Span {
             let last = front.iter().rposition(|byte| *byte == b'&');
             Span::of(last.unwrap_or(0), 1)
         }
+        Oddity::CommandComment => {
+            let front = Span::of(0, percent).bytes(line);
+            Span::between(last_comment(front), percent)
+        }
         Oddity::Unexpanded | Oddity::TimeZone | Oddity::ValueComment => {
             Span::between(word_from(line, 0).from, len)
         }
@@ -46,34 +62,19 @@ fn place_of(oddity: Oddity, line: &[u8]) -> Span {
 }
 
 /// Adds what is odd in a line that begins at that byte of the table.
-fn find_in_line(findings: &mut Findings, start: usize, line: &[u8]) -> Done
+pub(crate) fn find_oddities(
+    findings: &mut Findings,
+    wanted: &Wanted<'_>,
+    start: usize,
+    line: &[u8],
+) -> Done
     ensures { OnOk result (findings.new.has_oddities
-        ≡ (findings.old.has_oddities || is_odd_line line.now)) }
+        ≡ (findings.old.has_oddities || is_odd_line wanted.now line.now)) }
 {
     let found = oddities_in(findings.alloc, line)?;
     for oddity in found.iter() {
-        let (name, why) = oddity.words();
         let place = place_of(*oddity, line).behind(start);
-        findings.odd(place, format_args!("{name}: {why}"))?;
-    }
-    Ok(())
-}
-
-/// Adds what is odd in each line of a table that isn't too long.
-pub(crate) fn find_odd_lines(findings: &mut Findings, table: &[u8]) -> Done
-    ensures { OnOk result (findings.new.has_oddities
-        ≡ (findings.old.has_oddities || is_odd_table table.now)) }
-{
-    if table.len() > MAX_TABLE {
-        return Ok(());
-    }
-    let mut start = 0usize;
-    let mut rest = table;
-    while !rest.is_empty() {
-        let (line, after) = first_line(rest);
-        find_in_line(findings, start, line)?;
-        start = start.saturating_add(line.len()).saturating_add(1);
-        rest = after;
+        wanted.odd(findings, place, oddity.name(), oddity.why())?;
     }
     Ok(())
 }

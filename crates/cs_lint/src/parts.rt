@@ -27,7 +27,7 @@ pub(crate) struct Parts<'v> {
 impl<'v> Parts<'v> {
     /// Looks at those of the entry that is looked at, which may have none.
     pub(crate) fn at(
-        tell: &mut Tell,
+        tell: &mut Tell<'_>,
         bytes: &'v [u8],
         entry: &Object<'v>,
     ) -> Result<Parts<'v>, AllocError> {
@@ -59,7 +59,7 @@ impl<'v> Parts<'v> {
         Ok(found)
     }
 
-    fn look_at(&mut self, tell: &mut Tell, bytes: &'v [u8], part: (&'v Value, Span)) -> Done {
+    fn look_at(&mut self, tell: &mut Tell<'_>, bytes: &'v [u8], part: (&'v Value, Span)) -> Done {
         if !part.0.is_object() {
             self.has_all = false;
             self.minutes = None;
@@ -80,7 +80,12 @@ impl<'v> Parts<'v> {
         };
     }
 
-    fn add_name(&mut self, tell: &mut Tell, bytes: &[u8], name: Option<(&'v str, Span)>) -> Done {
+    fn add_name(
+        &mut self,
+        tell: &mut Tell<'_>,
+        bytes: &[u8],
+        name: Option<(&'v str, Span)>,
+    ) -> Done {
         let Some((name, span)) = name else {
             self.has_all = false;
             return Ok(());
@@ -93,7 +98,7 @@ impl<'v> Parts<'v> {
     }
 
     /// Adds that they take another time together than the entry has.
-    fn find_sum(&self, tell: &mut Tell, entry: &Object<'v>) -> Done {
+    fn find_sum(&self, tell: &mut Tell<'_>, entry: &Object<'v>) -> Done {
         let (Some(minutes), Some((max, span))) = (self.minutes, entry.whole("max")) else {
             return Ok(());
         };
@@ -111,7 +116,7 @@ impl<'v> Parts<'v> {
     }
 
     /// Adds which of them the line of a place has no more, and which it has besides.
-    pub(crate) fn find_moved(&self, tell: &mut Tell, place: &Place) -> Done {
+    pub(crate) fn find_moved(&self, tell: &mut Tell<'_>, place: &Place) -> Done {
         if self.names.is_empty() {
             return Ok(());
         }
@@ -122,7 +127,7 @@ impl<'v> Parts<'v> {
         Ok(())
     }
 
-    fn find_gone(&self, tell: &mut Tell, place: &Place) -> Done {
+    fn find_gone(&self, tell: &mut Tell<'_>, place: &Place) -> Done {
         let (alloc, line) = (tell.findings.alloc, place.line);
         let has = place.parts.as_slice().iter().map(|part| part.as_slice());
         let has = has.collect::<IndexSet<&[u8]>>(alloc)?;
@@ -130,13 +135,13 @@ impl<'v> Parts<'v> {
             if !has.contains(name.as_bytes()) {
                 let name = quoted(alloc, name)?;
                 let words = format_args!("line {line} has no part {name} any more: remove it");
-                tell.findings.odd(*span, format_args!("{words}, {ADVICE}"))?;
+                tell.odd(*span, "", format_args!("{words}, {ADVICE}"))?;
             }
         }
         Ok(())
     }
 
-    fn find_new(&self, tell: &mut Tell, place: &Place) -> Done {
+    fn find_new(&self, tell: &mut Tell<'_>, place: &Place) -> Done {
         let (alloc, line) = (tell.findings.alloc, place.line);
         for part in place.parts.as_slice().iter() {
             let name = str::from_utf8(part.as_slice());
@@ -145,8 +150,7 @@ impl<'v> Parts<'v> {
                 let words = format_args!(
                     "line {line} has a part \"{name}\" that isn't declared: add it"
                 );
-                tell.findings
-                    .odd(self.bracket, format_args!("{words}, {ADVICE}"))?;
+                tell.odd(self.bracket, "", format_args!("{words}, {ADVICE}"))?;
             }
         }
         Ok(())

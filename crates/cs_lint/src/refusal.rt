@@ -1,12 +1,12 @@
 //! What the readers of the files refuse.
-ghost use Rattle.std.specs.Prelude.{◌≡◌, ◌-◌, ◌≤◌, false, IfOk, Some};
+ghost use Rattle.std.specs.Prelude.{◌≡◌, ◌-◌, ◌≤◌, false, IfOk, None, Some};
 ghost use Rattle.std.specs.Option.{option_map};
 ghost use Rattle.cs_decl.specs.Printed.{fault_text};
-ghost use Rattle.cs_lint.specs.Refused.{Finds, FindsInPlan, FindsJobs, FindsTable};
+ghost use Rattle.cs_lint.specs.Refused.{Finds, FindsJobs, FindsPlan, FindsTable, IsPlanOf};
 
 use cs_anacrontab::{AnacronFault, Anacrontab, JobFault, read_anacrontab};
 use cs_crontab::{Crontab, LineFault, TableFault, read_crontab};
-use cs_decl::{DeclError, DeclFault, join, read_declarations};
+use cs_decl::{DeclError, DeclFault, Plan, join, read_declarations};
 use cs_diagnostics::FirstFault;
 use std::alloc::{AllocError, Global};
 
@@ -19,6 +19,15 @@ pub(crate) enum Refusal<'a> {
     Jobs(FirstFault<'a>),
     /// Of the declarations, by themselves or beside the tables.
     Plan(FirstFault<'a>),
+}
+
+/// What the readers of the files of a call answer.
+#[derive(Drop)]
+pub(crate) struct Looked<'a> {
+    /// Why they refuse them, if they do.
+    pub(crate) refusal: Option<Refusal<'a>>,
+    /// The plan, where there are declarations and nothing is refused.
+    pub(crate) plan: Option<Plan>,
 }
 
 /// The fault of a table: one of a setting may be told at what is wrong in it, others at their
@@ -98,51 +107,70 @@ fn named(fault: DeclFault) -> FirstFault<'static>
     first(0, 0, 0, false, fault.text())
 }
 
-/// Why declarations are refused, by themselves or beside the tables: the name of the fault alone.
-fn plan_refusal(
+/// The plan; or why declarations are refused, by themselves or beside the tables: the name of the
+/// fault alone.
+fn plan_or_refusal(
     alloc: Global,
     table: Crontab,
     jobs: Anacrontab,
     text: &[u8],
-) -> Result<Option<FirstFault<'static>>, AllocError>
-    ensures { IfOk result (λ found. FindsInPlan found table jobs (Some text.now)) }
+) -> Result<Result<Plan, FirstFault<'static>>, AllocError>
+    ensures { IfOk result (λ found. FindsPlan found table jobs text.now) }
 {
     let declarations = match read_declarations(alloc, text) {
         Ok(declarations) => declarations,
-        Err(DeclError::At { fault, place: _ }) => return Ok(Some(named(fault))),
+        Err(DeclError::At { fault, place: _ }) => return Ok(Err(named(fault))),
         Err(DeclError::OutOfMemory) => return Err(AllocError),
     };
     match join(alloc, table, jobs, declarations) {
-        Ok(_) => Ok(None),
-        Err(DeclError::At { fault, place: _ }) => Ok(Some(named(fault))),
+        Ok(plan) => Ok(Ok(plan)),
+        Err(DeclError::At { fault, place: _ }) => Ok(Err(named(fault))),
         Err(DeclError::OutOfMemory) => Err(AllocError),
     }
 }
 
+fn refused(refusal: Refusal<'static>) -> Looked<'static>
+    ensures refusal { result.refusal ≡ Some refusal.entry }
+    ensures plan { result.plan ≡ None }
+{
+    Looked {
+        refusal: Some(refusal),
+        plan: None,
+    }
+}
+
 /// The first fault of the crontab, the anacrontab, the declarations and the plan that all of them
-/// are, in this order.
-pub(crate) fn first_refusal(
+/// are, in this order; or that plan.
+pub(crate) fn look_at(
     alloc: Global,
     table: &[u8],
     jobs: Option<&[u8]>,
     declarations: Option<&[u8]>,
-) -> Result<Option<Refusal<'static>>, AllocError>
-    ensures { IfOk result (λ found. Finds found table.now
+) -> Result<Looked<'static>, AllocError>
+    ensures refusal { IfOk result (λ looked. Finds looked.refusal table.now
+        (option_map (λ t. t.now) jobs.entry) (option_map (λ t. t.now) declarations.entry)) }
+    ensures plan { IfOk result (λ looked. IsPlanOf looked.plan table.now
         (option_map (λ t. t.now) jobs.entry) (option_map (λ t. t.now) declarations.entry)) }
 {
     let table = match table_or_refusal(alloc, table)? {
         Ok(table) => table,
-        Err(first) => return Ok(Some(Refusal::Table(first))),
+        Err(first) => return Ok(refused(Refusal::Table(first))),
     };
     let jobs = match jobs_or_refusal(alloc, jobs)? {
         Ok(jobs) => jobs,
-        Err(first) => return Ok(Some(Refusal::Jobs(first))),
+        Err(first) => return Ok(refused(Refusal::Jobs(first))),
     };
     let Some(text) = declarations else {
-        return Ok(None);
+        return Ok(Looked {
+            refusal: None,
+            plan: None,
+        });
     };
-    match plan_refusal(alloc, table, jobs, text)? {
-        Some(first) => Ok(Some(Refusal::Plan(first))),
-        None => Ok(None),
+    match plan_or_refusal(alloc, table, jobs, text)? {
+        Ok(plan) => Ok(Looked {
+            refusal: None,
+            plan: Some(plan),
+        }),
+        Err(first) => Ok(refused(Refusal::Plan(first))),
     }
 }

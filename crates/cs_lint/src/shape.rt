@@ -52,7 +52,7 @@ fn are_hours(value: &Value) -> Option<bool> {
 }
 
 /// Adds what is wrong with the value of a member of that name.
-fn find_in_value(tell: &mut Tell, name: &str, value: &Value, span: Span) -> Done {
+fn find_in_value(tell: &mut Tell<'_>, name: &str, value: &Value, span: Span) -> Done {
     let (is_so, wanted) = match name {
         "anacron" | "cron" | "groups" | "left_out" | "parts" => (value.is_array(), "a list, [..]"),
         "default" => (value.is_object(), "an object, {..}"),
@@ -93,7 +93,7 @@ fn is_among(names: &str, name: &str) -> bool {
 }
 
 /// Adds that a name is what is said of it, for none of those that are known.
-fn find_none(tell: &mut Tell, span: Span, name: &str, says: (&str, &str, &str)) -> Done {
+fn find_none(tell: &mut Tell<'_>, span: Span, name: &str, says: (&str, &str, &str)) -> Done {
     if !tell.findings.takes_fault(span) {
         return Ok(());
     }
@@ -104,7 +104,7 @@ fn find_none(tell: &mut Tell, span: Span, name: &str, says: (&str, &str, &str)) 
     tell.fault(span, DeclFault::BadShape, why)
 }
 
-fn find_in_range(tell: &mut Tell, name: &str, value: &Value, span: Span) -> Done {
+fn find_in_range(tell: &mut Tell<'_>, name: &str, value: &Value, span: Span) -> Done {
     let bad_max = match tell.kind {
         Kind::Part => DeclFault::BadParts,
         _ => DeclFault::BadMax,
@@ -126,7 +126,7 @@ fn find_in_range(tell: &mut Tell, name: &str, value: &Value, span: Span) -> Done
     }
 }
 
-fn find_lacking(tell: &mut Tell, object: &Object<'_>) -> Done {
+fn find_lacking(tell: &mut Tell<'_>, object: &Object<'_>) -> Done {
     let ((_, _, called), fault) = (tell.kind.names(), DeclFault::BadShape);
     for name in names_of(tell.kind).split_whitespace() {
         let is_needed = matches!(name, "capacity" | "exclusive" | "id" | "max" | "name");
@@ -144,14 +144,14 @@ fn find_lacking(tell: &mut Tell, object: &Object<'_>) -> Done {
 }
 
 /// Adds what is wrong with the members of an object, each by itself.
-pub(crate) fn find_in_object(tell: &mut Tell, object: &Object<'_>) -> Done {
+pub(crate) fn find_in_object(tell: &mut Tell<'_>, object: &Object<'_>) -> Done {
     let (known, mut counted) = (names_of(tell.kind), IndexSet::new(tell.findings.alloc));
     for (name, part) in object.members.iter().rev() {
         let (name, span) = (name.as_str(), part.name);
         if !counted.insert(name)? {
             let text = quoted(tell.findings.alloc, name)?;
             let why = "is given again later, and only the last one counts: remove one";
-            tell.findings.odd(span, format_args!("{text} {why}"))?;
+            tell.odd(span, "", format_args!("{text} {why}"))?;
         } else if tell.kind == Kind::Anacron && name == "mode" {
             let why = "remove \"mode\": anacron jobs take no lock";
             tell.fault(span, DeclFault::ModeOnAnacron, why)?;

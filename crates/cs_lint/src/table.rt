@@ -2,6 +2,7 @@
 use crate::declared::Declared;
 use crate::front::Front;
 use crate::line::{bad_setting, word_behind, word_from};
+use crate::wanted::Wanted;
 use cs_anacrontab::{Entry as JobEntry, JobFault, MAX_JOBS, read_line as read_job_line};
 use cs_civil::all_kinds;
 use cs_crontab::{
@@ -86,6 +87,7 @@ impl<'a> Begun<'a> {
 pub(crate) struct Table<'a> {
     /// What was found so far.
     pub(crate) findings: Findings,
+    wanted: Wanted<'a>,
     kind: Kind,
     /// The line that is looked at, its number, and the byte of the table at which it begins.
     line: &'a [u8],
@@ -114,9 +116,11 @@ impl<'a> Table<'a> {
         bytes: &'a [u8],
         places: &'a [Place],
         kind: Kind,
+        wanted: Wanted<'a>,
     ) -> Result<Self, AllocError> {
         let mut table = Table {
             findings: Findings::new(alloc, bytes)?,
+            wanted,
             kind,
             line: bytes,
             number: 0,
@@ -157,8 +161,8 @@ impl<'a> Table<'a> {
             return Ok(());
         }
         let why = "Debian's cron takes no table without a newline at its end: add one";
-        let end = Span::of(bytes.len(), 0);
-        self.findings.odd(end, format_args!("NoNewline: {why}"))
+        let (wanted, end) = (self.wanted, Span::of(bytes.len(), 0));
+        wanted.odd(&mut self.findings, end, "NoNewline", why)
     }
 
     /// The line of that number, if a command begins on it.
@@ -183,8 +187,9 @@ impl<'a> Table<'a> {
         self.findings.fault(span.behind(self.start), words)
     }
 
-    fn odd(&mut self, span: Span, words: impl Display + Drop) -> Done {
-        self.findings.odd(span.behind(self.start), words)
+    fn odd(&mut self, span: Span, name: &str, why: impl Display + Drop) -> Done {
+        let wanted = self.wanted;
+        wanted.odd(&mut self.findings, span.behind(self.start), name, why)
     }
 
     fn begin(&mut self, word: Span, when: Option<When>, name: Option<&'a [u8]>) -> Done {
@@ -317,7 +322,7 @@ impl<'a> Table<'a> {
             return Ok(());
         }
         let why = format_args!("line {first} says the same, so it runs twice: remove one");
-        self.odd(place, format_args!("SameLine: {why}"))
+        self.odd(place, "SameLine", why)
     }
 
     fn find_never_due(&mut self, schedule: &Schedule) -> Done {
@@ -332,6 +337,7 @@ impl<'a> Table<'a> {
         let longest = format_args!("its longest month has {longest} days: change either");
         self.odd(
             place,
+            "",
             format_args!("never due: its first day is {first}, but {longest}"),
         )
     }
@@ -352,8 +358,9 @@ impl<'a> Table<'a> {
         let place = begun.word_of_command(bytes);
         let user = shown(self.findings.alloc, place.bytes(bytes))?;
         let why = "is the command: this table has no user column, so remove it";
-        self.findings
-            .odd(place, format_args!("here `{user}` {why}"))
+        let wanted = self.wanted;
+        let words = format_args!("here `{user}` {why}");
+        wanted.odd(&mut self.findings, place, "", words)
     }
 
     /// Adds that a setting of that name has no effect, if it's one that other daemons heed
@@ -367,7 +374,7 @@ impl<'a> Table<'a> {
         };
         let name = shown(self.findings.alloc, name)?;
         let place = Span::between(word_from(self.line, 0).from, self.line.len());
-        self.odd(place, format_args!("{name} has no effect: {why}"))
+        self.odd(place, "", format_args!("{name} has no effect: {why}"))
     }
 
     fn look_at_job_line(&mut self) -> Done {
@@ -398,6 +405,15 @@ impl<'a> Table<'a> {
             self.names.insert(name, (number, number))?;
         }
         self.begin(span, None, Some(name))
+    }
+
+    /// The lines of its commands or jobs by their numbers, each with the place of the first word of
+    /// its command.
+    pub(crate) fn places_of_commands(&self, bytes: &[u8]) -> Result<Vec<(u32, Span)>, AllocError> {
+        let begun = self.begun.iter();
+        begun
+            .map(|begun| (begun.number, begun.word_of_command(bytes)))
+            .collect(self.findings.alloc)
     }
 
     /// Adds what doesn't fit the declarations.

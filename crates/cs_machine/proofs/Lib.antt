@@ -1,2 +1,4 @@
+pub mod Moments
 pub mod Names
+pub mod Parts
 pub mod Texts

@@ -1,10 +1,10 @@
 -- Two files of a folder.
-use Rattle.std.proofs.Common.{◌≡◌, ◌≢◌, ◌∙◌, ℕ, Bool, true, false, ◌||◌, List, ◌++◌, sym, ap, append_assoc, refl, true≢false}
+use Rattle.std.proofs.Common.{◌≡◌, ◌≢◌, ◌∙◌, ℕ, Bool, true, false, ◌||◌, List, [], ◌∷◌, ◌++◌, sym, ap, append_assoc, reverse, refl, true≢false, arith}
 use Rattle.std.specs.Prelude.{codes}
 use Rattle.std.specs.List.{list_any}
-use Rattle.std.proofs.lemmas.List.{append_cancel_left}
+use Rattle.std.proofs.lemmas.List.{append_cancel_left, reverse-append}
 use Rattle.std.proofs.lemmas.List.Folds.{list_any-append}
-use Rattle.cs_machine.specs.Files.{IsFileName, is_kept_out, file_of, new_file_of}
+use Rattle.cs_machine.specs.Files.{IsFileName, is_kept_out, file_of, new_file_of, stop_file_of}
 
 pub own_file : (folder a b : List ℕ) → file_of folder a ≡ file_of folder b → a ≡ b
 own_file folder a b same = append_cancel_left (folder ++ codes "/") a b same
@@ -19,3 +19,21 @@ new_file_apart folder a b name same =
     let named : a ++ codes " new" ≡ b = own_file folder (a ++ codes " new") b (sym (append_assoc (folder ++ codes "/") a (codes " new")) ∙ same) in
     let bad : list_any is_kept_out b ≡ true = sym (ap (list_any is_kept_out) named) ∙ list_any-append is_kept_out a (codes " new") ∙ ends_badly (list_any is_kept_out a) in
     absurd (true≢false (sym bad ∙ name.clean))
+
+pub stop_file_apart : (folder a : List ℕ) → IsFileName a → stop_file_of folder ≢ file_of folder a
+stop_file_apart folder a name same =
+    let named : codes "cronsafe stop" ≡ a = own_file folder (codes "cronsafe stop") a same in
+    let bad : list_any is_kept_out a ≡ true = sym (ap (list_any is_kept_out) named) in
+    absurd (true≢false (sym bad ∙ name.clean))
+
+-- the first of a list, 0 where there is none
+abbrev first : List ℕ → ℕ
+first [] = 0
+first (x ∷ xs) = x
+
+-- the texts end with different letters
+pub stop_file_not_new : (folder a : List ℕ) → stop_file_of folder ≢ new_file_of folder a
+stop_file_not_new folder a same =
+    let named : codes "cronsafe stop" ≡ a ++ codes " new" = own_file folder (codes "cronsafe stop") (a ++ codes " new") (same ∙ append_assoc (folder ++ codes "/") a (codes " new")) in
+    let last : 112 ≡ 119 = ap (λ xs. first (reverse xs)) named ∙ ap first (reverse-append a (codes " new")) in
+    absurd (omega (arith, last))

@@ -20,3 +20,11 @@ file_of folder identifier = folder ++ codes "/" ++ identifier
 -- where it is written first
 abbrev pub new_file_of : List ℕ → List ℕ → List ℕ
 new_file_of folder identifier = file_of folder identifier ++ codes " new"
+
+-- the file of a daemon's state
+abbrev pub state_file_of : List ℕ → List ℕ
+state_file_of folder = file_of folder (codes "cronsafe state")
+
+-- the file by which a daemon is asked to end
+abbrev pub stop_file_of : List ℕ → List ℕ
+stop_file_of folder = file_of folder (codes "cronsafe stop")

@@ -1,7 +1,32 @@
--- When a clock that was given a number of minutes stops.
-use Rattle.std.specs.Prelude.{ℕ, ◌-◌, Bool, false, nat_le, if◌then◌else◌, Option, Some, None}
+-- What a clock tells where the machine's shows a minute, and when one that was given a number of
+-- minutes stops.
+use Rattle.std.specs.Prelude.{◌≡◌, ℕ, ◌-◌, Bool, false, nat_le, nat_lt, if◌then◌else◌, Option, Some, None}
 use Rattle.cs_device.specs.declared.clock.Tick.{Tick}
 use Rattle.cs_device.specs.declared.clock.Tick.TheVariants.{At, Stop}
+use Rattle.cs_machine.specs.declared.attendant.ClockBack.{ClockBack}
+
+-- the latest minute, with one more
+abbrev pub latest : Option ℕ → ℕ → ℕ
+latest None minute = minute
+latest (Some before) minute = if nat_le before minute then minute else before
+
+-- whether the machine's clock shows a minute before the latest one
+abbrev pub is_behind : Option ℕ → ℕ → Bool
+is_behind None shown = false
+is_behind (Some before) shown = nat_lt shown before
+
+-- what is told of it: both minutes, and whether the latest one is at most an hour ahead
+abbrev pub IsBackAt : Option ℕ → ℕ → ClockBack → Type 0
+IsBackAt before shown back =
+    (before ≡ Some back.latest) × (back.shown ≡ shown)
+    × (back.is_waited_for ≡ nat_le (back.latest - shown) 60)
+
+-- The minute that is told: where the machine's clock was put back by at most an hour, the latest one.
+abbrev pub held : Option ℕ → ℕ → ℕ
+held None minute = minute
+held (Some before) minute =
+    if nat_le before minute then minute
+    else if nat_le (before - minute) 60 then before else minute
 
 -- Whether so many minutes have passed since the first; none have where the clock went back.
 abbrev pub is_over : Option ℕ → Option ℕ → ℕ → Bool

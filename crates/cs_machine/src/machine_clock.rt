@@ -1,59 +1,131 @@
 //! The machine's clock, in whole minutes.
 ghost use Rattle.std.specs.Prelude.{◌≡◌, ◌↔◌, ◌≤◌, ◌-◌, pos, IsTrue, IfSome, Some, None};
-ghost use Rattle.std.specs.Prelude.{◌+ℤ◌, ◌*ℤ◌, unwrap_or};
+ghost use Rattle.std.specs.Prelude.{◌+ℤ◌, ◌*ℤ◌, unwrap_or, is_some, true, false};
 ghost use Rattle.std.specs.Int.{int_div_euclid};
 ghost use Rattle.cs_device.specs.Telling.{nothing_told};
-ghost use Rattle.cs_machine.specs.Passing.{shown};
+ghost use Rattle.cs_machine.specs.declared.attendant.ClockBack.{ClockBack};
+ghost use Rattle.cs_machine.specs.Passing.{held, is_behind, IsBackAt, latest, shown};
 
+use crate::attendant::{Attendant, ClockBack};
+use crate::seconds::unix_seconds;
 use cs_civil::{Minute, minute_at};
 use cs_device::{Clock, Tick, Told};
-use std::time::{Duration, SystemTime};
+use std::time::Duration;
 use std::{thread, time};
+
+/// The most minutes that the machine's clock can be put back and is waited for.
+const LONGEST_WAIT: u64 = 60;
 
 /// The machine's clock at one offset from UTC, which a daemon looks at once a second.
 ///
+/// Where the machine's clock is put back by at most an hour, this one stands still until that has
+/// caught up: it tells its latest minute, so that no minute comes twice. Where it's put back
+/// further, it goes back too. The attendant is told of either, and not again until the machine's
+/// clock has caught up.
+///
+/// [`Stop`](Tick::Stop) where the daemon is asked to end: the attendant says so, once a second.
 /// [`Failed`](Tick::Failed) if the machine has no time, or it isn't from 1970-01-02 00:00 to
 /// 9999-12-31 23:59 at the offset. After 2^64 - 1 failures, another is [`Stop`](Tick::Stop).
 #[derive(Drop)]
-pub struct MachineClock<'r, R> {
+pub struct MachineClock<'r, R, A> {
     rt: &'r R,
     offset: i16,
     limit: Option<u64>,
     first: Option<Minute>,
+    latest: Option<Minute>,
+    is_back: bool,
+    attendant: A,
     told: Told,
 }
 
-impl<'r, R: time::Clock> MachineClock<'r, R> {
+impl<'r, R: time::Clock, A: Attendant> MachineClock<'r, R, A> {
     /// Returns a clock without answers yet, at an offset: the minutes by which it is ahead of UTC.
     ///
     /// With a limit it stops this many minutes after its first answer, with 0 at its second.
-    pub fn new(rt: &'r R, offset: i16, limit: Option<u64>) -> MachineClock<'r, R>
+    pub fn new(rt: &'r R, offset: i16, limit: Option<u64>, attendant: A) -> MachineClock<'r, R, A>
         ensures told { result.told ≡ nothing_told }
-        ensures asked { (result.offset ≡ offset) × (result.limit ≡ limit) × (result.first ≡ None) }
+        ensures asked { (result.offset ≡ offset) × (result.limit ≡ limit) × (result.first ≡ None)
+            × (result.latest ≡ None) }
+        ensures attendant { (result.is_back ≡ false) × (result.attendant ≡ attendant) }
     {
         MachineClock {
             rt,
             offset,
             limit,
             first: None,
+            latest: None,
+            is_back: false,
+            attendant,
             told: Told::nothing(),
         }
     }
 
     /// The minute that it is now.
     fn minute(&self) -> Option<Minute> {
-        let now = SystemTime::now(self.rt).ok()?;
-        let since = now.duration_since(SystemTime::UNIX_EPOCH).ok()?;
-        minute_after(since.as_secs(), self.offset)
+        minute_after(unix_seconds(self.rt)?, self.offset)
+    }
+
+    /// The clock's answer after a second.
+    fn wait(&mut self) -> Tick
+        ensures { self.new.told ≡ self.old.told }
+    {
+        thread::sleep(self.rt, Duration::from_secs(1));
+        if self.attendant.is_stop_asked() {
+            return Tick::Stop;
+        }
+        self.look()
     }
 
     /// The clock's answer.
     fn look(&mut self) -> Tick
         ensures { self.new.told ≡ self.old.told }
     {
-        match self.minute() {
-            Some(minute) => self.show(minute),
-            None => Tick::Failed,
+        let Some(minute) = self.minute() else {
+            return Tick::Failed;
+        };
+        self.watch(minute);
+        let minute = self.hold(minute);
+        self.show(minute)
+    }
+
+    /// Tells the attendant if the machine's clock went back, unless it is told already.
+    fn watch(&mut self, minute: Minute)
+        ensures told { is_behind self.old.latest minute ≡ true → self.old.is_back ≡ false
+            → (back : ClockBack) × IsBackAt self.old.latest minute back
+            × A.tells self.old.attendant back self.new.attendant }
+        ensures once { self.old.is_back ≡ true → self.new.attendant ≡ self.old.attendant }
+        ensures untold { is_behind self.old.latest minute ≡ false
+            → self.new.attendant ≡ self.old.attendant }
+        ensures is_back { self.new ≡ record self.old {
+          is_back = is_behind self.old.latest minute;
+          attendant = self.new.attendant;
+        } }
+    {
+        let back = back_at(self.latest, minute);
+        if let (Some(back), false) = (back, self.is_back) {
+            self.attendant.tell_back(back);
+        }
+        self.is_back = back.is_some();
+    }
+
+    /// The minute to tell where the machine's clock shows this one.
+    fn hold(&mut self, minute: Minute) -> Minute
+        ensures value { result ≡ held self.old.latest minute }
+        ensures latest { self.new
+            ≡ record self.old { latest = Some (latest self.old.latest minute) } }
+    {
+        let Some(latest) = self.latest else {
+            self.latest = Some(minute);
+            return minute;
+        };
+        if minute >= latest {
+            self.latest = Some(minute);
+            return minute;
+        }
+        if is_near(latest, minute) {
+            latest
+        } else {
+            minute
         }
     }
 
@@ -74,6 +146,29 @@ impl<'r, R: time::Clock> MachineClock<'r, R> {
     }
 }
 
+/// By how much the machine's clock is behind, if it is.
+fn back_at(latest: Option<Minute>, shown: Minute) -> Option<ClockBack>
+    ensures behind { is_some result ≡ is_behind latest shown }
+    ensures back { IfSome result (IsBackAt latest shown) }
+{
+    let latest = latest?;
+    if shown >= latest {
+        return None;
+    }
+    Some(ClockBack {
+        shown,
+        latest,
+        is_waited_for: is_near(latest, shown),
+    })
+}
+
+/// Whether the machine's clock is behind by so little that it's waited for.
+fn is_near(latest: Minute, minute: Minute) -> bool
+    ensures { IsTrue result ↔ (latest - minute ≤ 60) }
+{
+    latest.number().saturating_sub(minute.number()) <= LONGEST_WAIT
+}
+
 /// The minute this many seconds after 1970-01-01 00:00 UTC, if it is in range.
 fn minute_after(seconds: u64, offset: i16) -> Option<Minute>
     ensures { IfSome result (λ minute. pos minute
@@ -89,7 +184,7 @@ fn has_passed(limit: u64, first: Minute, minute: Minute) -> bool
     limit <= minute.number().saturating_sub(first.number())
 }
 
-impl<'r, R: time::Clock> Clock for MachineClock<'r, R> {
+impl<'r, R: time::Clock, A: Attendant> Clock for MachineClock<'r, R, A> {
     ghost last = { λ c. c.told.last };
 
     ghost failures = { λ c. c.told.failures };
@@ -99,10 +194,11 @@ impl<'r, R: time::Clock> Clock for MachineClock<'r, R> {
     ghost risen = { λ c. c.told.risen };
 
     fn tick(&mut self, now: Option<Minute>) -> Tick {
-        if now.is_some() {
-            thread::sleep(self.rt, Duration::from_secs(1));
-        }
-        let tick = self.look();
+        let tick = if now.is_some() {
+            self.wait()
+        } else {
+            self.look()
+        };
         self.told.tell(tick)
     }
 }

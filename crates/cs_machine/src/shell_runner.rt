@@ -6,11 +6,11 @@ use crate::shell::shell_command;
 use cs_civil::Bytes;
 use cs_device::{Failures, Outcome, Runner};
 use std::alloc::Global;
-use std::io::Write;
+use std::io::{Stderr, Stdout, Write};
 use std::process::{Child, OpenProcess, Processes, Stdio};
 
 /// Runs each command with a shell of this machine (see [`shell_command`]), with the daemon's own
-/// standard output and standard error.
+/// standard output and standard error, also where those were opened by the daemon itself.
 ///
 /// A command that can't be started is [`NotStarted`](Outcome::NotStarted); after 2^64 - 1 of them,
 /// another is [`Ended`](Outcome::Ended).
@@ -18,6 +18,8 @@ use std::process::{Child, OpenProcess, Processes, Stdio};
 pub struct ShellRunner<'r, P> {
     processes: &'r P,
     alloc: Global,
+    out: Stdout,
+    err: Stderr,
     failures: Failures,
 }
 
@@ -39,13 +41,15 @@ fn finish<S: OpenProcess>(child: &mut Child<S>, input: Option<&[u8]>) -> Outcome
 }
 
 impl<'r, P: Processes> ShellRunner<'r, P> {
-    /// Returns a runner without failures.
-    pub fn new(processes: &'r P, alloc: Global) -> ShellRunner<'r, P>
+    /// Returns a runner without failures, whose commands get these streams.
+    pub fn new(processes: &'r P, alloc: Global, out: Stdout, err: Stderr) -> ShellRunner<'r, P>
         ensures { result.failures ≡ 0 }
     {
         ShellRunner {
             processes,
             alloc,
+            out,
+            err,
             failures: Failures::none(),
         }
     }
@@ -63,6 +67,8 @@ impl<'r, P: Processes> ShellRunner<'r, P> {
         } else {
             shell.stdin(Stdio::null());
         }
+        shell.stdout(Stdio::from(self.out));
+        shell.stderr(Stdio::from(self.err));
         shell.spawn(self.processes).ok()
     }
 }

@@ -6,12 +6,12 @@ ghost use Rattle.cs_anacrontab.specs.Stamp.{IsStampText};
 ghost use Rattle.cs_civil.specs.Calendar.{last_day};
 ghost use Rattle.cs_machine.specs.Files.{IsFileName, is_kept_out, file_of, new_file_of};
 
+use crate::replacing::replace_file;
 use cs_anacrontab::{read_stamp, stamp_text};
 use cs_civil::Day;
 use cs_device::{Failures, Stamp, StampStore};
 use std::alloc::Global;
-use std::fs::OpenFile;
-use std::io::{ErrorKind, Read, Write};
+use std::io::{ErrorKind, Read};
 use std::rt::Files;
 use std::{fs, io, str};
 
@@ -118,29 +118,34 @@ impl<'r, 'f, R: Files> StampsFolder<'r, 'f, R> {
         Ok(path)
     }
 
-    /// The day in an identifier's file, none if it is empty or absent.
+    /// The day in an identifier's file, none if it is empty or absent. What is no file isn't opened:
+    /// a pipe would keep the daemon waiting.
     fn look(&self, identifier: &[u8]) -> io::Result<Option<Day>> {
         let path = self.file_of(identifier)?;
-        let file = match fs::open(self.rt, path) {
-            Ok(file) => file,
+        match fs::metadata(self.rt, path.as_str()) {
+            Ok(found) if found.is_file() => {}
+            Ok(_) => return Err(io::Error::from(ErrorKind::InvalidData)),
             Err(error) if error.kind() == ErrorKind::NotFound => return Ok(None),
             Err(error) => return Err(error),
-        };
+        }
         let mut text = Vec::new(self.alloc);
-        file.take(ENOUGH).read_to_end(&mut text)?;
+        fs::open(self.rt, path)?
+            .take(ENOUGH)
+            .read_to_end(&mut text)?;
         day_in(text.as_slice())
     }
 
-    /// Writes a stamp to another file, flushes it to the disk, renames it to the stamp's file, and
-    /// flushes that too. So a crash leaves the old stamp or the new one.
+    /// Writes a stamp, so that a crash leaves the old stamp or the new one.
     fn replace(&self, identifier: &[u8], day: Day) -> io::Result<()> {
         let path = self.file_of(identifier)?;
         let new_path = self.new_file_of(identifier)?;
-        let mut file = fs::create(self.rt, new_path.as_str())?;
-        file.write_all(&stamp_text(day))?;
-        file.sync_all()?;
-        fs::rename(self.rt, new_path, path)?;
-        fs::open(self.rt, self.folder)?.sync_all()
+        replace_file(
+            self.rt,
+            self.folder,
+            new_path.as_str(),
+            path.as_str(),
+            &stamp_text(day),
+        )
     }
 }
 

@@ -9,7 +9,7 @@ use Rattle.cs_crontab.specs.Crontab.{Entry, Nothing, Setting, Command}
 use Rattle.cs_crontab.specs.Reading.{line_of}
 use Rattle.cs_crontab.specs.declared.fault.LineFault.{LineFault}
 use Rattle.cs_odd.specs.declared.oddity.Oddity.{Oddity}
-use Rattle.cs_odd.specs.declared.oddity.Oddity.TheVariants.{Backslash, Background, BothDays, CarriageReturn, EachMinute, LongCommand, PercentSign, TimeZone, Unexpanded, UnevenDays, UnevenHours, UnevenMinutes, ValueComment}
+use Rattle.cs_odd.specs.declared.oddity.Oddity.TheVariants.{Backslash, Background, BothDays, CarriageReturn, CommandComment, EachMinute, LongCommand, PercentSign, TimeZone, Unexpanded, UnevenDays, UnevenHours, UnevenMinutes, ValueComment}
 
 -- ---- the text of a command
 
@@ -50,6 +50,20 @@ is_left_running text = ends_in (codes "&") text
 -- so it is in front of the `%`
 abbrev pub is_background : List ℕ → Bool
 is_background command = is_left_running (trimmed (in_front command))
+
+-- a quote, a backquote or a backslash: what stands behind a `#` may then be no comment
+abbrev pub is_quoting : ℕ → Bool
+is_quoting b = b == 34 || (b == 39 || (b == 96 || b == 92))
+
+-- A `#` stands behind a blank, there or before, and none of these behind it.
+unfoldable pub ends_in_comment : Bool → List ℕ → Bool
+ends_in_comment before [] = before
+ends_in_comment before (b ∷ bs) =
+    ends_in_comment (not (is_quoting b) && (before || (is_blank b && begins_with 35 bs))) bs
+
+-- so it is in front of the `%`
+abbrev pub is_commented : List ℕ → Bool
+is_commented command = ends_in_comment false (in_front command)
 
 -- ---- the fields
 
@@ -122,6 +136,7 @@ is_odd_setting ValueComment line name value = has_comment value && is_bare line 
 is_odd_setting PercentSign line name value = false
 is_odd_setting LongCommand line name value = false
 is_odd_setting Background line name value = false
+is_odd_setting CommandComment line name value = false
 is_odd_setting BothDays line name value = false
 is_odd_setting EachMinute line name value = false
 is_odd_setting UnevenMinutes line name value = false
@@ -134,6 +149,7 @@ is_odd_command CarriageReturn line command = ends_in (13 ∷ []) line
 is_odd_command PercentSign line command = has_percent command
 is_odd_command LongCommand line command = is_long command
 is_odd_command Background line command = is_background command
+is_odd_command CommandComment line command = is_commented command
 is_odd_command BothDays line command = has_both_days line
 is_odd_command EachMinute line command = is_each_minute line
 is_odd_command UnevenMinutes line command = is_uneven 60 (field 0 line)
@@ -151,8 +167,25 @@ is_odd oddity line (Command when command) = is_odd_command oddity line command
 -- all that may be odd, in the order in which it's told
 abbrev pub all_oddities : List Oddity
 all_oddities = EachMinute ∷ UnevenMinutes ∷ UnevenHours ∷ UnevenDays ∷ BothDays ∷ PercentSign
-    ∷ LongCommand ∷ Background ∷ Unexpanded ∷ TimeZone ∷ ValueComment ∷ Backslash
+    ∷ LongCommand ∷ Background ∷ CommandComment ∷ Unexpanded ∷ TimeZone ∷ ValueComment ∷ Backslash
     ∷ CarriageReturn ∷ []
+
+-- what it is called
+unfoldable pub name_of : Oddity → List ℕ
+name_of EachMinute = codes "EachMinute"
+name_of UnevenMinutes = codes "UnevenStep"
+name_of UnevenHours = codes "UnevenStep"
+name_of UnevenDays = codes "UnevenStep"
+name_of BothDays = codes "BothDays"
+name_of PercentSign = codes "PercentSign"
+name_of LongCommand = codes "LongCommand"
+name_of Background = codes "Background"
+name_of CommandComment = codes "CommandComment"
+name_of Unexpanded = codes "Unexpanded"
+name_of TimeZone = codes "TimeZone"
+name_of ValueComment = codes "ValueComment"
+name_of Backslash = codes "Backslash"
+name_of CarriageReturn = codes "CarriageReturn"
 
 -- what is odd in a line, as far as it can be read
 abbrev pub found_in : List ℕ → Result Entry (Wrong LineFault) → List Oddity

@@ -2,11 +2,11 @@
 ghost use Rattle.std.specs.Prelude.{◌≡◌, ◌∷◌, [], IfOk, filter};
 ghost use Rattle.cs_crontab.specs.Seen.{entry_seen};
 ghost use Rattle.cs_odd.specs.Odd.{all_oddities, ends_in, has_percent, is_odd, is_odd_command};
-ghost use Rattle.cs_odd.specs.Odd.{is_odd_setting, oddities_of};
+ghost use Rattle.cs_odd.specs.Odd.{is_odd_setting, name_of, oddities_of};
 
 use crate::fields::{has_both_days, is_each_minute, is_uneven};
 use crate::setting::{has_comment, has_variable, is_bare};
-use crate::text::{from_percent, is_background, is_long};
+use crate::text::{from_percent, is_background, is_commented, is_long};
 use cs_crontab::{Entry, read_line};
 use std::alloc::{AllocError, Global};
 
@@ -29,6 +29,8 @@ pub enum Oddity {
     LongCommand,
     /// A command that ends in `&`.
     Background,
+    /// A command with a comment behind it.
+    CommandComment,
     /// A setting with `$NAME` or `${`.
     Unexpanded,
     /// The setting `TZ`.
@@ -41,7 +43,7 @@ pub enum Oddity {
     CarriageReturn,
 }
 
-const ODDITIES: [Oddity; 13] = [
+const ODDITIES: [Oddity; 14] = [
     Oddity::EachMinute,
     Oddity::UnevenMinutes,
     Oddity::UnevenHours,
@@ -50,6 +52,7 @@ const ODDITIES: [Oddity; 13] = [
     Oddity::PercentSign,
     Oddity::LongCommand,
     Oddity::Background,
+    Oddity::CommandComment,
     Oddity::Unexpanded,
     Oddity::TimeZone,
     Oddity::ValueComment,
@@ -89,6 +92,7 @@ impl Oddity {
             Oddity::PercentSign => !from_percent(command).is_empty(),
             Oddity::LongCommand => is_long(command),
             Oddity::Background => is_background(command),
+            Oddity::CommandComment => is_commented(command),
             Oddity::BothDays => has_both_days(line),
             Oddity::EachMinute => is_each_minute(line),
             Oddity::UnevenMinutes => is_uneven(line, 0, 60),
@@ -109,22 +113,44 @@ impl Oddity {
         }
     }
 
-    /// What it is called, and why it is odd.
-    pub fn words(self) -> (&'static str, &'static str) {
+    /// What it is called, as `cronsafe explain` lists it.
+    #[tactic(auto, unfolding(crate::specs::Odd::name_of))]
+    pub fn name(self) -> &'static str
+        ensures { result.now ≡ name_of self }
+    {
         match self {
-            Oddity::EachMinute => ("EachMinute", EACH_MINUTE),
-            Oddity::UnevenMinutes => ("UnevenStep", UNEVEN_MINUTES),
-            Oddity::UnevenHours => ("UnevenStep", UNEVEN_HOURS),
-            Oddity::UnevenDays => ("UnevenStep", UNEVEN_DAYS),
-            Oddity::BothDays => ("BothDays", BOTH_DAYS),
-            Oddity::PercentSign => ("PercentSign", PERCENT_SIGN),
-            Oddity::LongCommand => ("LongCommand", LONG_COMMAND),
-            Oddity::Background => ("Background", BACKGROUND),
-            Oddity::Unexpanded => ("Unexpanded", UNEXPANDED),
-            Oddity::TimeZone => ("TimeZone", TIME_ZONE),
-            Oddity::ValueComment => ("ValueComment", VALUE_COMMENT),
-            Oddity::Backslash => ("Backslash", BACKSLASH),
-            Oddity::CarriageReturn => ("CarriageReturn", CARRIAGE_RETURN),
+            Oddity::EachMinute => "EachMinute",
+            Oddity::UnevenMinutes | Oddity::UnevenHours | Oddity::UnevenDays => "UnevenStep",
+            Oddity::BothDays => "BothDays",
+            Oddity::PercentSign => "PercentSign",
+            Oddity::LongCommand => "LongCommand",
+            Oddity::Background => "Background",
+            Oddity::CommandComment => "CommandComment",
+            Oddity::Unexpanded => "Unexpanded",
+            Oddity::TimeZone => "TimeZone",
+            Oddity::ValueComment => "ValueComment",
+            Oddity::Backslash => "Backslash",
+            Oddity::CarriageReturn => "CarriageReturn",
+        }
+    }
+
+    /// Why it is odd, and what to change.
+    pub fn why(self) -> &'static str {
+        match self {
+            Oddity::EachMinute => EACH_MINUTE,
+            Oddity::UnevenMinutes => UNEVEN_MINUTES,
+            Oddity::UnevenHours => UNEVEN_HOURS,
+            Oddity::UnevenDays => UNEVEN_DAYS,
+            Oddity::BothDays => BOTH_DAYS,
+            Oddity::PercentSign => PERCENT_SIGN,
+            Oddity::LongCommand => LONG_COMMAND,
+            Oddity::Background => BACKGROUND,
+            Oddity::CommandComment => COMMAND_COMMENT,
+            Oddity::Unexpanded => UNEXPANDED,
+            Oddity::TimeZone => TIME_ZONE,
+            Oddity::ValueComment => VALUE_COMMENT,
+            Oddity::Backslash => BACKSLASH,
+            Oddity::CarriageReturn => CARRIAGE_RETURN,
         }
     }
 }
@@ -146,6 +172,8 @@ const PERCENT_SIGN: &str = r"the command ends here, and what follows is its inpu
 const LONG_COMMAND: &str = "Debian's cron takes 998 bytes: put the command into a script";
 
 const BACKGROUND: &str = "the run ends while this goes on, past its longest time: remove the `&`";
+
+const COMMAND_COMMENT: &str = "the comment is part of the command: put it on a line of its own";
 
 const UNEXPANDED: &str = "no variable is expanded in a setting: write out its value";
 

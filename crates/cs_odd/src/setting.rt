@@ -30,7 +30,7 @@ pub(crate) fn has_variable(text: &[u8]) -> bool
     false
 }
 
-fn begins_comment(text: &[u8]) -> bool
+pub(crate) fn begins_comment(text: &[u8]) -> bool
     ensures { result ≡ begins_with 35 text.now }
 {
     match text {

@@ -1,9 +1,11 @@
 //! The text of a command.
-ghost use Rattle.std.specs.Prelude.{◌≡◌, ◌<◌, ◌≤◌, length, IfSome};
+ghost use Rattle.std.specs.Prelude.{◌≡◌, ◌<◌, ◌≤◌, length, IfSome, false};
 ghost use Rattle.std.specs.Option.{option_map};
-ghost use Rattle.cs_odd.specs.Odd.{from_behind, from_percent, in_front, is_background, is_long};
+ghost use Rattle.cs_odd.specs.Odd.{ends_in_comment, from_behind, from_percent, in_front};
+ghost use Rattle.cs_odd.specs.Odd.{is_background, is_commented, is_long, is_quoting};
 
-use cs_table::text::trim_end;
+use crate::setting::begins_comment;
+use cs_table::text::{is_blank, trim_end};
 
 /// The most bytes that a command has in Debian's cron.
 pub const MAX_COMMAND: usize = 998;
@@ -58,4 +60,32 @@ pub(crate) fn is_background(command: &[u8]) -> bool
         && !front.ends_with(b"&&".as_slice())
         && !front.ends_with(b"\\&".as_slice());
     is_so && !front.contains(&b'#')
+}
+
+fn is_quoting(byte: u8) -> bool
+    ensures { result ≡ is_quoting byte }
+{
+    byte == b'"' || (byte == b'\'' || (byte == b'`' || byte == b'\\'))
+}
+
+/// Whether a `#` stands behind a blank, and no quote, backquote or backslash behind that.
+#[tactic(auto, unfolding(crate::specs::Odd::ends_in_comment))]
+fn ends_in_comment(text: &[u8]) -> bool
+    ensures { result ≡ ends_in_comment false text.now }
+{
+    let mut found = false;
+    let mut rest = text;
+    while let [first, others @ ..] = rest {
+        let begins = is_blank(*first) && begins_comment(others);
+        found = !is_quoting(*first) && (found || begins);
+        rest = others;
+    }
+    found
+}
+
+/// Whether a comment stands behind it, in front of what is its input.
+pub(crate) fn is_commented(command: &[u8]) -> bool
+    ensures { result ≡ is_commented command.now }
+{
+    ends_in_comment(in_front(command))
 }

@@ -6,14 +6,13 @@ use Rattle.cs_anacrontab.specs.Anacrontab.{Table as JobTable}
 use Rattle.cs_gather.specs.declared.places.Place.{Place}
 use Rattle.cs_decl.specs.Meaning.{declared_by}
 use Rattle.cs_decl.specs.declared.entries.Entries.{Entries}
-use Rattle.cs_draft.specs.Draft.{IsUpdate}
 use Rattle.cs_io.specs.Files.{Failed, IsFresh, IsReadOut, IsTooLong, Reads}
 use Rattle.cs_io.specs.declared.inputs.TheConstants.{MOST_READS}
 use Rattle.cs_files.specs.Reads.{IsUnreadWhole, PlacesIn}
 use Rattle.cs_files.specs.Response.{Ending}
 use Rattle.cs_files.specs.Trouble.{TellsPath, Trouble, trouble}
 use Rattle.cs_files.specs.declared.fault.Fault.{Fault}
-use Rattle.cs_views.specs.DraftAnswer.{Drafts, IsPrinted}
+use Rattle.cs_views.specs.DraftAnswer.{Drafts, PrintsUpdate}
 
 -- what was read of declarations is what the file declares
 declared : (d : Entries) (bytes : List ℕ) (whole left : Option (List ℕ)) → IfSome whole (λ text. left ≡ Some text) → IfSome left (λ text. bytes ≡ text) → declared_by bytes ≡ Ok d → IfSome whole (λ text. declared_by text ≡ Ok d)
@@ -24,7 +23,7 @@ declared d bytes (Some text) left fresh read is =
 
 -- an update of declarations that were read
 pub updated : (files left : List ℕ → Option (List ℕ)) (table path : Text) (bytes : List ℕ) (max : ℕ) (offset : ℤ) (tables : Table × JobTable) (places : List Place) (old : Entries) (r : Ending) (before after : Failed)
-    → after ≡ before → PlacesIn files table tables.0 places → IsFresh files left → IfSome (left path) (λ text. bytes ≡ text) → declared_by bytes ≡ Ok old → IsPrinted (IsUpdate tables.0 tables.1 places old max) r
+    → after ≡ before → PlacesIn files table tables.0 places → IsFresh files left → IfSome (left path) (λ text. bytes ≡ text) → declared_by bytes ≡ Ok old → PrintsUpdate tables.0 tables.1 places old max r
     → Drafts files table max offset (Some path) tables before after (Ok r)
 updated files left table path bytes max offset tables places old r before after works placed fresh read is printed =
     inr (old, inl (refl, declared old bytes (files path) (left path) (fresh path) read is), (works, (r, (places, placed, printed), refl)))

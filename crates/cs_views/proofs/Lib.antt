@@ -6,3 +6,4 @@ pub mod LintLemmas
 pub mod PathLemmas
 pub mod ListingLemmas
 pub mod GatherLemmas
+pub mod LearnLemmas

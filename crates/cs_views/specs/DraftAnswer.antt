@@ -5,7 +5,9 @@ use Rattle.cs_crontab.specs.Crontab.{Table}
 use Rattle.cs_anacrontab.specs.Anacrontab.{Table as JobTable}
 use Rattle.cs_gather.specs.declared.places.Place.{Place}
 use Rattle.cs_decl.specs.Plain.{is_possible_max}
+use Rattle.cs_decl.specs.declared.entries.Entries.{Entries}
 use Rattle.cs_draft.specs.Draft.{IsDraft, IsUpdate}
+use Rattle.cs_draft.specs.Notices.{Warn, WarnOfNew}
 use Rattle.cs_args.specs.CommandLine.{AskedDraft}
 use Rattle.cs_args.specs.declared.question.WordFault.TheVariants.{BadMax}
 use Rattle.cs_io.specs.Files.{Failed}
@@ -18,21 +20,33 @@ abbrev pub IsPrinted : (List ℕ → Type 0) → Ending → Type 0
 IsPrinted Is ending =
     ((ending.status ≡ 0) × Is ending.out) ⊎ ((ending.status ≡ 2) × (ending.out ≡ []))
 
+-- so is a draft, and its warnings are told
+abbrev pub PrintsDraft : Table → JobTable → List Place → ℕ → ℤ → Ending → Type 0
+PrintsDraft table jobs places max offset ending =
+    IsPrinted (λ text. IsDraft table jobs places max offset text × Warn table jobs text ending.err)
+    ending
+
+-- .. or an update of old declarations
+abbrev pub PrintsUpdate : Table → JobTable → List Place → Entries → ℕ → Ending → Type 0
+PrintsUpdate table jobs places old max ending =
+    IsPrinted (λ text. IsUpdate table jobs places old max text
+    × WarnOfNew table jobs old text ending.err) ending
+
 -- and so with the places of the table at a path
-abbrev pub IsPrintedAt : (List ℕ → Option (List ℕ)) → Text → Table → (List Place → List ℕ → Type 0)
+abbrev pub IsPrintedAt : (List ℕ → Option (List ℕ)) → Text → Table → (List Place → Ending → Type 0)
     → Ending → Type 0
-IsPrintedAt files path table Is ending =
-    (places : List Place) × PlacesIn files path table places × IsPrinted (Is places) ending
+IsPrintedAt files path table Prints ending =
+    (places : List Place) × PlacesIn files path table places × Prints places ending
 
 -- a draft of the tables, of which the first is at that path, at an offset; or the old declarations are
 -- read, and an update of them is printed
 abbrev pub Drafts : (List ℕ → Option (List ℕ)) → Text → ℕ → ℤ → Option Text → Table × JobTable
     → Failed → Failed → Result Ending Trouble → Type 0
 Drafts files table max offset None tables = GivesSome (IsPrintedAt files table tables.0
-    (λ places. IsDraft tables.0 tables.1 places max offset))
+    (λ places. PrintsDraft tables.0 tables.1 places max offset))
 Drafts files table max offset (Some path) tables =
     AndThen (ReadsEntries files path) (λ old. GivesSome (IsPrintedAt files table tables.0
-    (λ places. IsUpdate tables.0 tables.1 places old max)))
+    (λ places. PrintsUpdate tables.0 tables.1 places old max)))
 
 -- both tables are read first
 abbrev pub DraftsTables : AskedDraft → ℤ → (List ℕ → Option (List ℕ)) → Failed → Failed → Ending

@@ -11,3 +11,4 @@ pub mod GatherTables
 pub mod GatherAnswer
 pub mod Listing
 pub mod Story
+pub mod LearnAnswer

@@ -2,13 +2,14 @@
 ghost use Rattle.std.specs.Prelude.{◌≡◌, ◌≢◌, ◌++◌, [], IfErr, IfOk, true};
 ghost use Rattle.cs_args.specs.Asked.{asked_draft};
 ghost use Rattle.cs_decl.specs.Plain.{is_possible_max};
-ghost use Rattle.cs_draft.specs.Draft.{IsDraft, IsUpdate};
 ghost use Rattle.cs_io.specs.Files.{AreReadInTurn, IsFresh};
 ghost use Rattle.cs_files.specs.RanOut.{IsWarned};
 ghost use Rattle.cs_files.specs.Reads.{PlacesIn};
+ghost use Rattle.cs_files.specs.Response.{done};
 ghost use Rattle.cs_files.specs.Trouble.{CameTo, IsHonest, IsHonestOf};
 ghost use Rattle.cs_files.specs.Turn.{draft_paths, some_path};
-ghost use Rattle.cs_views.specs.DraftAnswer.{AnswersDraft, Drafts, DraftsTables, IsPrinted};
+ghost use Rattle.cs_views.specs.DraftAnswer.{AnswersDraft, Drafts, DraftsTables};
+ghost use Rattle.cs_views.specs.DraftAnswer.{PrintsDraft, PrintsUpdate};
 
 use cs_anacrontab::Anacrontab;
 use cs_args::{DraftWords, WordFault};
@@ -38,7 +39,7 @@ fn nothing_drawn(alloc: Global) -> Result<Response, AllocError>
 
 /// What is answered of what was drawn up.
 fn printed(draft: Draft) -> Response
-    ensures { (result.status ≡ 0) × (result.out ≡ draft.text) }
+    ensures { result ≡ done draft.text draft.warnings }
 {
     let (text, warnings) = draft.into_parts();
     Response::done(text.into_vec(), warnings)
@@ -54,7 +55,7 @@ fn show_draft(
     offset: i16,
 ) -> Result<Response, AllocError>
     requires { is_possible_max max ≡ true }
-    ensures { IfOk result (IsPrinted (IsDraft table.now jobs.now places.now max offset)) }
+    ensures { IfOk result (PrintsDraft table.now jobs.now places.now max offset) }
 {
     match draw_up(alloc, table, jobs, places, max, offset)? {
         Drawing::Drawn(draft) => Ok(printed(draft)),
@@ -73,7 +74,7 @@ fn show_update(
     max: u64,
 ) -> Result<Response, AllocError>
     requires { is_possible_max max ≡ true }
-    ensures { IfOk result (IsPrinted (IsUpdate table.now jobs.now places.now old.now max)) }
+    ensures { IfOk result (PrintsUpdate table.now jobs.now places.now old.now max) }
 {
     match update(alloc, table, jobs, places, old, bytes, max)? {
         Drawing::Drawn(draft) => Ok(printed(draft)),

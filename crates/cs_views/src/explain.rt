@@ -7,9 +7,14 @@ use cs_explain::{explain as explanation, names, nearest};
 use cs_files::Response;
 use std::alloc::{AllocError, Global};
 
-/// What is told where nothing has the name, with the nearest one that something has.
-fn no_such_name(alloc: Global, name: &str) -> Result<Vec<u8>, AllocError> {
-    let told = match nearest(alloc, name)? {
+/// What is told where nothing has the name, with the nearest one that something has, if any is
+/// near.
+pub(crate) fn no_such_name(
+    alloc: Global,
+    name: &str,
+    nearest: Option<&str>,
+) -> Result<Vec<u8>, AllocError> {
+    let told = match nearest {
         Some(near) => format!(in alloc; "cronsafe: unknown name {name}: did you mean {near}?\n")?,
         None => format!(in alloc;
             "cronsafe: unknown name {name}: 'cronsafe explain' lists all names\n"
@@ -27,6 +32,9 @@ pub fn answer_explain(alloc: Global, name: Option<&str>) -> Result<Response, All
     };
     match explanation(alloc, name)? {
         Some(text) => Ok(Response::done(text.into_bytes(), Bytes::new(alloc))),
-        None => Ok(Response::no_call(alloc, no_such_name(alloc, name)?)),
+        None => {
+            let near = nearest(alloc, name)?;
+            Ok(Response::no_call(alloc, no_such_name(alloc, name, near)?))
+        }
     }
 }

@@ -8,8 +8,12 @@ mod crashes;
 #[cfg(test)]
 mod folders;
 #[cfg(test)]
+mod logs;
+#[cfg(test)]
 mod reads;
 #[cfg(test)]
 mod scratch;
 #[cfg(test)]
 mod shells;
+#[cfg(test)]
+mod stops;

@@ -3,7 +3,7 @@ use cs_civil::Bytes;
 use cs_device::{Outcome, Runner};
 use cs_machine::ShellRunner;
 use std::alloc::Global;
-use std::process::{Abort, Processes};
+use std::process::Abort;
 
 /// A name and its value.
 type Setting = (&'static [u8], &'static [u8]);
@@ -103,20 +103,22 @@ fn environment<R: Abort>(rt: &R, alloc: Global, settings: &[Setting]) -> Vec<(By
 }
 
 /// What comes of a command with this input and these settings.
-fn outcome<R: Processes + Abort + AllocGlobal>(
+fn outcome<R: Abort + AllocGlobal, W: Runner>(
     rt: &R,
+    runner: &mut W,
     command: &[u8],
     input: Option<&[u8]>,
     settings: &[Setting],
 ) -> Outcome {
     let env = environment(rt, rt.alloc(), settings);
-    ShellRunner::new(rt, rt.alloc()).run(command, input, env.as_slice())
+    runner.run(command, input, env.as_slice())
 }
 
 #[test]
 fn outcomes(rt: HostRuntime) {
+    let mut runner = ShellRunner::new(&rt, rt.alloc(), rt.stdout(), rt.stderr());
     for (command, input, settings, wanted) in &ROWS {
-        let got = outcome(&rt, command, *input, settings);
+        let got = outcome(&rt, &mut runner, command, *input, settings);
         assert!(rt; got == *wanted, "{command:?} {settings:?}");
     }
 }
@@ -126,13 +128,14 @@ fn outcomes(rt: HostRuntime) {
 fn long_inputs(rt: HostRuntime) {
     let input = vec![in rt.alloc(); b'x'; 1_000_000].expect(&rt, "memory");
     let input = Some(input.as_slice());
+    let mut runner = ShellRunner::new(&rt, rt.alloc(), rt.stdout(), rt.stderr());
     for (command, status) in [
         (b"[ $(wc -c) -eq 1000000 ]".as_slice(), 0),
         (b"[ \"$(head -c 3)\" = xxx ]", 0),
         (b"exit 4", 4),
         (b"exec < /dev/null; exit 5", 5),
     ] {
-        let got = outcome(&rt, command, input, &[]);
+        let got = outcome(&rt, &mut runner, command, input, &[]);
         assert!(rt; got == Outcome::Exited(status), "{command:?}");
     }
 }

@@ -1,6 +1,4 @@
-use Rattle.std.proofs.Common.{ℤ, ℕ, w16, inl, map, subst, sym}
-use Rattle.std.proofs.Math.Facts.{to_z-of_z}
-use Rattle.cronsafe.specs.Call.{Answers}
+use Rattle.std.proofs.Common.{ℕ, inl, subst, sym}
 use Rattle.cronsafe.specs.Ending.{sink}
 use Rattle.cronsafe.specs.Run.{CarriesOut}
 use Rattle.cronsafe.proofs.run.run_words.Goals as goal
@@ -8,6 +6,6 @@ use Rattle.cronsafe.proofs.run.run_words.Goals as goal
 pub returns-in-Ok-clause-value : goal.returns-in-Ok-clause-value
 returns-in-Ok-clause-value g c = λ fresh.
     let answer = c.in-Ok.answer in
-    let value = subst (λ (offset : ℤ). Answers offset (map g.S.AsStr.text c.args.words.now) (g.I.Inputs.whole c.args.inputs.now) (g.I.Inputs.failed c.args.inputs.now) (g.I.Inputs.failed c.respond.new.inputs) answer) (to_z-of_z {w = w16} {z = c.args.offset} c.ranges.offset) (c.in-Ok.ensures.value fresh) in
+    let value = c.in-Ok.ensures.value fresh in
     let carried = subst (λ (status : ℕ). CarriesOut answer (sink (g.O.Output.contents c.args.out.now) (g.O.Output.failed c.args.out.now)) (sink (g.O.Output.contents c.carry_out.new.out) (g.O.Output.failed c.carry_out.new.out)) (sink (g.E.Output.contents c.args.err.now) (g.E.Output.failed c.args.err.now)) (sink (g.E.Output.contents c.carry_out.new.err) (g.E.Output.failed c.carry_out.new.err)) status) (sym c.code.ensures) c.carry_out.ensures in
     inl (answer, (value, c.in-Ok.ensures.status, carried))

@@ -2,17 +2,20 @@ use Rattle.std.proofs.Common.{Bor}
 use Rattle.cs_diagnostics.specs.Told.{is_told}
 use Rattle.cs_diagnostics.specs.declared.render.File.{File}
 use Rattle.cs_lint.specs.declared.table.Kind.TheVariants.{Crontab}
+use Rattle.cs_lint.specs.Startup.{is_odd_some}
+use Rattle.cs_lint.specs.Odd.{is_odd_table}
 use Rattle.cs_lint.proofs.EachLemmas.{tells_each, tells_lines}
-use Rattle.cs_lint.proofs.FirstLemmas.{judges_of, or_left, or_right, tells_first, tells_of}
+use Rattle.cs_lint.proofs.FirstLemmas.{judges_of, or_left, or_right, plan_of_same, tells_first, tells_of}
+use Rattle.cs_lint.proofs.WantedLemmas.{no_odd_plan, no_odd_table, not_only}
 use Rattle.cs_lint.proofs.files.lint.Goals as goal
 
 pub returns-clause-told : goal.returns-clause-told
 returns-clause-told c =
     let table = c.args.table.now.bytes.now in
-    let refusal = c.in_ok-refusal.refusal in
+    let refusal = c.in_ok-looked.looked.refusal in
     tells_of c.in_ok-text.text table _ _ _ _ c.bytes_of-job_bytes.ensures c.bytes_of-terms.ensures
-    (tells_first refusal c.in_ok-found.found c.in_ok-text.text table _ _ c.in_ok-refusal.ensures
-    (c.in_ok-found.ensures.kept refusal c.in_ok-kept.ensures.kept) c.in_ok-text.ensures.told)
+    (tells_first refusal c.in_ok-found.found c.in_ok-text.text table _ _ c.in_ok-looked.ensures.refusal
+    c.in_ok-found.ensures.kept c.in_ok-text.ensures.told)
 
 pub returns-clause-each : goal.returns-clause-each
 returns-clause-each c =
@@ -28,4 +31,26 @@ returns-clause-each c =
 pub returns-clause-verdict : goal.returns-clause-verdict
 returns-clause-verdict c =
     let table = c.args.table.now.bytes.now in
-    judges_of c.verdict_of-verdict.result table _ _ _ _ c.bytes_of-job_bytes.ensures c.bytes_of-terms.ensures (c.verdict_of-verdict.ensures.value table _ _ (c.in_ok-refusal.ensures))
+    judges_of c.verdict_of-verdict.result table _ _ _ _ c.bytes_of-job_bytes.ensures c.bytes_of-terms.ensures (c.verdict_of-verdict.ensures.value table _ _ (c.in_ok-looked.ensures.refusal))
+
+pub returns-clause-odd : goal.returns-clause-odd
+returns-clause-odd c = λ is.
+    let wanted = c.args.wanted.now in
+    let table = c.args.table.now.bytes.now in
+    let more = not_only wanted.faults_only (is_odd_table wanted table) (no_odd_table wanted table) is in
+    c.verdict_of-verdict.ensures.odd (c.is_odd.ensures.odd more (c.in_ok-found.ensures.odd is))
+
+pub returns-clause-planned : goal.returns-clause-planned
+returns-clause-planned c =
+    let wanted = c.args.wanted.now in
+    let plan = c.in_ok-looked.looked.plan in (
+      plan,
+      plan_of_same plan c.args.table.now.bytes.now _ _ _ _ c.bytes_of-job_bytes.ensures c.bytes_of-terms.ensures c.in_ok-looked.ensures.plan,
+      λ is.
+          let table = c.args.table.now.bytes.now in
+          let more = not_only wanted.faults_only (is_odd_some wanted table plan) (no_odd_plan wanted table plan) is in
+          c.verdict_of-verdict.ensures.odd (c.is_odd.ensures.odd more (c.in_ok-found.ensures.planned is)),
+    )
+
+pub returns-clause-faults : goal.returns-clause-faults
+returns-clause-faults c = λ only. c.verdict_of-verdict.ensures.only (c.is_odd.ensures.faults only)

@@ -1,23 +1,32 @@
-use Rattle.std.proofs.Common.{◌≡◌, Some, inl, option_map, subst}
+use Rattle.std.proofs.Common.{inr}
+use Rattle.std.proofs.lemmas.Result.{IfOk-weaker, err_from_is_err_and}
 use Rattle.cs_args.specs.Asked.{asked_lint}
-use Rattle.cs_files.specs.Trouble.{ends, trouble}
-use Rattle.cs_files.proofs.TroubleLemmas.{honest_fault}
-use Rattle.cs_views.proofs.LintLemmas.{judged, unread_answer}
+use Rattle.cs_files.specs.Turn.{lint_paths}
+use Rattle.cs_files.proofs.TurnLemmas.{none_read}
 use Rattle.cs_views.proofs.lint.answer_lint.Goals as goal
 
-pub returns-in-Err-clause-value : goal.returns-in-Err-clause-value
-returns-in-Err-clause-value g c = λ fresh.
-    let fault = c.in-Err.fault in
-    let r = c.in_ok-response-in-Err.field-0 in
-    unread_answer (asked_lint c.args.request.now) (g.I.Inputs.whole c.args.inputs.now) (g.I.Inputs.failed c.args.inputs.now) (g.I.Inputs.failed c.files_at.new.inputs) fault r c.in-Err.ensures.told
-    (subst (λ v. option_map (ends v) (trouble fault) ≡ Some r) c.as_slice.ensures c.in_ok-response-in-Err.ensures)
+pub returns-in_err-names-clause-warned : goal.returns-in_err-names-clause-warned
+returns-in_err-names-clause-warned g c =
+    let p = err_from_is_err_and c.from_residual.result c.from_residual.ensures.1 in
+    rw p.1 (p.2, none_read (lint_paths (asked_lint c.args.request.now)) (g.I.Inputs.reads c.args.inputs.now))
 
-pub returns-clause-value : goal.returns-clause-value
-returns-clause-value g c = λ fresh.
-    let files = g.I.Inputs.whole c.args.inputs.now in
-    let (err, (verdict, status, judges)) = c.in_ok-show.ensures in
-    inl (c.in-Ok.ensures.works, (err, (verdict, status, judged (asked_lint c.args.request.now) files verdict _ _ _ (c.in-Ok.ensures.held fresh) judges)))
+pub returns-in_err-names-clause-turn : goal.returns-in_err-names-clause-turn
+returns-in_err-names-clause-turn g c = none_read (lint_paths (asked_lint c.args.request.now)) (g.I.Inputs.reads c.args.inputs.now)
 
-pub returns-in-Err-clause-status : goal.returns-in-Err-clause-status
-returns-in-Err-clause-status g c =
-    honest_fault (g.I.Inputs.failed c.files_at.new.inputs) (g.I.Inputs.reads c.files_at.new.inputs) c.as_slice.result.now c.in-Err.fault c.in_ok-response-in-Err.field-0 c.in-Err.ensures.status c.in_ok-response-in-Err.ensures
+pub returns-in-Ok-clause-value : goal.returns-in-Ok-clause-value
+returns-in-Ok-clause-value g c = λ fresh.
+    let only = rw c.in-Ok.is at c.in_ok-names.ensures.only in
+    let except = rw c.in-Ok.is at c.in_ok-names.ensures.except in
+    IfOk-weaker c.lint_files.result _ _ (λ r is. inr ((_, only), (_, except), is)) (c.lint_files.ensures.value fresh only except)
+
+pub returns-in_err-unknown_name-in-Err-clause-warned : goal.returns-in_err-unknown_name-in-Err-clause-warned
+returns-in_err-unknown_name-in-Err-clause-warned g c =
+    let r = c.from_residual-in_err-unknown_name-in-Err in
+    let p = err_from_is_err_and r.result r.ensures.1 in
+    rw p.1 (p.2, none_read (lint_paths (asked_lint c.args.request.now)) (g.I.Inputs.reads c.args.inputs.now))
+
+pub returns-in_err-unknown_name-in-Err-clause-turn : goal.returns-in_err-unknown_name-in-Err-clause-turn
+returns-in_err-unknown_name-in-Err-clause-turn g c = none_read (lint_paths (asked_lint c.args.request.now)) (g.I.Inputs.reads c.args.inputs.now)
+
+pub returns-in_ok-unknown_name-in-Err-clause-turn : goal.returns-in_ok-unknown_name-in-Err-clause-turn
+returns-in_ok-unknown_name-in-Err-clause-turn g c = none_read (lint_paths (asked_lint c.args.request.now)) (g.I.Inputs.reads c.args.inputs.now)

@@ -1,13 +1,21 @@
-use Rattle.std.proofs.Common.{◌∙◌, ap}
+use Rattle.std.proofs.Common.{◌∙◌, ap, refl}
 use Rattle.cs_files.specs.Response.{Ending}
-use Rattle.cs_views.proofs.LintLemmas.{at_least_odd, bytes_lent, judges_same}
+use Rattle.cs_views.proofs.LintLemmas.{none_found, none_odd}
 use Rattle.cs_views.proofs.lint.show.Goals as goal
 
-pub returns : goal.returns
-returns c =
-    let found = c.in_ok-report.report.verdict in
-    let verdict = c.in_ok-verdict.verdict in
-    let jobs = bytes_lent c.as_ref.result c.some_file-jobs.result (λ file. file.bytes.now) _ c.as_ref.ensures.value c.some_file-jobs.ensures in
-    let declarations = bytes_lent c.as_ref-2.result c.some_file-declarations.result (λ file. file.bytes.now) _ c.as_ref-2.ensures.value c.some_file-declarations.ensures in
-    let judges = judges_same found _ _ _ _ _ _ c.file_of-table.ensures jobs declarations c.in_ok-report.ensures.verdict in
-    (ap (λ (e : Ending). e.err) c.told.ensures ∙ c.new.ensures, (verdict, ap (λ (e : Ending). e.status) c.told.ensures ∙ c.status_for-status.ensures, at_least_odd found verdict _ _ _ c.in_ok-verdict.ensures judges))
+pub returns-clause-value : goal.returns-clause-value
+returns-clause-value c =
+    (ap (λ (e : Ending). e.err) c.told.ensures ∙ c.new.ensures, (c.in_ok-report.report.verdict, ap (λ (e : Ending). e.status) c.told.ensures ∙ c.status_for-status.ensures, c.in_ok-report.ensures.value))
+
+pub returns-clause-faults : goal.returns-clause-faults
+returns-clause-faults c = λ only.
+    none_odd c.in_ok-report.report.verdict c.in_ok-report.report.verdict _ refl (c.in_ok-report.ensures.faults only)
+    (ap (λ (e : Ending). e.status) c.told.ensures ∙ c.status_for-status.ensures)
+
+pub returns-clause-clean : goal.returns-clause-clean
+returns-clause-clean c = λ zero.
+    c.in_ok-report.ensures.clean (none_found c.in_ok-report.report.verdict _ (ap (λ (e : Ending). e.status) c.told.ensures ∙ c.status_for-status.ensures) zero)
+
+pub returns-clause-planned : goal.returns-clause-planned
+returns-clause-planned c = λ zero.
+    c.in_ok-report.ensures.planned (none_found c.in_ok-report.report.verdict _ (ap (λ (e : Ending). e.status) c.told.ensures ∙ c.status_for-status.ensures) zero)

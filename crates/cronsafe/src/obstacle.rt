@@ -1,0 +1,53 @@
+//! Why an order isn't served.
+ghost use Rattle.std.specs.Prelude.{◌≡◌};
+ghost use Rattle.cronsafe.specs.Serve.{in_front, named};
+
+use cs_cli::Order;
+use cs_machine::LockFault;
+
+/// Why an order isn't served.
+#[derive(Clone, Copy)]
+pub(crate) enum Obstacle {
+    /// There is no such folder of stamps.
+    NoFolder,
+    /// Another daemon has locked it.
+    InUse,
+    /// It can't be locked.
+    Unlocked,
+    /// The file by which an earlier daemon was asked to stop can't be removed from it.
+    StopStays,
+    /// The log can't be opened.
+    NoLog,
+}
+
+impl Obstacle {
+    pub(crate) fn of(fault: LockFault) -> Obstacle {
+        match fault {
+            LockFault::InUse => Obstacle::InUse,
+            LockFault::Failed => Obstacle::Unlocked,
+        }
+    }
+
+    /// What is said of it, in front of the path.
+    pub(crate) fn text(self) -> &'static str
+        ensures { result.now ≡ in_front self }
+    {
+        match self {
+            Obstacle::NoFolder => "no folder ",
+            Obstacle::InUse => "another daemon uses ",
+            Obstacle::Unlocked => "can't lock ",
+            Obstacle::StopStays => "can't remove 'cronsafe stop' from ",
+            Obstacle::NoLog => "can't write ",
+        }
+    }
+
+    /// The path that it is about.
+    pub(crate) fn path<'a>(self, order: &Order<'a>) -> &'a str
+        ensures { result.now ≡ named self order.now }
+    {
+        match self {
+            Obstacle::NoLog => order.log.unwrap_or(""),
+            _ => order.stamps,
+        }
+    }
+}

@@ -1,0 +1,22 @@
+-- The names of what `lint` calls odd, and which of them a word is.
+use Rattle.std.specs.Prelude.{ℕ, Bool, List, [], ◌∷◌, Option, codes}
+use Rattle.std.specs.List.{find}
+use Rattle.std.specs.Str.{str_eq_ignore_ascii_case}
+
+-- these, in the order in which they are listed
+unfoldable pub odd_names : List (List ℕ)
+odd_names =
+    codes "EachMinute" ∷ codes "UnevenStep" ∷ codes "BothDays" ∷ codes "SummerTime" ∷
+    codes "PercentSign" ∷ codes "LongCommand" ∷ codes "Background" ∷ codes "CommandComment" ∷
+    codes "Unexpanded" ∷ codes "TimeZone" ∷ codes "ValueComment" ∷ codes "Backslash" ∷
+    codes "CarriageReturn" ∷ codes "SameLine" ∷ codes "NoNewline" ∷ codes "UnusedGroup" ∷
+    codes "OtherLock" ∷ codes "MixedLocks" ∷ codes "NoOwnLock" ∷ codes "RebootLock" ∷
+    codes "ShortMax" ∷ []
+
+-- the word is that name, but for the case of its letters
+abbrev pub is_alike : List ℕ → List ℕ → Bool
+is_alike word name = str_eq_ignore_ascii_case name word
+
+-- the name that the word is so
+abbrev pub odd_named : List ℕ → Option (List ℕ)
+odd_named word = find (is_alike word) odd_names

@@ -1,0 +1,17 @@
+pub mod Words
+pub mod Moment
+pub mod Told
+pub mod Own
+pub mod Journal
+pub mod LogLine
+pub mod Runs
+pub mod Evidence
+pub mod Max
+pub mod Learning
+pub mod Logged
+pub mod Job
+pub mod JobEvidence
+pub mod Jobs
+pub mod Log
+pub mod Maxes
+pub mod Learned

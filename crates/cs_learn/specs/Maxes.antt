@@ -1,0 +1,78 @@
+-- Declarations with the longest times that logs give.
+use Rattle.std.specs.Prelude.{◌≡◌, ℕ, ◌<◌, ◌==◌, max as nat_max, pos, if◌then◌else◌, List, length, map, position, slice_index_or, Option, Some, None, option_map, IsSomeAnd, IfSome, Ok}
+use Rattle.std.specs.List.{find}
+use Rattle.cs_crontab.specs.Crontab.{CommandLine}
+use Rattle.cs_decl.specs.Join.{is_named}
+use Rattle.cs_decl.specs.Meaning.{declared_by}
+use Rattle.cs_decl.specs.declared.entries.LineName.{LineName}
+use Rattle.cs_decl.specs.declared.entries.CronEntry.{CronEntry}
+use Rattle.cs_decl.specs.declared.entries.Entries.{Entries}
+use Rattle.cs_draft.specs.Timeouts.{time_limit}
+use Rattle.cs_learn.specs.Evidence.{Known}
+use Rattle.cs_learn.specs.Max.{IsEnough, IsMax}
+use Rattle.cs_learn.specs.declared.job_evidence.JobEvidence.{JobEvidence}
+
+-- ---- what evidence gives
+
+-- There is none without a run, and where 4,320 minutes aren't enough for the longest one; else it is
+-- that of the longest run, by a factor in hundredths.
+abbrev pub IsMaxOf : ℕ → Known → Option ℕ → Type 0
+IsMaxOf factor known (Some max) = IsSomeAnd known.longest (λ ran. IsMax ran.seconds factor max)
+IsMaxOf factor known None = IfSome known.longest
+    (λ ran. (minutes : ℕ) → IsEnough ran.seconds factor minutes → 4_320 < minutes)
+
+-- of each job, in their order
+abbrev pub AreMaxes : ℕ → List JobEvidence → List (Option ℕ) → Type 0
+AreMaxes factor jobs maxes = (length maxes ≡ length jobs) × ((k : ℕ) (j : JobEvidence) (d : Option ℕ)
+    → k < length jobs
+    → IsMaxOf factor (slice_index_or jobs k j).evidence (slice_index_or maxes k d))
+
+-- ---- declarations
+
+-- the longest time that is learned of the line at that place
+abbrev pub max_at : List (Option ℕ) → Option ℕ → Option ℕ
+max_at maxes None = None
+max_at maxes (Some place) = slice_index_or maxes place None
+
+-- the greater one of a limit, where there is one, and a longest time
+abbrev pub greater : Option ℕ → ℕ → ℕ
+greater None max = max
+greater (Some limit) max = nat_max limit max
+
+-- a longest time, or what timeout(1) allows the command of the line if that is more
+abbrev pub allowed : Option CommandLine → ℕ → ℕ
+allowed None max = max
+allowed (Some line) max = greater (time_limit line.command) max
+
+-- The longest time of the line that an entry names: what is learned, but not less than timeout(1)
+-- allows the line's command.
+abbrev pub max_of : List CommandLine → List (Option ℕ) → LineName → Option ℕ
+max_of lines maxes name = option_map (allowed (find (is_named name) lines))
+    (max_at maxes (position (is_named name) lines))
+
+-- An entry with parts stays, since its longest time is their sum.
+abbrev pub with_max : CronEntry → Option ℕ → CronEntry
+with_max e None = e
+with_max e (Some max) = if length e.parts == 0 then record e { max = pos max } else e
+
+-- All but the entries of cron jobs is the same.
+pub record IsSameRest (old new : Entries) : Type 0 where
+  pub capacity : new.capacity ≡ old.capacity
+  pub offset : new.offset ≡ old.offset
+  pub hours : new.hours ≡ old.hours
+  pub pass : new.pass ≡ old.pass
+  pub groups : new.groups ≡ old.groups
+  pub anacron : new.anacron ≡ old.anacron
+  pub default : new.default ≡ old.default
+  pub left_out : new.left_out ≡ old.left_out
+  pub doubled : new.doubled ≡ old.doubled
+
+-- each entry has the longest time of its line, if one is learned
+pub record HaveMaxes (lines : List CommandLine) (maxes : List (Option ℕ)) (old new : Entries) : Type 0 where
+  pub cron : new.cron ≡ map (λ e. with_max e (max_of lines maxes e.name)) old.cron
+  pub rest : IsSameRest old new
+
+-- A text declares what another does, with these longest times.
+abbrev pub HasMaxes : List CommandLine → List (Option ℕ) → List ℕ → List ℕ → Type 0
+HasMaxes lines maxes old new = (d : Entries) × (e : Entries) × (declared_by old ≡ Ok d)
+    × (declared_by new ≡ Ok e) × HaveMaxes lines maxes d e

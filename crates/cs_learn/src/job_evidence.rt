@@ -1,0 +1,34 @@
+ghost use Rattle.cs_learn.specs.JobEvidence.{AllTake, Takes};
+
+use crate::evidence::{Evidence, Ran};
+use crate::job::Job;
+use crate::log_line::LogLine;
+
+/// A job, and what is known of its runs.
+#[derive(Debug, Drop)]
+pub struct JobEvidence {
+    /// The job.
+    pub job: Job,
+    /// What is known of its runs.
+    pub evidence: Evidence,
+}
+
+impl JobEvidence {
+    /// Takes a run that ended by this line, if it is of the job.
+    pub fn take(&mut self, line: &LogLine, ran: Ran)
+        ensures { Takes line.now ran self.old self.new }
+    {
+        if self.job.is_of(line) {
+            self.evidence.add(ran);
+        }
+    }
+}
+
+/// Has each job take a run that ended by this line.
+pub fn take_run(jobs: &mut Vec<JobEvidence>, line: &LogLine, ran: Ran)
+    ensures { AllTake line.now ran jobs.old.items jobs.new.items }
+{
+    for i in 0..jobs.len() {
+        jobs[i].take(line, ran);
+    }
+}

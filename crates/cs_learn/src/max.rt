@@ -1,0 +1,90 @@
+//! The max that evidence gives.
+ghost use Rattle.std.specs.Prelude.{◌≡◌, ◌<◌, ◌≤◌, ℕ, IfSome, IsNone, option_map};
+ghost use Rattle.cs_table.specs.SettingReading.{quoted_at};
+ghost use Rattle.cs_learn.specs.Max.{factor_in, in_hundredths, hundredths_in, IsMax, IsEnough};
+
+use crate::words::{number, split};
+use std::marker::Model;
+
+/// The longest max of a declaration, in minutes.
+pub const LONGEST_MAX: u64 = 4_320;
+
+/// By how much a max is to be longer than the longest run: from 1 to 10, in hundredths.
+#[derive(Clone, Copy, Debug, PartialEq, Eq)]
+pub struct Factor {
+    hundredths: u64,
+}
+
+impl Model for Factor {
+    ghost use Rattle.std.specs.Prelude.{ℕ, ◌≤◌};
+
+    ghost Value = { ℕ };
+
+    ghost view = { λ f. f.hundredths };
+
+    ghost invariant = { λ f. (100 ≤ f.hundredths) × (f.hundredths ≤ 1_000) };
+
+    ghost inverse = { λ n. record { hundredths = n } };
+}
+
+#[tactic(auto, unfolding(crate::specs::Max::hundredths_in))]
+fn hundredths(text: &[u8]) -> Option<u64>
+    ensures value { result ≡ hundredths_in text.now }
+    ensures small { IfSome result (λ n. n ≤ 10_000_000_000_000) }
+{
+    let number = number(text)?;
+    match text.len() {
+        1 => Some(number * 10),
+        2 => Some(number),
+        _ => None,
+    }
+}
+
+fn in_hundredths(text: &[u8]) -> Option<u64>
+    ensures { result ≡ in_hundredths text.now (quoted_at 46 text.now) }
+{
+    match split(b'.', text) {
+        None => Some(number(text)? * 100),
+        Some((whole, behind)) => Some(number(whole)? * 100 + hundredths(behind)?),
+    }
+}
+
+impl Factor {
+    /// Reads a factor from 1 to 10 with at most two digits behind the point, such as `1.5`: `None`
+    /// where the text is no such factor.
+    #[tactic(auto, unfolding(crate::specs::Max::factor_in))]
+    pub fn read(text: &[u8]) -> Option<Factor>
+        ensures { result ≡ factor_in text.now }
+    {
+        let hundredths = in_hundredths(text)?;
+        if hundredths < 100 || hundredths > 1_000 {
+            return None;
+        }
+        Some(Factor { hundredths })
+    }
+
+    /// Returns the factor in hundredths.
+    pub fn hundredths(self) -> u64
+        ensures value { result ≡ self }
+        ensures in_range { (100 ≤ result) × (result ≤ 1_000) }
+    {
+        self.hundredths
+    }
+}
+
+/// Returns the max, in minutes, for a job whose longest run took so many seconds: `None` where that
+/// is longer than [`LONGEST_MAX`].
+pub fn max_for(greatest: u64, factor: Factor) -> Option<u64>
+    ensures value { IfSome result (IsMax greatest factor) }
+    ensures none { IsNone result → (minutes : ℕ) → IsEnough greatest factor minutes
+        → 4_320 < minutes }
+{
+    if greatest > LONGEST_MAX * 60 {
+        return None;
+    }
+    let minutes = (greatest * factor.hundredths()).div_ceil(6_000).max(1);
+    if minutes > LONGEST_MAX {
+        return None;
+    }
+    Some(minutes)
+}

@@ -1,0 +1,224 @@
+//! Declarations with the longest times that logs give.
+ghost use Rattle.std.specs.Prelude.{◌≡◌, IfOk, IfSome, IsTrue, Ok, map, option_map, position};
+ghost use Rattle.std.specs.List.{find};
+ghost use Rattle.cs_decl.specs.Meaning.{declared_by};
+ghost use Rattle.cs_decl.specs.Join.{is_named};
+ghost use Rattle.cs_learn.specs.Maxes.{AreMaxes, HasMaxes, HaveMaxes, IsMaxOf, IsSameRest};
+ghost use Rattle.cs_learn.specs.Maxes.{allowed, greater, max_at, max_of, with_max};
+
+use crate::evidence::Evidence;
+use crate::job_evidence::JobEvidence;
+use crate::max::{Factor, max_for};
+use crate::same::{
+    are_same_groups, are_same_jobs, are_same_names, are_same_parts, is_same_default, is_same_name,
+    is_same_text,
+};
+use crate::spliced::spliced;
+use cs_crontab::Line;
+use cs_decl::{CronEntry, DeclError, Declarations, Entries, LineName, read_declarations};
+use cs_draft::time_limit;
+use std::alloc::{AllocError, Global};
+
+#[tactic(auto, using(crate::proofs::MaxLemmas::max_is, crate::proofs::MaxLemmas::no_run))]
+fn max_of_job(evidence: &Evidence, factor: Factor) -> Option<u64>
+    ensures { IsMaxOf factor evidence.now result }
+{
+    match evidence.longest() {
+        Some(longest) => max_for(longest.seconds, factor),
+        None => None,
+    }
+}
+
+/// Returns the max of each job, in their order, in minutes: `None` where it had no run, or where
+/// that is longer than [`LONGEST_MAX`](crate::LONGEST_MAX). The only error is out of memory.
+pub fn maxes_of(
+    alloc: Global,
+    jobs: &[JobEvidence],
+    factor: Factor,
+) -> Result<Vec<Option<u64>>, AllocError>
+    ensures { IfOk result (λ maxes. AreMaxes factor jobs.now maxes.items) }
+{
+    let mut maxes = Vec::new(alloc);
+    for job in jobs {
+        maxes.push(max_of_job(&job.evidence, factor))?;
+    }
+    Ok(maxes)
+}
+
+pub(crate) fn is_named(name: &LineName, line: &Line) -> bool
+    ensures { result ≡ is_named name.now line.now }
+{
+    match name.number {
+        Some(number) => number == i128::from(line.number()),
+        None => match &name.command {
+            Some(told) => told.as_slice() == line.command(),
+            None => false,
+        },
+    }
+}
+
+/// The place of the first line that an entry names.
+fn place_of(lines: &[Line], name: &LineName) -> Option<usize>
+    ensures { result ≡ position (is_named name.now) lines.now }
+{
+    lines.iter().position(|line| is_named(name, line))
+}
+
+/// The first line that an entry names.
+fn line_of<'l>(lines: &'l [Line], name: &LineName) -> Option<&'l Line>
+    ensures { option_map (λ line. line.now) result ≡ find (is_named name.now) lines.now }
+{
+    lines.iter().find(|line| is_named(name, line))
+}
+
+/// The longest time that is learned of the line at that place.
+fn max_at(maxes: &[Option<u64>], place: Option<usize>) -> Option<u64>
+    ensures { result ≡ max_at maxes.now place }
+{
+    match place {
+        Some(place) => match maxes.get(place) {
+            Some(max) => *max,
+            None => None,
+        },
+        None => None,
+    }
+}
+
+fn greater(limit: Option<u64>, max: u64) -> u64
+    ensures { result ≡ greater limit max }
+{
+    match limit {
+        Some(limit) => limit.max(max),
+        None => max,
+    }
+}
+
+/// The time, or what timeout(1) allows the command of the first line that the entry names if that
+/// is more.
+fn allowed(lines: &[Line], name: &LineName, max: u64) -> u64
+    ensures { result ≡ allowed (find (is_named name.now) lines.now) max }
+{
+    match line_of(lines, name) {
+        Some(line) => greater(time_limit(line.command()), max),
+        None => max,
+    }
+}
+
+/// The longest time of the line that an entry names: what is learned of it, but not less than
+/// timeout(1) allows.
+pub(crate) fn max_of(lines: &[Line], maxes: &[Option<u64>], name: &LineName) -> Option<u64>
+    ensures { result ≡ max_of lines.now maxes.now name.now }
+{
+    match max_at(maxes, place_of(lines, name)) {
+        Some(max) => Some(allowed(lines, name, max)),
+        None => None,
+    }
+}
+
+fn new_max(old: &CronEntry, max: Option<u64>) -> i128
+    ensures { result ≡ (with_max old.now max).max }
+{
+    match max {
+        Some(max) if old.parts.is_empty() => i128::from(max),
+        _ => old.max,
+    }
+}
+
+/// Whether the new entry is the old one with that longest time, where there is one.
+fn has_max(old: &CronEntry, new: &CronEntry, max: Option<u64>) -> bool
+    ensures { IsTrue result → new.now ≡ with_max old.now max }
+{
+    is_same_name(&old.name, &new.name)
+        && new.max == new_max(old, max)
+        && old.weight == new.weight
+        && is_same_text(&old.group, &new.group)
+        && old.mode == new.mode
+        && are_same_parts(old.parts.as_slice(), new.parts.as_slice())
+}
+
+fn have_maxes(lines: &[Line], maxes: &[Option<u64>], old: &[CronEntry], new: &[CronEntry]) -> bool
+    ensures { IsTrue result
+        → new.now ≡ map (λ e. with_max e (max_of lines.now maxes.now e.name)) old.now }
+{
+    if new.len() != old.len() {
+        return false;
+    }
+    for i in 0..old.len() {
+        if !has_max(&old[i], &new[i], max_of(lines, maxes, &old[i].name)) {
+            return false;
+        }
+    }
+    true
+}
+
+fn are_same_terms(old: &Entries, new: &Entries) -> bool
+    ensures capacity { IsTrue result → new.now.capacity ≡ old.now.capacity }
+    ensures offset { IsTrue result → new.now.offset ≡ old.now.offset }
+    ensures hours { IsTrue result → new.now.hours ≡ old.now.hours }
+    ensures pass { IsTrue result → new.now.pass ≡ old.now.pass }
+    ensures default { IsTrue result → new.now.default ≡ old.now.default }
+{
+    old.capacity == new.capacity
+        && old.offset == new.offset
+        && old.hours == new.hours
+        && old.pass == new.pass
+        && is_same_default(&old.default, &new.default)
+}
+
+/// Whether all but the entries of cron jobs is the same.
+fn is_same_rest(old: &Entries, new: &Entries) -> bool
+    ensures { IsTrue result → IsSameRest old.now new.now }
+{
+    are_same_terms(old, new)
+        && are_same_groups(old.groups.as_slice(), new.groups.as_slice())
+        && are_same_jobs(old.anacron.as_slice(), new.anacron.as_slice())
+        && are_same_names(old.left_out.as_slice(), new.left_out.as_slice())
+        && is_same_text(&old.doubled, &new.doubled)
+}
+
+fn has_maxes(lines: &[Line], maxes: &[Option<u64>], old: &Entries, new: &Entries) -> bool
+    ensures { IsTrue result → HaveMaxes lines.now maxes.now old.now new.now }
+{
+    have_maxes(lines, maxes, old.cron.as_slice(), new.cron.as_slice()) && is_same_rest(old, new)
+}
+
+/// What bytes declare, if they do. The only error is out of memory.
+fn declared(alloc: Global, bytes: &[u8]) -> Result<Option<Declarations>, AllocError>
+    ensures { IfOk result (λ found. IfSome found (λ d. declared_by bytes.now ≡ Ok d)) }
+{
+    match read_declarations(alloc, bytes) {
+        Ok(declarations) => Ok(Some(declarations)),
+        Err(DeclError::OutOfMemory) => Err(AllocError),
+        Err(DeclError::At { .. }) => Ok(None),
+    }
+}
+
+/// Returns the text of the declarations in the bytes with the max of its line in each entry without
+/// parts, where there is one, or the limit that timeout(1) sets its command if that is more, and what
+/// it declares. All else stays byte for byte. What was written was
+/// read back and compared.
+///
+/// The maxes are those of the lines in their order. `None` is returned where the bytes are no
+/// declarations, or what was written doesn't pass. The only error is out of memory.
+#[tactic(auto, using(crate::proofs::MaxLemmas::they_have))]
+pub fn with_maxes(
+    alloc: Global,
+    lines: &[Line],
+    maxes: &[Option<u64>],
+    bytes: &[u8],
+) -> Result<Option<(Vec<u8>, Declarations)>, AllocError>
+    ensures { IfOk result
+        (λ found. IfSome found (λ p. HasMaxes lines.now maxes.now bytes.now p.0.items)) }
+{
+    let Some(old) = declared(alloc, bytes)? else {
+        return Ok(None);
+    };
+    let text = spliced(alloc, lines, maxes, old.entries(), bytes)?;
+    let Some(new) = declared(alloc, text.as_slice())? else {
+        return Ok(None);
+    };
+    if has_maxes(lines, maxes, old.entries(), new.entries()) {
+        return Ok(Some((text, new)));
+    }
+    Ok(None)
+}

@@ -1,0 +1,94 @@
+//! Logs at paths.
+ghost use Rattle.std.specs.Prelude.{◌≡◌, ◌⊎◌, ℕ, List, Contains, IfErr, IfSome, OnOk, map, true};
+ghost use Rattle.cs_io.specs.Files.{AreReadInTurn, IsFresh, IsReadAlone, IsReadOut, IsTooLong, Reads};
+ghost use Rattle.cs_io.specs.Reasons.{IsCannotRead};
+ghost use Rattle.cs_learn.specs.Learning.{Told};
+ghost use Rattle.cs_learn.specs.Log.{AreLogs, IsReading, at_front, with_log};
+ghost use Rattle.cs_learn.specs.declared.job.Job.{Job as TheJob};
+
+use crate::log::Log;
+use cs_io::{Inputs, MOST_READS, ReadFault, Reason};
+use std::alloc::Global;
+
+/// Reads all of a log at a path.
+fn read_log<I: Inputs>(
+    alloc: Global,
+    inputs: &mut I,
+    path: &str,
+    log: &mut Log,
+) -> Result<(), ReadFault>
+    ensures told { OnOk result ((text : List ℕ)
+        × IfSome (I.left inputs.old path.now) (λ bytes. text ≡ bytes)
+        × ((jobs : List TheJob) (told : Told) → IsReading jobs (at_front told) log.old
+        → IsReading jobs (at_front (with_log told text)) log.new)) }
+    ensures works { OnOk result (I.failed inputs.new ≡ I.failed inputs.old) }
+    ensures whole { I.whole inputs.new ≡ I.whole inputs.old }
+
+    // this path too is read from its front next
+    ensures fresh { OnOk result (IsFresh (I.whole inputs.old) (I.left inputs.old)
+        → IsFresh (I.whole inputs.new) (I.left inputs.new)) }
+    ensures fails { IfErr result (λ e. IsCannotRead e
+        → (I.failed inputs.new path.now ≡ true)
+        ⊎ ((I.failed inputs.new ≡ I.failed inputs.old)
+        × IsReadOut path.now (I.reads inputs.old) (I.reads inputs.new)
+        × IsTooLong path.now (I.left inputs.old))) }
+    ensures alone { IsReadAlone path.now (I.reads inputs.old) (I.reads inputs.new) }
+{
+    let mut buf = [0u8; 4096];
+    for _reads in 0..MOST_READS {
+        match inputs.read(path, buf.as_mut_slice())? {
+            0 => return Ok(log.end(alloc)?),
+            n => log.bytes(alloc, &buf[..n])?,
+        }
+    }
+    Err(ReadFault::CannotRead(Reason::Endless))
+}
+
+/// A log that can't be read, or want of memory.
+#[derive(Clone, Copy, Debug, PartialEq, Eq)]
+pub struct Unread<'a> {
+    /// The path of the log.
+    pub path: &'a str,
+    /// Why it can't be read.
+    pub fault: ReadFault,
+}
+
+/// Reads all of the logs at these paths one after the other, in memory that doesn't grow with their
+/// length: a run may begin in one and end in a later one. A log without end after
+/// [`MOST_READS`](cs_io::MOST_READS) reads can't be read. After an error nothing is known of the jobs.
+pub fn read_logs<'a, I: Inputs>(
+    alloc: Global,
+    inputs: &mut I,
+    paths: &[&'a str],
+    log: &mut Log,
+) -> Result<(), Unread<'a>>
+    ensures told { IsFresh (I.whole inputs.old) (I.left inputs.old)
+        → (jobs : List TheJob) (told : Told) → IsReading jobs (at_front told) log.old
+        → OnOk result ((next : Told)
+        × AreLogs (I.whole inputs.old) (map (λ path. path.now) paths.now) told next
+        × IsReading jobs (at_front next) log.new) }
+    ensures works { OnOk result (I.failed inputs.new ≡ I.failed inputs.old) }
+    ensures whole { I.whole inputs.new ≡ I.whole inputs.old }
+
+    // these paths too are read from their fronts next
+    ensures fresh { OnOk result (IsFresh (I.whole inputs.old) (I.left inputs.old)
+        → IsFresh (I.whole inputs.new) (I.left inputs.new)) }
+    ensures fails { IfErr result (λ e. IsCannotRead e.fault
+        → (I.failed inputs.new e.path.now ≡ true)
+        ⊎ ((before : Reads) × IsReadOut e.path.now before (I.reads inputs.new))) }
+    ensures long { IsFresh (I.whole inputs.old) (I.left inputs.old)
+        → IfErr result (λ e. IsCannotRead e.fault → (I.failed inputs.new e.path.now ≡ true)
+        ⊎ ((I.failed inputs.new ≡ I.failed inputs.old)
+        × IsTooLong e.path.now (I.whole inputs.old))) }
+    ensures named { IfErr result (λ e. Contains (map (λ path. path.now) paths.now) e.path.now) }
+    ensures turn { AreReadInTurn (map (λ path. path.now) paths.now)
+        (I.reads inputs.old) (I.reads inputs.new) }
+{
+    match paths.split_first() {
+        None => Ok(()),
+        Some((path, later)) => match read_log(alloc, inputs, *path, log) {
+            Ok(()) => read_logs(alloc, inputs, later, log),
+            Err(fault) => Err(Unread { path: *path, fault }),
+        },
+    }
+}

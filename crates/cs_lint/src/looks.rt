@@ -1,0 +1,66 @@
+//! What is looked for in each line of a crontab by itself.
+ghost use Rattle.std.specs.Prelude.{◌≡◌, ◌||◌, OnOk};
+ghost use Rattle.cs_lint.specs.Looks.{is_odd_by, is_odd_table_by};
+
+use crate::clock::find_changes_in;
+use crate::held::Held;
+use crate::odd_lines::find_oddities;
+use crate::startup::find_startup;
+use crate::wanted::Wanted;
+use cs_diagnostics::{Done, Findings};
+use cs_table::MAX_TABLE;
+use cs_table::text::first_line;
+use cs_zone::Change;
+
+/// What is looked for in a line.
+#[derive(Clone, Copy)]
+pub(crate) enum Look<'a> {
+    /// What is odd in it.
+    Oddities,
+    /// Whether it's due in one of those changes of the clocks.
+    Changes(&'a [Change]),
+    /// Whether it's started at startup and takes a lock, beside those commands of a plan.
+    Startups(&'a [Held]),
+}
+
+/// Adds what is told of a line that begins at that byte of the table.
+fn find_in_line(
+    findings: &mut Findings,
+    wanted: &Wanted<'_>,
+    look: &Look<'_>,
+    start: usize,
+    line: &[u8],
+) -> Done
+    ensures { OnOk result (findings.new.has_oddities
+        ≡ (findings.old.has_oddities || is_odd_by wanted.now look.now line.now)) }
+{
+    match look {
+        Look::Oddities => find_oddities(findings, wanted, start, line),
+        Look::Changes(changes) => find_changes_in(findings, wanted, *changes, start, line),
+        Look::Startups(all) => find_startup(findings, wanted, *all, start, line),
+    }
+}
+
+/// Adds what is told of each line of a table that isn't too long.
+pub(crate) fn find_in_lines(
+    findings: &mut Findings,
+    wanted: &Wanted<'_>,
+    look: &Look<'_>,
+    table: &[u8],
+) -> Done
+    ensures { OnOk result (findings.new.has_oddities
+        ≡ (findings.old.has_oddities || is_odd_table_by wanted.now look.now table.now)) }
+{
+    if table.len() > MAX_TABLE {
+        return Ok(());
+    }
+    let mut start = 0usize;
+    let mut rest = table;
+    while !rest.is_empty() {
+        let (line, after) = first_line(rest);
+        find_in_line(findings, wanted, look, start, line)?;
+        start = start.saturating_add(line.len()).saturating_add(1);
+        rest = after;
+    }
+    Ok(())
+}

@@ -1,0 +1,45 @@
+-- What the lines of a daemon's log tell of its runs.
+use Rattle.std.specs.Prelude.{◌≡◌, ◌≢◌, ◌⊎◌, ℕ, ◌+◌, ◌-◌, ◌^◌, nat_eq, nat_lt, if◌then◌else◌, Bool, ◌||◌, not, List, [], ◌∷◌, ◌++◌, filter, bytes_eq, codes, Option}
+use Rattle.std.specs.List.{starts_with}
+use Rattle.cs_machine.specs.declared.counts.Counts.{Counts}
+
+-- whether a line begins so
+abbrev pub begins : List ℕ → List ℕ → Bool
+begins words front = starts_with nat_eq words front
+
+-- one more where a line begins so, but no more than 64 bits hold
+abbrev pub counted : ℕ → List ℕ → List ℕ → ℕ
+counted count words front =
+    if begins words front then (if nat_lt (count + 1) (2 ^ 64) then count + 1 else 2 ^ 64 - 1)
+    else count
+
+-- the counts with one line more
+abbrev pub counted_in : List ℕ → Counts → Counts
+counted_in words c = record {
+  skipped = counted c.skipped words (codes "skipped ");
+  overruns = counted c.overruns words (codes "overrun ");
+  not_started = counted c.not_started words (codes "not started ");
+  outages = counted c.outages words (codes "outage ");
+  stamps_not_written = counted c.stamps_not_written words (codes "stamp not written ");
+}
+
+-- whether a line tells that the run of this name waits no longer: it is started or skipped, or all
+-- that wait are dropped
+abbrev pub ends_wait : List ℕ → List ℕ → Bool
+ends_wait words name =
+    bytes_eq (codes "started " ++ name) words || (bytes_eq (codes "skipped " ++ name) words
+    || begins words (codes "outage "))
+
+-- the names of runs behind a line: one that begins so tells of one run more, whose name comes behind
+-- the others unless memory runs out; any other takes out those that it ends
+abbrev pub IsNoted : List ℕ → (List ℕ → Bool) → List ℕ → List (List ℕ) → List (List ℕ) → Type 0
+IsNoted front is_ended words before after =
+    ((name : List ℕ) × (words ≡ front ++ name)
+    × ((after ≡ before ++ name ∷ []) ⊎ (after ≡ before)))
+    ⊎ (((name : List ℕ) → words ≢ front ++ name)
+    × (after ≡ filter (λ name. not (is_ended name)) before))
+
+-- when a stamp last couldn't be written, behind a line that is told in this second
+abbrev pub fault_after : List ℕ → Option ℕ → Option ℕ → Option ℕ
+fault_after words at before =
+    if begins words (codes "stamp not written ") then at else before

@@ -1,0 +1,53 @@
+//! How often each kind of event was told in a log.
+ghost use Rattle.std.specs.Prelude.{◌≡◌, codes};
+ghost use Rattle.cs_machine.specs.State.{counted, counted_in};
+
+/// How many lines of a log tell each of these; the last count of 64 bits stays.
+#[derive(Clone, Copy)]
+pub(crate) struct Counts {
+    /// Runs that were skipped, since their group's lock was held.
+    pub(crate) skipped: u64,
+    /// Runs that have passed their declared time.
+    pub(crate) overruns: u64,
+    /// Runs that couldn't be started.
+    pub(crate) not_started: u64,
+    /// Gaps in the clock's minutes.
+    pub(crate) outages: u64,
+    /// Stamps that couldn't be written.
+    pub(crate) stamps_not_written: u64,
+}
+
+/// A count, and one more where the words begin so.
+fn counted(count: u64, words: &[u8], front: &[u8]) -> u64
+    ensures { result ≡ counted count words.now front.now }
+{
+    if words.starts_with(front) {
+        count.saturating_add(1)
+    } else {
+        count
+    }
+}
+
+impl Counts {
+    /// No line.
+    pub(crate) const NONE: Counts = Counts {
+        skipped: 0,
+        overruns: 0,
+        not_started: 0,
+        outages: 0,
+        stamps_not_written: 0,
+    };
+
+    /// The counts with one line more.
+    pub(crate) fn with(self, words: &[u8]) -> Counts
+        ensures { result ≡ counted_in words.now self }
+    {
+        Counts {
+            skipped: counted(self.skipped, words, b"skipped "),
+            overruns: counted(self.overruns, words, b"overrun "),
+            not_started: counted(self.not_started, words, b"not started "),
+            outages: counted(self.outages, words, b"outage "),
+            stamps_not_written: counted(self.stamps_not_written, words, b"stamp not written "),
+        }
+    }
+}

@@ -1,0 +1,27 @@
+//! The lock of a folder.
+use crate::fault::LockFault;
+use std::fs;
+use std::fs::{File, TryLockError};
+use std::rt::Files;
+
+/// An exclusive lock on a folder itself (flock(2)): as long as it lives, nobody else gets one. The
+/// machine frees it when the process ends, however that ends.
+#[derive(Drop)]
+pub struct FolderLock {
+    folder: File,
+}
+
+impl FolderLock {
+    /// Locks a folder. [`LockFault::InUse`] if another has locked it, and [`LockFault::Failed`] if
+    /// it can't be opened or locked.
+    pub fn take<R: Files<File = File>>(rt: &R, folder: &str) -> Result<FolderLock, LockFault> {
+        let Ok(folder) = fs::open(rt, folder) else {
+            return Err(LockFault::Failed);
+        };
+        match folder.try_lock() {
+            Ok(()) => Ok(FolderLock { folder }),
+            Err(TryLockError::WouldBlock) => Err(LockFault::InUse),
+            Err(TryLockError::Error(_)) => Err(LockFault::Failed),
+        }
+    }
+}

@@ -1,0 +1,75 @@
+//! The texts of a log's lines, with their times.
+ghost use Rattle.std.specs.Prelude.{◌≡◌, ◌++◌, ◌<◌, ◌≤◌, ◌/◌, ◌↔◌, OnOk, IfSome, IsSome};
+ghost use Rattle.cs_civil.specs.Calendar.{last_day};
+ghost use Rattle.cs_civil.specs.Text.{two_digits};
+ghost use Rattle.cs_machine.specs.RunLog.{moment_text, time_text, span_text, line_text};
+
+use cs_civil::{Day, day_text, push_number};
+use cs_gather::push_shown;
+use std::alloc::{AllocError, Global};
+
+/// A number below 100, in two digits.
+fn two_digits(number: u64) -> [u8; 2]
+    requires { number < 100 }
+    ensures { result ≡ two_digits number }
+{
+    [b'0' + (number / 10) as u8, b'0' + (number % 10) as u8]
+}
+
+/// The text of a moment, in seconds since 1970-01-01 00:00 UTC; none after the year 9999.
+pub(crate) fn moment_text(seconds: u64) -> Option<[u8; 20]>
+    ensures dated { IsSome result ↔ (seconds / 86_400 ≤ last_day) }
+    ensures text { IfSome result (λ text. text ≡ moment_text seconds) }
+{
+    let [y1, y2, y3, y4, s1, m1, m2, s2, d1, d2] = day_text(Day::new(seconds / 86_400)?);
+    let [h1, h2] = two_digits(seconds / 3_600 % 24);
+    let [n1, n2] = two_digits(seconds / 60 % 60);
+    let [c1, c2] = two_digits(seconds % 60);
+    Some([
+        y1, y2, y3, y4, s1, m1, m2, s2, d1, d2, b'T', h1, h2, b':', n1, n2, b':', c1, c2, b'Z',
+    ])
+}
+
+/// Adds the time and a blank; nothing where there is no time.
+fn push_time(text: &mut Vec<u8>, at: Option<u64>) -> Result<(), AllocError>
+    ensures { OnOk result (text.new.items ≡ text.old.items ++ time_text at) }
+{
+    let Some(seconds) = at else {
+        return Ok(());
+    };
+    let Some(moment) = moment_text(seconds) else {
+        return Ok(());
+    };
+    text.extend_from_slice(&moment)?;
+    text.extend_from_slice(b" ")
+}
+
+/// Adds for how many seconds a run took; nothing where it isn't known.
+fn push_span(alloc: Global, text: &mut Vec<u8>, span: Option<u64>) -> Result<(), AllocError>
+    ensures { OnOk result (text.new.items ≡ text.old.items ++ span_text span) }
+{
+    let Some(seconds) = span else {
+        return Ok(());
+    };
+    text.extend_from_slice(b" after ")?;
+    push_number(alloc, text, u128::from(seconds))?;
+    text.extend_from_slice(b" s")
+}
+
+/// Adds a line: its time, in seconds since 1970-01-01 00:00 UTC, its words, for how many seconds a
+/// run took, and a newline. A byte of the words below 32, 127 and `\` is added as `\xNN`. The only
+/// error is out of memory.
+pub(crate) fn push_line(
+    alloc: Global,
+    text: &mut Vec<u8>,
+    at: Option<u64>,
+    words: &[u8],
+    span: Option<u64>,
+) -> Result<(), AllocError>
+    ensures { OnOk result (text.new.items ≡ text.old.items ++ line_text at words.now span) }
+{
+    push_time(text, at)?;
+    push_shown(text, words)?;
+    push_span(alloc, text, span)?;
+    text.extend_from_slice(b"\n")
+}

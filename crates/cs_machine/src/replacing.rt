@@ -1,0 +1,34 @@
+//! Files that are written whole.
+use std::fs::{OpenFile, OpenOptions};
+use std::io::{ErrorKind, Write};
+use std::rt::Files;
+use std::{fs, io};
+
+/// Makes a file, in place of what is there.
+fn create_anew<R: Files>(rt: &R, path: &str) -> io::Result<R::File> {
+    match fs::remove_file(rt, path) {
+        Err(error) if error.kind() != ErrorKind::NotFound => return Err(error),
+        _ => {}
+    }
+    OpenOptions::new()
+        .write(true)
+        .create_new(true)
+        .open(rt, path)
+}
+
+/// Writes a text to a new file, flushes it to the disk, renames it to another path in the same
+/// folder, and flushes that too. So a crash leaves the old file there or the new one. What stands in
+/// the new file's place is removed first, and not opened: it may be a pipe or a link.
+pub(crate) fn replace_file<R: Files>(
+    rt: &R,
+    folder: &str,
+    new_path: &str,
+    path: &str,
+    text: &[u8],
+) -> io::Result<()> {
+    let mut file = create_anew(rt, new_path)?;
+    file.write_all(text)?;
+    file.sync_all()?;
+    fs::rename(rt, new_path, path)?;
+    fs::open(rt, folder)?.sync_all()
+}

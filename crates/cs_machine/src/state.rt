@@ -1,0 +1,196 @@
+//! What a daemon does, as its log tells it.
+ghost use Rattle.std.specs.Prelude.{◌≡◌, ◌++◌, ◌∷◌, [], true, IfSome, OnErr, OnOk, bytes_eq, codes, filter, not};
+ghost use Rattle.cs_machine.specs.Starts.{EndsAfter, is_last_of};
+ghost use Rattle.cs_machine.specs.State.{IsNoted, counted_in, ends_wait, fault_after};
+
+use crate::counts::Counts;
+use crate::starts::{Starts, is_last_of};
+use cs_civil::Bytes;
+use std::alloc::{AllocError, Global};
+
+/// What a daemon does, as the lines of its log tell it: which runs run, wait and are late, whether it
+/// is asked to stop, and how often something went wrong.
+///
+/// A run for whose name there is no memory isn't noted.
+#[derive(Drop)]
+pub(crate) struct State {
+    alloc: Global,
+    /// When the daemon began, in seconds since 1970-01-01 00:00 UTC.
+    pub(crate) since: Option<u64>,
+    pub(crate) starts: Starts,
+    /// The names of the runs that have passed their declared time, and not yet ended.
+    pub(crate) late: Vec<Bytes>,
+    /// The names of the runs that wait for a lock.
+    pub(crate) waiting: Vec<Bytes>,
+    pub(crate) counts: Counts,
+    /// When a stamp last couldn't be written.
+    pub(crate) stamp_fault_at: Option<u64>,
+    pub(crate) is_stopping: bool,
+    /// Whether a line came since the state was written last.
+    has_changed: bool,
+    /// When it was written last.
+    written_at: Option<u64>,
+}
+
+/// After how many seconds the state is written even if nothing has changed.
+const SECONDS: u64 = 60;
+
+const STARTED: &[u8] = b"started ";
+
+const SKIPPED: &[u8] = b"skipped ";
+
+/// Whether the words tell the start of the run of this name.
+#[tactic(auto, using(crate::proofs::Parts::is_in_two))]
+fn is_start_of(words: &[u8], name: &[u8]) -> bool
+    ensures { result ≡ bytes_eq (codes "started " ++ name.now) words.now }
+{
+    words.starts_with(STARTED) && name == &words[STARTED.len()..]
+}
+
+/// Whether the words tell that the run of this name is skipped.
+#[tactic(auto, using(crate::proofs::Parts::is_in_two))]
+fn is_skip_of(words: &[u8], name: &[u8]) -> bool
+    ensures { result ≡ bytes_eq (codes "skipped " ++ name.now) words.now }
+{
+    words.starts_with(SKIPPED) && name == &words[SKIPPED.len()..]
+}
+
+/// Whether the words tell that the run of this name waits no longer.
+fn ends_wait(words: &[u8], name: &[u8]) -> bool
+    ensures { result ≡ ends_wait words.now name.now }
+{
+    is_start_of(words, name) || is_skip_of(words, name) || words.starts_with(b"outage ")
+}
+
+/// Adds a name. The only error is out of memory, and then it isn't added.
+fn add(alloc: Global, names: &mut Vec<Bytes>, name: &[u8]) -> Result<(), AllocError>
+    ensures ok { OnOk result (names.new.items ≡ names.old.items ++ name.now ∷ []) }
+    ensures err { OnErr result (names.new.items ≡ names.old.items) }
+{
+    let name = Bytes::from_slice(alloc, name)?;
+    names.push(name)?;
+    Ok(())
+}
+
+/// Takes out the runs that wait no longer.
+fn end_waits(waiting: &mut Vec<Bytes>, words: &[u8])
+    ensures { waiting.new.items ≡ filter (λ name. not (ends_wait words.now name)) waiting.old.items }
+{
+    waiting.retain(
+        |name: &Bytes| -> bool
+            ensures { result ≡ not (ends_wait words.entry.now name.now) }
+        { !ends_wait(words, name.as_slice()) },
+    );
+}
+
+/// Takes out the late run that has ended.
+fn end_late(late: &mut Vec<Bytes>, words: &[u8])
+    ensures { late.new.items ≡ filter (λ name. not (is_last_of words.now name)) late.old.items }
+{
+    late.retain(
+        |name: &Bytes| -> bool
+            ensures { result ≡ not (is_last_of words.entry.now name.now) }
+        { !is_last_of(words, name.as_slice()) },
+    );
+}
+
+/// Notes that a run waits, or waits no longer.
+fn note_wait(alloc: Global, waiting: &mut Vec<Bytes>, words: &[u8])
+    ensures { IsNoted (codes "waiting ") (ends_wait words.now) words.now
+        waiting.old.items waiting.new.items }
+{
+    match words.strip_prefix(b"waiting ") {
+        // where memory runs out, it isn't told that the run waits
+        Some(name) => {
+            let _ = add(alloc, waiting, name);
+        }
+        None => end_waits(waiting, words),
+    }
+}
+
+/// Notes that a run is late, or has ended.
+fn note_late(alloc: Global, late: &mut Vec<Bytes>, words: &[u8])
+    ensures { IsNoted (codes "overrun ") (is_last_of words.now) words.now
+        late.old.items late.new.items }
+{
+    match words.strip_prefix(b"overrun ") {
+        // where memory runs out, it isn't told that the run is late
+        Some(name) => {
+            let _ = add(alloc, late, name);
+        }
+        None => end_late(late, words),
+    }
+}
+
+impl State {
+    /// That of a daemon that begins, with no line yet.
+    pub(crate) fn new(alloc: Global, at: Option<u64>) -> State
+        ensures { result.starts.runs.items ≡ [] }
+    {
+        State {
+            alloc,
+            since: at,
+            starts: Starts::none(alloc),
+            late: Vec::new(alloc),
+            waiting: Vec::new(alloc),
+            counts: Counts::NONE,
+            stamp_fault_at: None,
+            is_stopping: false,
+            has_changed: true,
+            written_at: None,
+        }
+    }
+
+    /// Takes a line that is told in this second, and returns for how many seconds a run took whose end
+    /// it tells. None for any other line, where the start wasn't noted, and without a time.
+    pub(crate) fn take(&mut self, words: &[u8], at: Option<u64>) -> Option<u64>
+        ensures seconds { IfSome result (EndsAfter words.now at self.old.starts.runs.items) }
+        ensures waiting { IsNoted (codes "waiting ") (ends_wait words.now) words.now
+            self.old.waiting.items self.new.waiting.items }
+        ensures late { IsNoted (codes "overrun ") (is_last_of words.now) words.now
+            self.old.late.items self.new.late.items }
+        ensures counts { self.new.counts ≡ counted_in words.now self.old.counts }
+        ensures stamp_fault_at { self.new.stamp_fault_at
+            ≡ fault_after words.now at self.old.stamp_fault_at }
+    {
+        self.has_changed = true;
+        note_wait(self.alloc, &mut self.waiting, words);
+        note_late(self.alloc, &mut self.late, words);
+        self.counts = self.counts.with(words);
+        if words.starts_with(b"stamp not written ") {
+            self.stamp_fault_at = at;
+        }
+        self.starts.note(words, at)
+    }
+
+    /// Notes that the daemon is asked to stop: it drops the runs that wait.
+    pub(crate) fn stop(&mut self)
+        ensures stopping { self.new.is_stopping ≡ true }
+        ensures waiting { self.new.waiting.items ≡ [] }
+        ensures starts { self.new.starts ≡ self.old.starts }
+    {
+        self.has_changed = true;
+        self.is_stopping = true;
+        self.waiting.clear();
+    }
+
+    /// Whether the run of this name is late.
+    pub(crate) fn is_late(&self, name: &[u8]) -> bool {
+        self.late.iter().any(|late| late.as_slice() == name)
+    }
+
+    /// Whether the state is to be written in this second: a line came since it was written last, or
+    /// that is a minute ago, or the clock was put back. From then on it counts as written.
+    pub(crate) fn is_due(&mut self, at: u64) -> bool {
+        let is_due = self.has_changed
+            || match self.written_at {
+                Some(before) => at < before || at - before >= SECONDS,
+                None => true,
+            };
+        if is_due {
+            self.has_changed = false;
+            self.written_at = Some(at);
+        }
+        is_due
+    }
+}

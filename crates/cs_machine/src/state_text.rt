@@ -1,0 +1,233 @@
+//! The text of a daemon's state: one JSON object in one line.
+ghost use Rattle.std.specs.Prelude.{◌≡◌, ◌++◌, codes, flat_map, option_map, OnOk};
+ghost use Rattle.cs_machine.specs.StateText.{quoted, json_text, json_moment, json_path};
+ghost use Rattle.cs_machine.specs.StateText.{text_member, moment_member, count_member, path_member};
+ghost use Rattle.cs_machine.specs.StateText.{flag_member};
+
+use crate::counts::Counts;
+use crate::line_text::moment_text;
+use crate::setup::Setup;
+use crate::state::State;
+use cs_civil::{Bytes, push_number};
+use cs_gather::push_shown;
+use std::alloc::{AllocError, Global};
+
+/// Adds a byte of a JSON text that is no control character.
+fn push_quoted_byte(text: &mut Vec<u8>, byte: u8) -> Result<(), AllocError>
+    ensures { OnOk result (text.new.items ≡ text.old.items ++ quoted byte) }
+{
+    if byte == b'"' || byte == b'\\' {
+        return text.extend_from_slice(&[b'\\', byte]);
+    }
+    text.push(byte)?;
+    Ok(())
+}
+
+/// Adds bytes of a JSON text, of which none is a control character.
+fn push_quoted(text: &mut Vec<u8>, bytes: &[u8]) -> Result<(), AllocError>
+    ensures { OnOk result (text.new.items ≡ text.old.items ++ flat_map quoted bytes.now) }
+{
+    for byte in bytes {
+        push_quoted_byte(text, *byte)?;
+    }
+    Ok(())
+}
+
+/// Adds a JSON text: a byte below 32, 127 and `\` is in it as `\xNN`.
+fn push_json_text(alloc: Global, text: &mut Vec<u8>, words: &[u8]) -> Result<(), AllocError>
+    ensures { OnOk result (text.new.items ≡ text.old.items ++ json_text words.now) }
+{
+    let mut shown = Vec::new(alloc);
+    push_shown(&mut shown, words)?;
+    text.extend_from_slice(b"\"")?;
+    push_quoted(text, shown.as_slice())?;
+    text.extend_from_slice(b"\"")
+}
+
+/// Adds a text between quotes.
+fn push_between_quotes(text: &mut Vec<u8>, words: &[u8]) -> Result<(), AllocError>
+    ensures { OnOk result
+        (text.new.items ≡ text.old.items ++ (codes "\"" ++ words.now ++ codes "\"")) }
+{
+    text.extend_from_slice(b"\"")?;
+    text.extend_from_slice(words)?;
+    text.extend_from_slice(b"\"")
+}
+
+/// Adds a moment as a JSON text, or `null` where there is none, and after the year 9999.
+
+fn push_json_moment(text: &mut Vec<u8>, at: Option<u64>) -> Result<(), AllocError>
+    ensures { OnOk result (text.new.items ≡ text.old.items ++ json_moment at) }
+{
+    let Some(seconds) = at else {
+        return text.extend_from_slice(b"null");
+    };
+    match moment_text(seconds) {
+        Some(moment) => push_between_quotes(text, &moment),
+        None => text.extend_from_slice(b"null"),
+    }
+}
+
+/// Adds a path as a JSON text, or `null` where there is none.
+fn push_json_path(alloc: Global, text: &mut Vec<u8>, path: Option<&str>) -> Result<(), AllocError>
+    ensures { OnOk result (text.new.items
+        ≡ text.old.items ++ json_path (option_map (λ p. p.now) path.entry)) }
+{
+    match path {
+        Some(path) => push_json_text(alloc, text, path.as_bytes()),
+        None => text.extend_from_slice(b"null"),
+    }
+}
+
+/// Adds a member that is a text, behind what stands in front of it.
+#[tactic(auto, unfolding(crate::specs::StateText::text_member))]
+fn push_text_member(
+    alloc: Global,
+    text: &mut Vec<u8>,
+    front: &[u8],
+    words: &[u8],
+) -> Result<(), AllocError>
+    ensures { OnOk result (text.new.items ≡ text.old.items ++ text_member front.now words.now) }
+{
+    text.extend_from_slice(front)?;
+    push_json_text(alloc, text, words)
+}
+
+/// Adds a member that is a moment.
+#[tactic(auto, unfolding(crate::specs::StateText::moment_member))]
+fn push_moment_member(text: &mut Vec<u8>, front: &[u8], at: Option<u64>) -> Result<(), AllocError>
+    ensures { OnOk result (text.new.items ≡ text.old.items ++ moment_member front.now at) }
+{
+    text.extend_from_slice(front)?;
+    push_json_moment(text, at)
+}
+
+/// Adds a member that is a path or `null`.
+#[tactic(auto, unfolding(crate::specs::StateText::path_member))]
+fn push_path_member(
+    alloc: Global,
+    text: &mut Vec<u8>,
+    front: &[u8],
+    path: Option<&str>,
+) -> Result<(), AllocError>
+    ensures { OnOk result (text.new.items
+        ≡ text.old.items ++ path_member front.now (option_map (λ p. p.now) path.entry)) }
+{
+    text.extend_from_slice(front)?;
+    push_json_path(alloc, text, path)
+}
+
+/// Adds a member that is a number.
+#[tactic(auto, unfolding(crate::specs::StateText::count_member))]
+fn push_count_member(
+    alloc: Global,
+    text: &mut Vec<u8>,
+    front: &[u8],
+    count: u64,
+) -> Result<(), AllocError>
+    ensures { OnOk result (text.new.items ≡ text.old.items ++ count_member front.now count) }
+{
+    text.extend_from_slice(front)?;
+    push_number(alloc, text, u128::from(count))
+}
+
+/// Adds the version, when the state was written and the daemon began, its files and its capacity.
+fn push_setup(
+    alloc: Global,
+    text: &mut Vec<u8>,
+    setup: &Setup<'_>,
+    since: Option<u64>,
+    at: u64,
+) -> Result<(), AllocError> {
+    let declarations = setup.declarations.as_bytes();
+    let certificate = setup.certificate.as_bytes();
+    push_text_member(alloc, text, b"{\"version\":", setup.version.as_bytes())?;
+    push_moment_member(text, b",\"at\":", Some(at))?;
+    push_moment_member(text, b",\"since\":", since)?;
+    push_text_member(alloc, text, b",\"table\":", setup.table.as_bytes())?;
+    push_text_member(alloc, text, b",\"declarations\":", declarations)?;
+    push_text_member(alloc, text, b",\"certificate\":", certificate)?;
+    push_path_member(alloc, text, b",\"anacrontab\":", setup.anacrontab)?;
+    push_count_member(alloc, text, b",\"capacity\":", setup.capacity)
+}
+
+/// Adds a flag.
+#[tactic(auto, unfolding(crate::specs::StateText::flag_member))]
+fn push_flag_member(text: &mut Vec<u8>, front: &[u8], flag: bool) -> Result<(), AllocError>
+    ensures { OnOk result (text.new.items ≡ text.old.items ++ flag_member front.now flag) }
+{
+    text.extend_from_slice(front)?;
+    text.extend_from_slice(if flag {
+        b"true".as_slice()
+    } else {
+        b"false".as_slice()
+    })
+}
+
+/// Adds a run that runs, since when, and whether it's late.
+fn push_run(
+    alloc: Global,
+    text: &mut Vec<u8>,
+    name: &[u8],
+    since: u64,
+    late: bool,
+) -> Result<(), AllocError> {
+    push_text_member(alloc, text, b"{\"run\":", name)?;
+    push_moment_member(text, b",\"since\":", Some(since))?;
+    push_flag_member(text, b",\"late\":", late)?;
+    text.extend_from_slice(b"}")
+}
+
+/// Adds the runs that run, in the order in which they started.
+fn push_running(alloc: Global, text: &mut Vec<u8>, state: &State) -> Result<(), AllocError> {
+    text.extend_from_slice(b",\"running\":[")?;
+    let mut comma = b"".as_slice();
+    for (name, since) in state.starts.runs() {
+        text.extend_from_slice(comma)?;
+        let late = state.is_late(name.as_slice());
+        push_run(alloc, text, name.as_slice(), *since, late)?;
+        comma = b",".as_slice();
+    }
+    text.extend_from_slice(b"]")
+}
+
+/// Adds the names of the runs that wait, in the order in which they came.
+fn push_waiting(alloc: Global, text: &mut Vec<u8>, waiting: &[Bytes]) -> Result<(), AllocError> {
+    text.extend_from_slice(b",\"waiting\":[")?;
+    let mut comma = b"".as_slice();
+    for name in waiting {
+        push_text_member(alloc, text, comma, name.as_slice())?;
+        comma = b",".as_slice();
+    }
+    text.extend_from_slice(b"]")
+}
+
+/// Adds the counts.
+fn push_counts(alloc: Global, text: &mut Vec<u8>, counts: Counts) -> Result<(), AllocError> {
+    let stamps = counts.stamps_not_written;
+    push_count_member(alloc, text, b",\"skipped\":", counts.skipped)?;
+    push_count_member(alloc, text, b",\"overruns\":", counts.overruns)?;
+    push_count_member(alloc, text, b",\"outages\":", counts.outages)?;
+    push_count_member(alloc, text, b",\"not_started\":", counts.not_started)?;
+    push_count_member(alloc, text, b",\"stamps_not_written\":", stamps)
+}
+
+/// The text of a state at a moment, in seconds since 1970-01-01 00:00 UTC: one JSON object in one
+/// line, with its newline. The names of runs are in it as a log shows them; those of the tables that
+/// are run are UTF-8, since declarations name them. The only error is out of memory.
+pub(crate) fn state_text(
+    alloc: Global,
+    setup: &Setup<'_>,
+    state: &State,
+    at: u64,
+) -> Result<Vec<u8>, AllocError> {
+    let mut text = Vec::new(alloc);
+    push_setup(alloc, &mut text, setup, state.since, at)?;
+    push_flag_member(&mut text, b",\"stopping\":", state.is_stopping)?;
+    push_running(alloc, &mut text, state)?;
+    push_waiting(alloc, &mut text, state.waiting.as_slice())?;
+    push_counts(alloc, &mut text, state.counts)?;
+    push_moment_member(&mut text, b",\"stamp_fault_at\":", state.stamp_fault_at)?;
+    text.extend_from_slice(b"}\n")?;
+    Ok(text)
+}

@@ -7,6 +7,7 @@ import calendar
 import fcntl
 import json
 import os
+import pwd
 import re
 import signal
 import time
@@ -272,7 +273,119 @@ def stop_that_stays(room):
     take_job(room)
     (room.folder / "stamps" / "cronsafe stop").mkdir()
     room.run(*ONCE, status=6, seconds=SOON)
-    room.holds(printed="", said="cronsafe: can't remove 'cronsafe stop' from stamps\n", ran="")
+    room.holds(printed="", said="cronsafe: can't remove old requests from stamps\n", ran="")
+
+
+def reloaded(room):
+    """`reload` beside a run under way, with other tables, with ones that are refused, and of nobody.
+
+    For a daemon that ends its run, starts it again or loses its stamp; that waits for it before it
+    answers, goes on with the old tables, or takes what `check` refuses.
+    """
+    minute, run = take_job(room, "sleep 9; echo x >>ran")
+    room.start(room.words("--log", "log"))
+    room.wait_for("a start", lambda: f"started {run}" in room.read("log"))
+    room.take(declared(1, [], ["a", "b"]), "", "7 0 a echo y >>ran\n7 0 b echo z >>ran\n")
+    wanted("reload", (0, "", ""), room.ask("reload", "stamps"))
+    wanted("the run", "", room.read("ran"))
+    room.wait_for("the new job", lambda: room.read("ran") == "x\nz\n")
+    room.wait_for("the stamps", lambda: {"a", "b"} <= set(room.read("stamps")))
+    room.write("certificate", room.read("certificate").replace("1", "2"))
+    status, out, err = room.call("check", "crontab", "declarations", "certificate")
+    wanted("reload", (status, "", err + out), room.ask("reload", "stamps"))
+    wanted("stop", (0, "", ""), room.ask("stop", "stamps"))
+    room.ends(0)
+    room.holds(printed="", ran="x\nz\n")
+    _, texts = moments_and_texts(it for it in room.read("log").splitlines() if it[-1:] != " ")
+    refused = texts.index("reload refused, the old plan goes on")
+    wanted("the refusal", (err + out).splitlines(), texts[refused + 1 : -2])
+    kinds = [" ".join(it.split()[:2]) for it in texts[:refused] + texts[-2:]]
+    new = ["running crontab", "started job", "ended job", "asked to", "asked to", "stopped"]
+    old = ["running crontab", "started job", "asked to", "reload accepted,", "ended job", "stopped"]
+    wanted("kinds of lines", old + new, kinds)
+    wanted("the stamp", stamp_text(minute), room.read("stamps")["a"])
+    unused = (2, "", "cronsafe: no daemon uses stamps\n")
+    wanted("reload of nobody", unused, room.ask("reload", "stamps"))
+    absent = (6, "", "cronsafe: no folder nowhere\n")
+    wanted("reload of no folder", absent, room.ask("reload", "nowhere"))
+    wanted("what is left", {"a", "b"}, set(room.read("stamps")))
+
+
+def reload_of_standard_input(room):
+    """`reload` of a daemon whose table was standard input. For one that takes an empty table then."""
+    room.take(declared(1), "")
+    room.start(room.words(table="-"), given="")
+    room.wait_for("a state", lambda: (room.folder / "stamps" / "cronsafe state").is_file())
+    told = (6, "", "cronsafe: can't read standard input again\n")
+    wanted("reload", told, room.ask("reload", "stamps"))
+    wanted("stop", (0, ""), room.ask("stop", "stamps")[:2])
+    room.ends(0)
+
+
+def reloaded_often(room):
+    """Minutely runs while the daemon is asked to reload six times, by a clock that goes by steps.
+
+    For a daemon that loses a minute between two plans, or goes through one twice.
+    """
+    room.take(declared(2, [1]), "* * * * * echo x >>ran\n")
+    room.step("--log", "log", seconds=7)
+    for times in range(6):
+        room.wait_for("runs", lambda: len(room.read("ran").split()) > 3 * times + 2)
+        wanted("reload", (0, "", ""), room.ask("reload", "stamps"))
+    wanted("stop", (0, ""), room.ask("stop", "stamps")[:2])
+    room.ends(0)
+    log = room.read("log")
+    wanted("plans", 7, log.count(" running crontab "))
+    texts = re.findall("started line 1 due (.+)", log)
+    due = [calendar.timegm(time.strptime(it, "%Y-%m-%d %H:%M")) // MINUTE for it in texts]
+    wanted("minutes of the runs", list(range(due[0], due[0] + len(due))), due)
+    wanted("outages", 0, log.count("outage"))
+
+
+def called_hooks(room):
+    """A run that fails, and one that is late, by a clock that goes by steps, with a command for each.
+
+    For a daemon that calls none, calls one twice or for other runs, waits for it, or mistakes what may
+    meet a late run.
+    """
+    minute = minute_now() + 3
+    table = f"{due_at(minute)} sleep 2\n{due_at(minute + 600)} :\n{due_at(minute)} exit 3\n"
+    terms = {"group": "g", "max": 1}
+    room.take(declared(3, [1, 2, 3], groups=["g"], line1=terms, line2=terms), table)
+    tell = 'echo "$CRONSAFE_EVENT $CRONSAFE_RUN'
+    room.step(
+        "--log",
+        "log",
+        *("--on-overrun", f'{tell} $CRONSAFE_MAY_MEET" >>told; sleep 60'),
+        *("--on-failure", f'{tell} $CRONSAFE_STATUS" >>told; sleep 60'),
+        seconds=6,
+    )
+    late, failed = (f"line {it} due {date_text(minute)}" for it in (1, 3))
+    room.wait_for("calls", lambda: room.read("told").count("\n") == 2)
+    wanted("stop", (0, ""), room.ask("stop", "stamps")[:2])
+    room.ends(0)
+    calls = [f"failure {failed} 3", f"overrun {late} line 1, line 2"]
+    wanted("calls", calls, sorted(room.read("told").splitlines()))
+    _, texts = moments_and_texts(room.read("log").splitlines())
+    wanted("lines of calls", 2, sum(it.startswith("outside of the plan: started echo") for it in texts))
+    wanted("who may meet", True, f"{late} may meet line 1, line 2" in texts)
+
+
+def own_home(room):
+    """Commands with `--home`, with and without a HOME of the table.
+
+    For a daemon that mistakes its user, or the folder that a command begins in.
+    """
+    user = pwd.getpwuid(os.geteuid())
+    tell = f"echo $HOME $LOGNAME $USER $(pwd) >>{room.folder}/ran"
+    table = f"* * * * * {tell}\nHOME = /\nUSER = someone\n* * * * * {tell}\n"
+    room.take(declared(4, [1, 4]), table)
+    room.step("--home", seconds=6)
+    room.wait_for("runs", lambda: len(room.read("ran").split()) >= 8)
+    wanted("stop", (0, ""), room.ask("stop", "stamps")[:2])
+    room.ends(0)
+    lines = {f"{user.pw_dir} {user.pw_name} {user.pw_name} {user.pw_dir}", f"/ {user.pw_name} someone /"}
+    wanted("environments", lines, set(room.read("ran").splitlines()))
 
 
 def timed_log(room):
@@ -337,11 +450,17 @@ def state_of(room, line):
     return found
 
 
+def seconds_of(moment):
+    """Returns the seconds since 1970 of a moment such as 2024-09-13T23:30:01Z."""
+    return calendar.timegm(time.strptime(moment, "%Y-%m-%dT%H:%M:%SZ"))
+
+
 def told_state(room):
     """What `status` says of a run, of a daemon that is asked to stop, and of none.
 
     For a daemon that tells no state, one of other files, or none of the run; for a `status` that
-    mixes up lines or members, or tells of a daemon that has ended.
+    mixes up lines or members, tells of a daemon that has ended, or is mistaken about how long a run
+    may take.
     """
     _, run = take_job(room, "sleep 9; echo x >>ran")
     before = int(time.time())
@@ -350,10 +469,10 @@ def told_state(room):
     after = int(time.time())
     moment = r"\d{4}-\d\d-\d\dT\d\d:\d\d:\d\dZ"
     head = re.fullmatch(f"running since ({moment}), seen at ({moment})", lines[0])
-    started = re.fullmatch(f"{re.escape(run)} runs since ({moment})", lines[2])
+    started = re.fullmatch(f"{re.escape(run)} runs since ({moment}) until ({moment})", lines[2])
     wanted("the first line and the run", True, bool(head and started))
-    times = [calendar.timegm(time.strptime(it, "%Y-%m-%dT%H:%M:%SZ"))
-             for it in (head[1], started[1], head[2])]
+    times = [seconds_of(it) for it in (head[1], started[1], head[2])]
+    wanted("until", started[2], moment_text(times[1] + MAX * MINUTE))
     wanted("order of times", sorted([before, *times, after]), [before, *times, after])
     files = "crontab with declarations and certificate and anacrontab, capacity 1"
     counts = "skipped 0, overruns 0, not started 0, outages 0, stamps not written 0"
@@ -373,7 +492,15 @@ def told_state(room):
         "anacrontab": "anacrontab",
         "capacity": 1,
         "stopping": False,
-        "running": [{"run": run, "since": started[1], "late": False}],
+        "running": [
+            {
+                "run": run,
+                "since": started[1],
+                "until": started[2],
+                "late": False,
+                "may_meet": "",
+            }
+        ],
         "waiting": [],
         **dict.fromkeys(("skipped", "overruns", "outages", "not_started"), 0),
         "stamps_not_written": 0,
@@ -381,8 +508,8 @@ def told_state(room):
     }
     wanted("members", list(told.items()), list(state.items()))
     wanted("stop --now", (0, "", ""), room.ask("stop", "stamps", "--now"))
-    lines = state_of(room, "asked to stop")
-    wanted("lines while it stops", [files, "asked to stop"], lines[1:3])
+    lines = state_of(room, "nothing more is started")
+    wanted("lines while it stops", [files, "nothing more is started"], lines[1:3])
     room.ends(0)
     unused = (2, "", "cronsafe: no daemon uses stamps\n")
     wanted("status of nobody", unused, room.ask("status", "stamps"))
@@ -406,6 +533,41 @@ def late_state(room):
     lines = state_of(room, "skipped 0, overruns 1,")
     wanted("lines", 3, len(lines))
     room.end()
+
+
+def late_run_that_meets(room):
+    """A run that takes longer than declared, and a line whose run comes meanwhile.
+
+    For a log or a state that doesn't tell whom the late run may meet, or tells it of the other run,
+    of a run that isn't late, or twice; that tells another end.
+    """
+    due = early_minute() + 1
+    table = f"{due_at(due)} sleep 150\n{due_at(due + 2)} sleep 9\n"
+    terms = {"group": "g", "max": 1}
+    room.take(declared(1, (1, 2), groups=["g"], line1=terms, line2=terms), table)
+    room.start(room.words("--log", "log"))
+    first = f"line 1 due {date_text(due)}"
+    room.wait_for("an overrun", lambda: f"overrun {first}" in room.read("log"), 4 * MINUTE)
+    found = {}
+
+    def is_told():
+        status, out, _ = room.ask("status", "stamps", "--json")
+        found.update({it["run"]: it for it in json.loads(out)["running"]} if out else {})
+        return status == 1 and first in found and found[first]["late"]
+
+    room.wait_for("a late run", is_told)
+    until = moment_text(seconds_of(found[first]["since"]) + MINUTE)
+    meets = "line 1, line 2"
+    wanted("the late run", (until, meets), (found[first]["until"], found[first]["may_meet"]))
+    status, out, _ = room.ask("status", "stamps")
+    line = f"{first} runs since {found[first]['since']} until {until}, late, may meet {meets}"
+    wanted("status", (1, True), (status, line in out.splitlines()))
+    room.wait_for("the end", lambda: f"ended {first}" in room.read("log"), 4 * MINUTE)
+    room.end()
+    _, texts = moments_and_texts(room.read("log").splitlines())
+    place = texts.index(f"overrun {first}")
+    wanted("behind the overrun", f"{first} may meet {meets}", texts[place + 1])
+    wanted("lines of what meets", 1, sum(" may meet " in it for it in texts))
 
 
 # the state of a daemon with one run that waits
@@ -438,8 +600,9 @@ def moment_text(seconds):
 def states_by_hand(room):
     """States that a lock holder has written, and what `status` says of each.
 
-    For a `status` that is mistaken about what is late, about two minutes, about a daemon that stops,
-    or about null, or that prints something else with --json.
+    For a `status` that is mistaken about what is late, about two minutes, about a daemon that
+    stops, about null, or about members that an earlier version doesn't tell, or that prints
+    something else with --json.
     """
     folder = os.open(room.folder / "stamps", os.O_RDONLY)
     fcntl.flock(folder, fcntl.LOCK_EX)
@@ -447,17 +610,24 @@ def states_by_hand(room):
     soon = 60
     run = {"run": "job a\\x1b at 2024-09-13 23:30", "since": "2024-09-13T23:30:01Z"}
     shown = "job a\\x1b at 2024-09-13 23:30 runs since 2024-09-13T23:30:01Z"
+    until, shown_until = {"until": "2024-09-13T23:42:01Z"}, " until 2024-09-13T23:42:01Z"
+    meets = {"late": True, "may_meet": "line 5, job backup"}
+    met = ", late, may meet line 5, job backup"
     old = "cronsafe: no state of the last two minutes in stamps\n"
     rows = [
         ({}, 0, "", ""),
         ({"running": [{**run, "late": False}], "more": 1}, 0, f"{shown}\n", ""),
         ({"running": [{**run, "late": True}]}, 1, f"{shown}, late\n", ""),
+        ({"running": [{**run, **until, "late": False}]}, 0, f"{shown}{shown_until}\n", ""),
+        ({"running": [{**run, "until": None, "late": False}]}, 0, f"{shown}\n", ""),
+        ({"running": [{**run, **until, **meets}]}, 1, f"{shown}{shown_until}{met}\n", ""),
+        ({"running": [{**run, "late": True, "may_meet": ""}]}, 1, f"{shown}, late\n", ""),
         ({"stamp_fault_at": moment_text(now - 120)}, 1, "", ""),
         ({"stamp_fault_at": moment_text(now - 121)}, 0, "", ""),
         ({"at": moment_text(now - 121)}, 2, "", old),
         ({"at": moment_text(now - 121), "running": [{**run, "late": True}]}, 2, f"{shown}, late\n", old),
         ({"at": moment_text(now + soon)}, 0, "", ""),
-        ({"at": moment_text(now - 200), "stopping": True}, 0, "asked to stop\n", ""),
+        ({"at": moment_text(now - 200), "stopping": True}, 0, "nothing more is started\n", ""),
         ({"anacrontab": "my jobs"}, 0, "", ""),
     ]
     for members, status, lines, err in rows:
@@ -504,6 +674,7 @@ def states_that_cant_be_read(room):
     path.symlink_to(room.folder / "fine")
     look("a link")
     path.unlink()
+    late = {"run": "a", "since": now, "late": True}
     wrong = [
         *({key: it for key, it in fine.items() if key != left_out} for left_out in list(fine)[1:]),
         {**fine, "at": "2024-02-30T00:00:00Z"},
@@ -513,6 +684,9 @@ def states_that_cant_be_read(room):
         {**fine, "capacity": -1},
         {**fine, "skipped": 2**64},
         {**fine, "running": [{"run": "a", "since": now}]},
+        {**fine, "running": [{**late, "until": "soon"}]},
+        {**fine, "running": [{**late, "may_meet": None}]},
+        {**fine, "running": [{**late, "may_meet": "red \x1b[31m"}]},
         {**fine, "running": {}},
         {**fine, "waiting": [1]},
         {**fine, "stopping": None},
@@ -822,8 +996,9 @@ def overruns(room):
 def job_not_started(room):
     """Jobs whose shell isn't there or whose command isn't UTF-8, and one more.
 
-    For a daemon that ends there, waits for such a run, doesn't tell, or tells it as ended; and for
-    one that leaves such a job without a stamp, so that it would be tried on each pass.
+    For a daemon that ends there, waits for such a run, doesn't tell, tells it as ended, or doesn't
+    say why; and for one that leaves such a job without a stamp, so that it would be tried on each
+    pass.
     """
     anacrontab = (
         b"SHELL = /no/such\n1 0 a echo x >>ran\n"
@@ -835,7 +1010,11 @@ def job_not_started(room):
     names = [f"job {it} at {date_text(day)}" for it in "abc"]
     lost = [f"{word} {it}" for it in names[:2] for word in ("started", "not started")]
     stamps = dict.fromkeys("abc", stamp_text(day))
-    room.holds([*lost, *runs(names[2])], ran="c\n", stamps=stamps)
+    said = (
+        "cronsafe: can't start '/no/such': No such file or directory (os error 2)\n"
+        "cronsafe: can't start a command: it or a setting of it isn't UTF-8\n"
+    )
+    room.holds([*lost, *runs(names[2])], said=said, ran="c\n", stamps=stamps)
 
 
 def ways_to_end(room):
@@ -892,7 +1071,9 @@ TESTS = [
     *(stopped, stopped_twice, stop_that_stays, timed_log, log_of_a_stop, log_that_cant_be_written),
     *(shown_name, learned_log, closed_streams, clock_put_back, day_of_steps, many_at_once),
     *(job_with_a_child, killed_anywhere),
-    *(pipes_among_stamps, told_state, late_state, states_by_hand, states_that_cant_be_read),
+    *(reloaded, reload_of_standard_input, reloaded_often, called_hooks, own_home),
+    *(pipes_among_stamps, told_state, late_state, late_run_that_meets, states_by_hand),
+    states_that_cant_be_read,
     test_of_stamp("no_stamp", None, True),
     test_of_stamp("stamp_of_six_days", 6, False),
     test_of_stamp("stamp_of_seven_days", 7, True),

@@ -18,6 +18,7 @@ is wrong, or the words are unclear.
   run_parts     the folder whose programs a command runs by run-parts(8)
   gather        what `cronsafe gather` prints of tables
   replay        the rules of histories, and what `cronsafe replay` prints
+  retrace       the log of a daemon to the script that it tells
   story         what a history breaks first, and the comments with which `judge` and `make` tell it
   certificate   the bytes of a certificate to what it says
   claims        what a certificate stands for

@@ -18,6 +18,7 @@ from model.faults import Fault
 from model.gather import gathered, shown, system_source, table_of, user_source
 from model.overload import overload_notes
 from model.replay import replay_answer
+from model.retrace import script_told
 from model.story import taker_notes
 from model.users import no_users_in, users_in, words_of
 
@@ -36,8 +37,8 @@ CALLS = {
 }
 # How many of the last words of a subcommand may be left out.
 LEFT_OUT = {b"lint": 1}
-# The option of a subcommand that has no value.
-FLAGS = {b"make": "compact", b"replay": "judge", b"lint": "faults-only"}
+# The options of a subcommand that have no value.
+FLAGS = {b"make": ("compact",), b"replay": ("judge", "log", "script"), b"lint": ("faults-only",)}
 # The options that may be given more than once.
 LISTS = ("SYSTEM", "USER", "only", "except")
 NUMBERS = ("max", "from", "to", "within")
@@ -101,8 +102,8 @@ def asks_help(words):
 
 def words_of_check(words):
     """Returns the words that check the certificate of a call, which `made` is of one of `make`."""
-    command, *words = [it for it in words if it != b"--compact"]
-    for option in (b"--log", b"--minutes"):
+    command, *words = [it for it in words if it not in (b"--compact", b"--home")]
+    for option in (b"--log", b"--minutes", b"--on-failure", b"--on-overrun"):
         if option in words:
             at = words.index(option)
             del words[at : at + 2]
@@ -125,8 +126,8 @@ def number_of(word):
 def named(words, options):
     """Returns the words without options, and the values of the options by their names."""
     plain, found, at = [], {}, 1
-    flag = FLAGS.get(words[0])
-    names = {b"--" + it.lower().encode(): it for it in [*options, *filter(None, [flag])]}
+    flags = FLAGS.get(words[0], ())
+    names = {b"--" + it.lower().encode(): it for it in (*options, *flags)}
     while at < len(words):
         option, equals, value = words[at].partition(b"=")
         at += 1
@@ -135,7 +136,7 @@ def named(words, options):
             continue
         if option not in names or names[option] in found and names[option] not in LISTS:
             raise NoCall
-        if names[option] == flag:
+        if names[option] in flags:
             if equals:
                 raise NoCall
         elif not equals:
@@ -147,6 +148,14 @@ def named(words, options):
             value = [*found.get(names[option], []), value]
         found[names[option]] = value
     return plain, found
+
+
+def told_by(log, plan):
+    """Returns the text of the script that a log tells."""
+    text = None if len(log) > script.MOST_BYTES else script_told(log, plan.offset)
+    if text is None:
+        raise Fault("script", "TooLong", 0)
+    return text
 
 
 def asked(words):
@@ -162,7 +171,7 @@ def asked(words):
     if [*paths, *chain(*(found.get(name, []) for name in LISTS if name.isupper()))].count(b"-") > 1:
         raise NoCall
     found |= {it: number_of(found[it]) for it in NUMBERS if it in found}
-    if not 1 <= found.get("within", 1) < DAY:
+    if not 1 <= found.get("within", 1) < DAY or "script" in found and "log" not in found:
         raise NoCall
     return found
 
@@ -414,8 +423,12 @@ class Call:
             self.look_at_max(longest)
             plan = plain_plan(longest, *tables)
         text = self.bytes_of(found["SCRIPT"])
-        if "judge" in found and text.startswith(b"unsafe: "):
+        if "log" in found:
+            text = told_by(text, plan)
+        elif "judge" in found and text.startswith(b"unsafe: "):
             text = b"#" + text[1:]
+        if "script" in found:
+            return 0, text
         return replay_answer(plan, script.read_script(text, plan), "judge" in found)
 
     def answer(self):

@@ -20,6 +20,7 @@ use Rattle.cs_io.specs.Files.{Failed}
 use Rattle.cs_keep.specs.Closed.{checked_in, keeping_in}
 use Rattle.cs_keep.specs.Keeping.{IsKept, Keeping, plan_of}
 use Rattle.cs_keep.specs.declared.kept.Kept.{Kept}
+use Rattle.cronsafe.specs.Anew.{IsOrderOf}
 use Rattle.cronsafe.specs.Ending.{Sink, Tries}
 use Rattle.cronsafe.specs.Serve.{HasRun, IsServed, IsServedBy, Tellings, cause_status, farewell, no_tellings}
 use Rattle.cronsafe.specs.Served.{AreApart, AreCounted, HasNoClock, IsDone, IsFull, IsOrdered, events_in}
@@ -84,6 +85,10 @@ pub served_journal : (files : List ℕ → Option (List ℕ)) (a : AskedRun) (be
     → IsOrder a files before failed order → (s : IsServed order old new status) → IfSome s.1.end.keep (λ kept. IsOrdered order.checked (keeping_in kept))
 served_journal files a before failed order old new status ordered s =
     kept_by order.checked s.1.end.keep ordered.headline s.1.run.same s.1.run.kept
+
+-- so it is of what comes behind an order
+pub next_journal : (a : AskedRun) (order : Order) (old new : Sink) (status : ℕ) → IsOrderOf a order → (s : IsServed order old new status) → IfSome s.1.end.keep (λ kept. IsOrdered order.checked (keeping_in kept))
+next_journal a order old new status ordered s = kept_by order.checked s.1.end.keep ordered.headline s.1.run.same s.1.run.kept
 
 -- ---- by the status
 

@@ -2,7 +2,7 @@
 use Rattle.std.specs.Prelude.{◌≡◌, ◌⊎◌, ℕ, List, [], Option}
 use Rattle.clap.specs.Words.{Text}
 use Rattle.cs_args.specs.CommandLine.{Asking, Asks, Chart, Check, Day, Draft, Explain, Gather, Help}
-use Rattle.cs_args.specs.CommandLine.{Advise, Judge, Learn, Lint, Make, Replay, Room, Run, Status, Stop}
+use Rattle.cs_args.specs.CommandLine.{Advise, Judge, Learn, Lint, Make, Reload, Replay, Room, Run, Status, Stop}
 use Rattle.cs_args.specs.CommandLine.{AskedStatus, AskedStop, AsksHelp, AsksVersion, IsNoCall}
 use Rattle.cs_args.specs.Asked.{asked_status, asked_stop}
 use Rattle.cs_args.specs.Version.{version_text}
@@ -21,7 +21,7 @@ use Rattle.cs_views.specs.Replayed.{AnswersReplay}
 use Rattle.cs_cli.specs.Judge.{AnswersJudge, AnswersMake}
 use Rattle.cs_cli.specs.Safe.{IsChecked}
 use Rattle.cs_cli.specs.declared.answer.Answer.{Answer}
-use Rattle.cs_cli.specs.declared.answer.Answer.TheVariants.{Ends, Runs, Stops, Tells}
+use Rattle.cs_cli.specs.declared.answer.Answer.TheVariants.{Ends, Reloads, Runs, Stops, Tells}
 use Rattle.cronsafe.specs.declared.now.Now.{Now}
 
 -- help is shown, on standard output alone
@@ -34,6 +34,15 @@ IsToStop a before failed (Ends ending) = ⊥
 IsToStop a before failed (Runs order) = ⊥
 IsToStop a before failed (Stops words) = (failed ≡ before) × (asked_stop words ≡ a)
 IsToStop a before failed (Tells words) = ⊥
+IsToStop a before failed (Reloads folder) = ⊥
+
+-- a daemon is to read its files anew, that of this folder, and no read has failed
+abbrev pub IsToReload : List ℕ → Failed → Failed → Answer → Type 0
+IsToReload stamps before failed (Ends ending) = ⊥
+IsToReload stamps before failed (Runs order) = ⊥
+IsToReload stamps before failed (Stops words) = ⊥
+IsToReload stamps before failed (Tells words) = ⊥
+IsToReload stamps before failed (Reloads folder) = (failed ≡ before) × (folder.now ≡ stamps)
 
 -- it is to be told what a daemon does, as the words say, and no read has failed
 abbrev pub IsToTell : AskedStatus → Failed → Failed → Answer → Type 0
@@ -41,6 +50,7 @@ IsToTell a before failed (Ends ending) = ⊥
 IsToTell a before failed (Runs order) = ⊥
 IsToTell a before failed (Stops words) = ⊥
 IsToTell a before failed (Tells words) = (failed ≡ before) × (asked_status words ≡ a)
+IsToTell a before failed (Reloads folder) = ⊥
 
 -- what is answered to a subcommand, at this time
 abbrev pub AnswersAsked : Now → Asking → (List ℕ → Option (List ℕ)) → Failed → Failed → Answer
@@ -50,6 +60,7 @@ AnswersAsked now (Replay a) files before failed = EndsAs (AnswersReplay a files 
 AnswersAsked now (Check a) files before failed = EndsAs (IsChecked a files before failed)
 AnswersAsked now (Run a) files before failed = AnswersRun a files before failed
 AnswersAsked now (Stop a) files before failed = IsToStop a before failed
+AnswersAsked now (Reload stamps) files before failed = IsToReload stamps before failed
 AnswersAsked now (Status a) files before failed = IsToTell a before failed
 AnswersAsked now (Judge a) files before failed = EndsAs (AnswersJudge a files before failed)
 AnswersAsked now (Make a) files before failed = EndsAs (AnswersMake a files before failed)

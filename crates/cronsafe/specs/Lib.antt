@@ -1,7 +1,10 @@
 pub mod Call
 pub mod Ending
+pub mod Anew
+pub mod Asking
 pub mod Serve
 pub mod Run
 pub mod Served
+pub mod Reloading
 pub mod Stopping
 pub mod Telling

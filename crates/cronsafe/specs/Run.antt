@@ -10,18 +10,23 @@ use Rattle.cs_files.specs.Trouble.{IsHonest}
 use Rattle.cronsafe.specs.Call.{Answers}
 use Rattle.cronsafe.specs.declared.now.Now.{Now}
 use Rattle.cronsafe.specs.Ending.{Ends, RunsOutBehind, Sink}
+use Rattle.cs_args.specs.Asked.{asked_stop}
+use Rattle.cronsafe.specs.Reloading.{Reloads}
 use Rattle.cronsafe.specs.Serve.{Serves}
 use Rattle.cronsafe.specs.Stopping.{Stops}
 use Rattle.cronsafe.specs.Telling.{Tells}
 
--- an ending is carried out, or an order, or a daemon is stopped, or it's told what it does
+-- an ending is carried out, or an order, or a daemon is stopped or reads its files anew, or it's told
+-- what it does
 abbrev pub CarriesOut : Answer → Sink → Sink → Sink → Sink → ℕ → Type 0
 CarriesOut (answers.Ends ending) out-old out-new err-old err-new status =
     Ends ending out-old out-new err-old err-new status
 CarriesOut (answers.Runs order) out-old out-new err-old err-new status =
     Serves order out-old out-new err-old err-new status
 CarriesOut (answers.Stops words) out-old out-new err-old err-new status =
-    Stops words.stamps.now out-old out-new err-old err-new status
+    Stops (asked_stop words) out-old out-new err-old err-new status
+CarriesOut (answers.Reloads folder) out-old out-new err-old err-new status =
+    Reloads folder.now out-old out-new err-old err-new status
 CarriesOut (answers.Tells words) out-old out-new err-old err-new status =
     Tells words.stamps.now out-old out-new err-old err-new status
 

@@ -1,5 +1,5 @@
 -- What comes of an order to run tables.
-use Rattle.std.specs.Prelude.{◌≡◌, ◌≢◌, ◌⊎◌, ◌+◌, ◌<◌, ◌≤◌, ◌++◌, ℕ, List, [], Option, None, Some}
+use Rattle.std.specs.Prelude.{◌≡◌, ◌≢◌, ◌⊎◌, ◌+◌, ◌<◌, ◌≤◌, ◌++◌, ◌∷◌, ℕ, List, [], Option, None, Some}
 use Rattle.std.specs.Prelude.{IfSome, codes, option_map, slice_index_or, sum, unwrap_or}
 use Rattle.arrayvec.specs.ArrayVec.{array_vec_len}
 use Rattle.cs_check.specs.Checked.{plan_in}
@@ -16,24 +16,28 @@ use Rattle.cs_keep.specs.Closed.{checked_in, keeping_in}
 use Rattle.cs_keep.specs.Keeping.{IsKept}
 use Rattle.cs_files.specs.Response.{Ending, complaint}
 use Rattle.cs_cli.specs.declared.answer.Order.{Order}
+use Rattle.cs_args.specs.CommandLine.{AskedRun}
+use Rattle.cronsafe.specs.Anew.{IsOrderOf, words_in}
 use Rattle.cronsafe.specs.Ending.{Ends, Sink, Tries}
 use Rattle.cronsafe.specs.declared.obstacle.Obstacle.{Obstacle}
-use Rattle.cronsafe.specs.declared.obstacle.Obstacle.TheVariants.{InUse, NoFolder, NoLog, StopStays, Unlocked}
+use Rattle.cronsafe.specs.declared.obstacle.Obstacle.TheVariants.{InUse, NoFolder, NoHome, NoLog, RequestStays, Unlocked}
 
 -- what is said where an order isn't served, in front of a path
 abbrev pub in_front : Obstacle → List ℕ
 in_front NoFolder = codes "no folder "
 in_front InUse = codes "another daemon uses "
 in_front Unlocked = codes "can't lock "
-in_front StopStays = codes "can't remove 'cronsafe stop' from "
+in_front RequestStays = codes "can't remove old requests from "
+in_front NoHome = codes "no home folder, the user of this process isn't in "
 in_front NoLog = codes "can't write "
 
--- the path: that of the log, or of the folder of stamps
+-- the path: that of the log, of the users, or of the folder of stamps
 abbrev pub named : Obstacle → Order → List ℕ
 named NoFolder order = order.stamps.now
 named InUse order = order.stamps.now
 named Unlocked order = order.stamps.now
-named StopStays order = order.stamps.now
+named RequestStays order = order.stamps.now
+named NoHome order = codes "/etc/passwd"
 named NoLog order = unwrap_or (option_map (λ path. path.now) order.log) []
 
 -- that is told behind the warnings
@@ -131,9 +135,39 @@ Refuses obstacle order out-old out-new err-old err-new status =
 
 -- it isn't served, which is told behind the warnings; or memory ran out, and nothing is run; or it was
 -- run
-abbrev pub Serves : Order → Sink → Sink → Sink → Sink → ℕ → Type 0
-Serves order out-old out-new err-old err-new status =
+abbrev pub ServesOne : Order → Sink → Sink → Sink → Sink → ℕ → Type 0
+ServesOne order out-old out-new err-old err-new status =
     ((obstacle : Obstacle)
     × Ends (unserved obstacle order) out-old out-new err-old err-new status)
     ⊎ (((out-new ≡ out-old) × RunsOutBehind order err-old err-new status)
     ⊎ IsServedBehind order err-old err-new status)
+
+-- a daemon that has stopped is followed by what these words order
+abbrev pub IsNextOf : Cause → AskedRun → Order → Type 0
+IsNextOf cause a next = (cause ≡ Stopped) × IsOrderOf a next
+
+-- an order was served until its daemon stopped, and is followed by what its words order when its
+-- files are read anew
+abbrev pub IsFollowed : Order → Sink → Sink → Order → Type 0
+IsFollowed order err-old err-new next =
+    IsServedBehind order err-old err-new 0 × IsOrderOf (words_in order) next
+
+-- An order comes behind others, the last of them first: each was followed by the one after it. The
+-- first of all is this one, with these two outputs.
+abbrev pub ComesBehind : Order → Sink → Sink → List Order → Order → Sink → Sink → Type 0
+ComesBehind first out-first err-first [] order out err =
+    (order ≡ first) × (out ≡ out-first) × (err ≡ err-first)
+ComesBehind first out-first err-first (earlier ∷ others) order out err =
+    (out-earlier : Sink) × (err-earlier : Sink)
+    × ComesBehind first out-first err-first others earlier out-earlier err-earlier
+    × IsFollowed earlier err-earlier err order
+
+-- the order comes first, others may follow, and the last one gives the status
+pub record Serves (first : Order) (out-old out-new err-old err-new : Sink) (status : ℕ) : Type 0
+  where
+    pub earlier : List Order
+    pub order : Order
+    pub out : Sink
+    pub err : Sink
+    pub turns : ComesBehind first out-old err-old earlier order out err
+    pub comes : ServesOne order out out-new err err-new status

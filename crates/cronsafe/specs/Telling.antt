@@ -1,33 +1,26 @@
 -- What comes of telling what the daemon of a folder of stamps does.
 use Rattle.std.specs.Prelude.{◌≡◌, ◌⊎◌, ◌++◌, ℕ, List, [], codes}
 use Rattle.cs_files.specs.Response.{Ending, complaint}
+use Rattle.cronsafe.specs.Asking.{absence_status, faulty, in_front}
 use Rattle.cronsafe.specs.Ending.{Ends, RunsOut, Sink}
 use Rattle.cronsafe.specs.declared.telling.Silence.{Silence}
-use Rattle.cronsafe.specs.declared.telling.Silence.TheVariants.{NoDaemon, NoFolder, Unlocked, Unread}
+use Rattle.cronsafe.specs.declared.telling.Silence.TheVariants.{NoneToAsk, Unread}
 use Rattle.cronsafe.specs.declared.telling.Health.{Health}
 use Rattle.cronsafe.specs.declared.telling.Health.TheVariants.{Fine, Faulty, Old}
 
 -- what is said where no state is told, in front of the folder's path
-abbrev pub in_front : Silence → List ℕ
-in_front NoFolder = codes "no folder "
-in_front NoDaemon = codes "no daemon uses "
-in_front Unlocked = codes "can't lock "
-in_front Unread = codes "can't read the state in "
+abbrev pub in_front_of_none : Silence → List ℕ
+in_front_of_none (NoneToAsk absence) = in_front absence
+in_front_of_none Unread = codes "can't read the state in "
 
 -- the status then
 abbrev pub silence_status : Silence → ℕ
-silence_status NoFolder = 6
-silence_status NoDaemon = 2
-silence_status Unlocked = 6
+silence_status (NoneToAsk absence) = absence_status absence
 silence_status Unread = 6
 
 -- what is answered then
 abbrev pub untold : Silence → List ℕ → Ending
-untold silence folder = record {
-  status = silence_status silence;
-  out = [];
-  err = complaint (in_front silence ++ folder);
-}
+untold silence folder = faulty (silence_status silence) (in_front_of_none silence) folder
 
 -- what is said of a state that is too old, in front of the folder's path
 abbrev pub in_front_of_old : List ℕ

@@ -3,7 +3,7 @@ use cs_args::version_text;
 use cs_civil::date_text;
 use cs_cli::Order;
 use cs_daemon::Cause;
-use cs_machine::{Attendant, ClockBack, RunLog, Setup, StateFile, StopFile};
+use cs_machine::{ClockBack, HookCall, JobNote, RunLog, Setup, ToldFile};
 use std::alloc::Global;
 use std::io;
 use std::io::Write;
@@ -16,23 +16,16 @@ use std::sync::{Mutex, Wait};
 pub(crate) struct Hand<'a, 'r, R, W> {
     rt: &'a R,
     log: &'a Mutex<RunLog<'r, R, W>>,
-    file: &'a StateFile<'a>,
-    setup: Setup<'a>,
+    file: &'a ToldFile<'a>,
 }
 
 impl<'a, 'r, R, W> Hand<'a, 'r, R, W> {
     pub(crate) fn new(
         rt: &'a R,
         log: &'a Mutex<RunLog<'r, R, W>>,
-        file: &'a StateFile<'a>,
-        setup: Setup<'a>,
+        file: &'a ToldFile<'a>,
     ) -> Hand<'a, 'r, R, W> {
-        Hand {
-            rt,
-            log,
-            file,
-            setup,
-        }
+        Hand { rt, log, file }
     }
 }
 
@@ -43,16 +36,32 @@ impl<'a, 'r, R: Clock + Files + Wait, W: Write> Hand<'a, 'r, R, W> {
         let _ = self.log.lock(self.rt).note(line);
     }
 
-    /// Notes that the daemon is asked to stop. From then on nobody asks for its state.
-    fn note_stop(&mut self) {
-        let _ = self.log.lock(self.rt).note_stop();
+    /// Writes each line of a text so.
+    pub(crate) fn note_lines(&mut self, text: &[u8]) {
+        for line in text
+            .strip_suffix(b"\n")
+            .unwrap_or(text)
+            .split(|byte| *byte == b'\n')
+        {
+            self.note(line);
+        }
+    }
+
+    /// Notes that the daemon starts nothing more, and why. From then on nobody asks for its state.
+    pub(crate) fn note_end(&mut self, why: &[u8]) {
+        let _ = self.log.lock(self.rt).note_end(why);
+    }
+
+    /// Takes the calls of hooks that have come due.
+    pub(crate) fn take_calls(&mut self) -> Vec<HookCall> {
+        self.log.lock(self.rt).take_calls()
     }
 
     /// Writes the file of the daemon's state, where it is due. The log is free meanwhile, so that no
     /// job waits for the disk of this file. A write that fails is passed over: the next is due in a
     /// minute.
     pub(crate) fn keep_state(&mut self) {
-        let text = self.log.lock(self.rt).state_if_due(&self.setup);
+        let text = self.log.lock(self.rt).state_if_due();
         if let Some(text) = text {
             let _ = self.file.replace(self.rt, text.as_slice());
         }
@@ -76,7 +85,7 @@ fn version() -> &'static str {
 }
 
 /// What a daemon is begun with.
-pub(crate) fn setup_of<'a>(order: &Order<'a>) -> Setup<'a> {
+pub(crate) fn setup_of<'a>(order: &Order<'a>, jobs: &'a [JobNote]) -> Setup<'a> {
     let files = &order.files;
     Setup {
         version: version(),
@@ -85,6 +94,8 @@ pub(crate) fn setup_of<'a>(order: &Order<'a>) -> Setup<'a> {
         certificate: files.certificate,
         anacrontab: files.anacrontab,
         capacity: u64::from(order.checked.plan().capacity()),
+        jobs,
+        has_hooks: order.on_overrun.is_some() || order.on_failure.is_some(),
     }
 }
 
@@ -119,7 +130,7 @@ pub(crate) fn closing(cause: Cause) -> &'static [u8] {
 }
 
 /// That the machine's clock went back, and what comes of it.
-fn back_line(alloc: Global, back: ClockBack) -> io::Result<Vec<u8>> {
+pub(crate) fn back_line(alloc: Global, back: ClockBack) -> io::Result<Vec<u8>> {
     let mut line = Vec::new(alloc);
     line.write_all(b"clock back to ")?;
     line.write_all(&date_text(back.shown))?;
@@ -130,47 +141,4 @@ fn back_line(alloc: Global, back: ClockBack) -> io::Result<Vec<u8>> {
     })?;
     line.write_all(&date_text(back.latest))?;
     Ok(line)
-}
-
-/// Looks for the file by which its daemon is asked to stop, keeps the file of the daemon's state, and
-/// writes down what a clock tells.
-#[derive(Drop)]
-pub(crate) struct Watch<'a, 'r, R, W> {
-    rt: &'a R,
-    alloc: Global,
-    stop: &'a StopFile,
-    hand: Hand<'a, 'r, R, W>,
-}
-
-impl<'a, 'r, R, W> Watch<'a, 'r, R, W> {
-    pub(crate) fn new(
-        rt: &'a R,
-        alloc: Global,
-        stop: &'a StopFile,
-        hand: Hand<'a, 'r, R, W>,
-    ) -> Watch<'a, 'r, R, W> {
-        Watch {
-            rt,
-            alloc,
-            stop,
-            hand,
-        }
-    }
-}
-
-impl<'a, 'r, R: Files + Clock + Wait, W: Write> Attendant for Watch<'a, 'r, R, W> {
-    fn is_stop_asked(&mut self) -> bool {
-        let is_asked = self.stop.is_there(self.rt);
-        if is_asked {
-            self.hand.note_stop();
-        }
-        self.hand.keep_state();
-        is_asked
-    }
-
-    fn tell_back(&mut self, back: ClockBack) {
-        if let Ok(line) = back_line(self.alloc, back) {
-            self.hand.note(line.as_slice());
-        }
-    }
 }

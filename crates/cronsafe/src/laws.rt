@@ -5,6 +5,7 @@ ghost use Rattle.cs_cli.specs.Answer.{IsOrder};
 ghost use Rattle.cs_cli.specs.declared.answer.Order.{Order};
 ghost use Rattle.cs_io.specs.Files.{Failed};
 ghost use Rattle.cs_keep.specs.Closed.{keeping_in};
+ghost use Rattle.cronsafe.specs.Anew.{IsOrderOf};
 ghost use Rattle.cronsafe.specs.Ending.{Sink, Tries};
 ghost use Rattle.cronsafe.specs.Serve.{IsServed};
 ghost use Rattle.cronsafe.specs.Served.{AreCounted, HasNoClock, IsDone, IsFull, IsOrdered};
@@ -16,6 +17,13 @@ ghost use Rattle.cronsafe.specs.Served.{AreCounted, HasNoClock, IsDone, IsFull, 
 pub(crate) fn what_a_served_order_keeps()
     ensures { (files : List ℕ → Option (List ℕ)) (a : AskedRun) (before failed : Failed)
         (order : Order) (old new : Sink) (status : ℕ) → IsOrder a files before failed order
+        → (s : IsServed order old new status)
+        → IfSome s.1.end.keep (λ kept. IsOrdered order.checked (keeping_in kept)) }
+{}
+
+/// Lemma. So does that of each order that came behind it, whose files were read anew.
+pub(crate) fn what_a_next_order_keeps()
+    ensures { (a : AskedRun) (order : Order) (old new : Sink) (status : ℕ) → IsOrderOf a order
         → (s : IsServed order old new status)
         → IfSome s.1.end.keep (λ kept. IsOrdered order.checked (keeping_in kept)) }
 {}

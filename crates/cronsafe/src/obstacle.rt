@@ -14,8 +14,10 @@ pub(crate) enum Obstacle {
     InUse,
     /// It can't be locked.
     Unlocked,
-    /// The file by which an earlier daemon was asked to stop can't be removed from it.
-    StopStays,
+    /// The files by which an earlier daemon was asked can't be removed from it.
+    RequestStays,
+    /// The user of this process has no home folder.
+    NoHome,
     /// The log can't be opened.
     NoLog,
 }
@@ -36,7 +38,8 @@ impl Obstacle {
             Obstacle::NoFolder => "no folder ",
             Obstacle::InUse => "another daemon uses ",
             Obstacle::Unlocked => "can't lock ",
-            Obstacle::StopStays => "can't remove 'cronsafe stop' from ",
+            Obstacle::RequestStays => "can't remove old requests from ",
+            Obstacle::NoHome => "no home folder, the user of this process isn't in ",
             Obstacle::NoLog => "can't write ",
         }
     }
@@ -47,6 +50,7 @@ impl Obstacle {
     {
         match self {
             Obstacle::NoLog => order.log.unwrap_or(""),
+            Obstacle::NoHome => "/etc/passwd",
             _ => order.stamps,
         }
     }

@@ -1,4 +1,5 @@
 //! The program over the machine's words, files and clock.
+use crate::hooks::Streams;
 use crate::now::{Now, local_offset, read_clock};
 use crate::run::run_words;
 use crate::serve::{farewell, status_for};
@@ -11,7 +12,7 @@ use jiff_core::Timestamp;
 use std::alloc::Global;
 use std::fs::File;
 use std::io::{ErrorKind, Write};
-use std::process::ExitCode;
+use std::process::{ExitCode, Processes};
 use std::rt::{Clock, Env, Files};
 use std::sync::Wait;
 use std::thread::Threads;
@@ -63,14 +64,15 @@ fn time_for<R: Clock + Env + Files + AllocGlobal>(rt: &R, words: &[String]) -> O
 }
 
 /// Runs the program on the machine's words, files and clock, with these two outputs, the second of
-/// which someone may watch. Commands are run by runners that `new_runner` makes.
+/// which someone may watch. Commands are run by runners that `new_runner` makes,
+/// with the user's home folder or without.
 pub(crate) fn run_program<
-    R: Files<File = File> + Input + Env + Clock + AllocGlobal + Threads + Wait + Sync,
+    R: Files<File = File> + Input + Env + Clock + AllocGlobal + Threads + Wait + Sync + Processes,
     O: Output + Write + Send,
     E: Output,
     W: Runner + Send + Drop,
-    F: Fn() -> W + Drop,
->(rt: &R, is_watched: bool, out: &mut O, err: &mut E, new_runner: F) -> ExitCode
+    F: Fn(bool) -> W + Drop,
+>(rt: &R, is_watched: bool, streams: Streams, out: &mut O, err: &mut E, new_runner: F) -> ExitCode
     requires { F.IsAlwaysCallable new_runner }
 {
     let alloc = rt.alloc();
@@ -91,5 +93,15 @@ pub(crate) fn run_program<
         let _ = err.print(farewell(Cause::ClockFailed).as_bytes());
         return ExitCode::from(status_for(Cause::ClockFailed).code());
     };
-    ExitCode::from(run_words(rt, alloc, words, now, &mut inputs, out, err, new_runner))
+    ExitCode::from(run_words(
+        rt,
+        alloc,
+        words,
+        now,
+        &mut inputs,
+        streams,
+        out,
+        err,
+        new_runner,
+    ))
 }

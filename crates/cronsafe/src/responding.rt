@@ -50,6 +50,7 @@ fn answer_asked<'a, R: Threads + Sync, I: Folders>(
         Request::Check(request) => Ok(Answer::Ends(answer_check(rt, alloc, &request, inputs)?)),
         Request::Run(request) => answer_run(rt, alloc, &request, inputs),
         Request::Stop(words) => Ok(Answer::Stops(words)),
+        Request::Reload(folder) => Ok(Answer::Reloads(folder)),
         Request::Status(words) => Ok(Answer::Tells(words)),
         Request::Judge(request) => Ok(Answer::Ends(answer_judge(rt, alloc, &request, inputs)?)),
         Request::Make(request) => Ok(Answer::Ends(answer_make(rt, alloc, &request, inputs)?)),

@@ -7,7 +7,9 @@ ghost use Rattle.cs_files.specs.Turn.{ReadsInTurn};
 ghost use Rattle.cronsafe.specs.Run.{CarriesOut, Runs};
 
 use crate::ending::{finish, run_out_behind};
+use crate::hooks::Streams;
 use crate::now::Now;
+use crate::reloading::reload;
 use crate::responding::respond;
 use crate::serve::serve;
 use crate::stopping::stop;
@@ -20,18 +22,27 @@ use std::alloc::Global;
 use std::convert::AsStr;
 use std::fs::File;
 use std::io::Write;
+use std::process::Processes;
 use std::rt::{Clock, Files};
 use std::sync::Wait;
 use std::thread::Threads;
 
 /// Carries out an answer, and gives the status.
 fn carry_out<
-    R: Threads + Wait + Sync + Files<File = File> + Clock,
+    R: Threads + Wait + Sync + Files<File = File> + Input + Clock + Processes,
     O: Output + Write + Send,
     E: Output,
     W: Runner + Send + Drop,
-    F: Fn() -> W + Drop,
->(rt: &R, alloc: Global, answer: Answer<'_>, out: &mut O, err: &mut E, new_runner: F) -> Status
+    F: Fn(bool) -> W + Drop,
+>(
+    rt: &R,
+    alloc: Global,
+    answer: Answer<'_>,
+    streams: Streams,
+    out: &mut O,
+    err: &mut E,
+    new_runner: F,
+) -> Status
     requires { F.IsAlwaysCallable new_runner }
     ensures { CarriesOut answer.entry
         (sink (O.Output.contents out.old) (O.Output.failed out.old))
@@ -42,8 +53,9 @@ fn carry_out<
 {
     match answer {
         Answer::Ends(response) => finish(&response, out, err),
-        Answer::Runs(order) => serve(rt, alloc, order, out, err, new_runner),
+        Answer::Runs(order) => serve(rt, alloc, order, streams, out, err, new_runner),
         Answer::Stops(words) => stop(rt, alloc, words, out, err),
+        Answer::Reloads(folder) => reload(rt, alloc, folder, out, err),
         Answer::Tells(words) => tell_status(rt, alloc, words, out, err),
     }
 }
@@ -56,22 +68,23 @@ fn carry_out<
 /// folder of stamps, or a clock that can't be read or goes back.
 ///
 /// The words of `run` come back when the run has ended, and its log is written to standard output. Its
-/// commands are run by runners that `new_runner` makes. A draft tells the offset of clocks, and `lint`
+/// commands are run by runners that `new_runner` makes, with the user's home folder or without. A draft tells the offset of clocks, and `lint`
 /// the changes of a time zone's clocks after the instant.
 pub(crate) fn run_words<
-    R: Threads + Wait + Sync + Files<File = File> + Clock,
+    R: Threads + Wait + Sync + Files<File = File> + Input + Clock + Processes,
     S: AsStr,
     I: Folders,
     O: Output + Write + Send,
     E: Output,
     W: Runner + Send + Drop,
-    F: Fn() -> W + Drop,
+    F: Fn(bool) -> W + Drop,
 >(
     rt: &R,
     alloc: Global,
     words: &[S],
     now: Now,
     inputs: &mut I,
+    streams: Streams,
     out: &mut O,
     err: &mut E,
     new_runner: F,
@@ -91,7 +104,7 @@ pub(crate) fn run_words<
         (I.reads inputs.old) (I.reads inputs.new) }
 {
     match respond(rt, alloc, words, now, inputs) {
-        Ok(answer) => carry_out(rt, alloc, answer, out, err, new_runner).code(),
+        Ok(answer) => carry_out(rt, alloc, answer, streams, out, err, new_runner).code(),
         Err(ran_out) => run_out_behind(&ran_out, err).code(),
     }
 }

@@ -1,14 +1,21 @@
 //! Runs of checked tables on this machine.
-ghost use Rattle.std.specs.Prelude.{◌≡◌, IfOk, vec_len};
+ghost use Rattle.std.specs.Prelude.{◌≡◌, IfOk, IfSome, vec_len};
 ghost use Rattle.cs_check.specs.Checked.{plan_in};
 ghost use Rattle.cs_files.specs.Response.{status_of};
 ghost use Rattle.cronsafe.specs.Ending.{sink};
-ghost use Rattle.cronsafe.specs.Serve.{IsServedBehind, IsServedBy, Refuses, RunsOutBehind, Serves};
-ghost use Rattle.cronsafe.specs.Serve.{cause_status, farewell};
+ghost use Rattle.cs_args.specs.Asked.{asked_run};
+ghost use Rattle.cronsafe.specs.Anew.{words_in};
+ghost use Rattle.cronsafe.specs.Serve.{IsFollowed, IsNextOf, IsServedBehind, IsServedBy, Refuses};
+ghost use Rattle.cronsafe.specs.Serve.{RunsOutBehind, Serves, ServesOne, cause_status, farewell};
 
-use crate::diary::{Hand, Watch, closing, opening, setup_of};
+use crate::anew::{Accepted, open_log, words_of};
+use crate::diary::{Hand, closing, opening, setup_of};
 use crate::ending::{finish, run_out, tell};
+use crate::hooks::{Streams, call_hooks};
+use crate::notes::notes_of;
 use crate::obstacle::Obstacle;
+use crate::watch::{DaemonFiles, Idle, Watch};
+use cs_args::RunWords;
 use cs_check::Checked;
 use cs_cli::Order;
 use cs_daemon::{Cause, run_daemon};
@@ -17,16 +24,17 @@ use cs_files::Status;
 use cs_history::Run;
 use cs_io::Output;
 use cs_machine::{
-    FolderLock, LockFault, MachineClock, RunLog, StampsFolder, StateFile, StopFile, runners_by,
+    FolderLock, Home, JobNote, LockFault, MachineClock, RunLog, StampsFolder, runners_by,
 };
 use std::alloc::{AllocError, Global};
-use std::fs::{File, OpenOptions};
+use std::fs::File;
 use std::io::Write;
+use std::process::Processes;
 use std::rt::{Clock, Files};
 use std::sync::{Mutex, Wait};
+use std::thread;
 use std::thread::Threads;
 use std::time::Duration;
-use std::{io, thread};
 
 /// A gate at which no run is held.
 #[derive(Drop)]
@@ -116,7 +124,7 @@ fn serve_by<
     err: &mut E,
 ) -> (Status, Cause)
     requires { vec_len runners ≡ (plan_in checked).capacity }
-    ensures { IsServedBy checked
+    ensures served { IsServedBy checked
         (record {
           last = C.last clock.old;
           top = C.top clock.old;
@@ -134,36 +142,44 @@ fn serve_by<
         (sink (E.contents err.old) (E.failed err.old))
         (sink (E.contents err.new) (E.failed err.new))
         (status_of result.0) }
+    ensures cause { status_of result.0 ≡ cause_status result.1 }
 {
     let end = run_daemon(rt, alloc, checked, clock, runners, &OpenGate, store, log);
     tell(err, farewell(end.cause).as_bytes());
     (status_for(end.cause), end.cause)
 }
 
-/// For how many milliseconds a lock is waited for that isn't a daemon's.
-const MOMENT: u64 = 300;
-
-/// The files by which a daemon is asked to stop and tells its state.
+/// What is served behind an order, and the clock that goes on.
 #[derive(Drop)]
-struct DaemonFiles<'f> {
-    stop: StopFile,
-    state: StateFile<'f>,
+struct Next<'a, R> {
+    order: Order<'a>,
+    clock: MachineClock<'a, R, Idle>,
 }
 
-impl<'f> DaemonFiles<'f> {
-    /// Those in a folder of stamps. The only error is out of memory.
-    fn of(alloc: Global, folder: &'f str) -> Result<DaemonFiles<'f>, AllocError> {
-        let stop = StopFile::of(alloc, folder)?;
-        let state = StateFile::of(alloc, folder)?;
-        Ok(DaemonFiles { stop, state })
+/// What is served behind these words, if a plan was accepted and the daemon has stopped for it.
+fn next_of<'a, R: Clock>(
+    cause: Cause,
+    accepted: Option<Accepted>,
+    words: &RunWords<'a>,
+    clock: MachineClock<'a, R, Idle>,
+) -> Option<Next<'a, R>>
+    ensures { IfSome result (λ next. IsNextOf cause (asked_run words.entry.now) next.order) }
+{
+    match (cause, accepted) {
+        (Cause::Stopped, Some(accepted)) => {
+            let order = accepted.order(words);
+            Some(Next { order, clock })
+        }
+        _ => None,
     }
 }
 
-/// Warns, and runs what is ordered on the machine's clock until it ends. Each line of its log has its
-/// time if that is asked for.
+/// Warns, and runs what is ordered on the machine's clock until it ends, and answers with what is
+/// served then. Each line of its log has its time if that is asked for.
 fn serve_on<
     'x,
-    R: Threads + Wait + Sync + Files + Clock,
+    'w,
+    R: Threads + Wait + Sync + Files + Input + Clock + Processes,
     W: Runner + Send + Drop,
     L: Write + Send,
     E: Output,
@@ -171,32 +187,46 @@ fn serve_on<
     rt: &'x R,
     alloc: Global,
     order: Order<'x>,
+    words: RunWords<'w>,
+    clock: MachineClock<'w, R, Idle>,
+    jobs: &'x [JobNote],
+    streams: Streams,
     files: &'x DaemonFiles<'x>,
     stamps: &mut StampsFolder<'_, '_, R>,
     runners: Vec<W>,
     log: &mut L,
     is_timed: bool,
     err: &mut E,
-) -> Status
+) -> (Status, Option<Next<'w, R>>)
+    requires words { asked_run words ≡ words_in order }
     requires runners { vec_len runners ≡ (plan_in order.checked).capacity }
     requires fresh { stamps.old.failures ≡ 0 }
-    ensures { IsServedBehind order.entry
+    ensures served { IsServedBehind order.entry
         (sink (E.contents err.old) (E.failed err.old))
         (sink (E.contents err.new) (E.failed err.new))
-        (status_of result) }
+        (status_of result.0) }
+    ensures next { IfSome result.1 (λ next. IsFollowed order.entry
+        (sink (E.contents err.old) (E.failed err.old))
+        (sink (E.contents err.new) (E.failed err.new))
+        next.order) }
 {
     tell(err, order.warnings.as_slice());
-    let log = Mutex::new(RunLog::new(rt, alloc, &mut *log, is_timed));
-    let setup = setup_of(&order);
-    let mut hand = Hand::new(rt, &log, &files.state, setup);
+    let setup = setup_of(&order, jobs);
+    let log = Mutex::new(RunLog::new(rt, alloc, &mut *log, is_timed, setup));
+    let mut hand = Hand::new(rt, &log, &files.state);
     if let Ok(line) = opening(alloc, &order) {
         hand.note(line.as_slice());
     }
     hand.keep_state();
-    let watch_hand = Hand::new(rt, &log, &files.state, setup);
-    let watch = Watch::new(rt, alloc, &files.stop, watch_hand);
-    let offset = order.checked.plan().offset();
-    let mut clock = MachineClock::new(rt, offset, order.minutes, watch);
+    let watch = Watch::new(
+        rt,
+        alloc,
+        files,
+        words,
+        streams,
+        Hand::new(rt, &log, &files.state),
+    );
+    let (mut clock, _) = clock.resumed(order.checked.plan().offset(), watch);
     let (status, cause) = serve_by(
         rt,
         alloc,
@@ -207,9 +237,135 @@ fn serve_on<
         &mut hand,
         err,
     );
+    call_hooks(rt, alloc, &words, streams, &mut hand);
     hand.note(closing(cause));
-    status
+    let offset = clock.offset();
+    let (clock, watch) = clock.resumed(offset, Idle);
+    (status, next_of(cause, watch.into_accepted(), &words, clock))
 }
+
+/// Runs one order until it ends. Without `--log` the log is written to standard output. A runner is
+/// made for each unit of the plan's capacity.
+fn serve_one<
+    'x,
+    R: Threads + Wait + Sync + Files<File = File> + Input + Clock + Processes,
+    O: Output + Write + Send,
+    E: Output,
+    W: Runner + Send + Drop,
+    F: Fn(bool) -> W + Drop,
+>(
+    rt: &'x R,
+    alloc: Global,
+    order: Order<'x>,
+    clock: MachineClock<'x, R, Idle>,
+    streams: Streams,
+    files: &DaemonFiles<'x>,
+    stamps: &mut StampsFolder<'_, '_, R>,
+    out: &mut O,
+    err: &mut E,
+    new_runner: &F,
+) -> (Status, Option<Next<'x, R>>)
+    requires { F.IsAlwaysCallable new_runner.now }
+    ensures comes { ServesOne order.entry
+        (sink (O.Output.contents out.old) (O.Output.failed out.old))
+        (sink (O.Output.contents out.new) (O.Output.failed out.new))
+        (sink (E.contents err.old) (E.failed err.old))
+        (sink (E.contents err.new) (E.failed err.new))
+        (status_of result.0) }
+    ensures next { IfSome result.1 (λ next. IsFollowed order.entry
+        (sink (E.contents err.old) (E.failed err.old))
+        (sink (E.contents err.new) (E.failed err.new))
+        next.order) }
+{
+    stamps.begin_anew();
+    let Ok(jobs) = notes_of(alloc, order.checked.plan()) else {
+        return (run_out_unserved(&order, err), None);
+    };
+    let Ok(runners) = runners_by(
+        alloc,
+        order.checked.plan().capacity(),
+        order.home,
+        new_runner,
+    ) else {
+        return (run_out_unserved(&order, err), None);
+    };
+    let jobs = jobs.as_slice();
+    let words = words_of(&order);
+    match order.log {
+        None => {
+            serve_on(
+                rt, alloc, order, words, clock, jobs, streams, files, stamps, runners, out, false,
+                err,
+            )
+        }
+        Some("-") => {
+            serve_on(
+                rt, alloc, order, words, clock, jobs, streams, files, stamps, runners, out, true,
+                err,
+            )
+        }
+        Some(path) => match open_log(rt, path) {
+            Ok(mut log) => {
+                let log = &mut log;
+                serve_on(
+                    rt, alloc, order, words, clock, jobs, streams, files, stamps, runners, log,
+                    true, err,
+                )
+            }
+            Err(_) => (refuse(alloc, &order, Obstacle::NoLog, out, err), None),
+        },
+    }
+}
+
+/// Runs an order until it ends, and then each that comes behind it, unless the daemon is asked to
+/// stop by then.
+fn serve_in_turn<
+    'x,
+    R: Threads + Wait + Sync + Files<File = File> + Input + Clock + Processes,
+    O: Output + Write + Send,
+    E: Output,
+    W: Runner + Send + Drop,
+    F: Fn(bool) -> W + Drop,
+>(
+    rt: &'x R,
+    alloc: Global,
+    order: Order<'x>,
+    streams: Streams,
+    files: &DaemonFiles<'x>,
+    stamps: &mut StampsFolder<'_, '_, R>,
+    out: &mut O,
+    err: &mut E,
+    new_runner: &F,
+) -> Status
+    requires { F.IsAlwaysCallable new_runner.now }
+    ensures { Serves order.entry
+        (sink (O.Output.contents out.old) (O.Output.failed out.old))
+        (sink (O.Output.contents out.new) (O.Output.failed out.new))
+        (sink (E.contents err.old) (E.failed err.old))
+        (sink (E.contents err.new) (E.failed err.new))
+        (status_of result) }
+{
+    let offset = order.checked.plan().offset();
+    let mut clock = MachineClock::new(rt, offset, order.minutes, Idle);
+    let mut order = order;
+    for _ in rt.forever() {
+        let (status, next) = serve_one(
+            rt, alloc, order, clock, streams, files, stamps, out, err, new_runner,
+        );
+        let Some(next) = next else {
+            return status;
+        };
+        if files.stop.is_there(rt) {
+            return status;
+        }
+        order = next.order;
+        clock = next.clock;
+    }
+    unreachable!()
+}
+
+/// For how many milliseconds a lock is waited for that isn't a daemon's.
+const MOMENT: u64 = 300;
 
 /// Locks a folder of stamps. Who has it locked for a moment alone, to look whether a daemon has, is
 /// waited for.
@@ -223,12 +379,12 @@ fn lock<R: Files<File = File> + Clock>(rt: &R, folder: &str) -> Result<FolderLoc
     }
 }
 
-/// Opens and locks a folder of stamps, and removes what asked an earlier daemon there to stop.
+/// Opens and locks a folder of stamps, and removes what an earlier daemon there was asked.
 fn enter<'r, 'f, R: Files<File = File> + Clock>(
     rt: &'r R,
     alloc: Global,
     folder: &'f str,
-    stop: &StopFile,
+    files: &DaemonFiles<'_>,
 ) -> Result<(StampsFolder<'r, 'f, R>, FolderLock), Obstacle>
     ensures { IfOk result (λ entered. entered.0.failures ≡ 0) }
 {
@@ -239,28 +395,31 @@ fn enter<'r, 'f, R: Files<File = File> + Clock>(
         Ok(lock) => lock,
         Err(fault) => return Err(Obstacle::of(fault)),
     };
-    if stop.remove(rt).is_err() {
-        return Err(Obstacle::StopStays);
+    if files.clear(rt).is_err() {
+        return Err(Obstacle::RequestStays);
     }
     Ok((stamps, lock))
 }
 
-/// The file of a log, at whose end is written.
-fn open_log<R: Files>(rt: &R, path: &str) -> io::Result<R::File> {
-    OpenOptions::new().append(true).create(true).open(rt, path)
-}
-
 /// Runs what is ordered until it ends, and gives the status: nothing is run unless its folder of
-/// stamps is there and can be locked for as long as it runs. Without `--log` the log is written to
-/// standard output. What is to be warned of and why it ended goes to standard error. A runner is made
-/// for each unit of the plan's capacity.
+/// stamps is there and can be locked for as long as it runs. Where the daemon is asked to reload, and
+/// accepts what its files hold then, that is run behind it. What is to be warned of and why it ended
+/// goes to standard error.
 pub(crate) fn serve<
-    R: Threads + Wait + Sync + Files<File = File> + Clock,
+    R: Threads + Wait + Sync + Files<File = File> + Input + Clock + Processes,
     O: Output + Write + Send,
     E: Output,
     W: Runner + Send + Drop,
-    F: Fn() -> W + Drop,
->(rt: &R, alloc: Global, order: Order<'_>, out: &mut O, err: &mut E, new_runner: F) -> Status
+    F: Fn(bool) -> W + Drop,
+>(
+    rt: &R,
+    alloc: Global,
+    order: Order<'_>,
+    streams: Streams,
+    out: &mut O,
+    err: &mut E,
+    new_runner: F,
+) -> Status
     requires { F.IsAlwaysCallable new_runner }
     ensures { Serves order.entry
         (sink (O.Output.contents out.old) (O.Output.failed out.old))
@@ -272,51 +431,23 @@ pub(crate) fn serve<
     let Ok(files) = DaemonFiles::of(alloc, order.stamps) else {
         return run_out_unserved(&order, err);
     };
-    let (mut stamps, _lock) = match enter(rt, alloc, order.stamps, &files.stop) {
-        Ok(entered) => entered,
-        Err(obstacle) => return refuse(alloc, &order, obstacle, out, err),
-    };
-    let Ok(runners) = runners_by(alloc, order.checked.plan().capacity(), new_runner) else {
-        return run_out_unserved(&order, err);
-    };
-    match order.log {
-        None => serve_on(
-            rt,
-            alloc,
-            order,
-            &files,
-            &mut stamps,
-            runners,
-            out,
-            false,
-            err,
-        ),
-        Some("-") => serve_on(
-            rt,
-            alloc,
-            order,
-            &files,
-            &mut stamps,
-            runners,
-            out,
-            true,
-            err,
-        ),
-        Some(path) => match open_log(rt, path) {
-            Ok(mut log) => {
-                serve_on(
-                    rt,
-                    alloc,
-                    order,
-                    &files,
-                    &mut stamps,
-                    runners,
-                    &mut log,
-                    true,
-                    err,
-                )
-            }
-            Err(_) => refuse(alloc, &order, Obstacle::NoLog, out, err),
-        },
+    if order.home && Home::of_process(rt, alloc).is_none() {
+        return refuse(alloc, &order, Obstacle::NoHome, out, err);
+    }
+    match enter(rt, alloc, order.stamps, &files) {
+        Ok((mut stamps, _lock)) => {
+            serve_in_turn(
+                rt,
+                alloc,
+                order,
+                streams,
+                &files,
+                &mut stamps,
+                out,
+                err,
+                &new_runner,
+            )
+        }
+        Err(obstacle) => refuse(alloc, &order, obstacle, out, err),
     }
 }

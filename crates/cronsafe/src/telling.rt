@@ -2,18 +2,17 @@
 ghost use Rattle.std.specs.Prelude.{◌≡◌, ◌++◌, IfOk};
 ghost use Rattle.cs_files.specs.Response.{complaint, status_of};
 ghost use Rattle.cronsafe.specs.Ending.{sink};
-ghost use Rattle.cronsafe.specs.Telling.{IsAnswer, Tells, in_front, in_front_of_old};
+ghost use Rattle.cronsafe.specs.Telling.{IsAnswer, Tells, in_front_of_old, in_front_of_none};
 ghost use Rattle.cronsafe.specs.Telling.{silence_status, told_as, untold};
 
+use crate::asking::{Absence, fault_response, find_daemon};
 use crate::ending::{finish, run_out};
 use cs_args::StatusWords;
 use cs_civil::Bytes;
 use cs_files::{Response, Status};
 use cs_io::Output;
 use cs_json::Misread;
-use cs_machine::{
-    FolderLock, LockFault, Report, StampsFolder, StateFile, read_report, unix_seconds,
-};
+use cs_machine::{Report, ToldFile, read_report, unix_seconds};
 use std::alloc::{AllocError, Global};
 use std::fs::File;
 use std::rt::{Clock, Files};
@@ -21,13 +20,9 @@ use std::rt::{Clock, Files};
 /// Why no state is told.
 #[derive(Clone, Copy)]
 pub(crate) enum Silence {
-    /// There is no such folder of stamps.
-    NoFolder,
-    /// No daemon has locked it.
-    NoDaemon,
-    /// It can't be locked.
-    Unlocked,
-    /// It holds no state that can be read.
+    /// There is no daemon to ask.
+    NoneToAsk(Absence),
+    /// The folder holds no state that can be read.
     Unread,
 }
 
@@ -45,12 +40,10 @@ pub(crate) enum Health {
 impl Silence {
     /// What is said of it, in front of the folder's path.
     fn text(self) -> &'static str
-        ensures { result.now ≡ in_front self }
+        ensures { result.now ≡ in_front_of_none self }
     {
         match self {
-            Silence::NoFolder => "no folder ",
-            Silence::NoDaemon => "no daemon uses ",
-            Silence::Unlocked => "can't lock ",
+            Silence::NoneToAsk(absence) => absence.text(),
             Silence::Unread => "can't read the state in ",
         }
     }
@@ -59,8 +52,8 @@ impl Silence {
         ensures { status_of result ≡ silence_status self }
     {
         match self {
-            Silence::NoDaemon => Status::Unknown,
-            _ => Status::DeviceFailed,
+            Silence::NoneToAsk(absence) => absence.status(),
+            Silence::Unread => Status::DeviceFailed,
         }
     }
 
@@ -68,23 +61,16 @@ impl Silence {
     fn response(self, alloc: Global, folder: &str) -> Result<Response, AllocError>
         ensures { IfOk result (λ r. r ≡ untold self folder.now) }
     {
-        let mut fault = Vec::from_slice(alloc, self.text().as_bytes())?;
-        fault.extend_from_slice(folder.as_bytes())?;
-        Response::fault(alloc, self.status(), b"".as_slice(), fault.as_slice())
+        fault_response(alloc, self.status(), self.text(), folder)
     }
 }
 
 /// The state of the daemon that uses a folder.
 fn look<R: Files<File = File>>(rt: &R, alloc: Global, folder: &str) -> Result<Vec<u8>, Silence> {
-    if StampsFolder::open(rt, alloc, folder).is_err() {
-        return Err(Silence::NoFolder);
+    if let Err(absence) = find_daemon(rt, alloc, folder) {
+        return Err(Silence::NoneToAsk(absence));
     }
-    match FolderLock::take(rt, folder) {
-        Ok(_) => return Err(Silence::NoDaemon),
-        Err(LockFault::Failed) => return Err(Silence::Unlocked),
-        Err(LockFault::InUse) => {}
-    }
-    let Ok(file) = StateFile::of(alloc, folder) else {
+    let Ok(file) = ToldFile::state(alloc, folder) else {
         return Err(Silence::Unread);
     };
     file.read(rt, alloc).map_err(|_| Silence::Unread)

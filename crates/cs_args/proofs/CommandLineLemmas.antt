@@ -15,7 +15,7 @@ use Rattle.clap.specs.declared.parser.matches.SubCommand.{SubCommand}
 use Rattle.clap.specs.Words.{HasKind, IsAmong, Row, Text, fault_of, is_simple, is_simple_and_free, kind_of}
 use Rattle.clap.specs.declared.error.Error.{Error}
 use Rattle.cs_args.specs.CommandLine.{asked_by, asked_of, chart_app, check_app, cronsafe_app, day_app, draft_app, explain_app, gather_app, help_app, judge_and_check_app}
-use Rattle.cs_args.specs.CommandLine.{advise_app, judge_app, learn_app, lint_app, make_app, number_of, replay_app, room_app, run_app, top_app, stop_app, status_app, up_to_explain_app, up_to_lint_app, up_to_chart_app, up_to_gather_app, up_to_room_app}
+use Rattle.cs_args.specs.CommandLine.{advise_app, judge_app, learn_app, lint_app, make_app, number_of, replay_app, room_app, run_app, top_app, stop_app, reload_app, status_app, up_to_explain_app, up_to_lint_app, up_to_chart_app, up_to_status_app, up_to_room_app}
 use Rattle.cs_args.specs.Asked.{FaultOf, Parses, RequestAsked}
 use Rattle.cs_args.specs.declared.request.Request.{Request}
 use Rattle.cs_args.specs.declared.request.UsageFault.{UsageFault}
@@ -88,9 +88,9 @@ fault_parses words e OutOfMemory k h = h
 
 -- of the command line all is known
 pub is_known : is_simple_and_free cronsafe_app ≡ true
-unfolding cronsafe_app up_to_explain_app up_to_lint_app up_to_chart_app up_to_gather_app up_to_room_app judge_and_check_app top_app judge_app make_app advise_app room_app check_app run_app stop_app status_app day_app replay_app gather_app draft_app learn_app lint_app chart_app explain_app help_app
+unfolding cronsafe_app up_to_explain_app up_to_lint_app up_to_chart_app up_to_status_app up_to_room_app judge_and_check_app top_app judge_app make_app advise_app room_app check_app run_app stop_app reload_app status_app day_app replay_app gather_app draft_app learn_app lint_app chart_app explain_app help_app
 is_known = refl
 
 pub is_told : is_simple cronsafe_app ≡ true
-unfolding cronsafe_app up_to_explain_app up_to_lint_app up_to_chart_app up_to_gather_app up_to_room_app judge_and_check_app top_app judge_app make_app advise_app room_app check_app run_app stop_app status_app day_app replay_app gather_app draft_app learn_app lint_app chart_app explain_app help_app
+unfolding cronsafe_app up_to_explain_app up_to_lint_app up_to_chart_app up_to_status_app up_to_room_app judge_and_check_app top_app judge_app make_app advise_app room_app check_app run_app stop_app reload_app status_app day_app replay_app gather_app draft_app learn_app lint_app chart_app explain_app help_app
 is_told = refl

@@ -17,7 +17,7 @@ use Rattle.cs_args.specs.declared.request.GatherWords.{GatherWords}
 use Rattle.cs_args.specs.declared.request.LearnWords.{LearnWords}
 use Rattle.cs_args.specs.declared.request.LintWords.{LintWords}
 use Rattle.cs_args.specs.declared.request.CheckWords.{CheckWords}
-use Rattle.cs_args.specs.CommandLine.{AskedJudge, AskedMake, AskedRun, AskedStatus, AskedStop, Judge, Make, Run, Status, Stop, judge_in, make_in, run_in}
+use Rattle.cs_args.specs.CommandLine.{AskedJudge, AskedMake, AskedRun, AskedStatus, AskedStop, Judge, Make, Reload, Run, Status, Stop, judge_in, make_in, run_in}
 use Rattle.cs_args.specs.declared.request.JudgeWords.{JudgeWords}
 use Rattle.cs_args.specs.declared.request.MakeWords.{MakeWords}
 use Rattle.cs_args.specs.declared.request.DayWords.{DayWords}
@@ -48,6 +48,8 @@ asked_replay r = record {
   anacrontab = option_map (λ path. path.now) r.anacrontab;
   declarations = option_map (λ path. path.now) r.declarations;
   judge = r.judge;
+  log = r.log;
+  show_script = r.show_script;
 }
 
 abbrev pub asked_check : CheckWords → AskedCheck
@@ -64,6 +66,9 @@ asked_run r = record {
   stamps = r.stamps.now;
   minutes = r.minutes;
   log = option_map (λ path. path.now) r.log;
+  home = r.home;
+  on_overrun = option_map (λ command. command.now) r.on_overrun;
+  on_failure = option_map (λ command. command.now) r.on_failure;
 }
 
 abbrev pub asked_stop : StopWords → AskedStop
@@ -133,6 +138,7 @@ asking (request.Replay r) = Replay (asked_replay r)
 asking (request.Check c) = Check (asked_check c)
 asking (request.Run r) = Run (asked_run r)
 asking (request.Stop s) = Stop (asked_stop s)
+asking (request.Reload stamps) = Reload stamps.now
 asking (request.Status s) = Status (asked_status s)
 asking (request.Judge j) = Judge (asked_judge j)
 asking (request.Make m) = Make (asked_make m)

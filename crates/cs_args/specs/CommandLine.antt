@@ -58,11 +58,13 @@ with_terms app = with_rule
     (with_rule (with_rule app (option_rule (codes "max"))) (option_rule (codes "anacrontab")))
     (option_rule (codes "declarations"))
 
--- `replay TABLE SCRIPT [--max N] [--anacrontab FILE] [--declarations FILE] [--judge]`
+-- `replay TABLE SCRIPT [--max N] [--anacrontab FILE] [--declarations FILE] [--judge] [--log]
+-- [--script]`
 unfoldable pub replay_app : App
-replay_app = with_rule (with_terms
+replay_app = with_rule (with_rule (with_rule (with_terms
     (with_rule (with_rule (new_app (codes "replay")) (required_rule (codes "TABLE")))
-    (required_rule (codes "SCRIPT")))) (flag_rule (codes "judge"))
+    (required_rule (codes "SCRIPT")))) (flag_rule (codes "judge"))) (flag_rule (codes "log")))
+    (flag_rule (codes "script"))
 
 -- `TABLE DECLS CERT`
 abbrev pub with_certificate : App → App
@@ -75,18 +77,29 @@ unfoldable pub check_app : App
 check_app =
     with_rule (with_certificate (new_app (codes "check"))) (option_rule (codes "anacrontab"))
 
--- `run TABLE DECLS CERT STAMPS [--anacrontab FILE] [--minutes N] [--log FILE]`
+-- `[--home] [--on-overrun COMMAND] [--on-failure COMMAND]`
+abbrev pub with_home_and_hooks : App → App
+with_home_and_hooks app = with_rule
+    (with_rule (with_rule app (flag_rule (codes "home"))) (option_rule (codes "on-overrun")))
+    (option_rule (codes "on-failure"))
+
+-- `run TABLE DECLS CERT STAMPS [--anacrontab FILE] [--minutes N] [--log FILE] [--home]
+-- [--on-overrun COMMAND] [--on-failure COMMAND]`
 unfoldable pub run_app : App
-run_app =
-    with_rule (with_rule (with_rule (with_rule (with_certificate (new_app (codes "run")))
+run_app = with_home_and_hooks
+    (with_rule (with_rule (with_rule (with_rule (with_certificate (new_app (codes "run")))
     (required_rule (codes "STAMPS"))) (option_rule (codes "anacrontab")))
-    (option_rule (codes "minutes"))) (option_rule (codes "log"))
+    (option_rule (codes "minutes"))) (option_rule (codes "log")))
 
 -- `stop STAMPS [--now]`
 unfoldable pub stop_app : App
 stop_app =
     with_rule (with_rule (new_app (codes "stop")) (required_rule (codes "STAMPS")))
     (flag_rule (codes "now"))
+
+-- `reload STAMPS`
+unfoldable pub reload_app : App
+reload_app = with_rule (new_app (codes "reload")) (required_rule (codes "STAMPS"))
 
 -- `status STAMPS [--json]`
 unfoldable pub status_app : App
@@ -185,17 +198,17 @@ up_to_room_app =
     with_subcommand (with_subcommand (with_subcommand judge_and_check_app make_app.top)
     advise_app.top) room_app.top
 
--- and with `run`, `stop`, `status` and `gather`
-unfoldable pub up_to_gather_app : App
-up_to_gather_app =
+-- and with `run`, `stop`, `reload` and `status`
+unfoldable pub up_to_status_app : App
+up_to_status_app =
     with_subcommand (with_subcommand (with_subcommand (with_subcommand up_to_room_app run_app.top)
-    stop_app.top) status_app.top) gather_app.top
+    stop_app.top) reload_app.top) status_app.top
 
--- and with `draft`, `learn` and `lint`
+-- and with `gather`, `draft`, `learn` and `lint`
 unfoldable pub up_to_lint_app : App
 up_to_lint_app =
-    with_subcommand (with_subcommand (with_subcommand up_to_gather_app draft_app.top)
-    learn_app.top) lint_app.top
+    with_subcommand (with_subcommand (with_subcommand
+    (with_subcommand up_to_status_app gather_app.top) draft_app.top) learn_app.top) lint_app.top
 
 -- and with `day` and `chart`
 unfoldable pub up_to_chart_app : App
@@ -228,7 +241,8 @@ pub record Asked : Type 0 where
   pub to : ℕ
 
 -- what `replay` is asked: the paths of a table and a script, a longest time in minutes, the paths
--- of an anacrontab and of declarations, and whether to say what the script breaks
+-- of an anacrontab and of declarations, whether to say what the script breaks, whether the script
+-- is the one that a log tells, and whether to show it in place of its replay
 pub record AskedReplay : Type 0 where
   pub table : Text
   pub script : Text
@@ -236,6 +250,8 @@ pub record AskedReplay : Type 0 where
   pub anacrontab : Option Text
   pub declarations : Option Text
   pub judge : Bool
+  pub log : Bool
+  pub show_script : Bool
 
 -- what `check` is asked: the paths of a table, of declarations, of a certificate and of an
 -- anacrontab
@@ -246,12 +262,16 @@ pub record AskedCheck : Type 0 where
   pub anacrontab : Option Text
 
 -- what `run` is asked: what `check` is, the path of a folder of stamps, after how many minutes the
--- clock stops, if it does, and the path of a log, if there is one
+-- clock stops, if it does, the path of a log, if there is one, whether commands run in their user's
+-- home folder, and the commands to start at a run past its longest time and at one that fails
 pub record AskedRun : Type 0 where
   pub check : AskedCheck
   pub stamps : Text
   pub minutes : Option ℕ
   pub log : Option Text
+  pub home : Bool
+  pub on_overrun : Option Text
+  pub on_failure : Option Text
 
 -- what `stop` is asked: the path of a folder of stamps, and whether the end isn't waited for
 pub record AskedStop : Type 0 where
@@ -320,13 +340,15 @@ pub record AskedChart : Type 0 where
   pub declarations : Option Text
   pub story : Option Text
 
--- what words may ask: a subcommand, or, by the subcommand `help`, how the program is called
+-- what words may ask: a subcommand, of which `reload` is asked the path of a folder of stamps, or,
+-- by the subcommand `help`, how the program is called
 pub data Asking : Type 0 where
   Day : Asked → Asking
   Replay : AskedReplay → Asking
   Check : AskedCheck → Asking
   Run : AskedRun → Asking
   Stop : AskedStop → Asking
+  Reload : Text → Asking
   Status : AskedStatus → Asking
   Judge : AskedJudge → Asking
   Make : AskedMake → Asking
@@ -399,6 +421,10 @@ are_dashes table script anacrontab declarations =
     || (((is_dash table || is_dash script) && (is_dash_in anacrontab || is_dash_in declarations))
     || (is_dash_in anacrontab && is_dash_in declarations))
 
+-- the script of a log is shown, so with a log alone
+abbrev pub is_script_alone : Bool → Bool → Bool
+is_script_alone show_script log = show_script && not log
+
 -- what the entries of `replay` ask, where `--max` has this number
 abbrev pub replay_with : List Row → ℕ → Option AskedReplay
 replay_with rows max =
@@ -406,7 +432,10 @@ replay_with rows max =
     let script = value_or [] (codes "SCRIPT") rows in
     let anacrontab = first_of (codes "anacrontab") rows in
     let declarations = first_of (codes "declarations") rows in
+    let log = has_flag (codes "log") rows in
+    let show_script = has_flag (codes "script") rows in
     if are_dashes table script anacrontab declarations then None
+    else if is_script_alone show_script log then None
     else Some (record {
       table = table;
       script = script;
@@ -414,10 +443,12 @@ replay_with rows max =
       anacrontab = anacrontab;
       declarations = declarations;
       judge = has_flag (codes "judge") rows;
+      log = log;
+      show_script = show_script;
     })
 
--- what the entries of `replay` ask: `--max` has to be a number, by default a day's minutes, and
--- standard input is named once at most
+-- what the entries of `replay` ask: `--max` has to be a number, by default a day's minutes,
+-- `--script` is given beside `--log` alone, and standard input is named once at most
 abbrev pub replay_in : List Row → Option AskedReplay
 replay_in rows = option_and_then (λ max. replay_with rows max)
     (number_of (value_or (codes "1440") (codes "max") rows))
@@ -447,10 +478,15 @@ minutes_of (Some text) = option_map Some (number_of text)
 abbrev pub run_in : List Row → Option AskedRun
 run_in rows =
     let stamps = value_or [] (codes "STAMPS") rows in
-    let log = first_of (codes "log") rows in
-    option_and_then (λ minutes. option_map
-    (λ check. record { check = check; stamps = stamps; minutes = minutes; log = log })
-    (check_in rows)) (minutes_of (first_of (codes "minutes") rows))
+    option_and_then (λ minutes. option_map (λ check. record {
+      check = check;
+      stamps = stamps;
+      minutes = minutes;
+      log = first_of (codes "log") rows;
+      home = has_flag (codes "home") rows;
+      on_overrun = first_of (codes "on-overrun") rows;
+      on_failure = first_of (codes "on-failure") rows;
+    }) (check_in rows)) (minutes_of (first_of (codes "minutes") rows))
 
 -- what the entries of `stop` ask
 abbrev pub stop_in : List Row → AskedStop
@@ -458,6 +494,10 @@ stop_in rows = record {
   stamps = value_or [] (codes "STAMPS") rows;
   now = has_flag (codes "now") rows;
 }
+
+-- what the entries of `reload` ask
+abbrev pub reload_in : List Row → Text
+reload_in rows = value_or [] (codes "STAMPS") rows
 
 -- what the entries of `status` ask
 abbrev pub status_in : List Row → AskedStatus
@@ -609,9 +649,10 @@ chart_in rows = option_and_then (λ max. chart_up_to max rows)
 abbrev pub is_planned_name : Text → Bool
 is_planned_name name =
     bytes_eq name (codes "check") || (bytes_eq name (codes "run")
-    || (bytes_eq name (codes "stop") || (bytes_eq name (codes "status")
+    || (bytes_eq name (codes "stop") || (bytes_eq name (codes "reload")
+    || (bytes_eq name (codes "status")
     || (bytes_eq name (codes "judge") || (bytes_eq name (codes "make")
-    || (bytes_eq name (codes "advise") || bytes_eq name (codes "room")))))))
+    || (bytes_eq name (codes "advise") || bytes_eq name (codes "room"))))))))
 
 abbrev pub is_shown_name : Text → Bool
 is_shown_name name =
@@ -636,6 +677,7 @@ asked_by name rows =
     else if bytes_eq name (codes "check") then option_map Check (check_in rows)
     else if bytes_eq name (codes "run") then option_map Run (run_in rows)
     else if bytes_eq name (codes "stop") then Some (Stop (stop_in rows))
+    else if bytes_eq name (codes "reload") then Some (Reload (reload_in rows))
     else if bytes_eq name (codes "status") then Some (Status (status_in rows))
     else if bytes_eq name (codes "judge") then option_map Judge (judge_in rows)
     else if bytes_eq name (codes "make") then option_map Make (make_in rows)
@@ -667,7 +709,7 @@ abbrev pub AsksVersion : List Text → Type 0
 AsksVersion words = IsAmong DisplayVersion (fault_of cronsafe_app words)
 
 -- the words are no call: `clap` refuses them; or a number is none, standard input is named twice,
--- or help is asked of what is no subcommand
+-- a word is missing beside another one, or help is asked of what is no subcommand
 abbrev pub IsNoCall : List Text → Type 0
 IsNoCall words =
     ((fault : ErrorKind) × IsAmong fault (fault_of cronsafe_app words) × (fault ≢ DisplayHelp)

@@ -8,7 +8,7 @@ ghost use Rattle.cs_args.specs.Asked.{CheckAsked, DayAsked, DayAskedUpTo, FaultO
 ghost use Rattle.cs_args.specs.Asked.{AdviseAsked, JudgeAsked, MakeAsked, MaxAsked, MinutesAsked, RunAsked};
 ghost use Rattle.cs_args.specs.Asked.{asked_status, asked_stop};
 ghost use Rattle.cs_args.specs.Asked.{ChartAsked, DraftAsked, GatherAsked, LearnAsked, LintAsked};
-ghost use Rattle.cs_args.specs.CommandLine.{is_below_a_day, is_up_to_a_week, status_in, stop_in};
+ghost use Rattle.cs_args.specs.CommandLine.{is_below_a_day, is_up_to_a_week, reload_in, status_in, stop_in};
 
 use crate::commands::{Subcommand, command};
 use crate::request::{
@@ -219,6 +219,12 @@ fn replay_words<'a>(alloc: Global, given: &ArgMatches<'a>) -> Result<ReplayWords
     if are_dashes(table, script, anacrontab, declarations) {
         return Err(UsageFault::NoCall(twice_standard(alloc, Subcommand::Replay)?));
     }
+    let log = has_flag(given, "log");
+    let show_script = has_flag(given, "script");
+    if show_script && !log {
+        let message = "--script is given without --log";
+        return Err(UsageFault::NoCall(Subcommand::Replay.fault(alloc, message)?));
+    }
     Ok(ReplayWords {
         table,
         script,
@@ -226,6 +232,8 @@ fn replay_words<'a>(alloc: Global, given: &ArgMatches<'a>) -> Result<ReplayWords
         anacrontab,
         declarations,
         judge: has_flag(given, "judge"),
+        log,
+        show_script,
     })
 }
 
@@ -273,6 +281,9 @@ fn run_words<'a>(alloc: Global, given: &ArgMatches<'a>) -> Result<RunWords<'a>, 
         stamps: text_of(given, "STAMPS", ""),
         minutes,
         log: value_of(given, "log"),
+        home: has_flag(given, "home"),
+        on_overrun: value_of(given, "on-overrun"),
+        on_failure: value_of(given, "on-failure"),
     })
 }
 
@@ -284,6 +295,13 @@ fn stop_words<'a>(given: &ArgMatches<'a>) -> StopWords<'a>
         stamps: text_of(given, "STAMPS", ""),
         now: has_flag(given, "now"),
     }
+}
+
+/// What the entries of `reload` ask.
+fn reload_word<'a>(given: &ArgMatches<'a>) -> &'a str
+    ensures { result.now ≡ reload_in (rows_of (found_of given.now)) }
+{
+    text_of(given, "STAMPS", "")
 }
 
 /// What the entries of `status` ask.
@@ -625,6 +643,7 @@ fn asked_by<'a>(
         "check" => check_request(alloc, given),
         "run" => run_request(alloc, given),
         "stop" => Ok(Request::Stop(stop_words(given))),
+        "reload" => Ok(Request::Reload(reload_word(given))),
         "status" => Ok(Request::Status(status_words(given))),
         "judge" => judge_request(alloc, given),
         "make" => make_request(alloc, given),

@@ -3,8 +3,9 @@ ghost use Rattle.std.specs.Prelude.{◌≡◌, IfOk, false, is_some};
 ghost use Rattle.clap.specs.Words.{App, app_of, new_app, new_rule, rule_of, with_rule, with_subcommand};
 ghost use Rattle.cs_args.specs.CommandLine.{IsLocal, check_app, cronsafe_app, day_app, help_app, judge_and_check_app};
 ghost use Rattle.cs_args.specs.CommandLine.{advise_app, judge_app, make_app, plan_app, replay_app};
-ghost use Rattle.cs_args.specs.CommandLine.{room_app, run_app, status_app, stop_app, with_certificate};
-ghost use Rattle.cs_args.specs.CommandLine.{top_app, up_to_chart_app, up_to_gather_app, up_to_room_app};
+ghost use Rattle.cs_args.specs.CommandLine.{reload_app, room_app, run_app, status_app, stop_app};
+ghost use Rattle.cs_args.specs.CommandLine.{with_certificate, with_home_and_hooks};
+ghost use Rattle.cs_args.specs.CommandLine.{top_app, up_to_chart_app, up_to_room_app, up_to_status_app};
 ghost use Rattle.cs_args.specs.CommandLine.{chart_app, draft_app, explain_app, gather_app, lint_app};
 ghost use Rattle.cs_args.specs.CommandLine.{learn_app, many_rule, with_names};
 ghost use Rattle.cs_args.specs.CommandLine.{up_to_explain_app, up_to_lint_app};
@@ -17,12 +18,13 @@ use crate::texts::{
     DAEMON_STAMPS_HELP, DATE_HELP, DAY_ABOUT, DAY_EXAMPLE, DAYS_HELP, DECLARATIONS_HELP,
     DRAFT_ABOUT, DRAFT_EXAMPLE, DRAFT_MAX_HELP, EXAMPLE, EXCEPT_HELP, EXPLAIN_ABOUT,
     EXPLAIN_EXAMPLE, FACTOR_HELP, FAULTS_ONLY_HELP, FROM_HELP, GATHER_ABOUT, GATHER_EXAMPLE,
-    HELP_ABOUT, JUDGE_ABOUT, JUDGE_EXAMPLE, JUDGE_HELP, LEARN_ABOUT, LEARN_EXAMPLE, LINT_ABOUT,
-    LINT_EXAMPLE, LOG_HELP, MAKE_ABOUT, MAKE_EXAMPLE, MAX_HELP, MINUTES_HELP, NAME_HELP, NOW_HELP,
-    ONLY_HELP, REPLAY_ABOUT, REPLAY_EXAMPLE, REPLAY_MAX_HELP, ROOM_ABOUT, ROOM_EXAMPLE, ROOT_HELP,
-    RUN_ABOUT, RUN_EXAMPLE, RUN_LOG_HELP, SCRIPT_HELP, STAMPS_HELP, STATUS_ABOUT, STATUS_EXAMPLE,
-    STATUS_JSON_HELP, STOP_ABOUT, STOP_EXAMPLE, STORY_HELP, SYSTEM_HELP, TABLE_HELP, TO_HELP,
-    UPDATE_HELP, USER_HELP, WITHIN_HELP, ZONE_HELP,
+    HELP_ABOUT, HOME_HELP, JUDGE_ABOUT, JUDGE_EXAMPLE, JUDGE_HELP, LEARN_ABOUT, LEARN_EXAMPLE,
+    LINT_ABOUT, LINT_EXAMPLE, LOG_HELP, MAKE_ABOUT, MAKE_EXAMPLE, MAX_HELP, MINUTES_HELP,
+    NAME_HELP, NOW_HELP, ON_FAILURE_HELP, ON_OVERRUN_HELP, ONLY_HELP, RELOAD_ABOUT, RELOAD_EXAMPLE,
+    REPLAY_ABOUT, REPLAY_EXAMPLE, REPLAY_LOG_HELP, REPLAY_MAX_HELP, ROOM_ABOUT, ROOM_EXAMPLE,
+    ROOT_HELP, RUN_ABOUT, RUN_EXAMPLE, RUN_LOG_HELP, SCRIPT_HELP, SHOW_SCRIPT_HELP, STAMPS_HELP,
+    STATUS_ABOUT, STATUS_EXAMPLE, STATUS_JSON_HELP, STOP_ABOUT, STOP_EXAMPLE, STORY_HELP,
+    SYSTEM_HELP, TABLE_HELP, TO_HELP, UPDATE_HELP, USER_HELP, WITHIN_HELP, ZONE_HELP,
 };
 use crate::version::version_text;
 use clap::error::ErrorKind;
@@ -158,6 +160,20 @@ fn with_list<'a>(
     with_arg(command, list_arg(alloc, name, "FILE", help))
 }
 
+/// A command with one option more that has no value.
+fn with_flag<'a>(
+    alloc: Global,
+    command: Result<Command<'a>, AllocError>,
+    name: &'a str,
+    help: &'a str,
+) -> Result<Command<'a>, AllocError>
+    ensures app { (app : App) → IfOk command.entry (λ c. app_of c ≡ app)
+        → IfOk result (λ c. app_of c ≡ with_rule app (flag_rule name.now)) }
+    ensures local { IfOk command.entry IsLocal → IfOk result IsLocal }
+{
+    with_arg(command, flag_arg(alloc, name, help))
+}
+
 /// A command with `TABLE DATE`.
 fn with_words<'a>(
     alloc: Global,
@@ -211,7 +227,8 @@ fn with_terms<'a>(
     with_option(alloc, command, "declarations", "FILE", DECLARATIONS_HELP)
 }
 
-/// `replay TABLE SCRIPT [--max N] [--anacrontab FILE] [--declarations FILE] [--judge]`.
+/// `replay TABLE SCRIPT [--max N] [--anacrontab FILE] [--declarations FILE] [--judge] [--log]
+/// [--script]`.
 #[tactic(auto, unfolding(crate::specs::CommandLine::replay_app))]
 fn replay_command<'a>(alloc: Global) -> Result<Command<'a>, AllocError>
     ensures app { IfOk result (λ c. app_of c ≡ replay_app) }
@@ -221,7 +238,9 @@ fn replay_command<'a>(alloc: Global) -> Result<Command<'a>, AllocError>
     let command = with_required(alloc, command, "TABLE", TABLE_HELP);
     let command = with_required(alloc, command, "SCRIPT", SCRIPT_HELP);
     let command = with_terms(alloc, command);
-    with_arg(command, flag_arg(alloc, "judge", JUDGE_HELP))
+    let command = with_flag(alloc, command, "judge", JUDGE_HELP);
+    let command = with_flag(alloc, command, "log", REPLAY_LOG_HELP);
+    with_flag(alloc, command, "script", SHOW_SCRIPT_HELP)
 }
 
 /// A command with `TABLE DECLS CERT`.
@@ -249,7 +268,22 @@ fn check_command<'a>(alloc: Global) -> Result<Command<'a>, AllocError>
     with_option(alloc, command, "anacrontab", "FILE", ANACRONTAB_HELP)
 }
 
-/// `run TABLE DECLS CERT STAMPS [--anacrontab FILE] [--minutes N] [--log FILE]`.
+/// A command with `[--home] [--on-overrun COMMAND] [--on-failure COMMAND]`.
+fn with_home_and_hooks<'a>(
+    alloc: Global,
+    command: Result<Command<'a>, AllocError>,
+) -> Result<Command<'a>, AllocError>
+    ensures app { (app : App) → IfOk command.entry (λ c. app_of c ≡ app)
+        → IfOk result (λ c. app_of c ≡ with_home_and_hooks app) }
+    ensures local { IfOk command.entry IsLocal → IfOk result IsLocal }
+{
+    let command = with_flag(alloc, command, "home", HOME_HELP);
+    let command = with_option(alloc, command, "on-overrun", "COMMAND", ON_OVERRUN_HELP);
+    with_option(alloc, command, "on-failure", "COMMAND", ON_FAILURE_HELP)
+}
+
+/// `run TABLE DECLS CERT STAMPS [--anacrontab FILE] [--minutes N] [--log FILE] [--home]
+/// [--on-overrun COMMAND] [--on-failure COMMAND]`.
 #[tactic(auto, unfolding(crate::specs::CommandLine::run_app))]
 fn run_command<'a>(alloc: Global) -> Result<Command<'a>, AllocError>
     ensures app { IfOk result (λ c. app_of c ≡ run_app) }
@@ -260,7 +294,8 @@ fn run_command<'a>(alloc: Global) -> Result<Command<'a>, AllocError>
     let command = with_required(alloc, command, "STAMPS", STAMPS_HELP);
     let command = with_option(alloc, command, "anacrontab", "FILE", ANACRONTAB_HELP);
     let command = with_option(alloc, command, "minutes", "N", MINUTES_HELP);
-    with_option(alloc, command, "log", "FILE", RUN_LOG_HELP)
+    let command = with_option(alloc, command, "log", "FILE", RUN_LOG_HELP);
+    with_home_and_hooks(alloc, command)
 }
 
 /// `stop STAMPS [--now]`.
@@ -271,7 +306,17 @@ fn stop_command<'a>(alloc: Global) -> Result<Command<'a>, AllocError>
 {
     let command = described(alloc, "stop", STOP_ABOUT, STOP_EXAMPLE);
     let command = with_required(alloc, command, "STAMPS", DAEMON_STAMPS_HELP);
-    with_arg(command, flag_arg(alloc, "now", NOW_HELP))
+    with_flag(alloc, command, "now", NOW_HELP)
+}
+
+/// `reload STAMPS`.
+#[tactic(auto, unfolding(crate::specs::CommandLine::reload_app))]
+fn reload_command<'a>(alloc: Global) -> Result<Command<'a>, AllocError>
+    ensures app { IfOk result (λ c. app_of c ≡ reload_app) }
+    ensures local { IfOk result IsLocal }
+{
+    let command = described(alloc, "reload", RELOAD_ABOUT, RELOAD_EXAMPLE);
+    with_required(alloc, command, "STAMPS", DAEMON_STAMPS_HELP)
 }
 
 /// `status STAMPS [--json]`.
@@ -282,7 +327,7 @@ fn status_command<'a>(alloc: Global) -> Result<Command<'a>, AllocError>
 {
     let command = described(alloc, "status", STATUS_ABOUT, STATUS_EXAMPLE);
     let command = with_required(alloc, command, "STAMPS", DAEMON_STAMPS_HELP);
-    with_arg(command, flag_arg(alloc, "json", STATUS_JSON_HELP))
+    with_flag(alloc, command, "json", STATUS_JSON_HELP)
 }
 
 /// `NAME TABLE DECLS [--anacrontab FILE]`.
@@ -317,7 +362,7 @@ fn make_command<'a>(alloc: Global) -> Result<Command<'a>, AllocError>
     ensures local { IfOk result IsLocal }
 {
     let command = plan_command(alloc, "make", MAKE_ABOUT, MAKE_EXAMPLE);
-    with_arg(command, flag_arg(alloc, "compact", COMPACT_HELP))
+    with_flag(alloc, command, "compact", COMPACT_HELP)
 }
 
 /// `advise TABLE DECLS [--anacrontab FILE] [--within MINUTES]`.
@@ -388,7 +433,7 @@ fn with_names<'a>(
 {
     let command = with_arg(command, list_arg(alloc, "only", "NAME", ONLY_HELP));
     let command = with_arg(command, list_arg(alloc, "except", "NAME", EXCEPT_HELP));
-    with_arg(command, flag_arg(alloc, "faults-only", FAULTS_ONLY_HELP))
+    with_flag(alloc, command, "faults-only", FAULTS_ONLY_HELP)
 }
 
 /// `lint TABLE [DECLS] [--anacrontab FILE] [--zone FILE] [--only NAME].. [--except NAME]..
@@ -489,23 +534,24 @@ fn up_to_room<'a>(alloc: Global) -> Result<Command<'a>, AllocError>
     with_subcommand(cronsafe, room_command(alloc))
 }
 
-/// And with `run`, `stop`, `status` and `gather`.
-#[tactic(auto, unfolding(crate::specs::CommandLine::up_to_gather_app))]
-fn up_to_gather<'a>(alloc: Global) -> Result<Command<'a>, AllocError>
-    ensures { IfOk result (λ c. app_of c ≡ up_to_gather_app) }
+/// And with `run`, `stop`, `reload` and `status`.
+#[tactic(auto, unfolding(crate::specs::CommandLine::up_to_status_app))]
+fn up_to_status<'a>(alloc: Global) -> Result<Command<'a>, AllocError>
+    ensures { IfOk result (λ c. app_of c ≡ up_to_status_app) }
 {
     let cronsafe = with_subcommand(up_to_room(alloc), run_command(alloc));
     let cronsafe = with_subcommand(cronsafe, stop_command(alloc));
-    let cronsafe = with_subcommand(cronsafe, status_command(alloc));
-    with_subcommand(cronsafe, gather_command(alloc))
+    let cronsafe = with_subcommand(cronsafe, reload_command(alloc));
+    with_subcommand(cronsafe, status_command(alloc))
 }
 
-/// And with `draft`, `learn` and `lint`.
+/// And with `gather`, `draft`, `learn` and `lint`.
 #[tactic(auto, unfolding(crate::specs::CommandLine::up_to_lint_app))]
 fn up_to_lint<'a>(alloc: Global) -> Result<Command<'a>, AllocError>
     ensures { IfOk result (λ c. app_of c ≡ up_to_lint_app) }
 {
-    let cronsafe = with_subcommand(up_to_gather(alloc), draft_command(alloc));
+    let cronsafe = with_subcommand(up_to_status(alloc), gather_command(alloc));
+    let cronsafe = with_subcommand(cronsafe, draft_command(alloc));
     let cronsafe = with_subcommand(cronsafe, learn_command(alloc));
     with_subcommand(cronsafe, lint_command(alloc))
 }
@@ -552,6 +598,7 @@ pub(crate) enum Subcommand {
     Check,
     Run,
     Stop,
+    Reload,
     Status,
     Judge,
     Make,
@@ -567,7 +614,7 @@ pub(crate) enum Subcommand {
 }
 
 /// The subcommand of a name, if it takes declarations and wants a verdict, advice or a run, or ends
-/// a run or asks what it does.
+/// a run, renews it or asks what it does.
 fn planned_by(name: &str) -> Option<Subcommand>
     ensures { is_some result ≡ is_planned_name name.now }
 {
@@ -575,6 +622,7 @@ fn planned_by(name: &str) -> Option<Subcommand>
         "check" => Some(Subcommand::Check),
         "run" => Some(Subcommand::Run),
         "stop" => Some(Subcommand::Stop),
+        "reload" => Some(Subcommand::Reload),
         "status" => Some(Subcommand::Status),
         "judge" => Some(Subcommand::Judge),
         "make" => Some(Subcommand::Make),
@@ -620,6 +668,7 @@ impl Subcommand {
             Subcommand::Check => "cronsafe check",
             Subcommand::Run => "cronsafe run",
             Subcommand::Stop => "cronsafe stop",
+            Subcommand::Reload => "cronsafe reload",
             Subcommand::Status => "cronsafe status",
             Subcommand::Judge => "cronsafe judge",
             Subcommand::Make => "cronsafe make",
@@ -643,6 +692,7 @@ impl Subcommand {
             Subcommand::Check => check_command(alloc),
             Subcommand::Run => run_command(alloc),
             Subcommand::Stop => stop_command(alloc),
+            Subcommand::Reload => reload_command(alloc),
             Subcommand::Status => status_command(alloc),
             Subcommand::Judge => judge_command(alloc),
             Subcommand::Make => make_command(alloc),

@@ -26,7 +26,7 @@ pub struct DayWords<'a> {
 pub struct ReplayWords<'a> {
     /// The path of a crontab.
     pub table: &'a str,
-    /// The path of a script.
+    /// The path of a script, or of a log.
     pub script: &'a str,
     /// The longest time of each job, in minutes, where nothing is declared.
     pub max: u64,
@@ -36,6 +36,10 @@ pub struct ReplayWords<'a> {
     pub declarations: Option<&'a str>,
     /// Whether the answer says what the script breaks.
     pub judge: bool,
+    /// Whether the script is the one that a log of `run` tells.
+    pub log: bool,
+    /// Whether the script that the log tells is shown, and not replayed.
+    pub show_script: bool,
 }
 
 /// What `check` is asked.
@@ -63,6 +67,14 @@ pub struct RunWords<'a> {
     /// The path of a file to whose end the log goes, or `-` for standard output; standard output
     /// where there is none, and then without times.
     pub log: Option<&'a str>,
+    /// Whether commands run with HOME, LOGNAME and USER of the user that cronsafe runs as, in that
+    /// user's home folder.
+    pub home: bool,
+    /// The shell command that is started when a run passes its longest time.
+    pub on_overrun: Option<&'a str>,
+    /// The shell command that is started when a run ends with a status other than 0, or can't be
+    /// started.
+    pub on_failure: Option<&'a str>,
 }
 
 /// What `stop` is asked.
@@ -195,6 +207,8 @@ pub enum Request<'a> {
     Run(RunWords<'a>),
     /// The end of a daemon.
     Stop(StopWords<'a>),
+    /// That a daemon reads its files anew: the path of the folder of stamps that it uses.
+    Reload(&'a str),
     /// What a daemon does.
     Status(StatusWords<'a>),
     /// Whether a plan is safe, or a history that breaks it.

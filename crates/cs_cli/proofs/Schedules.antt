@@ -152,6 +152,9 @@ ordered_schedule files a before after order given certificate hold holds ordered
   stamps = ordered.stamps;
   minutes = ordered.minutes;
   log = ordered.log;
+  home = ordered.home;
+  on_overrun = ordered.on_overrun;
+  on_failure = ordered.on_failure;
 }
 
 pub ordered_checked : (files : List ℕ → Option (List ℕ)) (a : AskedRun) (before after : Failed) (order : Order)

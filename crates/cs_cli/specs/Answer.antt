@@ -1,5 +1,5 @@
--- What a call comes to: an answer that ends it, an order to run tables, or words to stop a daemon or
--- to tell what it does.
+-- What a call comes to: an answer that ends it, an order to run tables, or words to stop a daemon,
+-- to have it read its files anew or to tell what it does.
 use Rattle.std.specs.Prelude.{◌≡◌, ◌≢◌, ◌⊎◌, ℕ, Bool, true, false, List, [], ◌++◌, Option, codes, option_map, ⊤}
 use Rattle.cs_gather.specs.Gather.{is_gathered}
 use Rattle.cs_report.specs.Warning.{plan_notes}
@@ -13,7 +13,7 @@ use Rattle.cs_cli.specs.Check.{AnswersCheck, IsProofOf, safe_text}
 use Rattle.cs_cli.specs.Safe.{IsAcceptance}
 use Rattle.cs_files.specs.Response.{Ending, complaint, done}
 use Rattle.cs_cli.specs.declared.answer.Answer.{Answer}
-use Rattle.cs_cli.specs.declared.answer.Answer.TheVariants.{Ends, Runs, Stops, Tells}
+use Rattle.cs_cli.specs.declared.answer.Answer.TheVariants.{Ends, Reloads, Runs, Stops, Tells}
 use Rattle.cs_cli.specs.declared.answer.Order.{Order}
 
 -- it ends, and this holds of how
@@ -21,6 +21,7 @@ abbrev pub EndsAs : (Ending → Type 0) → Answer → Type 0
 EndsAs P (Ends ending) = P ending
 EndsAs P (Runs order) = ⊥
 EndsAs P (Stops words) = ⊥
+EndsAs P (Reloads stamps) = ⊥
 EndsAs P (Tells words) = ⊥
 
 -- where it ends, this holds of how
@@ -28,6 +29,7 @@ abbrev pub IfEnds : (Ending → Type 0) → Answer → Type 0
 IfEnds P (Ends ending) = P ending
 IfEnds P (Runs order) = ⊤
 IfEnds P (Stops words) = ⊤
+IfEnds P (Reloads stamps) = ⊤
 IfEnds P (Tells words) = ⊤
 
 -- the crontab of what was checked was gathered
@@ -36,7 +38,7 @@ is_of_gathered checked = is_gathered (plan_in checked).crontab.settings
 
 -- `check` would answer `safe` and the same warnings and notes, and what is to be run is the plan and
 -- the certificate that the files denote, of which every legal history in time is safe, with the
--- files, the stamps, the minutes and the log that were asked
+-- files, the stamps, the minutes, the log, the home folder and the commands that were asked
 pub record IsOrder (a : AskedRun) (files : List ℕ → Option (List ℕ)) (before failed : Failed)
     (order : Order) : Type 0 where
   pub safe : AnswersCheck a.check files before failed (done safe_text order.warnings)
@@ -47,6 +49,9 @@ pub record IsOrder (a : AskedRun) (files : List ℕ → Option (List ℕ)) (befo
   pub stamps : order.stamps.now ≡ a.stamps
   pub minutes : order.minutes ≡ a.minutes
   pub log : option_map (λ path. path.now) order.log ≡ a.log
+  pub home : order.home ≡ a.home
+  pub on_overrun : option_map (λ command. command.now) order.on_overrun ≡ a.on_overrun
+  pub on_failure : option_map (λ command. command.now) order.on_failure ≡ a.on_failure
 
 -- the fault of a crontab that was gathered: `run` starts each command as its own user
 abbrev pub gathered_fault : List ℕ
@@ -72,4 +77,5 @@ AnswersRun a files before failed (Ends ending) =
     ⊎ IsOfOthers a files before failed ending
 AnswersRun a files before failed (Runs order) = IsOrder a files before failed order
 AnswersRun a files before failed (Stops words) = ⊥
+AnswersRun a files before failed (Reloads stamps) = ⊥
 AnswersRun a files before failed (Tells words) = ⊥

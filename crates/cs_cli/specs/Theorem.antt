@@ -91,7 +91,7 @@ pub record IsCalmSchedule (given : Given) (certificate : List ℕ) : Type 0 wher
   pub calm : IsCalmPlan schedule.plan schedule.content
 
 -- an order to run is of such a plan and certificate, of a crontab that wasn't gathered, with the
--- folder, the minutes and the log that were asked
+-- folder, the minutes, the log, the home folder and the commands that were asked
 pub record IsOrdered (given : Given) (certificate : List ℕ) (a : AskedRun) (order : Order) : Type 0
   where
     pub schedule : IsSafeSchedule given certificate
@@ -101,6 +101,9 @@ pub record IsOrdered (given : Given) (certificate : List ℕ) (a : AskedRun) (or
     pub stamps : order.stamps.now ≡ a.stamps
     pub minutes : order.minutes ≡ a.minutes
     pub log : option_map (λ path. path.now) order.log ≡ a.log
+    pub home : order.home ≡ a.home
+    pub on_overrun : option_map (λ command. command.now) order.on_overrun ≡ a.on_overrun
+    pub on_failure : option_map (λ command. command.now) order.on_failure ≡ a.on_failure
 
 -- the crontab of such a plan was gathered, which is told on standard error alone
 pub record IsGatheredSchedule (given : Given) (certificate : List ℕ) (ending : Ending) : Type 0

@@ -17,6 +17,8 @@ pub enum Answer<'a> {
     Runs(Order<'a>),
     /// A daemon is to be stopped so.
     Stops(StopWords<'a>),
+    /// A daemon is to read its files anew: the path of the folder of stamps that it uses.
+    Reloads(&'a str),
     /// It is to be told what a daemon does.
     Tells(StatusWords<'a>),
 }
@@ -37,6 +39,14 @@ pub struct Order<'a> {
     /// The path of a file to whose end the log goes, or `-` for standard output; standard output
     /// where there is none, and then without times.
     pub log: Option<&'a str>,
+    /// Whether commands run with HOME, LOGNAME and USER of the user that cronsafe runs as, in that
+    /// user's home folder.
+    pub home: bool,
+    /// The shell command that is started when a run passes its longest time.
+    pub on_overrun: Option<&'a str>,
+    /// The shell command that is started when a run ends with a status other than 0, or can't be
+    /// started.
+    pub on_failure: Option<&'a str>,
 }
 
 impl Order<'_> {

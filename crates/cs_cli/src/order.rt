@@ -33,9 +33,9 @@ fn refuse_gathered(alloc: Global, warnings: Bytes) -> Result<Response, RanOut>
     }
 }
 
-/// Answers `run TABLE DECLS CERT STAMPS [--anacrontab FILE] [--minutes N] [--log FILE]`: like `check`
-/// where that doesn't answer `safe`, else with what to run, but with a fault where the crontab was
-/// gathered.
+/// Answers `run TABLE DECLS CERT STAMPS [--anacrontab FILE] [--minutes N] [--log FILE] [--home]
+/// [--on-overrun COMMAND] [--on-failure COMMAND]`: like `check` where that doesn't answer `safe`,
+/// else with what to run, but with a fault where the crontab was gathered.
 /// The only error is want of memory.
 pub fn answer_run<'a, R: Threads + Sync, I: Inputs>(
     rt: &R,
@@ -68,6 +68,9 @@ pub fn answer_run<'a, R: Threads + Sync, I: Inputs>(
                 stamps: request.stamps,
                 minutes: request.minutes,
                 log: request.log,
+                home: request.home,
+                on_overrun: request.on_overrun,
+                on_failure: request.on_failure,
             }))
         }
         Examined::Ended(answer) => Ok(Answer::Ends(answer)),

@@ -6,7 +6,8 @@ use Rattle.cs_anacrontab.specs.Anacrontab.{Table as JobTable}
 use Rattle.cs_report.specs.Warning.{warnings as warnings_text}
 use Rattle.cs_io.specs.Files.{AreReadInTurn, Failed, Reads}
 use Rattle.cs_args.specs.CommandLine.{Asking, Asks, Chart, Check, Day, Draft, Explain, Gather, Help}
-use Rattle.cs_args.specs.CommandLine.{Advise, Judge, Learn, Lint, Make, Replay, Room, Run, Status, Stop}
+use Rattle.cs_args.specs.CommandLine.{Advise, Judge, Learn, Lint, Make, Reload, Replay, Room, Run}
+use Rattle.cs_args.specs.CommandLine.{Status, Stop}
 use Rattle.cs_files.specs.Reads.{ReadsTables}
 use Rattle.cs_files.specs.Turn.{lint_paths, table_paths}
 
@@ -37,6 +38,7 @@ IsWarnedOf (Replay a) files = IsWarned files a.table a.anacrontab
 IsWarnedOf (Check a) files = IsWarned files a.table a.anacrontab
 IsWarnedOf (Run a) files = IsWarned files a.check.table a.check.anacrontab
 IsWarnedOf (Stop a) files = λ before. IsUnwarned []
+IsWarnedOf (Reload stamps) files = λ before. IsUnwarned []
 IsWarnedOf (Status a) files = λ before. IsUnwarned []
 IsWarnedOf (Judge a) files = IsWarned files a.table a.anacrontab
 IsWarnedOf (Make a) files = IsWarned files a.judge.table a.judge.anacrontab

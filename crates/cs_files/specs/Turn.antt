@@ -3,7 +3,8 @@ use Rattle.std.specs.Prelude.{◌≡◌, ◌⊎◌, ◌++◌, List, [], ◌∷�
 use Rattle.clap.specs.Words.{Text}
 use Rattle.cs_io.specs.Files.{AreReadInTurn, Reads}
 use Rattle.cs_args.specs.CommandLine.{Asking, Asks, Chart, Check, Day, Draft, Explain, Gather, Help}
-use Rattle.cs_args.specs.CommandLine.{Advise, Judge, Learn, Lint, Make, Replay, Room, Run, Status, Stop}
+use Rattle.cs_args.specs.CommandLine.{Advise, Judge, Learn, Lint, Make, Reload, Replay, Room, Run}
+use Rattle.cs_args.specs.CommandLine.{Status, Stop}
 use Rattle.cs_args.specs.CommandLine.{AskedChart, AskedCheck, AskedDraft, AskedGather, AskedJudge}
 use Rattle.cs_args.specs.CommandLine.{AskedLearn, AskedLint, AskedReplay}
 
@@ -55,6 +56,7 @@ ReadsAsked (Replay a) = AreReadInTurn (replay_paths a)
 ReadsAsked (Check a) = AreReadInTurn (check_paths a)
 ReadsAsked (Run a) = AreReadInTurn (check_paths a.check)
 ReadsAsked (Stop a) = AreReadInTurn []
+ReadsAsked (Reload stamps) = AreReadInTurn []
 ReadsAsked (Status a) = AreReadInTurn []
 ReadsAsked (Judge a) = AreReadInTurn (judge_paths a)
 ReadsAsked (Make a) = AreReadInTurn (judge_paths a.judge)

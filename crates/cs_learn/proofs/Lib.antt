@@ -1,4 +1,3 @@
-pub mod Decimals
 pub mod Nearest
 pub mod EvidenceLemmas
 pub mod Parts

@@ -21,7 +21,7 @@ use Rattle.cs_learn.specs.declared.evidence.Ran.{Ran}
 use Rattle.cs_learn.specs.declared.job.Job.{Job}
 use Rattle.cs_learn.specs.declared.job_evidence.JobEvidence.{JobEvidence}
 use Rattle.cs_learn.specs.declared.log_line.LogLine.{LogLine}
-use Rattle.cs_learn.specs.declared.moment.Moment.{Moment}
+use Rattle.cs_retrace.specs.declared.moment.Moment.{Moment}
 use Rattle.cs_learn.specs.declared.open_run.Ending.{Ending}
 use Rattle.cs_learn.specs.declared.open_run.Ending.TheVariants as ending
 

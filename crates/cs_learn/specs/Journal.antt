@@ -4,9 +4,9 @@ use Rattle.serde_json.specs.Data.{Data}
 use Rattle.serde_json.specs.Find.{get, as_str}
 use Rattle.cs_table.specs.SettingReading.{◌>>=◌}
 use Rattle.cs_json.specs.Bytes.{json_of}
-use Rattle.cs_learn.specs.Words.{number_of, or_else}
+use Rattle.cs_retrace.specs.Words.{number_of, or_else}
 use Rattle.cs_learn.specs.Told.{is_cron, message_in}
-use Rattle.cs_learn.specs.declared.moment.Moment.TheVariants.{Universal}
+use Rattle.cs_retrace.specs.declared.moment.Moment.TheVariants.{Universal}
 use Rattle.cs_learn.specs.declared.log_line.LogLine.{LogLine}
 
 -- a member that is a text

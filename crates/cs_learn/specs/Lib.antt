@@ -1,5 +1,3 @@
-pub mod Words
-pub mod Moment
 pub mod Told
 pub mod Own
 pub mod Journal

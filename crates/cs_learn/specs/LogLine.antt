@@ -1,14 +1,14 @@
 -- What a line of a log says of a run, in the four forms that are known.
 use Rattle.std.specs.Prelude.{ℕ, Bool, false, ◌==◌, nat_lt, if◌then◌else◌, List, [], ◌∷◌, length, drop, slice_range, slice_index, Option, Some, None}
 use Rattle.cs_table.specs.Text.{is_digit}
-use Rattle.cs_table.specs.SettingReading.{◌>>=◌, quoted_at}
-use Rattle.cs_learn.specs.Moment.{moment_of_year, universal}
+use Rattle.cs_table.specs.SettingReading.{◌>>=◌}
+use Rattle.cs_retrace.specs.Moment.{moment_of_year, time_and_rest}
 use Rattle.cs_learn.specs.Told.{told_in}
 use Rattle.cs_learn.specs.Own.{own_parts, of_own}
 use Rattle.cs_learn.specs.Journal.{journal_in}
 use Rattle.cs_learn.specs.declared.log_line.Sign.{Sign}
 use Rattle.cs_learn.specs.declared.log_line.RunName.{RunName}
-use Rattle.cs_learn.specs.declared.moment.Moment.{Moment}
+use Rattle.cs_retrace.specs.declared.moment.Moment.{Moment}
 use Rattle.cs_learn.specs.declared.log_line.LogLine.{LogLine}
 
 -- syslog: `Nov  7 10:17:01 host CRON[1234]: (root) CMD (command)`
@@ -21,12 +21,6 @@ syslog_in text = if nat_lt (length text) 16 then None else (do
 abbrev pub behind_time : Moment → List ℕ → Option (Sign × RunName) → Option LogLine
 behind_time at text None = told_in at text
 behind_time at text (Some parts) = Some (of_own at parts)
-
-unfoldable pub time_and_rest : List ℕ → Option (Moment × List ℕ)
-time_and_rest text = do
-  parts ← quoted_at 32 text
-  at ← universal parts.0
-  Some (at, parts.1)
 
 unfoldable pub timed_in : List ℕ → Option LogLine
 timed_in text = do

@@ -1,7 +1,7 @@
 -- The max that evidence gives: the longest run times a factor, in whole minutes.
 use Rattle.std.specs.Prelude.{ℕ, ◌+◌, ◌*◌, ◌≤◌, ◌&&◌, ◌==◌, nat_le, if◌then◌else◌, List, length, Option, Some, None}
 use Rattle.cs_table.specs.SettingReading.{◌>>=◌, quoted_at}
-use Rattle.cs_learn.specs.Words.{number_of, if_so}
+use Rattle.cs_retrace.specs.Words.{number_of, if_so}
 
 -- the digits behind the point, in hundredths: one or two
 unfoldable pub hundredths_in : List ℕ → Option ℕ

@@ -1,39 +1,20 @@
 -- What this program's own log tells of a run of a crontab's line, behind the time.
-use Rattle.std.specs.Prelude.{ℕ, ◌+◌, ◌*◌, not, ◌&&◌, ◌==◌, nat_lt, if◌then◌else◌, List, [], codes, length, take, drop, slice_range, slice_index, Option, Some, None}
+use Rattle.std.specs.Prelude.{ℕ, List, [], codes, Option, Some, None}
 use Rattle.cs_table.specs.Text.{is_nothing}
-use Rattle.cs_table.specs.SettingReading.{◌>>=◌, quoted_at}
-use Rattle.cs_learn.specs.Words.{behind, number_of, or_else, if_so}
-use Rattle.cs_learn.specs.Moment.{date_in}
-use Rattle.cs_learn.specs.declared.moment.Moment.{Moment}
+use Rattle.cs_table.specs.SettingReading.{◌>>=◌}
+use Rattle.cs_retrace.specs.Words.{behind, or_else, if_so}
+use Rattle.cs_retrace.specs.Run.{numbered_in}
+use Rattle.cs_retrace.specs.declared.moment.Moment.{Moment}
 use Rattle.cs_learn.specs.declared.log_line.Sign.{Sign}
 use Rattle.cs_learn.specs.declared.log_line.Sign.TheVariants.{Begin, End}
 use Rattle.cs_learn.specs.declared.log_line.RunName.{RunName}
 use Rattle.cs_learn.specs.declared.log_line.LogLine.{LogLine}
 
--- `2024-09-13 23:30`, in minutes since 1970-01-01 00:00
-unfoldable pub minute_in : List ℕ → Option ℕ
-minute_in text = if not (length text == 16) then None else (do
-  days ← date_in (slice_range text 0 10)
-  hour ← number_of (slice_range text 11 13)
-  minute ← number_of (slice_range text 14 16)
-  if_so ((slice_index text 10 == 32) && (slice_index text 13 == 58)
-      && nat_lt hour 24 && nat_lt minute 60)
-      (days * 1_440 + hour * 60 + minute))
-
--- a minute, and what follows it
-unfoldable pub due_in : List ℕ → Option (ℕ × List ℕ)
-due_in text = if nat_lt (length text) 16 then None else (do
-  minute ← minute_in (take 16 text)
-  Some (minute, drop 16 text))
-
 -- `1 due 2024-09-13 23:30`: the name, and what follows it
 unfoldable pub name_in : List ℕ → Option (RunName × List ℕ)
 name_in text = do
-  word ← quoted_at 32 text
-  line ← number_of word.0
-  later ← behind (codes "due ") word.1
-  due ← due_in later
-  Some (record { number = line; due = Some due.0 }, due.1)
+  run ← numbered_in text
+  Some (record { number = run.0; due = Some run.2 }, run.3)
 
 -- A run has started where nothing follows its name.
 unfoldable pub started_in : List ℕ → Option RunName

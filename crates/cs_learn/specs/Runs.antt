@@ -3,8 +3,8 @@ use Rattle.std.specs.Prelude.{ℕ, zero, suc, ◌+◌, ◌-◌, ◌^◌, min, Bo
 use Rattle.std.specs.Map.{lookup, remove_entry}
 use Rattle.std.specs.Option.{option_eq}
 use Rattle.indexmap.specs.IndexMap.{insert_entry}
-use Rattle.cs_learn.specs.declared.moment.Moment.{Moment}
-use Rattle.cs_learn.specs.declared.moment.Moment.TheVariants.{OfYear, Universal}
+use Rattle.cs_retrace.specs.declared.moment.Moment.{Moment}
+use Rattle.cs_retrace.specs.declared.moment.Moment.TheVariants.{OfYear, Universal}
 use Rattle.cs_learn.specs.declared.log_line.Sign.{Sign}
 use Rattle.cs_learn.specs.declared.log_line.Sign.TheVariants.{Begin, End, EndByParent}
 use Rattle.cs_learn.specs.declared.log_line.RunName.{RunName}

@@ -1,8 +1,8 @@
 -- What cron tells of a run: `host CRON[1234]: (root) CMD (command)`.
 use Rattle.std.specs.Prelude.{ℕ, Bool, ◌||◌, if◌then◌else◌, List, codes, bytes_eq, Option, Some, None}
 use Rattle.cs_table.specs.SettingReading.{◌>>=◌, quoted_at}
-use Rattle.cs_learn.specs.Words.{behind, before_last, number_of}
-use Rattle.cs_learn.specs.declared.moment.Moment.{Moment}
+use Rattle.cs_retrace.specs.Words.{behind, before_last, number_of}
+use Rattle.cs_retrace.specs.declared.moment.Moment.{Moment}
 use Rattle.cs_learn.specs.declared.log_line.Sign.{Sign}
 use Rattle.cs_learn.specs.declared.log_line.Sign.TheVariants.{Begin, End, EndByParent}
 use Rattle.cs_learn.specs.declared.log_line.RunName.{RunName}

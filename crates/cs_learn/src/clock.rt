@@ -1,6 +1,6 @@
 //! When a run began, as a text.
-use crate::moment::Moment;
 use cs_civil::{Day, Gregorian, day_text};
+use cs_retrace::Moment;
 use std::alloc::{AllocError, Global};
 
 const DAY: u64 = 86_400;

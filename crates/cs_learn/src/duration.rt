@@ -2,7 +2,7 @@
 ghost use Rattle.std.specs.Prelude.{◌≡◌};
 ghost use Rattle.cs_learn.specs.Runs.{passed, passed_of_year};
 
-use crate::moment::Moment;
+use cs_retrace::Moment;
 
 /// 1 February, 1 March and 1 December 2000, 00:00, in seconds since 1970.
 const FEBRUARY: u64 = 949_363_200;

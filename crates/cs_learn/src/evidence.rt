@@ -3,7 +3,7 @@ ghost use Rattle.std.specs.Prelude.{◌≡◌, ◌<◌, ◌≤◌, ◌+◌, ◌-
 ghost use Rattle.cs_learn.specs.Evidence.{longer, place_of, IsMedian, IsOf};
 
 use crate::limits::FEW_RUNS;
-use crate::moment::Moment;
+use cs_retrace::Moment;
 use std::alloc::{AllocError, Global};
 use std::marker::Model;
 

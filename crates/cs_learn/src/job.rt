@@ -4,8 +4,8 @@ ghost use Rattle.cs_learn.specs.Job.{is_called, is_like, is_of, job_of, may_be, 
 
 use crate::log_line::LogLine;
 use crate::logged_text::logged;
-use crate::words::is_word;
 use cs_civil::Bytes;
+use cs_retrace::words::is_word;
 use std::alloc::{AllocError, Global};
 
 /// A job of a crontab, as logs name it.

@@ -4,10 +4,10 @@ ghost use Rattle.serde_json.specs.View.{view};
 ghost use Rattle.cs_learn.specs.Journal.{text_at, either_text, seconds_in, is_of_cron, entry_in, journal_in};
 
 use crate::log_line::LogLine;
-use crate::moment::Moment;
 use crate::told::{is_cron, message};
-use crate::words::{is_word, number};
 use cs_json::{Misread, parse};
+use cs_retrace::Moment;
+use cs_retrace::words::{is_word, number};
 use serde_json::Value;
 use std::alloc::{AllocError, Global};
 

@@ -1,17 +1,16 @@
 //! What a line of a log says of a run.
-ghost use Rattle.std.specs.Prelude.{◌≡◌, ◌==◌, IfOk, option_map};
+ghost use Rattle.std.specs.Prelude.{◌≡◌, ◌==◌, IfOk};
 ghost use Rattle.cs_table.specs.Text.{is_digit};
 ghost use Rattle.cs_learn.specs.Own.{of_own, own_parts};
-ghost use Rattle.cs_learn.specs.LogLine.{log_line, syslog_in, timed_in, time_and_rest, behind_time, begins};
+ghost use Rattle.cs_learn.specs.LogLine.{log_line, syslog_in, timed_in, behind_time, begins};
 
 use crate::journal::journal;
 use crate::log_line::{LogLine, RunName, Sign};
-use crate::moment::Moment;
 use crate::own::own_parts;
-use crate::stamp::{moment_of_year, universal};
 use crate::told::told;
-use crate::words::split;
 use cs_civil::Bytes;
+use cs_retrace::Moment;
+use cs_retrace::stamp::{moment_of_year, time_and_rest};
 use std::alloc::{AllocError, Global};
 
 /// A line of syslog, whose time doesn't tell the year.
@@ -51,14 +50,6 @@ fn behind_time(alloc: Global, at: Moment, text: &[u8]) -> Result<Option<LogLine>
         Some(parts) => Ok(Some(of_own(alloc, at, parts))),
         None => told(alloc, at, text),
     }
-}
-
-#[tactic(auto, unfolding(crate::specs::LogLine::time_and_rest))]
-fn time_and_rest(text: &[u8]) -> Option<(Moment, &[u8])>
-    ensures { option_map (λ p. (p.0, p.1.now)) result ≡ time_and_rest text.now }
-{
-    let (stamp, rest) = split(b' ', text)?;
-    Some((universal(stamp)?, rest))
 }
 
 /// A line behind an RFC 3339 time.

@@ -1,5 +1,5 @@
-use crate::moment::Moment;
 use cs_civil::Bytes;
+use cs_retrace::Moment;
 
 /// Whether a run begins or ends.
 #[derive(Clone, Copy, Debug, PartialEq, Eq)]

@@ -3,7 +3,7 @@ ghost use Rattle.std.specs.Prelude.{◌≡◌, ◌<◌, ◌≤◌, ℕ, IfSome, 
 ghost use Rattle.cs_table.specs.SettingReading.{quoted_at};
 ghost use Rattle.cs_learn.specs.Max.{factor_in, in_hundredths, hundredths_in, IsMax, IsEnough};
 
-use crate::words::{number, split};
+use cs_retrace::words::{number, split};
 use std::marker::Model;
 
 /// The longest max of a declaration, in minutes.

@@ -1,6 +1,6 @@
 use crate::log_line::LogLine;
-use crate::moment::Moment;
 use cs_civil::Bytes;
+use cs_retrace::Moment;
 
 /// A run that has begun.
 #[derive(Debug, Drop)]

@@ -6,8 +6,8 @@ ghost use Rattle.cs_learn.specs.Runs.{begun, ended, is_same_job, nearest, next_n
 use crate::duration::passed;
 use crate::limits::MAX_OPEN;
 use crate::log_line::{LogLine, RunName, Sign};
-use crate::moment::Moment;
 use crate::open_run::{Ending, OpenRun};
+use cs_retrace::Moment;
 use indexmap::IndexMap;
 use std::alloc::{AllocError, Global};
 use std::marker::Model;

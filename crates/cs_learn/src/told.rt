@@ -3,9 +3,9 @@ ghost use Rattle.std.specs.Prelude.{◌≡◌, IfOk, option_map};
 ghost use Rattle.cs_learn.specs.Told.{sign_in, numbered, process, of_cron, own_sign, message_parts, message_in, is_cron, tagged, told_in};
 
 use crate::log_line::{LogLine, RunName, Sign};
-use crate::moment::Moment;
-use crate::words::{before_last, behind, is_word, number, split};
 use cs_civil::Bytes;
+use cs_retrace::Moment;
+use cs_retrace::words::{before_last, behind, is_word, number, split};
 use std::alloc::{AllocError, Global};
 
 #[tactic(auto, unfolding(crate::specs::Told::sign_in))]

@@ -1,3 +1,5 @@
+pub mod Ends
+pub mod Hooks
 pub mod Moments
 pub mod Names
 pub mod Parts

@@ -4,7 +4,7 @@ use Rattle.std.specs.Prelude.{codes}
 use Rattle.std.specs.List.{list_any}
 use Rattle.std.proofs.lemmas.List.{append_cancel_left, reverse-append}
 use Rattle.std.proofs.lemmas.List.Folds.{list_any-append}
-use Rattle.cs_machine.specs.Files.{IsFileName, is_kept_out, file_of, new_file_of, stop_file_of}
+use Rattle.cs_machine.specs.Files.{IsFileName, is_kept_out, file_of, new_file_of, reload_file_of, stop_file_of}
 
 pub own_file : (folder a b : List ℕ) → file_of folder a ≡ file_of folder b → a ≡ b
 own_file folder a b same = append_cancel_left (folder ++ codes "/") a b same
@@ -20,20 +20,36 @@ new_file_apart folder a b name same =
     let bad : list_any is_kept_out b ≡ true = sym (ap (list_any is_kept_out) named) ∙ list_any-append is_kept_out a (codes " new") ∙ ends_badly (list_any is_kept_out a) in
     absurd (true≢false (sym bad ∙ name.clean))
 
+-- a name with a byte that names don't have
+kept_out_apart : (folder name a : List ℕ) → list_any is_kept_out name ≡ true → IsFileName a → file_of folder name ≢ file_of folder a
+kept_out_apart folder name a bad clean same =
+    let named : name ≡ a = own_file folder name a same in
+    absurd (true≢false (sym bad ∙ ap (list_any is_kept_out) named ∙ clean.clean))
+
 pub stop_file_apart : (folder a : List ℕ) → IsFileName a → stop_file_of folder ≢ file_of folder a
-stop_file_apart folder a name same =
-    let named : codes "cronsafe stop" ≡ a = own_file folder (codes "cronsafe stop") a same in
-    let bad : list_any is_kept_out a ≡ true = sym (ap (list_any is_kept_out) named) in
-    absurd (true≢false (sym bad ∙ name.clean))
+stop_file_apart folder a name same = kept_out_apart folder (codes "cronsafe stop") a refl name same
+
+pub reload_file_apart : (folder a : List ℕ) → IsFileName a → reload_file_of folder ≢ file_of folder a
+reload_file_apart folder a name same = kept_out_apart folder (codes "cronsafe reload") a refl name same
 
 -- the first of a list, 0 where there is none
 abbrev first : List ℕ → ℕ
 first [] = 0
 first (x ∷ xs) = x
 
+-- a text that ends like " new" ends with 119
+last_of_new : (folder name a : List ℕ) → file_of folder name ≡ new_file_of folder a → first (reverse name) ≡ 119
+last_of_new folder name a same =
+    let named : name ≡ a ++ codes " new" = own_file folder name (a ++ codes " new") (same ∙ append_assoc (folder ++ codes "/") a (codes " new")) in
+    ap (λ xs. first (reverse xs)) named ∙ ap first (reverse-append a (codes " new"))
+
 -- the texts end with different letters
 pub stop_file_not_new : (folder a : List ℕ) → stop_file_of folder ≢ new_file_of folder a
 stop_file_not_new folder a same =
-    let named : codes "cronsafe stop" ≡ a ++ codes " new" = own_file folder (codes "cronsafe stop") (a ++ codes " new") (same ∙ append_assoc (folder ++ codes "/") a (codes " new")) in
-    let last : 112 ≡ 119 = ap (λ xs. first (reverse xs)) named ∙ ap first (reverse-append a (codes " new")) in
+    let last : 112 ≡ 119 = last_of_new folder (codes "cronsafe stop") a same in
+    absurd (omega (arith, last))
+
+pub reload_file_not_new : (folder a : List ℕ) → reload_file_of folder ≢ new_file_of folder a
+reload_file_not_new folder a same =
+    let last : 100 ≡ 119 = last_of_new folder (codes "cronsafe reload") a same in
     absurd (omega (arith, last))

@@ -25,6 +25,14 @@ new_file_of folder identifier = file_of folder identifier ++ codes " new"
 abbrev pub state_file_of : List ℕ → List ℕ
 state_file_of folder = file_of folder (codes "cronsafe state")
 
+-- the file of a daemon's answer to a request
+abbrev pub answer_file_of : List ℕ → List ℕ
+answer_file_of folder = file_of folder (codes "cronsafe answer")
+
 -- the file by which a daemon is asked to end
 abbrev pub stop_file_of : List ℕ → List ℕ
 stop_file_of folder = file_of folder (codes "cronsafe stop")
+
+-- the file by which a daemon is asked to read its tables again
+abbrev pub reload_file_of : List ℕ → List ℕ
+reload_file_of folder = file_of folder (codes "cronsafe reload")

@@ -1,7 +1,13 @@
 pub mod Files
+pub mod HookCall
+pub mod Home
+pub mod Hook
 pub mod Passing
+pub mod Report
 pub mod RunLog
+pub mod Setup
 pub mod Shell
+pub mod StartText
 pub mod Starts
 pub mod State
 pub mod StateText

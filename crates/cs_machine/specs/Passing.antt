@@ -1,6 +1,7 @@
--- What a clock tells where the machine's shows a minute, and when one that was given a number of
--- minutes stops.
-use Rattle.std.specs.Prelude.{◌≡◌, ℕ, ◌-◌, Bool, false, nat_le, nat_lt, if◌then◌else◌, Option, Some, None}
+-- What a clock tells where the machine's shows a minute, when one that was given a number of minutes
+-- stops, and a minute at another offset.
+use Rattle.std.specs.Prelude.{◌≡◌, ◌↔◌, ◌≤◌, ℕ, ◌-◌, ℤ, pos, ◌+ℤ◌, Bool, false, nat_le, nat_lt, if◌then◌else◌, Option, Some, None}
+use Rattle.cs_civil.specs.Calendar.{first_minute, last_minute}
 use Rattle.cs_device.specs.declared.clock.Tick.{Tick}
 use Rattle.cs_device.specs.declared.clock.Tick.TheVariants.{At, Stop}
 use Rattle.cs_machine.specs.declared.attendant.ClockBack.{ClockBack}
@@ -37,3 +38,15 @@ is_over None first minute = false
 -- what a clock shows at a minute, by its limit and its first minute
 abbrev pub shown : Option ℕ → Option ℕ → ℕ → Tick
 shown limit first minute = if is_over limit first minute then Stop else At minute
+
+-- two minutes, each with its offset from UTC, are the same instant
+abbrev pub IsSameInstant : ℤ → ℕ → ℤ → ℕ → Type 0
+IsSameInstant offset minute other_offset other =
+    pos minute +ℤ other_offset ≡ pos other +ℤ offset
+
+-- A minute of one offset, as a clock of the other shows that instant, if that is a civil minute.
+abbrev pub IsMoved : ℤ → Option ℕ → ℤ → Option ℕ → Type 0
+IsMoved offset None other_offset moved = moved ≡ None
+IsMoved offset (Some minute) other_offset moved =
+    (n : ℕ) → first_minute ≤ n → n ≤ last_minute
+    → (moved ≡ Some n) ↔ IsSameInstant offset minute other_offset n

@@ -1,8 +1,13 @@
 -- The lines of a daemon's log, with times.
-use Rattle.std.specs.Prelude.{ℕ, ◌/◌, ◌%◌, nat_le, if◌then◌else◌, List, [], ◌∷◌, ◌++◌, flat_map, codes, decimal, Option, Some, None}
+use Rattle.std.specs.Prelude.{◌≡◌, ◌≢◌, ◌⊎◌, ℕ, true, ◌/◌, ◌%◌, nat_le, if◌then◌else◌, List, [], ◌∷◌, ◌++◌, flat_map, codes, decimal, Option, Some, None}
 use Rattle.cs_civil.specs.Calendar.{last_day}
 use Rattle.cs_civil.specs.Text.{day_text, two_digits}
 use Rattle.cs_gather.specs.Gathered.{shown}
+use Rattle.cs_machine.specs.Setup.{peers_of}
+use Rattle.cs_machine.specs.declared.hook_call.HookCall.{HookCall as TheCall}
+use Rattle.cs_machine.specs.declared.setup.JobNote.{JobNote}
+use Rattle.cs_machine.specs.declared.setup.Setup.{Setup}
+use Rattle.cs_machine.specs.HookCall.{Keeps}
 
 -- `2024-09-13T23:30:01Z`, of a moment in seconds since 1970-01-01 00:00 UTC
 abbrev pub moment_text : ℕ → List ℕ
@@ -23,3 +28,20 @@ span_text (Some s) = codes " after " ++ decimal s ++ codes " s"
 abbrev pub line_text : Option ℕ → List ℕ → Option ℕ → List ℕ
 line_text at words span =
     time_text at ++ flat_map shown words ++ span_text span ++ codes "\n"
+
+-- with which jobs' runs a late run may meet, a line of its own; nothing where there are none
+abbrev pub peers_text : Option ℕ → List ℕ → List ℕ → List ℕ
+peers_text at run [] = []
+peers_text at run (p ∷ ps) = line_text at (run ++ codes " may meet " ++ p ∷ ps) None
+
+-- what follows a line: behind that of a late run what it may meet, behind any other nothing
+abbrev pub Follows : Option ℕ → List ℕ → List JobNote → List ℕ → Type 0
+Follows at words jobs text =
+    ((run : List ℕ) × (words ≡ codes "overrun " ++ run)
+    × (text ≡ peers_text at run (peers_of run jobs)))
+    ⊎ (((run : List ℕ) → words ≢ codes "overrun " ++ run) × (text ≡ []))
+
+-- the calls behind a line: none is kept without hooks, and what memory isn't there for
+abbrev pub IsCalled : Setup → List ℕ → List TheCall → List TheCall → Type 0
+IsCalled setup words before after =
+    ((setup.has_hooks ≡ true) × Keeps words setup.jobs.now before after) ⊎ (after ≡ before)

@@ -1,5 +1,5 @@
 -- What the lines of a daemon's log tell of its runs.
-use Rattle.std.specs.Prelude.{◌≡◌, ◌≢◌, ◌⊎◌, ℕ, ◌+◌, ◌-◌, ◌^◌, nat_eq, nat_lt, if◌then◌else◌, Bool, ◌||◌, not, List, [], ◌∷◌, ◌++◌, filter, bytes_eq, codes, Option}
+use Rattle.std.specs.Prelude.{◌≡◌, ◌≢◌, ◌⊎◌, ℕ, ◌+◌, ◌-◌, ◌^◌, nat_eq, nat_lt, nat_le, if◌then◌else◌, Bool, true, ◌||◌, not, List, [], ◌∷◌, ◌++◌, filter, bytes_eq, codes, Option, None, Some}
 use Rattle.std.specs.List.{starts_with}
 use Rattle.cs_machine.specs.declared.counts.Counts.{Counts}
 
@@ -12,6 +12,10 @@ abbrev pub counted : ℕ → List ℕ → List ℕ → ℕ
 counted count words front =
     if begins words front then (if nat_lt (count + 1) (2 ^ 64) then count + 1 else 2 ^ 64 - 1)
     else count
+
+-- no line
+abbrev pub no_counts : Counts
+no_counts = record { skipped = 0; overruns = 0; not_started = 0; outages = 0; stamps_not_written = 0 }
 
 -- the counts with one line more
 abbrev pub counted_in : List ℕ → Counts → Counts
@@ -43,3 +47,9 @@ IsNoted front is_ended words before after =
 abbrev pub fault_after : List ℕ → Option ℕ → Option ℕ → Option ℕ
 fault_after words at before =
     if begins words (codes "stamp not written ") then at else before
+
+-- whether a state that was written in one second is written in this one though nothing has changed:
+-- it was never written, or a minute has passed, or the clock was put back
+abbrev pub is_past : Option ℕ → ℕ → Bool
+is_past None at = true
+is_past (Some before) at = nat_lt at before || nat_le (before + 60) at

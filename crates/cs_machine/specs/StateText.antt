@@ -3,6 +3,8 @@ use Rattle.std.specs.Prelude.{ℕ, ◌/◌, ◌==◌, ◌||◌, nat_le, if◌the
 use Rattle.cs_civil.specs.Calendar.{last_day}
 use Rattle.cs_gather.specs.Gathered.{shown}
 use Rattle.cs_machine.specs.RunLog.{moment_text}
+use Rattle.cs_machine.specs.Setup.{end_of, note_of, peers_of}
+use Rattle.cs_machine.specs.declared.setup.JobNote.{JobNote}
 
 -- a byte in a JSON text: `"` and `\` behind a `\`
 abbrev pub quoted : ℕ → List ℕ
@@ -43,3 +45,13 @@ count_member front count = front ++ decimal count
 
 unfoldable pub flag_member : List ℕ → Bool → List ℕ
 flag_member front flag = front ++ json_flag flag
+
+-- a run that runs: its name, since when and until when, whether it's late, and what it may meet then
+unfoldable pub run_text : List JobNote → List ℕ → ℕ → Bool → List ℕ
+run_text jobs name since late =
+    text_member (codes "{\"run\":") name
+    ++ (moment_member (codes ",\"since\":") (Some since)
+    ++ (moment_member (codes ",\"until\":") (end_of since (note_of name jobs))
+    ++ (flag_member (codes ",\"late\":") late
+    ++ (text_member (codes ",\"may_meet\":") (if late then peers_of name jobs else [])
+    ++ codes "}"))))

@@ -1,8 +1,9 @@
 ghost use Rattle.std.specs.Prelude.{◌≡◌, ◌≢◌, ℕ, List};
-ghost use Rattle.cs_machine.specs.Files.{IsFileName, file_of, new_file_of, stop_file_of};
+ghost use Rattle.cs_machine.specs.Files.{IsFileName, file_of, new_file_of};
+ghost use Rattle.cs_machine.specs.Files.{reload_file_of, stop_file_of};
 
 /// Lemma. No two files of a folder of stamps have the same path.
-#[tactic(auto, using(crate::proofs::Names::own_file, crate::proofs::Names::new_file_apart, crate::proofs::Names::stop_file_apart, crate::proofs::Names::stop_file_not_new))]
+#[tactic(auto, using(crate::proofs::Names::own_file, crate::proofs::Names::new_file_apart, crate::proofs::Names::stop_file_apart, crate::proofs::Names::stop_file_not_new, crate::proofs::Names::reload_file_apart, crate::proofs::Names::reload_file_not_new))]
 pub fn files_differ()
 
     // each identifier has a file of its own
@@ -11,7 +12,9 @@ pub fn files_differ()
     // and what is written first is at no identifier's path
     ensures apart { (folder a b : List ℕ) → IsFileName b → new_file_of folder a ≢ file_of folder b }
 
-    // nor is the file by which a daemon is asked to end at any path of these
+    // nor is a file by which a daemon is asked for something at any path of these
     ensures stop { (folder a : List ℕ) → IsFileName a → stop_file_of folder ≢ file_of folder a }
     ensures stop_new { (folder a : List ℕ) → stop_file_of folder ≢ new_file_of folder a }
+    ensures reload { (folder a : List ℕ) → IsFileName a → reload_file_of folder ≢ file_of folder a }
+    ensures reload_new { (folder a : List ℕ) → reload_file_of folder ≢ new_file_of folder a }
 {}

@@ -2,8 +2,11 @@
 ghost use Rattle.std.specs.Prelude.{◌≡◌, ◌++◌, ◌<◌, ◌≤◌, ◌/◌, ◌↔◌, OnOk, IfSome, IsSome};
 ghost use Rattle.cs_civil.specs.Calendar.{last_day};
 ghost use Rattle.cs_civil.specs.Text.{two_digits};
+ghost use Rattle.std.specs.Prelude.{ℕ, List};
 ghost use Rattle.cs_machine.specs.RunLog.{moment_text, time_text, span_text, line_text};
+ghost use Rattle.cs_machine.specs.RunLog.{Follows, peers_text};
 
+use crate::setup::{JobNote, peers_of};
 use cs_civil::{Day, day_text, push_number};
 use cs_gather::push_shown;
 use std::alloc::{AllocError, Global};
@@ -72,4 +75,42 @@ pub(crate) fn push_line(
     push_shown(text, words)?;
     push_span(alloc, text, span)?;
     text.extend_from_slice(b"\n")
+}
+
+/// Adds the line of its own that tells which jobs' runs a late run may meet; nothing where there are
+/// none.
+fn push_peers(
+    alloc: Global,
+    text: &mut Vec<u8>,
+    at: Option<u64>,
+    run: &[u8],
+    peers: &[u8],
+) -> Result<(), AllocError>
+    ensures { OnOk result (text.new.items ≡ text.old.items ++ peers_text at run.now peers.now) }
+{
+    if peers.is_empty() {
+        return Ok(());
+    }
+    let mut words = Vec::from_slice(alloc, run)?;
+    words.extend_from_slice(b" may meet ")?;
+    words.extend_from_slice(peers)?;
+    push_line(alloc, text, at, words.as_slice(), None)
+}
+
+/// Adds what follows a line: behind that of a late run the line that tells which jobs' runs it may
+/// meet. The only error is out of memory.
+pub(crate) fn push_meeting(
+    alloc: Global,
+    text: &mut Vec<u8>,
+    at: Option<u64>,
+    words: &[u8],
+    jobs: &[JobNote],
+) -> Result<(), AllocError>
+    ensures { OnOk result ((meeting : List ℕ) × Follows at words.now jobs.now meeting
+        × (text.new.items ≡ text.old.items ++ meeting)) }
+{
+    match words.strip_prefix(b"overrun ") {
+        Some(run) => push_peers(alloc, text, at, run, peers_of(jobs, run)),
+        None => Ok(()),
+    }
 }

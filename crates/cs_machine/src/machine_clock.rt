@@ -1,10 +1,14 @@
 //! The machine's clock, in whole minutes.
-ghost use Rattle.std.specs.Prelude.{◌≡◌, ◌↔◌, ◌≤◌, ◌-◌, pos, IsTrue, IfSome, Some, None};
+ghost use Rattle.std.specs.Prelude.{◌≡◌, ◌↔◌, ◌<◌, ◌≤◌, ◌+◌, ◌-◌, pos, IsTrue, IfSome, Some};
+ghost use Rattle.std.specs.Prelude.{None, ℕ, []};
 ghost use Rattle.std.specs.Prelude.{◌+ℤ◌, ◌*ℤ◌, unwrap_or, is_some, true, false};
 ghost use Rattle.std.specs.Int.{int_div_euclid};
+ghost use Rattle.cs_civil.specs.Calendar.{first_minute, last_minute};
+ghost use Rattle.cs_device.specs.Rise.{risen_by, top_by};
 ghost use Rattle.cs_device.specs.Telling.{nothing_told};
+ghost use Rattle.cs_device.specs.declared.clock.Tick.TheVariants.{Failed};
 ghost use Rattle.cs_machine.specs.declared.attendant.ClockBack.{ClockBack};
-ghost use Rattle.cs_machine.specs.Passing.{held, is_behind, IsBackAt, latest, shown};
+ghost use Rattle.cs_machine.specs.Passing.{held, is_behind, IsBackAt, IsMoved, latest, shown};
 
 use crate::attendant::{Attendant, ClockBack};
 use crate::seconds::unix_seconds;
@@ -60,9 +64,57 @@ impl<'r, R: time::Clock, A: Attendant> MachineClock<'r, R, A> {
         }
     }
 
+    /// Returns this clock for another daemon, at another offset and with another attendant, and the
+    /// attendant that it had. It keeps its limit, and its first and latest minutes are the same
+    /// instants, if they are in range there.
+    ///
+    /// Where it has a latest minute, that is its first answer, unless the limit is over: so no
+    /// minute comes twice or gets lost between two daemons.
+    pub fn resumed<B>(self, offset: i16, attendant: B) -> (MachineClock<'r, R, B>, A)
+        ensures told { result.0.told ≡ nothing_told }
+        ensures asked { (result.0.offset ≡ offset) × (result.0.limit ≡ self.entry.limit) }
+        ensures first { IsMoved self.entry.offset self.entry.first offset result.0.first }
+        ensures latest { IsMoved self.entry.offset self.entry.latest offset result.0.latest }
+        ensures attendant { (result.0.is_back ≡ self.entry.is_back)
+            × (result.0.attendant ≡ attendant) × (result.1 ≡ self.entry.attendant) }
+    {
+        let first = moved(self.offset, self.first, offset);
+        let latest = moved(self.offset, self.latest, offset);
+        let clock = MachineClock {
+            rt: self.rt,
+            offset,
+            limit: self.limit,
+            first,
+            latest,
+            is_back: self.is_back,
+            attendant,
+            told: Told::nothing(),
+        };
+        (clock, self.attendant)
+    }
+
+    /// Returns its offset.
+    pub fn offset(&self) -> i16
+        ensures { result ≡ self.now.offset }
+    {
+        self.offset
+    }
+
     /// The minute that it is now.
     fn minute(&self) -> Option<Minute> {
         minute_after(unix_seconds(self.rt)?, self.offset)
+    }
+
+    /// The clock's first answer.
+    fn begin(&mut self) -> Tick
+        ensures resumed { IfSome self.old.latest
+            (λ minute. result ≡ shown self.old.limit self.old.first minute) }
+        ensures told { self.new.told ≡ self.old.told }
+    {
+        match self.latest {
+            Some(minute) => self.show(minute),
+            None => self.look(),
+        }
     }
 
     /// The clock's answer after a second.
@@ -146,6 +198,22 @@ impl<'r, R: time::Clock, A: Attendant> MachineClock<'r, R, A> {
     }
 }
 
+/// A minute of a clock at one offset, as one at another offset shows it, if that is in range.
+fn moved(offset: i16, minute: Option<Minute>, other_offset: i16) -> Option<Minute>
+    ensures { IsMoved offset minute other_offset result }
+{
+    minute_ahead(minute?, i32::from(other_offset) - i32::from(offset))
+}
+
+/// The minute that many minutes later, if it is in range.
+fn minute_ahead(minute: Minute, by: i32) -> Option<Minute>
+    ensures value { IfSome result (λ ahead. pos ahead ≡ pos minute +ℤ by) }
+    ensures in_range { (n : ℕ) → first_minute ≤ n → n ≤ last_minute
+        → pos n ≡ pos minute +ℤ by → result ≡ Some n }
+{
+    Minute::new(u64::try_from(minute.number() as i64 + i64::from(by)).ok()?)
+}
+
 /// By how much the machine's clock is behind, if it is.
 fn back_at(latest: Option<Minute>, shown: Minute) -> Option<ClockBack>
     ensures behind { is_some result ≡ is_behind latest shown }
@@ -193,11 +261,20 @@ impl<'r, R: time::Clock, A: Attendant> Clock for MachineClock<'r, R, A> {
 
     ghost risen = { λ c. c.told.risen };
 
-    fn tick(&mut self, now: Option<Minute>) -> Tick {
+    fn tick(&mut self, now: Option<Minute>) -> Tick
+        ensures resumed { now ≡ None → IfSome self.old.latest
+            (λ minute. result ≡ shown self.old.limit self.old.first minute) }
+        ensures last { self.new.told.last ≡ Some result }
+        ensures failures { self.old.told.failures ≤ self.new.told.failures }
+        ensures failed { result ≡ Failed → self.old.told.failures < self.new.told.failures }
+        ensures top { self.new.told.top ≡ top_by self.old.told.top result }
+        ensures risen { self.new.told.risen
+            ≡ self.old.told.risen + risen_by self.old.told.top result }
+    {
         let tick = if now.is_some() {
             self.wait()
         } else {
-            self.look()
+            self.begin()
         };
         self.told.tell(tick)
     }

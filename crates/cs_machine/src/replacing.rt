@@ -1,15 +1,20 @@
-//! Files that are written whole.
+//! Files that are written whole, or removed.
 use std::fs::{OpenFile, OpenOptions};
 use std::io::{ErrorKind, Write};
 use std::rt::Files;
 use std::{fs, io};
 
+/// Removes a file. That there is none is no error.
+pub(crate) fn remove_file<R: Files>(rt: &R, path: &str) -> io::Result<()> {
+    match fs::remove_file(rt, path) {
+        Err(error) if error.kind() == ErrorKind::NotFound => Ok(()),
+        removed => removed,
+    }
+}
+
 /// Makes a file, in place of what is there.
 fn create_anew<R: Files>(rt: &R, path: &str) -> io::Result<R::File> {
-    match fs::remove_file(rt, path) {
-        Err(error) if error.kind() != ErrorKind::NotFound => return Err(error),
-        _ => {}
-    }
+    remove_file(rt, path)?;
     OpenOptions::new()
         .write(true)
         .create_new(true)

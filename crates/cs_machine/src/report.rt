@@ -1,5 +1,7 @@
 //! What a daemon tells of itself, read back.
 ghost use Rattle.std.specs.Prelude.{◌≡◌, ◌++◌, IfSome, OnOk, decimal};
+ghost use Rattle.std.specs.List.{list_any};
+ghost use Rattle.cs_machine.specs.Report.{has_fault, is_old, is_recent};
 ghost use Rattle.cs_machine.specs.RunLog.{moment_text};
 
 use crate::line_text::moment_text;
@@ -13,7 +15,11 @@ use std::alloc::{AllocError, Global};
 struct ToldRun {
     name: String,
     since: String,
+    /// By when it is to end, if that is told.
+    until: Option<String>,
     is_late: bool,
+    /// The names of the jobs whose runs it may meet, since it's late; empty where there are none.
+    may_meet: String,
 }
 
 /// How often something went wrong, as a daemon tells it.
@@ -127,11 +133,29 @@ fn moment_or_null(value: &Value, name: &str) -> Result<Option<u64>, Misread> {
     }
 }
 
+/// When a run is to end: a moment, null, or no member, as a daemon of an earlier version tells it.
+fn until_of(alloc: Global, value: &Value) -> Result<Option<String>, Misread> {
+    match value.get("until") {
+        Some(until) if !until.is_null() => Ok(Some(moment_at(alloc, value, "until")?)),
+        _ => Ok(None),
+    }
+}
+
+/// What a late run may meet: a text, or no member, as a daemon of an earlier version tells it.
+fn may_meet_of(alloc: Global, value: &Value) -> Result<String, Misread> {
+    match value.get("may_meet") {
+        Some(peers) => plain_text(alloc, peers),
+        None => Ok(String::new(alloc)),
+    }
+}
+
 fn read_run(alloc: Global, value: &Value) -> Result<ToldRun, Misread> {
     Ok(ToldRun {
         name: text_at(alloc, value, "run")?,
         since: moment_at(alloc, value, "since")?,
+        until: until_of(alloc, value)?,
         is_late: member(alloc, value, "late")?,
+        may_meet: may_meet_of(alloc, value)?,
     })
 }
 
@@ -170,7 +194,8 @@ fn read_counts(value: &Value) -> Result<ToldCounts, Misread> {
 }
 
 /// Reads the text of a daemon's state. A fault if it is no JSON, a member is absent or has another
-/// type, or a text in it holds a control character; other members are passed over.
+/// type, or a text in it holds a control character; other members are passed over. A run's `until` and
+/// `may_meet` may be absent.
 pub fn read_report(alloc: Global, state: &[u8]) -> Result<Report, Misread> {
     let value = parse(alloc, state)?;
     let told_at = text_at(alloc, &value, "at")?;
@@ -218,8 +243,14 @@ impl ToldRun {
             text,
             &[self.name.as_str(), " runs since ", self.since.as_str()],
         )?;
+        if let Some(until) = &self.until {
+            push_texts(text, &[" until ", until.as_str()])?;
+        }
         if self.is_late {
             text.extend_from_slice(b", late")?;
+        }
+        if !self.may_meet.is_empty() {
+            push_texts(text, &[", may meet ", self.may_meet.as_str()])?;
         }
         text.extend_from_slice(b"\n")
     }
@@ -270,7 +301,7 @@ impl Report {
         let mut text = Vec::new(alloc);
         self.push_head(alloc, &mut text)?;
         if self.is_stopping {
-            text.extend_from_slice(b"asked to stop\n")?;
+            text.extend_from_slice(b"nothing more is started\n")?;
         }
         for run in self.running.iter() {
             run.push(&mut text)?;
@@ -284,18 +315,34 @@ impl Report {
 
     /// Whether a run that runs is late, or a stamp couldn't be written in the last two minutes before
     /// it was told.
-    pub fn has_fault(&self) -> bool {
-        let is_stamp_fault = match self.stamp_fault_at {
-            Some(fault_at) => self.at.saturating_sub(fault_at) <= SECONDS,
-            None => false,
-        };
-        is_stamp_fault || self.running.iter().any(|run| run.is_late)
+    pub fn has_fault(&self) -> bool
+        ensures { result ≡ has_fault self.now.at self.now.stamp_fault_at self.now.running.items }
+    {
+        is_recent(self.at, self.stamp_fault_at) || is_one_late(self.running.as_slice())
     }
 
     /// Whether it was told more than two minutes before this moment, in seconds since 1970-01-01 00:00
-    /// UTC. Once a daemon is asked to stop, it tells its state only as its jobs end, and that isn't
-    /// called old.
-    pub fn is_old(&self, now: u64) -> bool {
+    /// UTC. A daemon that starts nothing more tells its state no more, and that isn't called old.
+    pub fn is_old(&self, now: u64) -> bool
+        ensures { result ≡ is_old self.now.is_stopping self.now.at now }
+    {
         !self.is_stopping && now.saturating_sub(self.at) > SECONDS
+    }
+}
+
+/// Whether one of these runs is late.
+fn is_one_late(runs: &[ToldRun]) -> bool
+    ensures { result ≡ list_any (λ run. run.is_late) runs.now }
+{
+    runs.iter().any(|run| run.is_late)
+}
+
+/// Whether a stamp couldn't be written within the two minutes before a moment.
+fn is_recent(at: u64, fault_at: Option<u64>) -> bool
+    ensures { result ≡ is_recent at fault_at }
+{
+    match fault_at {
+        Some(fault_at) => at.saturating_sub(fault_at) <= SECONDS,
+        None => false,
     }
 }

@@ -1,17 +1,20 @@
 //! The daemon's log, and the state that it tells.
-ghost use Rattle.std.specs.Prelude.{◌≡◌, ℕ, Option, None, OnOk, IfSome, [], true, false};
+ghost use Rattle.std.specs.Prelude.{◌≡◌, ◌++◌, ◌||◌, ℕ, List, Option, None, OnOk, IfSome, IsSome};
+ghost use Rattle.std.specs.Prelude.{[], true, false};
 ghost use Rattle.std.specs.Io.KnownBytes.{Appends};
-ghost use Rattle.cs_machine.specs.RunLog.{line_text};
+ghost use Rattle.cs_machine.specs.RunLog.{Follows, IsCalled, line_text};
 ghost use Rattle.cs_machine.specs.Starts.{EndsAfter};
+ghost use Rattle.cs_machine.specs.State.{is_past};
 
-use crate::line_text::push_line;
+use crate::hook_call::{HookCall, keep_call};
+use crate::line_text::{push_line, push_meeting};
 use crate::seconds::unix_seconds;
 use crate::setup::Setup;
 use crate::state::State;
 use crate::state_text::state_text;
 use std::alloc::Global;
 use std::io::Write;
-use std::{io, time};
+use std::{io, mem, time};
 
 /// Writes a daemon's log, and keeps the state that it tells. Each text that is written to it is taken
 /// as one line, and is written at once to another writer: as it is, or with the time in UTC before it:
@@ -19,31 +22,48 @@ use std::{io, time};
 /// `2024-09-13T23:30:01Z started line 1 due 2024-09-13 23:30`
 ///
 /// With times, the end of a run whose start was written is followed by the seconds between them, 0
-/// where the clock was put back meanwhile. Where the clock can't be read, a line has no time.
+/// where the clock was put back meanwhile. Where the clock can't be read, a line has no time. Behind
+/// the line of a late run comes one that tells which jobs' runs it may meet, if there are any:
+///
+/// `2024-09-13T23:42:00Z line 1 due 2024-09-13 23:30 may meet line 5, job backup`
 #[derive(Drop)]
 pub struct RunLog<'r, R, W> {
     rt: &'r R,
     alloc: Global,
     out: W,
     is_timed: bool,
+    setup: Setup<'r>,
     line: Vec<u8>,
     state: State,
+    /// What commands of the operator's are to be started for, and wasn't taken yet.
+    calls: Vec<HookCall>,
 }
 
 impl<'r, R: time::Clock, W: Write> RunLog<'r, R, W> {
-    /// Returns a log over another writer, with no line yet, and with times or without.
-    pub fn new(rt: &'r R, alloc: Global, out: W, is_timed: bool) -> RunLog<'r, R, W>
+    /// Returns the log of a daemon that begins so, over another writer, with no line yet, and with
+    /// times or without.
+    pub fn new(
+        rt: &'r R,
+        alloc: Global,
+        out: W,
+        is_timed: bool,
+        setup: Setup<'r>,
+    ) -> RunLog<'r, R, W>
         ensures out { result.out ≡ out }
         ensures is_timed { result.is_timed ≡ is_timed }
+        ensures setup { result.setup ≡ setup.entry }
         ensures starts { result.state.starts.runs.items ≡ [] }
+        ensures calls { result.calls.items ≡ [] }
     {
         RunLog {
             rt,
             alloc,
             out,
             is_timed,
+            setup,
             line: Vec::new(alloc),
             state: State::new(alloc, unix_seconds(rt)),
+            calls: Vec::new(alloc),
         }
     }
 
@@ -56,58 +76,95 @@ impl<'r, R: time::Clock, W: Write> RunLog<'r, R, W> {
     {
         if self.is_timed {
             let at = unix_seconds(self.rt);
-            self.write_line(at, text, None)?;
+            self.write_line(at, text)?;
         }
         Ok(())
     }
 
     /// Takes a line of the daemon, given without its newline, and writes it with its time, and with
-    /// for how long a run took whose end it tells.
+    /// for how long a run took whose end it tells; by the same call the line that follows it, if a run
+    /// is late.
     fn tell(&mut self, words: &[u8]) -> io::Result<()>
-        ensures { OnOk result ((at : Option ℕ) × (span : Option ℕ)
+        ensures lines { OnOk result ((at : Option ℕ) × (span : Option ℕ) × (meeting : List ℕ)
             × Appends (W.contents self.old.out) (W.contents self.new.out)
-            (line_text at words.now span)
+            (line_text at words.now span ++ meeting)
+            × Follows at words.now self.old.setup.jobs.now meeting
             × IfSome span (EndsAfter words.now at self.old.state.starts.runs.items)) }
+        ensures calls { IsCalled self.old.setup words.now
+            self.old.calls.items self.new.calls.items }
     {
         let at = unix_seconds(self.rt);
-        let span = self.state.take(words, at);
-        self.write_line(at, words, span)
+        let span = self.take(words, at);
+        self.line.clear();
+        push_line(self.alloc, &mut self.line, at, words, span)?;
+        push_meeting(self.alloc, &mut self.line, at, words, self.setup.jobs)?;
+        self.out.write_all(self.line.as_slice())
     }
 
     /// Takes a line of the daemon, and writes it as it is.
     fn pass(&mut self, words: &[u8], line: &[u8]) -> io::Result<()>
-        ensures { OnOk result
+        ensures line { OnOk result
             (Appends (W.contents self.old.out) (W.contents self.new.out) line.now) }
+        ensures calls { IsCalled self.old.setup words.now
+            self.old.calls.items self.new.calls.items }
     {
         let at = unix_seconds(self.rt);
-        let _ = self.state.take(words, at);
+        let _ = self.take(words, at);
         self.out.write_all(line)
     }
 
+    /// Notes what a line tells, and returns for how many seconds a run took whose end it tells.
+    fn take(&mut self, words: &[u8], at: Option<u64>) -> Option<u64>
+        ensures span { IfSome result (EndsAfter words.now at self.old.state.starts.runs.items) }
+        ensures calls { IsCalled self.old.setup words.now
+            self.old.calls.items self.new.calls.items }
+        ensures left { (self.new.out ≡ self.old.out) × (self.new.setup ≡ self.old.setup) }
+    {
+        if self.setup.has_hooks {
+            // where memory runs out, no command is started
+            let _ = keep_call(self.alloc, &mut self.calls, words, self.setup.jobs);
+        }
+        self.state.take(words, at)
+    }
+
     /// Makes a line, and writes it by one call.
-    fn write_line(&mut self, at: Option<u64>, words: &[u8], span: Option<u64>) -> io::Result<()>
+    fn write_line(&mut self, at: Option<u64>, words: &[u8]) -> io::Result<()>
         ensures { OnOk result (Appends (W.contents self.old.out) (W.contents self.new.out)
-            (line_text at words.now span)) }
+            (line_text at words.now None)) }
     {
         self.line.clear();
-        push_line(self.alloc, &mut self.line, at, words, span)?;
+        push_line(self.alloc, &mut self.line, at, words, None)?;
         self.out.write_all(self.line.as_slice())
     }
 
-    /// Notes that the daemon is asked to stop, and writes that as a line of our own.
-    pub fn note_stop(&mut self) -> io::Result<()> {
+    /// Takes what happened to runs since it was taken last, in the order of the log's lines: at most
+    /// 256 calls, and none for a daemon without hooks.
+    pub fn take_calls(&mut self) -> Vec<HookCall>
+        ensures taken { result.items ≡ self.old.calls.items }
+        ensures left { self.new.calls.items ≡ [] }
+    {
+        mem::replace(&mut self.calls, Vec::new(self.alloc))
+    }
+
+    /// Notes that the daemon starts nothing more, and writes why as a line of our own.
+    pub fn note_end(&mut self, why: &[u8]) -> io::Result<()> {
         self.state.stop();
-        self.note(b"asked to stop".as_slice())
+        self.note(why)
     }
 
     /// The text of the state, if a line came since it was asked for last, or that is a minute ago; it
     /// is one JSON object in one line. None too where the clock can't be read or memory runs out.
-    pub fn state_if_due(&mut self, setup: &Setup<'_>) -> Option<Vec<u8>> {
+    pub fn state_if_due(&mut self) -> Option<Vec<u8>>
+        ensures due { IsSome result → (at : ℕ)
+            × ((self.old.state.has_changed || is_past self.old.state.written_at at) ≡ true) }
+        ensures left { (self.new.out ≡ self.old.out) × (self.new.setup ≡ self.old.setup)
+            × (self.new.calls ≡ self.old.calls) }
+    {
         let at = unix_seconds(self.rt)?;
         if !self.state.is_due(at) {
             return None;
         }
-        state_text(self.alloc, setup, &self.state, at).ok()
+        state_text(self.alloc, &self.setup, &self.state, at).ok()
     }
 }
 

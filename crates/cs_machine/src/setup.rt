@@ -1,7 +1,23 @@
 //! What a daemon was begun with.
+ghost use Rattle.std.specs.Prelude.{◌≡◌, option_map};
+ghost use Rattle.cs_machine.specs.Setup.{end_of, note_of, peers_of};
 
-/// What a daemon was begun with: the program's version, the paths of its files, and how much may run
-/// at once.
+use cs_civil::Bytes;
+
+/// What a daemon tells of a job besides its runs.
+#[derive(Drop)]
+pub struct JobNote {
+    /// What the names of its runs begin with, such as `line 3 due ` or `job backup at `.
+    pub front: Bytes,
+    /// The longest time of a run, in minutes.
+    pub max: u64,
+    /// The names of the jobs whose runs may meet a run of it that is late, such as
+    /// `line 5, job backup`; none where it is empty.
+    pub peers: Bytes,
+}
+
+/// What a daemon was begun with: the program's version, the paths of its files, how much may run at
+/// once, and what it tells of its jobs.
 #[derive(Clone, Copy)]
 pub struct Setup<'a> {
     /// The program's version, as `1.2.3`.
@@ -16,4 +32,36 @@ pub struct Setup<'a> {
     pub anacrontab: Option<&'a str>,
     /// The greatest weight of the jobs that may run at once.
     pub capacity: u64,
+    /// What is told of its jobs. A run is of the first job whose front begins its name.
+    pub jobs: &'a [JobNote],
+    /// Whether commands of the operator's are started at what happens to a run.
+    pub has_hooks: bool,
+}
+
+/// What is told of the job of this run.
+fn note_of<'a>(jobs: &'a [JobNote], run: &[u8]) -> Option<&'a JobNote>
+    ensures { option_map (λ note. note.now) result ≡ note_of run.now jobs.now }
+{
+    jobs.iter()
+        .find(|note| run.starts_with(note.front.as_slice()))
+}
+
+/// The names of the jobs whose runs may meet this run if it is late; none where nothing is told of
+/// its job.
+pub(crate) fn peers_of<'a>(jobs: &'a [JobNote], run: &[u8]) -> &'a [u8]
+    ensures { result.now ≡ peers_of run.now jobs.now }
+{
+    match note_of(jobs, run) {
+        Some(note) => note.peers.as_slice(),
+        None => b"".as_slice(),
+    }
+}
+
+/// The second by which this run is to end, which started in that one. None where nothing is told of
+/// its job, and where 64 bits don't hold it.
+pub(crate) fn end_of(jobs: &[JobNote], run: &[u8], since: u64) -> Option<u64>
+    ensures { result ≡ end_of since (note_of run.now jobs.now) }
+{
+    let note = note_of(jobs, run)?;
+    since.checked_add(note.max.checked_mul(60)?)
 }

@@ -1,15 +1,19 @@
 //! The command line of a job.
 ghost use Rattle.std.specs.Prelude.{◌≡◌, ◌↔◌, ℕ, List, Some, None, IfSome, IsSome, option_map};
-ghost use Rattle.std.specs.Prelude.{true, false, IfOk, IfErr, OnOk};
-ghost use Rattle.std.specs.Prelude.{if◌then◌else◌};
-ghost use Rattle.std.specs.List.{list_all};
+ghost use Rattle.std.specs.Prelude.{true, false, IfOk, IfErr, OnOk, [], ◌∷◌, codes};
+ghost use Rattle.std.specs.Prelude.{if◌then◌else◌, Option};
+ghost use Rattle.std.specs.Option.{option_copied};
+ghost use Rattle.std.specs.List.{fold, list_all};
 ghost use Rattle.std.specs.Str.{bytes_eq, is_utf8};
 ghost use Rattle.std.specs.Process.{command_program, command_args, command_var, command_dir};
-ghost use Rattle.std.specs.Process.{clears_env, SameProgramAndArgs, SameDir};
-ghost use Rattle.cs_machine.specs.Shell.{are_texts, is_setting, with_shell, value_of, shell_name, shell_words};
+ghost use Rattle.std.specs.Process.{clears_env, SameProgramAndArgs, SameDir, SameEnv};
+ghost use Rattle.cs_machine.specs.Shell.{are_texts, is_setting, is_text_home, with_shell, value_of};
+ghost use Rattle.cs_machine.specs.Shell.{shell_name, shell_words, value_after, value_with};
+ghost use Rattle.cs_machine.specs.Shell.{folder_of, user_settings, usual_settings};
 ghost use Rattle.cs_machine.specs.declared.fault.CommandFault.TheVariants.{NotText as not_text};
 
 use crate::fault::CommandFault;
+use crate::home::Home;
 use cs_civil::Bytes;
 use std::alloc::Global;
 use std::process::Command;
@@ -21,32 +25,41 @@ const SHELL: &str = "SHELL";
 /// The shell if no setting names one (crontab(5)).
 const USUAL_SHELL: &str = "/bin/sh";
 
+/// The setting that names the folder of a command (crontab(5)).
+const HOME: &str = "HOME";
+
 /// Returns the process to start for a command: the shell that its setting `SHELL` names, by default
 /// `/bin/sh`, with `-c` and the command, and these settings and `SHELL` in its environment
-/// (crontab(5)). The rest of the environment, the folder and the streams are the daemon's.
+/// (crontab(5)).
+///
+/// With a home, `HOME`, `LOGNAME` and `USER` are the user's too, unless a setting says otherwise,
+/// and the folder is the one that `HOME` names (crontab(5)); without it the folder is the daemon's.
+/// The rest of the environment and the streams are the daemon's.
 ///
 /// The last setting of a name counts. [`NotText`](CommandFault::NotText) if and only if the
-/// command, a name or a value is not UTF-8 (this profile).
+/// command, a name, a value, or the user's name or folder is not UTF-8 (this profile).
 pub fn shell_command(
     alloc: Global,
     command: &[u8],
     env: &[(Bytes, Bytes)],
+    home: Option<&Home>,
 ) -> Result<Command, CommandFault>
     ensures program { IfOk result
         (λ c. value_of (with_shell env.now) shell_name ≡ Some (command_program c)) }
     ensures words { IfOk result (λ c. command_args c ≡ shell_words command.now) }
-    ensures variables { IfOk result (λ c. (name : List ℕ)
-        → command_var c name ≡ option_map Some (value_of (with_shell env.now) name)) }
+    ensures variables { IfOk result (λ c. (name : List ℕ) → command_var c name
+        ≡ option_map Some (value_after (usual_settings (option_copied home.entry)) env.now name)) }
     ensures inherits { IfOk result (λ c. clears_env c ≡ false) }
-    ensures folder { IfOk result (λ c. command_dir c ≡ None) }
-    ensures texts { OnOk result (are_texts command.now env.now ≡ true) }
+    ensures folder { IfOk result
+        (λ c. command_dir c ≡ folder_of env.now (option_copied home.entry)) }
+    ensures texts { OnOk result (are_texts command.now env.now (option_copied home.entry) ≡ true) }
     ensures not_text { IfErr result
-        (λ e. (e ≡ not_text) ↔ (are_texts command.now env.now ≡ false)) }
+        (λ e. (e ≡ not_text) ↔ (are_texts command.now env.now (option_copied home.entry) ≡ false)) }
 {
-    if !are_texts(command, env) {
+    if !are_texts(command, env, home) {
         return Err(CommandFault::NotText);
     }
-    match command_of(alloc, command, env) {
+    match command_of(alloc, command, env, home) {
         Some(command) => Ok(command),
         None => Err(CommandFault::OutOfMemory),
     }
@@ -58,10 +71,10 @@ fn is_text(bytes: &[u8]) -> bool
     str::from_utf8(bytes).is_ok()
 }
 
-fn are_texts(command: &[u8], env: &[(Bytes, Bytes)]) -> bool
-    ensures { result ≡ are_texts command.now env.now }
+fn are_texts(command: &[u8], env: &[(Bytes, Bytes)], home: Option<&Home>) -> bool
+    ensures { result ≡ are_texts command.now env.now (option_copied home.entry) }
 {
-    is_text(command) && are_settings(env)
+    is_text(command) && are_settings(env) && is_text_home(home)
 }
 
 fn are_settings(env: &[(Bytes, Bytes)]) -> bool
@@ -75,25 +88,93 @@ fn are_settings(env: &[(Bytes, Bytes)]) -> bool
     true
 }
 
+fn is_text_home(home: Option<&Home>) -> bool
+    ensures { result ≡ is_text_home (option_copied home.entry) }
+{
+    match home {
+        Some(home) => is_text(home.user()) && is_text(home.folder()),
+        None => true,
+    }
+}
+
 /// The process of a command of texts, none if memory runs out.
-fn command_of(alloc: Global, command: &[u8], env: &[(Bytes, Bytes)]) -> Option<Command>
+fn command_of(
+    alloc: Global,
+    command: &[u8],
+    env: &[(Bytes, Bytes)],
+    home: Option<&Home>,
+) -> Option<Command>
     ensures program { IfSome result
         (λ c. value_of (with_shell env.now) shell_name ≡ Some (command_program c)) }
     ensures words { IfSome result (λ c. command_args c ≡ shell_words command.now) }
-    ensures variables { IfSome result (λ c. (name : List ℕ)
-        → command_var c name ≡ option_map Some (value_of (with_shell env.now) name)) }
+    ensures variables { IfSome result (λ c. (name : List ℕ) → command_var c name
+        ≡ option_map Some (value_after (usual_settings (option_copied home.entry)) env.now name)) }
+    ensures inherits { IfSome result (λ c. clears_env c ≡ false) }
+    ensures folder { IfSome result
+        (λ c. command_dir c ≡ folder_of env.now (option_copied home.entry)) }
+{
+    let mut shell = usual_command(alloc, shell_of(env)?, command, home)?;
+    for (name, value) in env {
+        set(&mut shell, name.as_slice(), value.as_slice())?;
+    }
+    set_folder(&mut shell, env, home)?;
+    Some(shell)
+}
+
+/// The process of a command without settings, in the daemon's folder.
+fn usual_command(
+    alloc: Global,
+    program: &str,
+    command: &[u8],
+    home: Option<&Home>,
+) -> Option<Command>
+    ensures program { IfSome result (λ c. command_program c ≡ program.now) }
+    ensures words { IfSome result (λ c. command_args c ≡ shell_words command.now) }
+    ensures variables { IfSome result (λ c. (name : List ℕ) → command_var c name
+        ≡ option_map Some (value_of (usual_settings (option_copied home.entry)) name)) }
     ensures inherits { IfSome result (λ c. clears_env c ≡ false) }
     ensures folder { IfSome result (λ c. command_dir c ≡ None) }
 {
     let command = str::from_utf8(command).ok()?;
-    let mut shell = Command::new(alloc, shell_of(env)?).ok()?;
+    let mut shell = Command::new(alloc, program).ok()?;
     shell.arg("-c").ok()?;
     shell.arg(command).ok()?;
     set(&mut shell, SHELL.as_bytes(), USUAL_SHELL.as_bytes())?;
-    for (name, value) in env {
-        set(&mut shell, name.as_slice(), value.as_slice())?;
-    }
+    set_user(&mut shell, home)?;
     Some(shell)
+}
+
+/// Sets a user's variables, where the user is known, and name and folder are UTF-8.
+fn set_user(shell: &mut Command, home: Option<&Home>) -> Option<()>
+    ensures variables { IsSome result → (k : List ℕ) → (before : Option (List ℕ))
+        → command_var shell.old k ≡ option_map Some before → command_var shell.new k
+        ≡ option_map Some (fold (value_with k) before (user_settings (option_copied home.entry))) }
+    ensures words { IsSome result → SameProgramAndArgs shell.old shell.new }
+    ensures clears { IsSome result → clears_env shell.new ≡ clears_env shell.old }
+    ensures folder { IsSome result → SameDir shell.old shell.new }
+{
+    let Some(home) = home else {
+        return Some(());
+    };
+    set(shell, HOME.as_bytes(), home.folder())?;
+    set(shell, b"LOGNAME".as_slice(), home.user())?;
+    set(shell, b"USER".as_slice(), home.user())
+}
+
+/// Sets the folder of a command, where its user is known and the folder is UTF-8.
+fn set_folder(shell: &mut Command, env: &[(Bytes, Bytes)], home: Option<&Home>) -> Option<()>
+    requires { command_dir shell.old ≡ None }
+    ensures folder { IsSome result
+        → command_dir shell.new ≡ folder_of env.now (option_copied home.entry) }
+    ensures words { IsSome result → SameProgramAndArgs shell.old shell.new }
+    ensures variables { IsSome result → SameEnv shell.old shell.new }
+{
+    let Some(home) = home else {
+        return Some(());
+    };
+    let folder = value_after(HOME.as_bytes(), home.folder(), env);
+    shell.current_dir(str::from_utf8(folder).ok()?).ok()?;
+    Some(())
 }
 
 /// Sets a variable of a command's environment, where name and value are UTF-8.
@@ -114,11 +195,18 @@ fn set(shell: &mut Command, name: &[u8], value: &[u8]) -> Option<()>
 fn shell_of(env: &[(Bytes, Bytes)]) -> Option<&str>
     ensures { IfSome result (λ shell. value_of (with_shell env.now) shell_name ≡ Some shell.now) }
 {
-    let mut shell = USUAL_SHELL.as_bytes();
-    for (name, value) in env {
-        if name.as_slice() == SHELL.as_bytes() {
-            shell = value.as_slice();
+    str::from_utf8(value_after(SHELL.as_bytes(), USUAL_SHELL.as_bytes(), env)).ok()
+}
+
+/// The value that settings give to a name, by default this one.
+fn value_after<'v>(name: &[u8], usual: &'v [u8], env: &'v [(Bytes, Bytes)]) -> &'v [u8]
+    ensures { Some result.now ≡ fold (value_with name.now) (Some usual.now) env.now }
+{
+    let mut last = usual;
+    for (set_name, value) in env {
+        if set_name.as_slice() == name {
+            last = value.as_slice();
         }
     }
-    str::from_utf8(shell).ok()
+    last
 }

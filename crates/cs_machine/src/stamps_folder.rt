@@ -90,6 +90,13 @@ impl<'r, 'f, R: Files> StampsFolder<'r, 'f, R> {
         }
     }
 
+    /// Forgets its failures, for another daemon.
+    pub fn begin_anew(&mut self)
+        ensures { self.new ≡ record self.old { failures = 0 } }
+    {
+        self.failures = Failures::none();
+    }
+
     /// The path of an identifier's file. An error too if it can't be the name of one.
     fn file_of(&self, identifier: &[u8]) -> io::Result<String>
         ensures { IfOk result

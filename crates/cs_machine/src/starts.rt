@@ -105,7 +105,8 @@ impl Starts {
 
     /// Adds a run. The only error is out of memory, and then it isn't added.
     fn add(&mut self, name: &[u8], at: u64) -> Result<(), AllocError>
-        ensures ok { OnOk result (self.new.runs.items ≡ self.old.runs.items ++ (name.now, at) ∷ []) }
+        ensures ok { OnOk result
+            (self.new.runs.items ≡ self.old.runs.items ++ (name.now, at) ∷ []) }
         ensures err { OnErr result (self.new.runs.items ≡ self.old.runs.items) }
     {
         let name = Bytes::from_slice(self.alloc, name)?;

@@ -1,7 +1,9 @@
 //! What a daemon does, as its log tells it.
 ghost use Rattle.std.specs.Prelude.{◌≡◌, ◌++◌, ◌∷◌, [], true, IfSome, OnErr, OnOk, bytes_eq, codes, filter, not};
 ghost use Rattle.cs_machine.specs.Starts.{EndsAfter, is_last_of};
-ghost use Rattle.cs_machine.specs.State.{IsNoted, counted_in, ends_wait, fault_after};
+ghost use Rattle.std.specs.Prelude.{◌||◌, None, Some, false};
+ghost use Rattle.std.specs.List.{list_any};
+ghost use Rattle.cs_machine.specs.State.{IsNoted, counted_in, ends_wait, fault_after, is_past, no_counts};
 
 use crate::counts::Counts;
 use crate::starts::{Starts, is_last_of};
@@ -9,7 +11,7 @@ use cs_civil::Bytes;
 use std::alloc::{AllocError, Global};
 
 /// What a daemon does, as the lines of its log tell it: which runs run, wait and are late, whether it
-/// is asked to stop, and how often something went wrong.
+/// starts nothing more, and how often something went wrong.
 ///
 /// A run for whose name there is no memory isn't noted.
 #[derive(Drop)]
@@ -74,7 +76,8 @@ fn add(alloc: Global, names: &mut Vec<Bytes>, name: &[u8]) -> Result<(), AllocEr
 
 /// Takes out the runs that wait no longer.
 fn end_waits(waiting: &mut Vec<Bytes>, words: &[u8])
-    ensures { waiting.new.items ≡ filter (λ name. not (ends_wait words.now name)) waiting.old.items }
+    ensures { waiting.new.items
+        ≡ filter (λ name. not (ends_wait words.now name)) waiting.old.items }
 {
     waiting.retain(
         |name: &Bytes| -> bool
@@ -122,10 +125,27 @@ fn note_late(alloc: Global, late: &mut Vec<Bytes>, words: &[u8])
     }
 }
 
+/// Whether a state that was written in one second is written in this one even if nothing has
+/// changed: a minute has passed, or the clock was put back, or it was never written.
+fn is_past(written_at: Option<u64>, at: u64) -> bool
+    ensures { result ≡ is_past written_at at }
+{
+    match written_at {
+        Some(before) => at < before || at - before >= SECONDS,
+        None => true,
+    }
+}
+
 impl State {
     /// That of a daemon that begins, with no line yet.
     pub(crate) fn new(alloc: Global, at: Option<u64>) -> State
-        ensures { result.starts.runs.items ≡ [] }
+        ensures since { result.since ≡ at }
+        ensures names { (result.starts.runs.items ≡ []) × (result.late.items ≡ [])
+            × (result.waiting.items ≡ []) }
+        ensures counts { result.counts ≡ no_counts }
+        ensures stamp_fault_at { result.stamp_fault_at ≡ None }
+        ensures stopping { result.is_stopping ≡ false }
+        ensures due { (result.has_changed ≡ true) × (result.written_at ≡ None) }
     {
         State {
             alloc,
@@ -152,6 +172,9 @@ impl State {
         ensures counts { self.new.counts ≡ counted_in words.now self.old.counts }
         ensures stamp_fault_at { self.new.stamp_fault_at
             ≡ fault_after words.now at self.old.stamp_fault_at }
+        ensures due { self.new.has_changed ≡ true }
+        ensures left { (self.new.since ≡ self.old.since)
+            × (self.new.is_stopping ≡ self.old.is_stopping) }
     {
         self.has_changed = true;
         note_wait(self.alloc, &mut self.waiting, words);
@@ -163,11 +186,14 @@ impl State {
         self.starts.note(words, at)
     }
 
-    /// Notes that the daemon is asked to stop: it drops the runs that wait.
+    /// Notes that the daemon starts nothing more: it drops the runs that wait.
     pub(crate) fn stop(&mut self)
         ensures stopping { self.new.is_stopping ≡ true }
         ensures waiting { self.new.waiting.items ≡ [] }
-        ensures starts { self.new.starts ≡ self.old.starts }
+        ensures due { self.new.has_changed ≡ true }
+        ensures left { (self.new.starts ≡ self.old.starts) × (self.new.late ≡ self.old.late)
+            × (self.new.counts ≡ self.old.counts) × (self.new.since ≡ self.old.since)
+            × (self.new.stamp_fault_at ≡ self.old.stamp_fault_at) }
     {
         self.has_changed = true;
         self.is_stopping = true;
@@ -175,18 +201,21 @@ impl State {
     }
 
     /// Whether the run of this name is late.
-    pub(crate) fn is_late(&self, name: &[u8]) -> bool {
+    pub(crate) fn is_late(&self, name: &[u8]) -> bool
+        ensures { result ≡ list_any (λ late. bytes_eq late name.now) self.now.late.items }
+    {
         self.late.iter().any(|late| late.as_slice() == name)
     }
 
     /// Whether the state is to be written in this second: a line came since it was written last, or
     /// that is a minute ago, or the clock was put back. From then on it counts as written.
-    pub(crate) fn is_due(&mut self, at: u64) -> bool {
-        let is_due = self.has_changed
-            || match self.written_at {
-                Some(before) => at < before || at - before >= SECONDS,
-                None => true,
-            };
+    pub(crate) fn is_due(&mut self, at: u64) -> bool
+        ensures due { result ≡ (self.old.has_changed || is_past self.old.written_at at) }
+        ensures written { result ≡ true
+            → self.new ≡ record self.old { has_changed = false; written_at = Some at } }
+        ensures left { result ≡ false → self.new ≡ self.old }
+    {
+        let is_due = self.has_changed || is_past(self.written_at, at);
         if is_due {
             self.has_changed = false;
             self.written_at = Some(at);

@@ -1,12 +1,13 @@
 //! The text of a daemon's state: one JSON object in one line.
-ghost use Rattle.std.specs.Prelude.{◌≡◌, ◌++◌, codes, flat_map, option_map, OnOk};
+ghost use Rattle.std.specs.Prelude.{◌≡◌, ◌++◌, [], if◌then◌else◌, codes, flat_map, option_map, OnOk};
+ghost use Rattle.cs_machine.specs.Setup.{peers_of};
 ghost use Rattle.cs_machine.specs.StateText.{quoted, json_text, json_moment, json_path};
 ghost use Rattle.cs_machine.specs.StateText.{text_member, moment_member, count_member, path_member};
-ghost use Rattle.cs_machine.specs.StateText.{flag_member};
+ghost use Rattle.cs_machine.specs.StateText.{flag_member, run_text};
 
 use crate::counts::Counts;
 use crate::line_text::moment_text;
-use crate::setup::Setup;
+use crate::setup::{JobNote, Setup, end_of, peers_of};
 use crate::state::State;
 use cs_civil::{Bytes, push_number};
 use cs_gather::push_shown;
@@ -55,7 +56,6 @@ fn push_between_quotes(text: &mut Vec<u8>, words: &[u8]) -> Result<(), AllocErro
 }
 
 /// Adds a moment as a JSON text, or `null` where there is none, and after the year 9999.
-
 fn push_json_moment(text: &mut Vec<u8>, at: Option<u64>) -> Result<(), AllocError>
     ensures { OnOk result (text.new.items ≡ text.old.items ++ json_moment at) }
 {
@@ -164,28 +164,52 @@ fn push_flag_member(text: &mut Vec<u8>, front: &[u8], flag: bool) -> Result<(), 
     })
 }
 
-/// Adds a run that runs, since when, and whether it's late.
+/// The names of the jobs whose runs this run may meet, where it's late; else none.
+fn met_of<'a>(jobs: &'a [JobNote], name: &[u8], late: bool) -> &'a [u8]
+    ensures { result.now ≡ (if late then peers_of name.now jobs.now else []) }
+{
+    if late {
+        peers_of(jobs, name)
+    } else {
+        b"".as_slice()
+    }
+}
+
+/// Adds a run that runs: since when and until when, whether it's late, and what it may meet then.
+#[tactic(auto, unfolding(crate::specs::StateText::run_text))]
 fn push_run(
     alloc: Global,
     text: &mut Vec<u8>,
+    jobs: &[JobNote],
     name: &[u8],
     since: u64,
     late: bool,
-) -> Result<(), AllocError> {
+) -> Result<(), AllocError>
+    ensures { OnOk result (text.new.items
+        ≡ text.old.items ++ run_text jobs.now name.now since late) }
+{
+    let peers = met_of(jobs, name, late);
     push_text_member(alloc, text, b"{\"run\":", name)?;
     push_moment_member(text, b",\"since\":", Some(since))?;
+    push_moment_member(text, b",\"until\":", end_of(jobs, name, since))?;
     push_flag_member(text, b",\"late\":", late)?;
+    push_text_member(alloc, text, b",\"may_meet\":", peers)?;
     text.extend_from_slice(b"}")
 }
 
 /// Adds the runs that run, in the order in which they started.
-fn push_running(alloc: Global, text: &mut Vec<u8>, state: &State) -> Result<(), AllocError> {
+fn push_running(
+    alloc: Global,
+    text: &mut Vec<u8>,
+    jobs: &[JobNote],
+    state: &State,
+) -> Result<(), AllocError> {
     text.extend_from_slice(b",\"running\":[")?;
     let mut comma = b"".as_slice();
     for (name, since) in state.starts.runs() {
         text.extend_from_slice(comma)?;
         let late = state.is_late(name.as_slice());
-        push_run(alloc, text, name.as_slice(), *since, late)?;
+        push_run(alloc, text, jobs, name.as_slice(), *since, late)?;
         comma = b",".as_slice();
     }
     text.extend_from_slice(b"]")
@@ -224,7 +248,7 @@ pub(crate) fn state_text(
     let mut text = Vec::new(alloc);
     push_setup(alloc, &mut text, setup, state.since, at)?;
     push_flag_member(&mut text, b",\"stopping\":", state.is_stopping)?;
-    push_running(alloc, &mut text, state)?;
+    push_running(alloc, &mut text, setup.jobs, state)?;
     push_waiting(alloc, &mut text, state.waiting.as_slice())?;
     push_counts(alloc, &mut text, state.counts)?;
     push_moment_member(&mut text, b",\"stamp_fault_at\":", state.stamp_fault_at)?;

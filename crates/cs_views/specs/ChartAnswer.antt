@@ -1,5 +1,5 @@
 -- What is answered to `chart`.
-use Rattle.std.specs.Prelude.{◌≡◌, ◌⊎◌, ℕ, true, List, [], Option, Some, None, Result}
+use Rattle.std.specs.Prelude.{◌≡◌, ◌⊎◌, ℕ, false, true, List, [], Option, Some, None, Result}
 use Rattle.clap.specs.Words.{Text}
 use Rattle.cs_crontab.specs.Crontab.{Table}
 use Rattle.cs_anacrontab.specs.Anacrontab.{Table as JobTable}
@@ -48,7 +48,7 @@ TellsStory q days plan script (Some refused) ending =
 abbrev pub ChartsPlan : Question → ℕ → (List ℕ → Option (List ℕ)) → Option Text → Declared
     → Failed → Failed → Result Ending Trouble → Type 0
 ChartsPlan q days files None plan = GivesSome (IsPlanPicture q days plan None)
-ChartsPlan q days files (Some path) plan = AndThen (ReadsScript files plan true path)
+ChartsPlan q days files (Some path) plan = AndThen (ReadsScript files plan true false path)
     (λ script. GivesSome (TellsStory q days plan script (first_refused plan script)))
 
 -- the declarations are read where there are any, and a picture is printed of the plan, else of the

@@ -134,7 +134,7 @@ fn plan_drawn<'a, I: Inputs>(
 {
     match request.story {
         Some(path) => {
-            let script = script_from(alloc, inputs, path, plan, true)?;
+            let script = script_from(alloc, inputs, path, plan, true, false)?;
             Ok(show_story(alloc, request, question, plan, script, places)?)
         }
         None => Ok(show_plan(alloc, request, question, plan, None, places)?),

@@ -208,8 +208,9 @@ fn told(times: &[u64], limit: Option<u64>, answers: &[Tick]) -> bool {
     let notes = Notes::new();
     let mut clock = MachineClock::new(&time, 0, limit, patient(&notes));
     for (now, answer) in times.iter().zip(answers) {
-        time.set(if *now == 0 { None } else { Some(*now) });
-        if next(&mut clock, 0) != *answer {
+        // it sleeps for a second first
+        time.set(now.checked_sub(1));
+        if next(&mut clock, MINUTE) != *answer {
             return false;
         }
     }
@@ -274,8 +275,9 @@ fn backs(times: &[u64]) -> (u64, Option<(u64, bool)>) {
     let notes = Notes::new();
     let mut clock = MachineClock::new(&time, 0, None, patient(&notes));
     for now in times {
-        time.set(Some(*now));
-        let _ = next(&mut clock, 0);
+        // it sleeps for a second first
+        time.set(now.checked_sub(1));
+        let _ = next(&mut clock, MINUTE);
     }
     let last = match notes.last.get() {
         Some(back) if back.latest.number() == MINUTE => Some((
@@ -315,4 +317,20 @@ fn tells_of_a_clock_put_back(rt: HostRuntime) {
     for (times, wanted) in BACKS {
         assert!(rt; backs(times) == wanted, "{times:?}");
     }
+}
+
+/// A clock for another daemon tells its latest minute first, at the other offset, and not again what
+/// it told before; of what its first daemon told, its limit counts on.
+#[test]
+fn goes_on_for_another_daemon(rt: HostRuntime) {
+    let time = Time::new(SECOND + 59);
+    let notes = Notes::new();
+    let mut clock = MachineClock::new(&time, 0, Some(3), patient(&notes));
+    assert!(rt; next(&mut clock, 0) == at(MINUTE));
+    time.set(Some(SECOND + 90));
+    let (mut clock, _) = clock.resumed(60, patient(&notes));
+    assert!(rt; next(&mut clock, 0) == at(MINUTE + 60));
+    assert!(rt; next(&mut clock, MINUTE) == at(MINUTE + 61));
+    time.set(Some(SECOND + 180));
+    assert!(rt; next(&mut clock, MINUTE) == Tick::Stop);
 }

@@ -1,6 +1,6 @@
 //! The daemon's log with times, over a time that the test sets.
 use crate::clocks::Time;
-use cs_machine::RunLog;
+use cs_machine::{JobNote, RunLog, Setup};
 use std::io::Write;
 use std::process::Abort;
 
@@ -162,6 +162,20 @@ const ROWS: [Row; 12] = [
     ),
 ];
 
+/// What a daemon of these jobs was begun with.
+fn setup_of(jobs: &[JobNote]) -> Setup<'_> {
+    Setup {
+        version: "1.2.3",
+        table: "evening.cron",
+        declarations: "evening.json",
+        certificate: "evening.cert",
+        anacrontab: None,
+        capacity: 1,
+        jobs,
+        has_hooks: false,
+    }
+}
+
 /// Writes a daemon's lines by a log.
 fn log_lines<R: Abort + AllocGlobal, W: Write + Drop>(
     rt: &R,
@@ -169,7 +183,8 @@ fn log_lines<R: Abort + AllocGlobal, W: Write + Drop>(
     out: W,
 ) {
     let time = Time::new(0);
-    let mut log = RunLog::new(&time, rt.alloc(), out, true);
+    let jobs = Vec::new(rt.alloc());
+    let mut log = RunLog::new(&time, rt.alloc(), out, true, setup_of(jobs.as_slice()));
     for (now, line) in lines {
         time.set(*now);
         log.write_all(line.as_bytes()).expect(rt, "memory");
@@ -188,7 +203,8 @@ fn lines_with_times(rt: HostRuntime) {
 /// Writes lines of our own, and then the end of a run.
 fn log_notes<R: Abort + AllocGlobal, W: Write + Drop>(rt: &R, notes: &[&str], out: W) {
     let time = Time::new(SECOND);
-    let mut log = RunLog::new(&time, rt.alloc(), out, true);
+    let jobs = Vec::new(rt.alloc());
+    let mut log = RunLog::new(&time, rt.alloc(), out, true, setup_of(jobs.as_slice()));
     for text in notes {
         log.note(text.as_bytes()).expect(rt, "memory");
     }

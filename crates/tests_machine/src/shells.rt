@@ -116,7 +116,7 @@ fn outcome<R: Abort + AllocGlobal, W: Runner>(
 
 #[test]
 fn outcomes(rt: HostRuntime) {
-    let mut runner = ShellRunner::new(&rt, rt.alloc(), rt.stdout(), rt.stderr());
+    let mut runner = ShellRunner::new(&rt, rt.alloc(), rt.stdout(), rt.stderr(), None);
     for (command, input, settings, wanted) in &ROWS {
         let got = outcome(&rt, &mut runner, command, *input, settings);
         assert!(rt; got == *wanted, "{command:?} {settings:?}");
@@ -128,7 +128,7 @@ fn outcomes(rt: HostRuntime) {
 fn long_inputs(rt: HostRuntime) {
     let input = vec![in rt.alloc(); b'x'; 1_000_000].expect(&rt, "memory");
     let input = Some(input.as_slice());
-    let mut runner = ShellRunner::new(&rt, rt.alloc(), rt.stdout(), rt.stderr());
+    let mut runner = ShellRunner::new(&rt, rt.alloc(), rt.stdout(), rt.stderr(), None);
     for (command, status) in [
         (b"[ $(wc -c) -eq 1000000 ]".as_slice(), 0),
         (b"[ \"$(head -c 3)\" = xxx ]", 0),

@@ -1,14 +1,14 @@
-//! The file by which a daemon is asked to end.
+//! The files by which a daemon is asked.
 use crate::scratch::{new_folder, path_in, remove_folder};
-use cs_machine::StopFile;
+use cs_machine::RequestFile;
 use std::alloc::Global;
 use std::fs;
 use std::os::unix::fs::symlink;
 use std::process::{Abort, id};
 
 /// The file of a folder.
-fn stop_file<R: Abort>(rt: &R, alloc: Global, folder: &str) -> StopFile {
-    StopFile::of(alloc, folder).expect(rt, "memory")
+fn stop_file<R: Abort>(rt: &R, alloc: Global, folder: &str) -> RequestFile {
+    RequestFile::to_stop(alloc, folder).expect(rt, "memory")
 }
 
 #[test]

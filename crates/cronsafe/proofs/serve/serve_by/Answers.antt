@@ -4,8 +4,8 @@ use Rattle.cronsafe.specs.Ending.{Tries, sink}
 use Rattle.cronsafe.specs.Serve.{HasRun, Tellings, cause_status, farewell}
 use Rattle.cronsafe.proofs.serve.serve_by.Goals as goal
 
-pub returns : goal.returns
-returns g c =
+pub returns-clause-served : goal.returns-clause-served
+returns-clause-served g c =
     let before : Tellings = record { last = g.C.Clock.last c.args.clock.now; top = g.C.Clock.top c.args.clock.now; risen = g.C.Clock.risen c.args.clock.now; clock_failures = g.C.Clock.failures c.args.clock.now; stamp_failures = g.S.StampStore.failures c.args.store.now } in
     let after : Tellings = record { last = g.C.Clock.last c.run_daemon-end.new.clock; top = g.C.Clock.top c.run_daemon-end.new.clock; risen = g.C.Clock.risen c.run_daemon-end.new.clock; clock_failures = g.C.Clock.failures c.run_daemon-end.new.clock; stamp_failures = g.S.StampStore.failures c.run_daemon-end.new.store } in
     let err-old = sink (g.E.Output.contents c.args.err.now) (g.E.Output.failed c.args.err.now) in

@@ -9,8 +9,7 @@ returns-clause-app c = λ app h.
     c.list_arg.ensures.rule (c.with_arg-command.ensures.app app h) in
     let except = subst (λ rule. IfOk c.with_arg-command-2.result (λ x. app_of x ≡ with_rule (with_rule app (list_rule (codes "only"))) rule))
     c.list_arg-2.ensures.rule (c.with_arg-command-2.ensures.app _ only) in
-    subst (λ rule. IfOk c.with_arg.result (λ x. app_of x ≡ with_rule (with_rule (with_rule app (list_rule (codes "only"))) (list_rule (codes "except"))) rule))
-    c.flag_arg.ensures.rule (c.with_arg.ensures.app _ except)
+    c.with_flag.ensures.app _ except
 
 pub returns-clause-local : goal.returns-clause-local
-returns-clause-local c = λ h. c.with_arg.ensures.local (c.with_arg-command-2.ensures.local (c.with_arg-command.ensures.local h))
+returns-clause-local c = λ h. c.with_flag.ensures.local (c.with_arg-command-2.ensures.local (c.with_arg-command.ensures.local h))

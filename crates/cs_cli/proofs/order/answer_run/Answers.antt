@@ -23,7 +23,7 @@ returns-in_ok-warnings-in-Accepted-clause-value g c = λ fresh.
     let same : c.settings.result.now ≡ (plan_in c.in-Accepted.checked).crontab.settings =
     c.settings.ensures.value ∙ ap (λ (t : Table). t.settings) (c.crontab.ensures.value ∙ ap (λ (d : Declared). d.crontab) c.plan.ensures) in
     let told = ap (λ (d : Declared). done safe_text (c.in-Accepted.warnings ++ plan_notes d)) (sym c.plan-in-Accepted.ensures) ∙ ap (done safe_text) (sym c.in_ok-warnings-in-Accepted.ensures.told) in
-    record { safe = subst (λ (e : Ending). AnswersCheck a files before failed e) told value; proof = accepted.proof; headline = accepted.safe.headline; own = ap is_gathered (sym same) ∙ (sym c.is_gathered.ensures ∙ c.if-is_gathered.false); named = refl; stamps = refl; minutes = refl; log = refl }
+    record { safe = subst (λ (e : Ending). AnswersCheck a files before failed e) told value; proof = accepted.proof; headline = accepted.safe.headline; own = ap is_gathered (sym same) ∙ (sym c.is_gathered.ensures ∙ c.if-is_gathered.false); named = refl; stamps = refl; minutes = refl; log = refl; home = refl; on_overrun = refl; on_failure = refl }
 
 pub returns-in_err-warnings-in-Accepted-clause-warned : goal.returns-in_err-warnings-in-Accepted-clause-warned
 returns-in_err-warnings-in-Accepted-clause-warned g c = λ fresh.

@@ -1,6 +1,7 @@
 use Rattle.std.proofs.Common.{◌≡◌, ℕ, List, take, Some, None, false, option_map}
+use Rattle.std.specs.Option.{option_copied}
 use Rattle.std.specs.Process.{command_program, command_args, command_var, command_dir, clears_env}
-use Rattle.cs_machine.specs.Shell.{with_shell, value_of}
+use Rattle.cs_machine.specs.Shell.{usual_settings, value_after}
 use Rattle.cs_machine.proofs.shell.command_of.Given as goal
 
 abbrev pub invariant-loop-name : goal.invariant-loop-name
@@ -9,4 +10,4 @@ invariant-loop-name l =
     × (command_args l.shell ≡ command_args l.initial.shell)
     × (clears_env l.shell ≡ false)
     × (command_dir l.shell ≡ None)
-    × ((name : List ℕ) → command_var l.shell name ≡ option_map Some (value_of (with_shell (take l.name-index l.env)) name))
+    × ((name : List ℕ) → command_var l.shell name ≡ option_map Some (value_after (usual_settings (option_copied l.home)) (take l.name-index l.env) name))

@@ -1,0 +1,193 @@
+//! What a daemon does each second while its clock waits.
+use crate::anew::{Accepted, Rejection, read_anew};
+use crate::diary::{Hand, back_line};
+use crate::hooks::{Streams, call_hooks};
+use crate::reply::reply_text;
+use cs_args::RunWords;
+use cs_files::Status;
+use cs_machine::{Attendant, ClockBack, RequestFile, ToldFile};
+use std::alloc::{AllocError, Global};
+use std::io;
+use std::io::Write;
+use std::process::Processes;
+use std::rt::{Clock, Files};
+use std::sync::Wait;
+
+/// The files by which a daemon is asked, answers and tells its state.
+#[derive(Drop)]
+pub(crate) struct DaemonFiles<'f> {
+    pub(crate) stop: RequestFile,
+    pub(crate) reload: RequestFile,
+    pub(crate) answer: ToldFile<'f>,
+    pub(crate) state: ToldFile<'f>,
+}
+
+impl<'f> DaemonFiles<'f> {
+    /// Those in a folder of stamps. The only error is out of memory.
+    pub(crate) fn of(alloc: Global, folder: &'f str) -> Result<DaemonFiles<'f>, AllocError> {
+        Ok(DaemonFiles {
+            stop: RequestFile::to_stop(alloc, folder)?,
+            reload: RequestFile::to_reload(alloc, folder)?,
+            answer: ToldFile::answer(alloc, folder)?,
+            state: ToldFile::state(alloc, folder)?,
+        })
+    }
+
+    /// Removes what an earlier daemon was asked, and answered.
+    pub(crate) fn clear<R: Files>(&self, rt: &R) -> io::Result<()> {
+        self.stop.remove(rt)?;
+        self.reload.remove(rt)?;
+        self.answer.remove(rt)
+    }
+}
+
+/// Looks for the files by which its daemon is asked, keeps the file of the daemon's state, calls hooks,
+/// and writes down what a clock tells.
+#[derive(Drop)]
+pub(crate) struct Watch<'a, 'r, R, W> {
+    rt: &'a R,
+    alloc: Global,
+    files: &'a DaemonFiles<'a>,
+    words: RunWords<'a>,
+    streams: Streams,
+    hand: Hand<'a, 'r, R, W>,
+    /// The file that asks for a reload stays, though it was answered.
+    is_passed_over: bool,
+    accepted: Option<Accepted>,
+}
+
+impl<'a, 'r, R, W> Watch<'a, 'r, R, W> {
+    pub(crate) fn new(
+        rt: &'a R,
+        alloc: Global,
+        files: &'a DaemonFiles<'a>,
+        words: RunWords<'a>,
+        streams: Streams,
+        hand: Hand<'a, 'r, R, W>,
+    ) -> Watch<'a, 'r, R, W> {
+        Watch {
+            rt,
+            alloc,
+            files,
+            words,
+            streams,
+            hand,
+            is_passed_over: false,
+            accepted: None,
+        }
+    }
+
+    /// The plan that was accepted, if one was.
+    pub(crate) fn into_accepted(self) -> Option<Accepted> {
+        self.accepted
+    }
+}
+
+impl<'a, 'r, R: Files + Clock + Wait, W: Write> Watch<'a, 'r, R, W> {
+    /// Whether the daemon is asked to stop.
+    fn is_stop_there(&mut self) -> bool {
+        let is_there = self.files.stop.is_there(self.rt);
+        if is_there {
+            self.hand.note_end(b"asked to stop");
+        }
+        is_there
+    }
+
+    /// Whether the daemon is asked to reload, and that isn't answered yet.
+    fn is_reload_there(&mut self) -> bool {
+        let is_there = self.files.reload.is_there(self.rt);
+        self.is_passed_over &= is_there;
+        if is_there && !self.is_passed_over {
+            self.hand.note(b"asked to reload");
+            return true;
+        }
+        false
+    }
+
+    /// Answers who asked to reload. Whether that could be told.
+    fn answer(&mut self, status: Status, first: &[u8], second: &[u8]) -> bool {
+        let is_told = match reply_text(self.alloc, status, first, second) {
+            Ok(text) => {
+                self.files.answer.replace(self.rt, text.as_slice()).is_ok()
+                    && self.files.reload.remove(self.rt).is_ok()
+            }
+            Err(AllocError) => false,
+        };
+        self.is_passed_over = !is_told;
+        is_told
+    }
+
+    /// Takes an accepted plan, unless that can't be told.
+    fn take(&mut self, accepted: Accepted) -> bool {
+        if !self.answer(Status::Done, b"", b"") {
+            self.hand.note(b"can't answer, the old plan goes on");
+            return false;
+        }
+        self.hand
+            .note_end(b"reload accepted, the runs under way end first");
+        self.accepted = Some(accepted);
+        true
+    }
+
+    /// Notes why the files aren't accepted, and tells it to who asked.
+    fn reject(&mut self, rejection: &Rejection) {
+        self.hand.note(b"reload refused, the old plan goes on");
+        let (first, second) = rejection.texts();
+        for text in [first, second] {
+            self.hand.note_lines(text);
+        }
+        let _ = self.answer(rejection.status(), first, second);
+    }
+
+    /// Takes what the files hold now, or notes why not. Whether a new plan is accepted.
+    fn take_or_reject(&mut self, read: Result<Accepted, Rejection>) -> bool {
+        match read {
+            Ok(accepted) => self.take(accepted),
+            Err(rejection) => {
+                self.reject(&rejection);
+                false
+            }
+        }
+    }
+}
+
+impl<'a, 'r, R: Files + Input + Clock + Wait + Processes, W: Write> Attendant
+    for Watch<'a, 'r, R, W> {
+    fn is_stop_asked(&mut self) -> bool {
+        let is_asked = if self.is_stop_there() {
+            true
+        } else if self.is_reload_there() {
+            let read = read_anew(self.rt, self.alloc, &self.words);
+            self.take_or_reject(read)
+        } else {
+            false
+        };
+        call_hooks(
+            self.rt,
+            self.alloc,
+            &self.words,
+            self.streams,
+            &mut self.hand,
+        );
+        self.hand.keep_state();
+        is_asked
+    }
+
+    fn tell_back(&mut self, back: ClockBack) {
+        if let Ok(line) = back_line(self.alloc, back) {
+            self.hand.note(line.as_slice());
+        }
+    }
+}
+
+/// An attendant that asks nothing.
+#[derive(Drop)]
+pub(crate) struct Idle;
+
+impl Attendant for Idle {
+    fn is_stop_asked(&mut self) -> bool {
+        false
+    }
+
+    fn tell_back(&mut self, _back: ClockBack) {}
+}

@@ -1,0 +1,27 @@
+-- A command that is called when something has happened.
+use Rattle.std.specs.Prelude.{ℕ, List, [], ◌∷◌, Option, None, codes}
+use Rattle.std.specs.Borrow.{Bor}
+use Rattle.std.specs.List.{fold}
+use Rattle.std.specs.Str.Lossy.{utf8_lossy}
+use Rattle.cs_machine.specs.Shell.{value_with}
+
+-- a shell starts the command in the background, without input, and ends
+abbrev pub hook_words : List ℕ → List (List ℕ)
+hook_words command =
+    codes "-c" ∷ codes "(eval \"$1\") </dev/null &" ∷ codes "sh" ∷ command ∷ []
+
+-- a name and its value
+abbrev pub HookVariable : Type 0
+HookVariable = Bor (List ℕ) × Bor (List ℕ)
+
+-- a text, with U+FFFD for what isn't UTF-8
+unfoldable pub readable : List ℕ → List ℕ
+readable text = utf8_lossy text
+
+-- one variable more
+abbrev pub hook_value_with : List ℕ → Option (List ℕ) → HookVariable → Option (List ℕ)
+hook_value_with name before v = value_with name before (v.0.now, readable v.1.now)
+
+-- the value that variables, one after the other, give to a name
+abbrev pub hook_value : List HookVariable → List ℕ → Option (List ℕ)
+hook_value variables name = fold (hook_value_with name) None variables

@@ -1,0 +1,33 @@
+-- For which lines of a daemon's log a command of the operator's is started.
+use Rattle.std.specs.Prelude.{◌≡◌, ◌≢◌, ◌⊎◌, ℕ, ◌==◌, nat_lt, if◌then◌else◌, false, List, [], ◌∷◌, ◌++◌, length, codes}
+use Rattle.std.specs.List.{list_any}
+use Rattle.cs_machine.specs.Setup.{peers_of}
+use Rattle.cs_machine.specs.declared.hook_call.HookCall.{HookCall as TheCall}
+use Rattle.cs_machine.specs.declared.hook_call.HookCall.TheVariants.{Overrun, Failure}
+use Rattle.cs_machine.specs.declared.setup.JobNote.{JobNote}
+
+-- a line tells the end of a run with a status, which is one word
+abbrev pub TellsEnd : List ℕ → List ℕ → List ℕ → Type 0
+TellsEnd words run status =
+    (words ≡ codes "ended " ++ run ++ codes " status " ++ status)
+    × (list_any (λ b. b == 32) status ≡ false)
+
+-- it tells that a run couldn't be started, or ended with another status than 0
+abbrev pub TellsFailure : List ℕ → List ℕ → List ℕ → Type 0
+TellsFailure words run status =
+    ((words ≡ codes "not started " ++ run) × (status ≡ codes "not started"))
+    ⊎ (TellsEnd words run status × (status ≢ codes "0"))
+
+-- it tells what is called for: that a run is late, or that it failed
+abbrev pub Tells : List ℕ → List JobNote → TheCall → Type 0
+Tells words jobs (Overrun run peers) =
+    (words ≡ codes "overrun " ++ run) × (peers ≡ peers_of run jobs)
+Tells words jobs (Failure run status) = TellsFailure words run status
+
+-- the calls that are kept behind a line: what it tells comes behind the others, unless there are
+-- 256
+abbrev pub Keeps : List ℕ → List JobNote → List TheCall → List TheCall → Type 0
+Keeps words jobs before after =
+    ((call : TheCall) × Tells words jobs call
+    × (after ≡ (if nat_lt (length before) 256 then before ++ call ∷ [] else before)))
+    ⊎ (((call : TheCall) → ¬ (Tells words jobs call)) × (after ≡ before))

@@ -1,0 +1,17 @@
+-- What is wrong with what a daemon told of itself.
+use Rattle.std.specs.Prelude.{ℕ, ◌+◌, nat_le, nat_lt, Bool, false, ◌&&◌, ◌||◌, not, List, Option, None, Some}
+use Rattle.std.specs.List.{list_any}
+use Rattle.cs_machine.specs.declared.report.ToldRun.{ToldRun}
+
+-- whether it was told more than two minutes before now, by a daemon that still starts runs
+abbrev pub is_old : Bool → ℕ → ℕ → Bool
+is_old is_stopping at now = not is_stopping && nat_lt (at + 120) now
+
+-- whether a stamp couldn't be written within the two minutes before it was told
+abbrev pub is_recent : ℕ → Option ℕ → Bool
+is_recent at None = false
+is_recent at (Some fault_at) = nat_le at (fault_at + 120)
+
+-- whether that is so, or a run is late
+abbrev pub has_fault : ℕ → Option ℕ → List ToldRun → Bool
+has_fault at fault_at running = is_recent at fault_at || list_any (λ run. run.is_late) running

@@ -1,0 +1,128 @@
+//! The user whose commands are run, and the user's folder.
+ghost use Rattle.std.specs.Prelude.{◌≡◌, ◌++◌, IfOk, length, option_map, slice_get, decimal};
+ghost use Rattle.std.specs.List.{find};
+ghost use Rattle.std.specs.Option.{option_copied};
+ghost use Rattle.cs_machine.specs.Home.{field, fields_of, home_of, home_on, is_entry_of, is_same};
+ghost use Rattle.cs_machine.specs.Home.{lines_of};
+
+use cs_civil::{Bytes, push_number};
+use std::alloc::{AllocError, Global};
+use std::fs;
+use std::io::Read;
+use std::os::unix::fs::MetadataExt;
+use std::rt::Files;
+
+/// A user's name and folder, as `/etc/passwd` has them (passwd(5)).
+#[derive(Drop)]
+pub struct Home {
+    user: Bytes,
+    folder: Bytes,
+}
+
+/// The most bytes of the users' entries that are read: a mebibyte.
+const MOST: u64 = 1_048_576;
+
+/// The fields of an entry.
+const FIELDS: usize = 7;
+
+/// The field of a user's name, from 0.
+const USER: usize = 0;
+
+/// The field of a user's number.
+const NUMBER: usize = 2;
+
+/// The field of a user's folder.
+const FOLDER: usize = 5;
+
+impl Home {
+    /// Returns the name and the folder of this process's effective user, by the first entry in
+    /// `/etc/passwd` with the user's number. A line that hasn't seven fields is no entry.
+    ///
+    /// None if the user has no entry in the first mebibyte, if the file or the process can't be
+    /// looked at, or if memory runs out.
+    pub fn of_process<R: Files>(rt: &R, alloc: Global) -> Option<Home> {
+        let user = fs::metadata(rt, "/proc/self").ok()?.uid();
+        let mut text = Vec::new(alloc);
+        fs::open(rt, "/etc/passwd")
+            .ok()?
+            .take(MOST)
+            .read_to_end(&mut text)
+            .ok()?;
+        home_of(alloc, user, text.as_slice()).ok()?
+    }
+
+    /// Returns the user's name.
+    pub fn user(&self) -> &[u8]
+        ensures { result.now ≡ self.now.user }
+    {
+        self.user.as_slice()
+    }
+
+    /// Returns the user's folder.
+    pub fn folder(&self) -> &[u8]
+        ensures { result.now ≡ self.now.folder }
+    {
+        self.folder.as_slice()
+    }
+}
+
+/// The name and the folder in the first entry of a user. The only error is out of memory.
+fn home_of(alloc: Global, user: u32, text: &[u8]) -> Result<Option<Home>, AllocError>
+    ensures { IfOk result (λ home. home ≡ home_of user text.now) }
+{
+    let mut number = Vec::new(alloc);
+    push_number(alloc, &mut number, u128::from(user))?;
+    match entry_of(number.as_slice(), text) {
+        Some(line) => home_on(alloc, line),
+        None => Ok(None),
+    }
+}
+
+/// The name and the folder in an entry.
+fn home_on(alloc: Global, line: &[u8]) -> Result<Option<Home>, AllocError>
+    ensures { IfOk result (λ home. home ≡ home_on line.now) }
+{
+    let (Some(user), Some(folder)) = (field(line, USER), field(line, FOLDER)) else {
+        return Ok(None);
+    };
+    Ok(Some(Home {
+        user: Bytes::from_slice(alloc, user)?,
+        folder: Bytes::from_slice(alloc, folder)?,
+    }))
+}
+
+/// The first entry of the user of a number.
+fn entry_of<'t>(number: &[u8], text: &'t [u8]) -> Option<&'t [u8]>
+    ensures { option_map (λ line. line.now) result
+        ≡ find (is_entry_of number.now) (lines_of text.now) }
+{
+    text.split(|byte| *byte == b'\n')
+        .find(|line| is_entry_of(number, line))
+}
+
+fn is_entry_of(number: &[u8], line: &[u8]) -> bool
+    ensures { result ≡ is_entry_of number.now line.now }
+{
+    field_count(line) == FIELDS && is_same(number, field(line, NUMBER))
+}
+
+fn is_same(wanted: &[u8], field: Option<&[u8]>) -> bool
+    ensures { result ≡ is_same wanted.now (option_copied field.entry) }
+{
+    match field {
+        Some(field) => field == wanted,
+        None => false,
+    }
+}
+
+fn field_count(line: &[u8]) -> usize
+    ensures { result ≡ length (fields_of line.now) }
+{
+    line.split(|byte| *byte == b':').count()
+}
+
+fn field(line: &[u8], index: usize) -> Option<&[u8]>
+    ensures { option_map (λ field. field.now) result ≡ field line.now index }
+{
+    line.split(|byte| *byte == b':').nth(index)
+}

@@ -1,0 +1,90 @@
+//! Commands that are called when something has happened.
+ghost use Rattle.std.specs.Prelude.{◌≡◌, ℕ, List, None, Some, IfOk, OnOk, string_bytes, option_map};
+ghost use Rattle.std.specs.Prelude.{codes};
+ghost use Rattle.std.specs.Prelude.{if◌then◌else◌, false};
+ghost use Rattle.std.specs.Str.{bytes_eq};
+ghost use Rattle.std.specs.Process.{command_program, command_args, command_var, command_dir};
+ghost use Rattle.std.specs.Process.{clears_env, SameProgramAndArgs, SameDir};
+ghost use Rattle.cs_machine.specs.Hook.{hook_value, hook_words, readable};
+
+use std::alloc::{AllocError, Global};
+use std::io;
+use std::io::{Stderr, Stdout};
+use std::process::{Command, Processes, Stdio};
+
+/// The shell's own command: it starts the command that is its first parameter in the background,
+/// without input.
+const CALL: &str = "(eval \"$1\") </dev/null &";
+
+/// Starts a command with `/bin/sh` in the background, with these variables in its environment, and
+/// with these streams as its standard output and standard error. It waits for the shell that starts
+/// the command, which ends at once, and not for the command.
+///
+/// In a value, bytes that are no UTF-8 are U+FFFD. An error if the shell can't be started, as where
+/// the command or a value has a byte 0, and if memory runs out. How the command ends is not told.
+pub fn call_hook<P: Processes>(
+    processes: &P,
+    alloc: Global,
+    command: &str,
+    variables: &[(&str, &[u8])],
+    out: Stdout,
+    err: Stderr,
+) -> io::Result<()> {
+    let mut shell = hook_command(alloc, command, variables)?;
+    shell.stdin(Stdio::null());
+    shell.stdout(Stdio::from(out));
+    shell.stderr(Stdio::from(err));
+    shell.status(processes)?;
+    Ok(())
+}
+
+/// The shell that starts a command in the background. The only error is out of memory.
+fn hook_command(
+    alloc: Global,
+    command: &str,
+    variables: &[(&str, &[u8])],
+) -> Result<Command, AllocError>
+    ensures program { IfOk result (λ c. command_program c ≡ codes "/bin/sh") }
+    ensures words { IfOk result (λ c. command_args c ≡ hook_words command.now) }
+    ensures variables { IfOk result (λ c. (name : List ℕ)
+        → command_var c name ≡ option_map Some (hook_value variables.now name)) }
+    ensures inherits { IfOk result (λ c. clears_env c ≡ false) }
+    ensures folder { IfOk result (λ c. command_dir c ≡ None) }
+{
+    let mut shell = Command::new(alloc, "/bin/sh")?;
+    shell.arg("-c")?;
+    shell.arg(CALL)?;
+    shell.arg("sh")?;
+    shell.arg(command)?;
+    for (name, value) in variables {
+        set_readable(alloc, &mut shell, name, value)?;
+    }
+    Ok(shell)
+}
+
+/// A text, with U+FFFD for what isn't UTF-8. The only error is out of memory.
+#[tactic(auto, unfolding(crate::specs::Hook::readable))]
+fn readable(alloc: Global, text: &[u8]) -> Result<String, AllocError>
+    ensures { IfOk result (λ shown. string_bytes shown ≡ readable text.now) }
+{
+    String::from_utf8_lossy(alloc, text)
+}
+
+/// Sets a variable. The only error is out of memory.
+fn set_readable(
+    alloc: Global,
+    shell: &mut Command,
+    name: &str,
+    value: &[u8],
+) -> Result<(), AllocError>
+    ensures variables { OnOk result ((k : List ℕ) → command_var shell.new k
+        ≡ (if bytes_eq name.now k then Some (Some (readable value.now))
+        else command_var shell.old k)) }
+    ensures words { OnOk result (SameProgramAndArgs shell.old shell.new) }
+    ensures clears { OnOk result (clears_env shell.new ≡ clears_env shell.old) }
+    ensures folder { OnOk result (SameDir shell.old shell.new) }
+{
+    let value = readable(alloc, value)?;
+    shell.env(name, value.as_str())?;
+    Ok(())
+}

@@ -1,0 +1,107 @@
+//! What happened to a run, for which a command of the operator's is started.
+ghost use Rattle.std.specs.Prelude.{◌≡◌, ◌≢◌, ◌++◌, ◌==◌, ℕ, List, false, codes, IfOk, IfSome, IsNone, OnErr, OnOk};
+ghost use Rattle.std.specs.List.{list_any};
+ghost use Rattle.cs_machine.specs.HookCall.{Keeps, Tells, TellsEnd, TellsFailure};
+ghost use Rattle.cs_machine.specs.declared.hook_call.HookCall.{HookCall as TheCall};
+
+use crate::setup::{JobNote, peers_of};
+use cs_civil::Bytes;
+use memchr::memrchr;
+use std::alloc::{AllocError, Global};
+
+/// What happened to a run, for which a command of the operator's is started.
+#[derive(Drop)]
+pub enum HookCall {
+    /// It has passed its declared time.
+    Overrun {
+        /// Its name.
+        run: Bytes,
+        /// The names of the jobs whose runs may meet it, such as `line 5, job backup`; empty where
+        /// there are none.
+        peers: Bytes,
+    },
+    /// It couldn't be started, or ended with another status than 0.
+    Failure {
+        /// Its name.
+        run: Bytes,
+        /// The status as the log tells it, `none` where there is none, or `not started`.
+        status: Bytes,
+    },
+}
+
+/// The most calls that are kept until they are taken.
+const MOST: usize = 256;
+
+/// What stands before the last blank of a text, and what follows it.
+fn around_last_blank(text: &[u8]) -> Option<(&[u8], &[u8])>
+    ensures word { IfSome result (λ p. list_any (λ b. b == 32) p.1.now ≡ false) }
+    ensures parts { IfSome result (λ p. text.now ≡ p.0.now ++ codes " " ++ p.1.now) }
+    ensures none { IsNone result → list_any (λ b. b == 32) text.now ≡ false }
+{
+    let at = memrchr(b' ', text)?;
+    Some((&text[..at], &text[at + 1..]))
+}
+
+/// The name of the run whose end a line tells, and its status.
+fn ended_run(words: &[u8]) -> Option<(&[u8], &[u8])>
+    ensures some { IfSome result (λ p. TellsEnd words.now p.0.now p.1.now) }
+    ensures none { IsNone result → (run status : List ℕ) → ¬ (TellsEnd words.now run status) }
+{
+    let (front, status) = around_last_blank(words)?;
+    let run = front.strip_prefix(b"ended ")?.strip_suffix(b" status")?;
+    Some((run, status))
+}
+
+/// The name of the run that a line tells to have failed, and what is told of that.
+fn failed_run(words: &[u8]) -> Option<(&[u8], &[u8])>
+    ensures some { IfSome result (λ p. TellsFailure words.now p.0.now p.1.now) }
+    ensures none { IsNone result → (run status : List ℕ) → ¬ (TellsFailure words.now run status) }
+{
+    if let Some(run) = words.strip_prefix(b"not started ") {
+        return Some((run, b"not started".as_slice()));
+    }
+    let (run, status) = ended_run(words)?;
+    if status == b"0".as_slice() {
+        return None;
+    }
+    Some((run, status))
+}
+
+/// What a line tells that is called for. The only error is out of memory.
+fn call_of(alloc: Global, words: &[u8], jobs: &[JobNote]) -> Result<Option<HookCall>, AllocError>
+    ensures some { IfOk result (λ call. IfSome call (Tells words.now jobs.now)) }
+    ensures none { IfOk result
+        (λ call. IsNone call → (it : TheCall) → ¬ (Tells words.now jobs.now it)) }
+{
+    if let Some(run) = words.strip_prefix(b"overrun ") {
+        let peers = Bytes::from_slice(alloc, peers_of(jobs, run))?;
+        let run = Bytes::from_slice(alloc, run)?;
+        return Ok(Some(HookCall::Overrun { run, peers }));
+    }
+    let Some((run, status)) = failed_run(words) else {
+        return Ok(None);
+    };
+    let run = Bytes::from_slice(alloc, run)?;
+    let status = Bytes::from_slice(alloc, status)?;
+    Ok(Some(HookCall::Failure { run, status }))
+}
+
+/// Keeps what a line tells that is called for, unless 256 calls are kept. The only error is out of
+/// memory, and then it isn't kept.
+pub(crate) fn keep_call(
+    alloc: Global,
+    calls: &mut Vec<HookCall>,
+    words: &[u8],
+    jobs: &[JobNote],
+) -> Result<(), AllocError>
+    ensures ok { OnOk result (Keeps words.now jobs.now calls.old.items calls.new.items) }
+    ensures err { OnErr result (calls.new.items ≡ calls.old.items) }
+{
+    let Some(call) = call_of(alloc, words, jobs)? else {
+        return Ok(());
+    };
+    if calls.len() < MOST {
+        calls.push(call)?;
+    }
+    Ok(())
+}

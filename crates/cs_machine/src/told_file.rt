@@ -1,0 +1,113 @@
+//! The files in which a daemon tells something.
+ghost use Rattle.std.specs.Prelude.{◌≡◌, ◌++◌, IfOk, codes, string_bytes};
+ghost use Rattle.cs_machine.specs.Files.{answer_file_of, file_of, new_file_of, state_file_of};
+
+use crate::replacing::{remove_file, replace_file};
+use std::alloc::{AllocError, Global};
+use std::io::{ErrorKind, Read};
+use std::rt::Files;
+use std::{fs, io};
+
+/// A file in a folder of stamps in which the daemon that uses the folder tells something. With its
+/// blank it is no identifier's stamp.
+#[derive(Drop)]
+pub struct ToldFile<'f> {
+    folder: &'f str,
+    path: String,
+    new_path: String,
+}
+
+/// The most bytes of such a file that are read: a mebibyte.
+const MOST: u64 = 1_048_576;
+
+/// The path of a file in a folder.
+fn path_of(alloc: Global, folder: &str, name: &str) -> Result<String, AllocError>
+    ensures { IfOk result (λ path. string_bytes path ≡ file_of folder.now name.now) }
+{
+    let mut path = String::from_str(alloc, folder)?;
+    path.push_str("/")?;
+    path.push_str(name)?;
+    Ok(path)
+}
+
+/// The path at which it's first written.
+fn new_path_of(alloc: Global, folder: &str, name: &str) -> Result<String, AllocError>
+    ensures { IfOk result (λ path. string_bytes path ≡ new_file_of folder.now name.now) }
+{
+    let mut path = path_of(alloc, folder, name)?;
+    path.push_str(" new")?;
+    Ok(path)
+}
+
+impl<'f> ToldFile<'f> {
+    /// Returns the file of a folder in which its daemon tells its state, whether it's there or not.
+    /// The only error is out of memory.
+    pub fn state(alloc: Global, folder: &'f str) -> Result<ToldFile<'f>, AllocError>
+        ensures path { IfOk result (λ file. string_bytes file.path ≡ state_file_of folder.now) }
+        ensures new_path { IfOk result
+            (λ file. string_bytes file.new_path ≡ state_file_of folder.now ++ codes " new") }
+        ensures folder { IfOk result (λ file. file.folder.now ≡ folder.now) }
+    {
+        ToldFile::of(alloc, folder, "cronsafe state")
+    }
+
+    /// Returns the file of a folder in which its daemon answers a request, whether it's there or
+    /// not. The only error is out of memory.
+    pub fn answer(alloc: Global, folder: &'f str) -> Result<ToldFile<'f>, AllocError>
+        ensures path { IfOk result (λ file. string_bytes file.path ≡ answer_file_of folder.now) }
+        ensures new_path { IfOk result
+            (λ file. string_bytes file.new_path ≡ answer_file_of folder.now ++ codes " new") }
+        ensures folder { IfOk result (λ file. file.folder.now ≡ folder.now) }
+    {
+        ToldFile::of(alloc, folder, "cronsafe answer")
+    }
+
+    /// The file of that name in a folder.
+    fn of(alloc: Global, folder: &'f str, name: &str) -> Result<ToldFile<'f>, AllocError>
+        ensures path { IfOk result
+            (λ file. string_bytes file.path ≡ file_of folder.now name.now) }
+        ensures new_path { IfOk result
+            (λ file. string_bytes file.new_path ≡ new_file_of folder.now name.now) }
+        ensures folder { IfOk result (λ file. file.folder.now ≡ folder.now) }
+    {
+        let path = path_of(alloc, folder, name)?;
+        let new_path = new_path_of(alloc, folder, name)?;
+        Ok(ToldFile {
+            folder,
+            path,
+            new_path,
+        })
+    }
+
+    /// Writes the file whole, so that a crash leaves the old text or the new one.
+    pub fn replace<R: Files>(&self, rt: &R, text: &[u8]) -> io::Result<()> {
+        replace_file(
+            rt,
+            self.folder,
+            self.new_path.as_str(),
+            self.path.as_str(),
+            text,
+        )
+    }
+
+    /// Reads the file. An error too where no file is there but a folder, a pipe, a device or a
+    /// link, which aren't opened, and where it has more than a mebibyte.
+    pub fn read<R: Files>(&self, rt: &R, alloc: Global) -> io::Result<Vec<u8>> {
+        if !fs::symlink_metadata(rt, self.path.as_str())?.is_file() {
+            return Err(io::Error::from(ErrorKind::InvalidInput));
+        }
+        let mut text = Vec::new(alloc);
+        fs::open(rt, self.path.as_str())?
+            .take(MOST + 1)
+            .read_to_end(&mut text)?;
+        if text.len() as u64 > MOST {
+            return Err(io::Error::from(ErrorKind::InvalidData));
+        }
+        Ok(text)
+    }
+
+    /// Removes the file. That there is none is no error.
+    pub fn remove<R: Files>(&self, rt: &R) -> io::Result<()> {
+        remove_file(rt, self.path.as_str())
+    }
+}

@@ -1,0 +1,7 @@
+use Rattle.std.proofs.Common.{rules}
+use Rattle.std.proofs.lemmas.List.Sorted.{IsNonDecreasingBy-from_sort_by_key}
+use Rattle.cs_retrace.specs.declared.entry.Entry.{Entry}
+use Rattle.cs_retrace.proofs.retracing.in_order.Goals as goal
+
+pub returns : goal.returns
+returns c = (c.sort_by_key.ensures.permutation, IsNonDecreasingBy-from_sort_by_key (λ (e : Entry). e.place) _ c.in_ok-sort_by_key.ensures.sorted (λ a r q k. search rules))

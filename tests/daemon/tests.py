@@ -296,7 +296,8 @@ def reloaded(room):
     wanted("stop", (0, "", ""), room.ask("stop", "stamps"))
     room.ends(0)
     room.holds(printed="", ran="x\nz\n")
-    _, texts = moments_and_texts(it for it in room.read("log").splitlines() if it[-1:] != " ")
+    _, texts = moments_and_texts(room.read("log").splitlines())
+    texts = [it for it in texts if not it.startswith("no plan behind ")]
     refused = texts.index("reload refused, the old plan goes on")
     wanted("the refusal", (err + out).splitlines(), texts[refused + 1 : -2])
     kinds = [" ".join(it.split()[:2]) for it in texts[:refused] + texts[-2:]]
@@ -325,7 +326,7 @@ def reload_of_standard_input(room):
 def reloaded_often(room):
     """Minutely runs while the daemon is asked to reload six times, by a clock that goes by steps.
 
-    For a daemon that loses a minute between two plans, or goes through one twice.
+    For a daemon that goes through a minute twice, or loses one of which it doesn't tell.
     """
     room.take(declared(2, [1]), "* * * * * echo x >>ran\n")
     room.step("--log", "log", seconds=7)
@@ -336,10 +337,18 @@ def reloaded_often(room):
     room.ends(0)
     log = room.read("log")
     wanted("plans", 7, log.count(" running crontab "))
-    texts = re.findall("started line 1 due (.+)", log)
-    due = [calendar.timegm(time.strptime(it, "%Y-%m-%d %H:%M")) // MINUTE for it in texts]
-    wanted("minutes of the runs", list(range(due[0], due[0] + len(due))), due)
+    due = [minute_of(it) for it in re.findall("started line 1 due (.+)", log)]
+    lost = set()
+    for latest, now in re.findall("no plan behind (.+) up to (.+)", log):
+        lost |= set(range(minute_of(latest) + 1, minute_of(now) + 1))
+    every = set(range(due[0], due[-1] + 1))
+    wanted("minutes of the runs", sorted(every - lost), due)
     wanted("outages", 0, log.count("outage"))
+
+
+def minute_of(text):
+    """Returns the minute since 1970 of a text as `2024-09-13 23:30`."""
+    return calendar.timegm(time.strptime(text, "%Y-%m-%d %H:%M")) // MINUTE
 
 
 def called_hooks(room):

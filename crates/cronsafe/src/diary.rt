@@ -1,6 +1,6 @@
 //! What a daemon's log says besides the events of its runs, and the file of its state.
 use cs_args::version_text;
-use cs_civil::date_text;
+use cs_civil::{Minute, date_text};
 use cs_cli::Order;
 use cs_daemon::Cause;
 use cs_machine::{ClockBack, HookCall, JobNote, RunLog, Setup, ToldFile};
@@ -36,14 +36,12 @@ impl<'a, 'r, R: Clock + Files + Wait, W: Write> Hand<'a, 'r, R, W> {
         let _ = self.log.lock(self.rt).note(line);
     }
 
-    /// Writes each line of a text so.
+    /// Writes each line of a text so, but empty ones.
     pub(crate) fn note_lines(&mut self, text: &[u8]) {
-        for line in text
-            .strip_suffix(b"\n")
-            .unwrap_or(text)
-            .split(|byte| *byte == b'\n')
-        {
-            self.note(line);
+        for line in text.split(|byte| *byte == b'\n') {
+            if !line.is_empty() {
+                self.note(line);
+            }
         }
     }
 
@@ -127,6 +125,16 @@ pub(crate) fn closing(cause: Cause) -> &'static [u8] {
         Cause::NoMemory => "ended, for memory ran out",
     };
     line.as_bytes()
+}
+
+/// That the minutes behind the one and up to the other belong to no plan.
+pub(crate) fn gap_line(alloc: Global, latest: Minute, now: Minute) -> io::Result<Vec<u8>> {
+    let mut line = Vec::new(alloc);
+    line.write_all(b"no plan behind ")?;
+    line.write_all(&date_text(latest))?;
+    line.write_all(b" up to ")?;
+    line.write_all(&date_text(now))?;
+    Ok(line)
 }
 
 /// That the machine's clock went back, and what comes of it.

@@ -9,7 +9,7 @@ ghost use Rattle.cronsafe.specs.Serve.{IsFollowed, IsNextOf, IsServedBehind, IsS
 ghost use Rattle.cronsafe.specs.Serve.{RunsOutBehind, Serves, ServesOne, cause_status, farewell};
 
 use crate::anew::{Accepted, open_log, words_of};
-use crate::diary::{Hand, closing, opening, setup_of};
+use crate::diary::{Hand, closing, gap_line, opening, setup_of};
 use crate::ending::{finish, run_out, tell};
 use crate::hooks::{Streams, call_hooks};
 use crate::notes::notes_of;
@@ -19,7 +19,7 @@ use cs_args::RunWords;
 use cs_check::Checked;
 use cs_cli::Order;
 use cs_daemon::{Cause, run_daemon};
-use cs_device::{Gate, Point, Runner, StampStore};
+use cs_device::{Gate, Point, Runner, StampStore, Tick};
 use cs_files::Status;
 use cs_history::Run;
 use cs_io::Output;
@@ -156,6 +156,26 @@ struct Next<'a, R> {
     clock: MachineClock<'a, R, Idle>,
 }
 
+/// Lets a clock go on to the minute that it is now, which is that in which the next plan opens, and
+/// notes which minutes belong to no plan.
+fn note_gap<R: Files + Clock + Wait, W: Write>(
+    alloc: Global,
+    hand: &mut Hand<'_, '_, R, W>,
+    clock: &mut MachineClock<'_, R, Idle>,
+) {
+    let Tick::At(latest) = cs_device::Clock::tick(clock, None) else {
+        return;
+    };
+    let Tick::At(now) = cs_device::Clock::tick(clock, Some(latest)) else {
+        return;
+    };
+    if latest != now {
+        if let Ok(line) = gap_line(alloc, latest, now) {
+            hand.note(line.as_slice());
+        }
+    }
+}
+
 /// What is served behind these words, if a plan was accepted and the daemon has stopped for it.
 fn next_of<'a, R: Clock>(
     cause: Cause,
@@ -240,8 +260,12 @@ fn serve_on<
     call_hooks(rt, alloc, &words, streams, &mut hand);
     hand.note(closing(cause));
     let offset = clock.offset();
-    let (clock, watch) = clock.resumed(offset, Idle);
-    (status, next_of(cause, watch.into_accepted(), &words, clock))
+    let (mut clock, watch) = clock.resumed(offset, Idle);
+    let accepted = watch.into_accepted();
+    if accepted.is_some() {
+        note_gap(alloc, &mut hand, &mut clock);
+    }
+    (status, next_of(cause, accepted, &words, clock))
 }
 
 /// Runs one order until it ends. Without `--log` the log is written to standard output. A runner is

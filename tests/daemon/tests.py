@@ -312,6 +312,18 @@ def reloaded(room):
     wanted("what is left", {"a", "b"}, set(room.read("stamps")))
 
 
+def stopped_while_it_reloads(room):
+    """`stop` while the last run of the old plan ends. For a daemon that opens the new plan by then."""
+    minute, run = take_job(room, "sleep 9; echo x >>ran")
+    room.start(room.words())
+    room.wait_for_line(f"started {run}")
+    room.take(declared(1, [], ["a", "b"]), "", "7 0 a echo y >>ran\n7 0 b echo z >>ran\n")
+    wanted("reload", (0, "", ""), room.ask("reload", "stamps"))
+    wanted("stop", (0, ""), room.ask("stop", "stamps")[:2])
+    room.ends(0)
+    room.holds(runs(run), said="", ran="x\n", stamps={"a": stamp_text(minute)})
+
+
 def reload_of_standard_input(room):
     """`reload` of a daemon whose table was standard input. For one that takes an empty table then."""
     room.take(declared(1), "")
@@ -1080,7 +1092,8 @@ TESTS = [
     *(stopped, stopped_twice, stop_that_stays, timed_log, log_of_a_stop, log_that_cant_be_written),
     *(shown_name, learned_log, closed_streams, clock_put_back, day_of_steps, many_at_once),
     *(job_with_a_child, killed_anywhere),
-    *(reloaded, reload_of_standard_input, reloaded_often, called_hooks, own_home),
+    *(reloaded, stopped_while_it_reloads, reload_of_standard_input, reloaded_often),
+    *(called_hooks, own_home),
     *(pipes_among_stamps, told_state, late_state, late_run_that_meets, states_by_hand),
     states_that_cant_be_read,
     test_of_stamp("no_stamp", None, True),

@@ -13,6 +13,8 @@ SECONDS = 60
 SOON = 40
 # the last second of a minute at which a daemon is started whose first minute a test relies on
 LAST_SECOND = 40
+# what `reload` says where an answer takes long
+WAITED = "cronsafe: waiting for the daemon's answer\n"
 INPUT = "what the daemon itself is given to read\n"
 
 
@@ -91,6 +93,16 @@ class Room:
         status, *sides = called(self.program, words, self.folder, seconds=SECONDS)
         return status, *(it.decode("utf-8", "replace") for it in sides)
 
+    def reload(self):
+        """Returns the same of `reload`, without that it waits where the daemon is slow."""
+        status, out, err = self.ask("reload", "stamps")
+        return status, out, err.removeprefix(WAITED)
+
+    def stop(self):
+        """Has `stop` end the daemon."""
+        wanted("stop", (0, ""), self.ask("stop", "stamps")[:2])
+        self.ends(0)
+
     def take_tables(self, declared, crontab="", anacrontab=None):
         """Takes tables and declarations for the calls to come."""
         self.write("crontab", crontab)
@@ -139,6 +151,10 @@ class Room:
         """Lets the clock of the daemon show so many seconds more than it would."""
         self.write("shift to come", str(seconds))
         (self.folder / "shift to come").rename(self.folder / "shift")
+
+    def set_clock(self, moment):
+        """Lets the clock of the daemon go on from a moment, in seconds since 1970."""
+        self.shift(moment - int(time.time()))
 
     def status(self):
         """Returns how the daemon ended, minus the number of a signal; None while it goes on.

@@ -5,6 +5,7 @@ tests with such jobs alone take some seconds; a command of a crontab waits for i
 """
 import calendar
 import fcntl
+import hashlib
 import json
 import os
 import pwd
@@ -16,12 +17,16 @@ from concurrent.futures import ThreadPoolExecutor
 from harness import Fault, wanted
 
 import failures
-from daemon import SOON, Room, date_text, early_minute, minute_now, runs, stamp_text
+from daemon import SOON, WAITED, Room, date_text, early_minute, minute_now, runs, stamp_text
 
 MINUTE = 60
 DAY = 1440
 # so long a run of a job may take that ends at once
 MAX = 2
+# a command that ends once there is a file of this name
+UNTIL = "until [ -e {} ]; do sleep 0.1; done"
+# one that says then that it ran
+HELD = f"{UNTIL.format('done')}; echo x >>ran"
 # a job of an anacrontab that says that it ran
 ONE_JOB = "7 0 a echo x >>ran\n"
 ONCE = ("--minutes", "0")
@@ -67,6 +72,12 @@ def moments_and_texts(lines):
     wanted("lines with times", True, all(found))
     seconds = [calendar.timegm(time.strptime(it[1], "%Y-%m-%dT%H:%M:%SZ")) for it in found]
     return seconds, [it[2] for it in found]
+
+
+def digest_line(room):
+    """Returns the line of a log that tells the certificate's digest."""
+    digest = hashlib.sha256((room.folder / "certificate").read_bytes()).hexdigest()
+    return f"certificate sha256 {digest}"
 
 
 def take_job(room, command="echo x >>ran", **terms):
@@ -248,20 +259,19 @@ def stopped_twice(room):
     For a `stop` that waits, a daemon that needs it to wait, and one that is stopped by what an
     earlier daemon was asked.
     """
-    _, run = take_job(room, "sleep 9; echo x >>ran")
+    _, run = take_job(room, HELD)
     room.start(room.words())
     room.wait_for_line(f"started {run}")
     for _ in range(2):
         wanted("stop --now", (0, "", ""), room.ask("stop", "stamps", "--now"))
-        wanted("the run", "", room.read("ran"))
+    room.write("done", "")
     room.ends(0)
     room.holds(runs(run), ran="x\n")
     room.start(room.words())
     room.wait_for("the end of what asks to stop", lambda: "cronsafe stop" not in room.read("stamps"))
     time.sleep(3)
     room.holds([])
-    wanted("stop", (0, ""), room.ask("stop", "stamps")[:2])
-    room.ends(0)
+    room.stop()
     room.holds([], ran="x\n")
 
 
@@ -277,32 +287,32 @@ def stop_that_stays(room):
 
 
 def reloaded(room):
-    """`reload` beside a run under way, with other tables, with ones that are refused, and of nobody.
+    """`reload` beside a run under way, with other tables, with no certificate, and of nobody.
 
     For a daemon that ends its run, starts it again or loses its stamp; that waits for it before it
-    answers, goes on with the old tables, or takes what `check` refuses.
+    answers, goes on with the old tables, or takes what can't be read.
     """
-    minute, run = take_job(room, "sleep 9; echo x >>ran")
+    minute, run = take_job(room, HELD)
     room.start(room.words("--log", "log"))
     room.wait_for("a start", lambda: f"started {run}" in room.read("log"))
     room.take(declared(1, [], ["a", "b"]), "", "7 0 a echo y >>ran\n7 0 b echo z >>ran\n")
-    wanted("reload", (0, "", ""), room.ask("reload", "stamps"))
-    wanted("the run", "", room.read("ran"))
+    wanted("reload", (0, "", ""), room.reload())
+    room.write("done", "")
     room.wait_for("the new job", lambda: room.read("ran") == "x\nz\n")
     room.wait_for("the stamps", lambda: {"a", "b"} <= set(room.read("stamps")))
-    room.write("certificate", room.read("certificate").replace("1", "2"))
-    status, out, err = room.call("check", "crontab", "declarations", "certificate")
-    wanted("reload", (status, "", err + out), room.ask("reload", "stamps"))
-    wanted("stop", (0, "", ""), room.ask("stop", "stamps"))
-    room.ends(0)
+    room.write("certificate", "safe\n")
+    told = "cronsafe: certificate: 2 NotJson\n"
+    wanted("reload", (3, "", told), room.reload())
+    room.stop()
     room.holds(printed="", ran="x\nz\n")
     _, texts = moments_and_texts(room.read("log").splitlines())
     texts = [it for it in texts if not it.startswith("no plan behind ")]
     refused = texts.index("reload refused, the old plan goes on")
-    wanted("the refusal", (err + out).splitlines(), texts[refused + 1 : -2])
+    wanted("the refusal", told.splitlines(), texts[refused + 1 : -2])
     kinds = [" ".join(it.split()[:2]) for it in texts[:refused] + texts[-2:]]
-    new = ["running crontab", "started job", "ended job", "asked to", "asked to", "stopped"]
-    old = ["running crontab", "started job", "asked to", "reload accepted,", "ended job", "stopped"]
+    begins = ["running crontab", "certificate sha256", "started job"]
+    new = [*begins, "ended job", "asked to", "asked to", "stopped"]
+    old = [*begins, "asked to", "reload accepted,", "ended job", "stopped"]
     wanted("kinds of lines", old + new, kinds)
     wanted("the stamp", stamp_text(minute), room.read("stamps")["a"])
     unused = (2, "", "cronsafe: no daemon uses stamps\n")
@@ -312,16 +322,56 @@ def reloaded(room):
     wanted("what is left", {"a", "b"}, set(room.read("stamps")))
 
 
+def refused_reload(room):
+    """`reload` with a certificate that `check` refuses: that of a plan with a shorter longest time.
+
+    For a daemon that takes it or ends, or says it otherwise than `check`, without the note.
+    """
+    table = "* * * * * echo old >>ran\n30 23 * * * :\n"
+    room.take(declared(4, (1, 2), line2={"max": 10}), table)
+    room.step("--log", "log", seconds=6)
+    room.wait_for("a run", lambda: room.read("ran"))
+    room.take_tables(declared(4, (1, 2), line2={"max": 60}), table.replace("old", "new"))
+    refusal = "refused 5 WindowMissing: line 2 due 1970-01-02 23:30 at 1970-01-03 00:00\n"
+    answer = room.call("check", "crontab", "declarations", "certificate")
+    wanted("check", (1, refusal, STALE), answer)
+    wanted("reload", (1, "", refusal), room.reload())
+    before = len(room.read("ran").split())
+    room.wait_for("more runs", lambda: len(room.read("ran").split()) > before + 2)
+    room.stop()
+    wanted("runs", {"old"}, set(room.read("ran").split()))
+    _, texts = moments_and_texts(room.read("log").splitlines())
+    asked = ["asked to reload", "reload refused, the old plan goes on", refusal.strip()]
+    others = [it for it in texts[2:] if not it.startswith(("started ", "ended ", "overrun "))]
+    wanted("log", [*asked, "asked to stop", "stopped"], others)
+
+
+def late_answer(room):
+    """`reload` of a daemon that is held up. For one that doesn't wait, or doesn't say so."""
+    room.take(declared(1), "")
+    room.start(room.words())
+    room.wait_for("a state", lambda: (room.folder / "stamps" / "cronsafe state").is_file())
+    room.send(signal.SIGSTOP)
+    with ThreadPoolExecutor(1) as pool:
+        asked = pool.submit(room.ask, "reload", "stamps")
+        time.sleep(5)
+        room.send(signal.SIGCONT)
+        wanted("reload", (0, "", WAITED), asked.result())
+    room.stop()
+
+
 def stopped_while_it_reloads(room):
     """`stop` while the last run of the old plan ends. For a daemon that opens the new plan by then."""
-    minute, run = take_job(room, "sleep 9; echo x >>ran")
+    minute, run = take_job(room, HELD)
     room.start(room.words())
     room.wait_for_line(f"started {run}")
     room.take(declared(1, [], ["a", "b"]), "", "7 0 a echo y >>ran\n7 0 b echo z >>ran\n")
-    wanted("reload", (0, "", ""), room.ask("reload", "stamps"))
-    wanted("stop", (0, ""), room.ask("stop", "stamps")[:2])
+    wanted("reload", (0, "", ""), room.reload())
+    wanted("stop --now", (0, "", ""), room.ask("stop", "stamps", "--now"))
+    room.write("done", "")
     room.ends(0)
-    room.holds(runs(run), said="", ran="x\n", stamps={"a": stamp_text(minute)})
+    room.holds(runs(run), said="", ran="x\n")
+    wanted("the stamp", stamp_text(minute), room.read("stamps")["a"])
 
 
 def reload_of_standard_input(room):
@@ -330,9 +380,64 @@ def reload_of_standard_input(room):
     room.start(room.words(table="-"), given="")
     room.wait_for("a state", lambda: (room.folder / "stamps" / "cronsafe state").is_file())
     told = (6, "", "cronsafe: can't read standard input again\n")
-    wanted("reload", told, room.ask("reload", "stamps"))
-    wanted("stop", (0, ""), room.ask("stop", "stamps")[:2])
-    room.ends(0)
+    wanted("reload", told, room.reload())
+    room.stop()
+
+
+def reload_of_a_pipe(room):
+    """`reload` where a pipe or a folder has taken a file's place. For a daemon that waits for it."""
+    room.take(declared(1), "")
+    room.start(room.words())
+    room.wait_for("a state", lambda: (room.folder / "stamps" / "cronsafe state").is_file())
+    told = (6, "", "cronsafe: can't read a pipe, a device or a folder again\n")
+    for name in ("crontab", "declarations", "certificate"):
+        path, aside = room.folder / name, room.folder / "aside"
+        path.rename(aside)
+        os.mkfifo(path)
+        wanted(f"reload with a pipe for {name}", told, room.reload())
+        path.unlink()
+        path.mkdir()
+        wanted(f"reload with a folder for {name}", told, room.reload())
+        path.rmdir()
+        aside.rename(path)
+    wanted("reload", (0, "", ""), room.reload())
+    room.stop()
+
+
+def warnings_of_a_reload(room):
+    """`reload` of a table with a setting that has no effect. For a daemon that warns nobody of it."""
+    room.take(declared(1), "")
+    room.start(room.words())
+    room.wait_for("a state", lambda: (room.folder / "stamps" / "cronsafe state").is_file())
+    room.write("crontab", "CRON_TZ=UTC\n")
+    status, out, err = room.call("check", "crontab", "declarations", "certificate")
+    wanted("check", (0, "safe\n", 1), (status, out, err.count("CRON_TZ")))
+    wanted("reload", (0, "", err), room.reload())
+    room.stop()
+
+
+def answer_that_cant_be_written(room):
+    """`reload` where the answer has no place. For one that waits for ever, or a daemon that reloads."""
+    room.take(declared(1), "")
+    room.start(room.words("--log", "log"))
+    room.wait_for("a state", lambda: (room.folder / "stamps" / "cronsafe state").is_file())
+    place = room.folder / "stamps" / "cronsafe answer new"
+    place.mkdir()
+    told = (6, "", "cronsafe: can't read the answer in stamps\n")
+    wanted("reload", told, room.reload())
+    place.rmdir()
+    wanted("another reload", (0, "", ""), room.reload())
+    wait_for_plans(room, 2)
+    room.stop()
+    log = room.read("log")
+    wanted("plans", 2, log.count(" running crontab "))
+    wanted("the one that goes on", 1, log.count("can't answer, the old plan goes on"))
+
+
+def wait_for_plans(room, number):
+    """Waits until so many plans have begun: what is asked by then is asked of the last one."""
+    what = f"a log of {number} plans"
+    room.wait_for(what, lambda: room.read("log").count(" running crontab ") >= number)
 
 
 def reloaded_often(room):
@@ -344,9 +449,9 @@ def reloaded_often(room):
     room.step("--log", "log", seconds=7)
     for times in range(6):
         room.wait_for("runs", lambda: len(room.read("ran").split()) > 3 * times + 2)
-        wanted("reload", (0, "", ""), room.ask("reload", "stamps"))
-    wanted("stop", (0, ""), room.ask("stop", "stamps")[:2])
-    room.ends(0)
+        wanted("reload", (0, "", ""), room.reload())
+    wait_for_plans(room, 7)
+    room.stop()
     log = room.read("log")
     wanted("plans", 7, log.count(" running crontab "))
     due = [minute_of(it) for it in re.findall("started line 1 due (.+)", log)]
@@ -383,8 +488,7 @@ def called_hooks(room):
     )
     late, failed = (f"line {it} due {date_text(minute)}" for it in (1, 3))
     room.wait_for("calls", lambda: room.read("told").count("\n") == 2)
-    wanted("stop", (0, ""), room.ask("stop", "stamps")[:2])
-    room.ends(0)
+    room.stop()
     calls = [f"failure {failed} 3", f"overrun {late} line 1, line 2"]
     wanted("calls", calls, sorted(room.read("told").splitlines()))
     _, texts = moments_and_texts(room.read("log").splitlines())
@@ -403,8 +507,7 @@ def own_home(room):
     room.take(declared(4, [1, 4]), table)
     room.step("--home", seconds=6)
     room.wait_for("runs", lambda: len(room.read("ran").split()) >= 8)
-    wanted("stop", (0, ""), room.ask("stop", "stamps")[:2])
-    room.ends(0)
+    room.stop()
     lines = {f"{user.pw_dir} {user.pw_name} {user.pw_name} {user.pw_dir}", f"/ {user.pw_name} someone /"}
     wanted("environments", lines, set(room.read("ran").splitlines()))
 
@@ -428,15 +531,15 @@ def timed_log(room):
     wanted("order of times", sorted(times), times)
     wanted("times", True, before <= times[0] and times[-1] <= after)
     opening = "running crontab with declarations and certificate and anacrontab, stamps in stamps"
-    seconds = times[2] - times[1]
+    seconds = times[3] - times[2]
     wanted("seconds", True, 3 <= seconds <= 3 + SOON)
-    ended = f"ended {run} status 4 after {seconds} s"
-    wanted("log", [f"{opening}, capacity 1", f"started {run}", ended, "stopped"], texts)
+    events = [f"started {run}", f"ended {run} status 4 after {seconds} s", "stopped"]
+    wanted("log", [f"{opening}, capacity 1", digest_line(room), *events], texts)
     (room.folder / "stamps" / "a").unlink()
     room.run(*ONCE, "--log", "-", seconds=SOON)
     _, texts = moments_and_texts(it for it in room.read("printed").splitlines() if it != "printed")
     kinds = [it.split()[0] for it in texts]
-    wanted("kinds of lines", ["running", "started", "ended", "stopped"], kinds)
+    wanted("kinds of lines", ["running", "certificate", "started", "ended", "stopped"], kinds)
 
 
 def log_of_a_stop(room):
@@ -444,8 +547,7 @@ def log_of_a_stop(room):
     take_job(room)
     room.start(room.words("--log", "log"))
     room.wait_for("a run", lambda: "ended" in room.read("log"))
-    wanted("stop", (0, ""), room.ask("stop", "stamps")[:2])
-    room.ends(0)
+    room.stop()
     _, texts = moments_and_texts(room.read("log").splitlines())
     wanted("its end", ["asked to stop", "stopped"], texts[-2:])
 
@@ -483,7 +585,7 @@ def told_state(room):
     mixes up lines or members, tells of a daemon that has ended, or is mistaken about how long a run
     may take.
     """
-    _, run = take_job(room, "sleep 9; echo x >>ran")
+    _, run = take_job(room, HELD)
     before = int(time.time())
     room.start(room.words())
     lines = state_of(room, run)
@@ -496,7 +598,7 @@ def told_state(room):
     wanted("until", started[2], moment_text(times[1] + MAX * MINUTE))
     wanted("order of times", sorted([before, *times, after]), [before, *times, after])
     files = "crontab with declarations and certificate and anacrontab, capacity 1"
-    counts = "skipped 0, overruns 0, not started 0, outages 0, stamps not written 0"
+    counts = "skipped 0, overruns 0, not started 0, outages 0, stamps not written 0, left out 0"
     wanted("lines", [files, counts], [lines[1], *lines[3:]])
     status, out, err = room.ask("status", "stamps", "--json")
     wanted("end of --json", (0, ""), (status, err))
@@ -510,6 +612,7 @@ def told_state(room):
         "table": "crontab",
         "declarations": "declarations",
         "certificate": "certificate",
+        "certificate_sha256": digest_line(room).split()[-1],
         "anacrontab": "anacrontab",
         "capacity": 1,
         "stopping": False,
@@ -523,7 +626,8 @@ def told_state(room):
             }
         ],
         "waiting": [],
-        **dict.fromkeys(("skipped", "overruns", "outages", "not_started"), 0),
+        "next_due": None,
+        **dict.fromkeys(("skipped", "overruns", "outages", "left_out", "not_started"), 0),
         "stamps_not_written": 0,
         "stamp_fault_at": None,
     }
@@ -531,6 +635,7 @@ def told_state(room):
     wanted("stop --now", (0, "", ""), room.ask("stop", "stamps", "--now"))
     lines = state_of(room, "nothing more is started")
     wanted("lines while it stops", [files, "nothing more is started"], lines[1:3])
+    room.write("done", "")
     room.ends(0)
     unused = (2, "", "cronsafe: no daemon uses stamps\n")
     wanted("status of nobody", unused, room.ask("status", "stamps"))
@@ -540,9 +645,11 @@ def told_state(room):
 
 def late_state(room):
     """A run that takes longer than declared. For a state that stays fine, or stays late."""
-    _, run = take_job(room, "sleep 150", max=1)
-    room.start(room.words())
-    room.wait_for_line(f"overrun {run}", 3 * MINUTE)
+    minute, run = take_job(room, UNTIL.format("done"), max=1)
+    room.step()
+    room.wait_for_line(f"started {run}")
+    room.set_clock(MINUTE * (minute + 1) + 5)
+    room.wait_for_line(f"overrun {run}")
 
     def is_late():
         status, out, _ = room.ask("status", "stamps")
@@ -550,7 +657,8 @@ def late_state(room):
         return status == 1 and re.search(late, out, re.MULTILINE)
 
     room.wait_for("a late run", is_late)
-    room.wait_for_line(f"ended {run} status 0", 3 * MINUTE)
+    room.write("done", "")
+    room.wait_for_line(f"ended {run} status 0")
     lines = state_of(room, "skipped 0, overruns 1,")
     wanted("lines", 3, len(lines))
     room.end()
@@ -560,10 +668,10 @@ def late_run_that_meets(room):
     """A run that takes longer than declared, and a line whose run comes meanwhile.
 
     For a log or a state that doesn't tell whom the late run may meet, or tells it of the other run,
-    of a run that isn't late, or twice; that tells another end.
+    of a run that isn't late, or twice; that tells another end, or another run as due next.
     """
     due = early_minute() + 1
-    table = f"{due_at(due)} sleep 150\n{due_at(due + 2)} sleep 9\n"
+    table = f"{due_at(due)} {UNTIL.format('done')}\n{due_at(due + 2)} sleep 9\n"
     terms = {"group": "g", "max": 1}
     room.take(declared(1, (1, 2), groups=["g"], line1=terms, line2=terms), table)
     room.start(room.words("--log", "log"))
@@ -583,7 +691,13 @@ def late_run_that_meets(room):
     status, out, _ = room.ask("status", "stamps")
     line = f"{first} runs since {found[first]['since']} until {until}, late, may meet {meets}"
     wanted("status", (1, True), (status, line in out.splitlines()))
-    room.wait_for("the end", lambda: f"ended {first}" in room.read("log"), 4 * MINUTE)
+    told = json.loads(room.ask("status", "stamps", "--json")[1])
+    seen = seconds_of(told["at"]) // MINUTE
+    coming = [(1, due), (2, due + 2), (1, due + DAY)]
+    number, minute = next(it for it in coming if it[1] > seen)
+    wanted("what is due next", f"line {number} due {date_text(minute)}", told["next_due"])
+    room.write("done", "")
+    room.wait_for("the end", lambda: f"ended {first}" in room.read("log"))
     room.end()
     _, texts = moments_and_texts(room.read("log").splitlines())
     place = texts.index(f"overrun {first}")
@@ -611,7 +725,7 @@ STATE = {
     "stamps_not_written": 5,
     "stamp_fault_at": None,
 }
-COUNTS = "skipped 1, overruns 2, not started 4, outages 3, stamps not written 5\n"
+COUNTS = "skipped 1, overruns 2, not started 4, outages 3, stamps not written 5"
 
 
 def moment_text(seconds):
@@ -650,6 +764,9 @@ def states_by_hand(room):
         ({"at": moment_text(now + soon)}, 0, "", ""),
         ({"at": moment_text(now - 200), "stopping": True}, 0, "nothing more is started\n", ""),
         ({"anacrontab": "my jobs"}, 0, "", ""),
+        ({"next_due": None, "certificate_sha256": "0f" * 32}, 0, "", ""),
+        ({"next_due": "line 3 due 2024-09-14 00:00"}, 0, "", ""),
+        *(({"left_out": count}, 0, "", "") for count in (0, 6, 2**64 - 1)),
     ]
     for members, status, lines, err in rows:
         state = {**STATE, "at": moment_text(now), **members}
@@ -659,7 +776,10 @@ def states_by_hand(room):
         if state["anacrontab"]:
             files += f" and {state['anacrontab']}"
         out = f"running since {state['since']}, seen at {state['at']}\n{files}, capacity 3\n{lines}"
-        out += f"line 2 due 2024-09-13 23:30 waits\n{COUNTS}"
+        out += "line 2 due 2024-09-13 23:30 waits\n"
+        if state.get("next_due"):
+            out += f"next is {state['next_due']}\n"
+        out += f"{COUNTS}, left out {state.get('left_out', 0)}\n"
         wanted(f"status of {members}", (status, out, err), room.ask("status", "stamps"))
         as_it_is = room.ask("status", "--json", "stamps")
         wanted(f"status --json of {members}", (status, text, err), as_it_is)
@@ -697,19 +817,23 @@ def states_that_cant_be_read(room):
     path.unlink()
     late = {"run": "a", "since": now, "late": True}
     wrong = [
-        *({key: it for key, it in fine.items() if key != left_out} for left_out in list(fine)[1:]),
+        *({key: it for key, it in fine.items() if key != absent} for absent in list(fine)[1:]),
         {**fine, "at": "2024-02-30T00:00:00Z"},
         {**fine, "at": now[:-1]},
         {**fine, "since": f"{now} "},
         {**fine, "table": "red \x1b[31m"},
         {**fine, "capacity": -1},
         {**fine, "skipped": 2**64},
+        *({**fine, "left_out": it} for it in (-1, 2**64, 1.5, "1", None)),
         {**fine, "running": [{"run": "a", "since": now}]},
         {**fine, "running": [{**late, "until": "soon"}]},
         {**fine, "running": [{**late, "may_meet": None}]},
         {**fine, "running": [{**late, "may_meet": "red \x1b[31m"}]},
         {**fine, "running": {}},
         {**fine, "waiting": [1]},
+        {**fine, "next_due": 1},
+        {**fine, "next_due": "red \x1b[31m"},
+        *({**fine, "certificate_sha256": it} for it in (None, "0f" * 31, "0F" * 32, "0g" * 32)),
         {**fine, "stopping": None},
         {**fine, "stamp_fault_at": "never"},
     ]
@@ -732,7 +856,122 @@ def shown_name(room):
     early_minute()
     room.run(*ONCE, "--log", "log", seconds=SOON)
     _, texts = moments_and_texts(room.read("log").split("\n")[:-1])
-    wanted("the name", "started job a\\x1b[31m\\x0db at", texts[1][: texts[1].index(" at") + 3])
+    wanted("the name", "started job a\\x1b[31m\\x0db at", texts[2][: texts[2].index(" at") + 3])
+
+
+def signal_in_a_log(room):
+    """A job that is killed, told in a log with times and to a command of the operator's.
+
+    For a daemon that tells another signal, or calls the end a status.
+    """
+    _, run = take_job(room, "kill -9 $$")
+    hook = 'echo "$CRONSAFE_RUN $CRONSAFE_STATUS" >>told'
+    room.start(room.words("--log", "log", "--on-failure", hook))
+    room.wait_for("the call", lambda: room.read("told").endswith("\n"))
+    room.stop()
+    _, texts = moments_and_texts(room.read("log").splitlines())
+    ends = [it for it in texts if it.startswith("ended")]
+    wanted("ends", 1, len(ends))
+    wanted("the end", True, bool(re.fullmatch(f"ended {run} signal 9 after \\d+ s", ends[0])))
+    wanted("the call", f"{run} signal 9\n", room.read("told"))
+    words = ("replay", "crontab", "log", "--declarations", "declarations", "--log", "--script")
+    status, script, err = room.call(*words)
+    wanted("replay", (0, ""), (status, err))
+    wanted("its end in a script", True, f"end {run.replace(' at', '')}\n" in script)
+
+
+def mail_in_a_log(room):
+    """What a log says of MAILTO, which isn't heeded. For one that tells it where no mail is asked."""
+    table = 'MAILTO=root\nMAILTO=""\nMAIL=x\n'
+    room.take(declared(1, [], ["a"]), table, f"# jobs\nMAILTO = operator\n{ONE_JOB}")
+    room.run(*ONCE, "--log", "log", seconds=SOON)
+    _, texts = moments_and_texts(room.read("log").splitlines())
+    lines = [f"MAILTO on line {it} has no effect" for it in ("1 of the crontab", "2 of the anacrontab")]
+    wanted("lines of MAILTO", lines, texts[2:4])
+    wanted("line behind them", "started", texts[4].split()[0])
+
+
+def output_name(minute, job):
+    """Returns the name of the file with the output of a run."""
+    return time.strftime(f"%Y-%m-%dT%H:%M-{job}", time.gmtime(MINUTE * minute))
+
+
+def output_files(room):
+    """What jobs print goes into files of their own, of which two of each job are kept.
+
+    For a daemon that mixes outputs with its log, mistakes names, removes a file of another job or
+    another's, the newest or none; for one that runs nothing where there is no file to be had.
+    """
+    (room.folder / "out").mkdir()
+    others = ["2024-01-01T00:00-line-1", "2024-01-01T00:00-job-aa", "2024-01-01T00:00-job-a ", "x-job-a"]
+    old = [f"2024-01-0{it}T00:00-job-a" for it in (1, 2, 3)]
+    for name in (*others, *old):
+        room.write(f"out/{name}", name)
+    minute, run = take_job(room, "echo told; echo wrong >&2; exit 3")
+    words = (*ONCE, "--output", "out", "--keep", "2")
+    room.run(*words, seconds=SOON)
+    room.holds([f"started {run}", f"ended {run} status 3"], said="")
+    name = output_name(minute, "job-a")
+    kept = {it: it for it in (*others, old[2])}
+    wanted("files", {**kept, name: "told\nwrong\n"}, room.read("out"))
+    (room.folder / "stamps" / "a").unlink()
+    for path in (room.folder / "out").iterdir():
+        path.unlink()
+    minute = early_minute()
+    (room.folder / "out" / output_name(minute, "job-a")).mkdir()
+    room.run(*words, seconds=SOON)
+    run = f"job a at {date_text(minute)}"
+    room.holds([f"started {run}", "told", f"ended {run} status 3"])
+    wanted("what is said", ("cronsafe: ", "wrong"), (room.read("said")[:10], room.read("said")[-6:-1]))
+
+
+def outputs_of_a_line(room):
+    """Each run of a line of the crontab has a file, by a clock that goes by steps; 30 are kept."""
+    (room.folder / "out").mkdir()
+    room.take(declared(1, [1], line1={"max": 1}), "* * * * * echo x; echo x >>ran\n")
+    room.step("--output", "out", seconds=20)
+    room.wait_for("runs", lambda: len(room.read("ran").split()) > 33)
+    room.stop()
+    due = [minute_of(it) for it in re.findall("ended line 1 due (.+) status 0", room.read("printed"))]
+    newest = {output_name(it, "line-1"): "x\n" for it in sorted(due)[-30:]}
+    wanted("files", newest, room.read("out"))
+
+
+def no_output_folder(room):
+    """A folder for outputs that isn't there. For a daemon that runs jobs whose outputs are lost."""
+    take_job(room)
+    room.write("file", "")
+    for path in ("nowhere", "file"):
+        room.run(*ONCE, "--output", path, status=6, seconds=SOON)
+        room.holds(printed="", said=f"cronsafe: no folder {path}\n", ran="", stamps={})
+    status, _, _ = room.ask(*room.words(*ONCE, "--keep", "3")[1:])
+    wanted("status of --keep alone", 4, status)
+
+
+def next_of_a_table(room):
+    """What `status` says is due next, at an offset: this minute's next, and then the first of two.
+
+    For a state of another line or another minute, or of the machine's own clock, or that stays.
+    """
+    due = early_minute() + 31
+    fields = [due_at(due + 60), due_at(due), due_at(due + 60)]
+    room.take(declared(3, (1, 2, 3), offset=30), "".join(f"{it} :\n" for it in fields))
+    room.start(room.words())
+    state_of(room, f"next is line 2 due {date_text(due)}")
+    room.wait_for_line(f"ended line 2 due {date_text(due)} status 0", 2 * MINUTE)
+    lines = state_of(room, f"next is line 1 due {date_text(due + 60)}")
+    wanted("lines of what is next", 1, sum(it.startswith("next ") for it in lines))
+    room.stop()
+
+
+def nothing_due_soon(room):
+    """A line that is due in twenty days. For a state that looks for it for ever, or tells another."""
+    day = time.gmtime(time.time() + 20 * DAY * MINUTE)
+    room.take(declared(1, [1]), f"0 0 {day.tm_mday} {day.tm_mon} * :\n")
+    room.start(room.words())
+    lines = state_of(room, "skipped 0")
+    wanted("lines", 3, len(lines))
+    room.stop()
 
 
 def learned_log(room):
@@ -742,7 +981,7 @@ def learned_log(room):
     room.run("--minutes", "2", "--log", "log", seconds=4 * MINUTE)
     status, _, told = room.call("learn", "crontab", "log")
     wanted("status of learn", 0, status)
-    wanted("runs of learn", True, "1 run" in told)
+    wanted("runs of learn", True, told.startswith("line 1: 1 run "))
 
 
 def closed_streams(room):
@@ -758,7 +997,7 @@ def closed_streams(room):
         room.start(["sh", "-c", f'exec "$@" {closed}', "sh", *words])
         room.ends(0)
         room.holds(stamps={"a": stamp_text(minute)})
-        wanted("log", 4, len(room.read("log").splitlines()))
+        wanted("log", 5, len(room.read("log").splitlines()))
         files = [it.split(" -> ")[1] for it in room.read("fds").splitlines() if " -> " in it]
         for stream, what in enumerate(("<&-", ">&-", "2>&-")):
             if what in closed.split():
@@ -870,24 +1109,24 @@ def killed_anywhere(room):
     """
     take_job(room, "echo a >>ran")
     with ThreadPoolExecutor(8) as pool:
-        list(pool.map(lambda which: killed_at(room, which), range(64)))
+        list(pool.map(lambda which: killed_at(room, which), range(200)))
 
 
 def killed_at(room, which):
-    """Kills a daemon of its own so many hundredths of a second after it came, and runs one more."""
+    """Kills a daemon of its own so many fortieths of a second after it came, and runs one more."""
     own = Room(room.program, room.folder / f"killed {which}", room.libraries)
     for name in ("crontab", "anacrontab", "declarations", "certificate"):
         own.write(name, room.read(name))
     own.options, day = room.options, early_minute()
     try:
         own.start(own.words("--minutes", "0"))
-        time.sleep(which / 40)
+        time.sleep(which / 100)
         own.send(signal.SIGKILL)
         own.wait_for("its end", lambda: own.status() is not None)
         time.sleep(0.2)
         failures.look_at_second_call(own, day)
     except Fault as fault:
-        raise Fault(f"killed after {which} fortieths of a second: {fault}") from None
+        raise Fault(f"killed after {which} hundredths of a second: {fault}") from None
     finally:
         own.close()
 
@@ -1004,11 +1243,16 @@ def overruns(room):
 
     For a daemon that tells it never, each second or each minute, ends the run, or gives up.
     """
-    minute, run = take_job(room, "sleep $((123 - $(date +%s) % 60)); echo x >>ran", max=1)
-    room.start(room.words())
-    room.wait_for_line(f"overrun {run}", 2 * MINUTE)
+    minute, run = take_job(room, HELD, max=1)
+    room.step()
+    room.wait_for_line(f"started {run}")
+    for passed in (1, 2):
+        room.set_clock(MINUTE * (minute + passed) + 5)
+        room.wait_for_line(f"overrun {run}")
+        time.sleep(3)
     room.holds(ran="")
-    room.wait_for_line(f"ended {run} status 0", 2 * MINUTE)
+    room.write("done", "")
+    room.wait_for_line(f"ended {run} status 0")
     room.wait_for("the stamp", (room.folder / "stamps/a").is_file)
     room.end()
     room.holds([*runs(run), f"overrun {run}"], ran="x\n", stamps={"a": stamp_text(minute)})
@@ -1036,6 +1280,26 @@ def job_not_started(room):
         "cronsafe: can't start a command: it or a setting of it isn't UTF-8\n"
     )
     room.holds([*lost, *runs(names[2])], said=said, ran="c\n", stamps=stamps)
+
+
+def reasons_in_the_log(room):
+    """A job whose shell isn't there, and one whose output has a folder in its file's place.
+
+    For a log that doesn't say why, or doesn't say of which run.
+    """
+    anacrontab = "SHELL = /no/such\n1 0 a :\nSHELL = /bin/sh\n1 0 b echo x >>ran\n"
+    room.take(declared(1, [], ["a", "b"]), "", anacrontab)
+    first = early_minute()
+    lost, kept = (f"job {it} at {date_text(first)}" for it in "ab")
+    (room.folder / "out" / f"{date_text(first).replace(' ', 'T')}-job-b").mkdir(parents=True)
+    room.run("--minutes", "1", "--log", "log", "--output", "out", seconds=2 * MINUTE)
+    _, texts = moments_and_texts(room.read("log").splitlines())
+    reason = f"{lost}: can't start '/no/such': No such file or directory (os error 2)"
+    at = texts.index(reason)
+    wanted("the line behind the reason", f"not started {lost}", texts[at + 1])
+    reason = f"can't keep the output of {kept} in 'out': no regular file is there"
+    wanted("the file", 1, texts.count(reason))
+    wanted("the run", "x\n", room.read("ran"))
 
 
 def ways_to_end(room):
@@ -1068,7 +1332,7 @@ def outage(room):
     """A daemon that is held up for more than a minute.
 
     For a daemon that makes up for the minutes that it missed, starts what is due in the minute in
-    which it comes up, doesn't tell, tells it twice, or gives up.
+    which it comes up, doesn't tell, tells it twice, miscounts the runs that are left out, or gives up.
     """
     room.take(declared(3, [1], ["a"]), "* * * * * echo x >>line\n", ONE_JOB)
     first = early_minute()
@@ -1081,6 +1345,8 @@ def outage(room):
     room.wait_for_line(line)
     run = f"line 1 due {date_text(first + 3)}"
     room.wait_for_line(f"ended {run} status 0", 2 * MINUTE)
+    told = json.loads(room.ask("status", "stamps", "--json")[1])
+    wanted("outages, and runs left out", (1, 2), (told["outages"], told["left_out"]))
     room.end()
     room.holds([line, *runs(f"job a at {date_text(first)}", run)], line="x\n", ran="x\n")
 
@@ -1088,12 +1354,14 @@ def outage(room):
 TESTS = [
     *(jobs_are_run, no_minutes, unwritable_folder, unwritable_stamps, no_folder, second_daemon),
     *(refused_certificate, runs_that_wait, skipped_run, lost_log, ended_by_a_signal, overruns),
-    *(job_not_started, ways_to_end, outage),
+    *(job_not_started, reasons_in_the_log, ways_to_end, outage),
     *(stopped, stopped_twice, stop_that_stays, timed_log, log_of_a_stop, log_that_cant_be_written),
     *(shown_name, learned_log, closed_streams, clock_put_back, day_of_steps, many_at_once),
     *(job_with_a_child, killed_anywhere),
-    *(reloaded, stopped_while_it_reloads, reload_of_standard_input, reloaded_often),
-    *(called_hooks, own_home),
+    *(reloaded, refused_reload, late_answer, stopped_while_it_reloads, reload_of_standard_input),
+    *(reloaded_often, reload_of_a_pipe, warnings_of_a_reload, answer_that_cant_be_written),
+    *(called_hooks, own_home, signal_in_a_log, mail_in_a_log),
+    *(output_files, outputs_of_a_line, no_output_folder, next_of_a_table, nothing_due_soon),
     *(pipes_among_stamps, told_state, late_state, late_run_that_meets, states_by_hand),
     states_that_cant_be_read,
     test_of_stamp("no_stamp", None, True),

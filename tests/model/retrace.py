@@ -9,7 +9,9 @@ DUE = rb"(\d{4}-\d\d-\d\d \d\d:\d\d)"
 OUTAGE = re.compile(rb"outage " + DUE + rb" to " + DUE)
 RUN = re.compile(rb"(started|waiting|skipped|ended|not started|overrun) "
                  rb"(?:line (\d+) due|job ([^ ]+) at) " + DUE)
-ENDS = re.compile(rb"asked to stop|stopped|ended, for .*", re.S)
+ENDS = re.compile(
+    rb"asked to stop|reload accepted, the runs under way end first|stopped|ended, for .*", re.S
+)
 MOST_MINUTES = 699_050
 COMES, BEGINS, FOLLOWS, GOES = range(4)
 EPOCH = datetime(1970, 1, 1)
@@ -32,15 +34,23 @@ class Daemon:
         self.events.append((minute, turn, len(self.events) if order is None else order, text))
         self.latest = max(self.latest, minute)
 
+    def put_later(self, minute, text):
+        """The same, but a daemon that is down comes up for it where its minute is a later one."""
+        if self.is_over and minute > self.latest:
+            self.put(minute, COMES, b"up %s\n" % minute_text(minute).encode())
+            self.put(minute, GOES, b"down\n")
+        self.put(minute, FOLLOWS, text)
+
     def take_run(self, second, verb, line, identifier, due):
         name = b"line " + line if line else b"job " + identifier
         minute = minute_of(due)
         if verb in (b"ended", b"not started"):
             self.freed = max(self.latest, max(second - 2, 0) // 60)
-            self.put(self.freed, FOLLOWS, b"end %s %s\n" % (name, due))
+            self.put_later(self.freed, b"end %s %s\n" % (name, due))
         elif verb == b"overrun":
-            self.put(second // 60, FOLLOWS, b"")
+            self.put_later(second // 60, b"")
         elif line and verb == b"started" and (int(line), minute) in self.waiting:
+            self.waiting.remove((int(line), minute))
             self.put(max(minute, self.freed), FOLLOWS, b"got %s %s\n" % (name, due))
         elif line:
             self.put(minute, BEGINS, b"begin %s\n" % name, int(line))

@@ -1,16 +1,17 @@
 -- Orders that come one behind another.
 use Rattle.std.proofs.Common.{◌≡◌, ◌∙◌, ℕ, List, [], ap, inl, inr, refl, subst}
+use Rattle.cs_args.specs.Asked.{asked_run}
 use Rattle.cs_args.specs.CommandLine.{AskedRun}
 use Rattle.cs_cli.specs.declared.answer.Order.{Order}
 use Rattle.cs_daemon.specs.declared.end.Cause.{Cause}
-use Rattle.cronsafe.specs.Anew.{IsOrderOf, words_in}
+use Rattle.cronsafe.specs.Anew.{IsOrderOf}
 use Rattle.cronsafe.specs.Ending.{Sink}
 use Rattle.cronsafe.specs.Serve.{ComesBehind, IsFollowed, IsNextOf, IsServedBehind, Refuses, Serves, ServesOne, cause_status}
 use Rattle.cronsafe.specs.declared.obstacle.Obstacle.{Obstacle}
 
 -- what is served when its daemon stops is followed by what its words order
 pub followed : (order : Order) (old new : Sink) (cause : Cause) (status : ℕ) (a : AskedRun) (next : Order)
-    → IsServedBehind order old new status → status ≡ cause_status cause → a ≡ words_in order → IsNextOf cause a next → IsFollowed order old new next
+    → IsServedBehind order old new status → status ≡ cause_status cause → a ≡ asked_run order.words → IsNextOf cause a next → IsFollowed order old new next
 followed order old new cause status a next served by is (stopped, ordered) =
     (subst (λ (n : ℕ). IsServedBehind order old new n) (by ∙ ap cause_status stopped) served, subst (λ (b : AskedRun). IsOrderOf b next) is ordered)
 

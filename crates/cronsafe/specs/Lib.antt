@@ -1,7 +1,9 @@
 pub mod Call
 pub mod Ending
 pub mod Anew
+pub mod Hooks
 pub mod Asking
+pub mod Notes
 pub mod Serve
 pub mod Run
 pub mod Served

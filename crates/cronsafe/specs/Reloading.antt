@@ -1,10 +1,11 @@
 -- What comes of asking the daemon of a folder of stamps to read its files anew.
-use Rattle.std.specs.Prelude.{◌≡◌, ◌⊎◌, ◌+◌, ◌++◌, ◌∷◌, ℕ, List, [], codes}
+use Rattle.std.specs.Prelude.{◌≡◌, ◌≢◌, ◌⊎◌, ◌+◌, ◌++◌, ◌∷◌, ℕ, List, [], codes}
 use Rattle.cs_files.specs.Response.{Ending, status_of}
 use Rattle.cs_files.specs.declared.response.Status.{Status}
 use Rattle.cronsafe.specs.Asking.{MayTell, refused}
 use Rattle.cronsafe.specs.Ending.{Ends, RunsOut, Sink}
 use Rattle.cronsafe.specs.declared.asking.Refusal.{Refusal}
+use Rattle.cronsafe.specs.declared.asking.Refusal.TheVariants.{Unanswered}
 
 -- a daemon's answer: the digit of a status, a newline, and what is told
 abbrev pub reply_text : Status → List ℕ → List ℕ → List ℕ
@@ -13,11 +14,19 @@ reply_text status first second = (48 + status_of status) ∷ 10 ∷ (first ++ se
 abbrev pub answer_awaited : List ℕ
 answer_awaited = codes "cronsafe: waiting for the daemon's answer\n"
 
--- the daemon has answered with a status and a text, or it doesn't do what it is asked
+-- what is told of the text of an answer: what it has, with its status; or that it can't be read, where
+-- it is no answer's
+abbrev pub IsToldOf : List ℕ → List ℕ → Ending → Type 0
+IsToldOf folder answer ending =
+    ((status : Status) × (text : List ℕ) × (answer ≡ reply_text status text [])
+    × (ending ≡ record { status = status_of status; out = []; err = text }))
+    ⊎ (((status : Status) (text : List ℕ) → answer ≢ reply_text status text [])
+    × (ending ≡ refused Unanswered folder))
+
+-- the daemon has answered, or it doesn't do what it is asked
 abbrev pub IsOutcome : List ℕ → Ending → Type 0
 IsOutcome folder ending = ((refusal : Refusal) × (ending ≡ refused refusal folder))
-    ⊎ ((status : Status) × (text : List ℕ)
-    × (ending ≡ record { status = status_of status; out = []; err = text }))
+    ⊎ ((answer : List ℕ) × IsToldOf folder answer ending)
 
 -- It may be told that an answer is waited for. Then the outcome is told, or memory ran out.
 abbrev pub Reloads : List ℕ → Sink → Sink → Sink → Sink → ℕ → Type 0

@@ -16,11 +16,12 @@ use Rattle.cs_keep.specs.Closed.{checked_in, keeping_in}
 use Rattle.cs_keep.specs.Keeping.{IsKept}
 use Rattle.cs_files.specs.Response.{Ending, complaint}
 use Rattle.cs_cli.specs.declared.answer.Order.{Order}
+use Rattle.cs_args.specs.Asked.{asked_run}
 use Rattle.cs_args.specs.CommandLine.{AskedRun}
-use Rattle.cronsafe.specs.Anew.{IsOrderOf, words_in}
+use Rattle.cronsafe.specs.Anew.{IsOrderOf}
 use Rattle.cronsafe.specs.Ending.{Ends, Sink, Tries}
 use Rattle.cronsafe.specs.declared.obstacle.Obstacle.{Obstacle}
-use Rattle.cronsafe.specs.declared.obstacle.Obstacle.TheVariants.{InUse, NoFolder, NoHome, NoLog, RequestStays, Unlocked}
+use Rattle.cronsafe.specs.declared.obstacle.Obstacle.TheVariants.{InUse, NoFolder, NoHome, NoLog, NoOutput, RequestStays, Unlocked}
 
 -- what is said where an order isn't served, in front of a path
 abbrev pub in_front : Obstacle → List ℕ
@@ -30,15 +31,17 @@ in_front Unlocked = codes "can't lock "
 in_front RequestStays = codes "can't remove old requests from "
 in_front NoHome = codes "no home folder, the user of this process isn't in "
 in_front NoLog = codes "can't write "
+in_front NoOutput = codes "no folder "
 
--- the path: that of the log, of the users, or of the folder of stamps
+-- the path: that of the log, of the folder of output, of the users, or of the folder of stamps
 abbrev pub named : Obstacle → Order → List ℕ
-named NoFolder order = order.stamps.now
-named InUse order = order.stamps.now
-named Unlocked order = order.stamps.now
-named RequestStays order = order.stamps.now
+named NoFolder order = order.words.stamps.now
+named InUse order = order.words.stamps.now
+named Unlocked order = order.words.stamps.now
+named RequestStays order = order.words.stamps.now
 named NoHome order = codes "/etc/passwd"
-named NoLog order = unwrap_or (option_map (λ path. path.now) order.log) []
+named NoLog order = unwrap_or (option_map (λ path. path.now) order.words.log) []
+named NoOutput order = unwrap_or (option_map (λ path. path.now) order.words.output) []
 
 -- that is told behind the warnings
 abbrev pub unserved : Obstacle → Order → Ending
@@ -150,7 +153,7 @@ IsNextOf cause a next = (cause ≡ Stopped) × IsOrderOf a next
 -- files are read anew
 abbrev pub IsFollowed : Order → Sink → Sink → Order → Type 0
 IsFollowed order err-old err-new next =
-    IsServedBehind order err-old err-new 0 × IsOrderOf (words_in order) next
+    IsServedBehind order err-old err-new 0 × IsOrderOf (asked_run order.words) next
 
 -- An order comes behind others, the last of them first: each was followed by the one after it. The
 -- first of all is this one, with these two outputs.

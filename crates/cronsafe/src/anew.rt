@@ -1,30 +1,34 @@
 //! Reading a daemon's files anew.
-ghost use Rattle.std.specs.Prelude.{◌≡◌, IfOk, false};
+ghost use Rattle.std.specs.Prelude.{◌≡◌, ◌++◌, IfOk, false};
 ghost use Rattle.cs_args.specs.Asked.{asked_run};
 ghost use Rattle.cs_cli.specs.Answer.{is_of_gathered};
 ghost use Rattle.cs_files.specs.Response.{status_of};
-ghost use Rattle.cronsafe.specs.Anew.{IsOrderOf, words_in};
+ghost use Rattle.cs_cert.specs.Certificate.{content};
+ghost use Rattle.cs_check.specs.Checked.{plan_in};
+ghost use Rattle.cs_report.specs.Warning.{plan_notes};
+ghost use Rattle.cronsafe.specs.Anew.{IsOrderOf, IsTaken, rejected_status, rejected_text};
 
 use cs_args::{CheckWords, RunWords};
-use cs_cert::{Certificate, MAX_CERTIFICATE, read_certificate};
+use cs_cert::Certificate;
 use cs_check::{CheckError, Checked, check};
 use cs_civil::Bytes;
-use cs_cli::Order;
+use cs_cli::{Order, certificate_from};
 use cs_decl::Plan;
-use cs_files::{Fault, Response, Status, bytes_at, declared_plan_from, read_tables, text_behind};
+use cs_files::{Fault, Response, Status, declared_plan_from, read_tables, text_behind};
 use cs_gather::is_gathered;
 use cs_io::Machine;
 use cs_report::{fault_text, plan_notes, warnings};
 use std::alloc::{AllocError, Global};
 use std::fs::OpenOptions;
-use std::io;
 use std::rt::Files;
+use std::{fs, io};
 
-/// A plan that the checker has accepted, and what is to be warned of.
+/// A plan that the checker has accepted, what is to be warned of, and the SHA-256 of its certificate.
 #[derive(Drop)]
 pub(crate) struct Accepted {
     checked: Checked,
     warnings: Bytes,
+    digest: [u8; 32],
     ghost own: { is_of_gathered checked ≡ false },
 }
 
@@ -35,8 +39,12 @@ pub(crate) enum Rejection {
     Answered(Response),
     /// One of them is standard input.
     StandardInput,
+    /// One of them is a pipe, a device or a folder.
+    NoFile,
     /// The log can't be opened.
     NoLog,
+    /// The folder for what jobs print isn't there.
+    NoOutput,
     /// Memory ran out.
     NoMemory,
 }
@@ -49,17 +57,23 @@ impl From<AllocError> for Rejection {
 
 impl Rejection {
     /// The status of `reload` then.
-    pub(crate) fn status(&self) -> Status {
+    pub(crate) fn status(&self) -> Status
+        ensures { status_of result ≡ rejected_status self.now }
+    {
         match self {
             Rejection::Answered(response) => response.status(),
             Rejection::StandardInput => Status::DeviceFailed,
+            Rejection::NoFile => Status::DeviceFailed,
             Rejection::NoLog => Status::DeviceFailed,
+            Rejection::NoOutput => Status::DeviceFailed,
             Rejection::NoMemory => Status::NoMemory,
         }
     }
 
     /// What is told then, one text behind another.
-    pub(crate) fn texts(&self) -> (&[u8], &[u8]) {
+    pub(crate) fn texts(&self) -> (&[u8], &[u8])
+        ensures { result.0.now ++ result.1.now ≡ rejected_text self.now }
+    {
         match self {
             Rejection::Answered(response) => (response.err(), response.out()),
             Rejection::StandardInput => {
@@ -68,27 +82,22 @@ impl Rejection {
                     b"".as_slice(),
                 )
             }
+            Rejection::NoFile => {
+                (
+                    b"cronsafe: can't read a pipe, a device or a folder again\n".as_slice(),
+                    b"".as_slice(),
+                )
+            }
             Rejection::NoLog => (
                 b"cronsafe: can't write the log\n".as_slice(),
                 b"".as_slice(),
             ),
+            Rejection::NoOutput => (
+                b"cronsafe: no folder for the output of jobs\n".as_slice(),
+                b"".as_slice(),
+            ),
             Rejection::NoMemory => (b"cronsafe: out of memory\n".as_slice(), b"".as_slice()),
         }
-    }
-}
-
-/// The words with which `run` was asked what is ordered.
-pub(crate) fn words_of<'a>(order: &Order<'a>) -> RunWords<'a>
-    ensures { asked_run result ≡ words_in order.now }
-{
-    RunWords {
-        check: order.files,
-        stamps: order.stamps,
-        minutes: order.minutes,
-        log: order.log,
-        home: order.home,
-        on_overrun: order.on_overrun,
-        on_failure: order.on_failure,
     }
 }
 
@@ -97,6 +106,26 @@ fn reads_standard(words: &RunWords<'_>) -> bool {
     let files = &words.check;
     [files.table, files.declarations, files.certificate].contains(&"-")
         || files.anacrontab == Some("-")
+}
+
+/// Whether what is at a path is no file. A pipe would hold the daemon up.
+fn is_no_file<R: Files>(rt: &R, path: &str) -> bool {
+    match fs::metadata(rt, path) {
+        Ok(found) => !found.is_file(),
+        Err(_) => false,
+    }
+}
+
+/// Whether a daemon's files aren't all files, as far as they are there.
+fn has_no_files<R: Files>(rt: &R, words: &RunWords<'_>) -> bool {
+    let files = &words.check;
+    is_no_file(rt, files.table)
+        || is_no_file(rt, files.declarations)
+        || is_no_file(rt, files.certificate)
+        || match files.anacrontab {
+            Some(path) => is_no_file(rt, path),
+            None => false,
+        }
 }
 
 /// Opens a log, at whose end is written.
@@ -112,8 +141,28 @@ fn has_log<R: Files>(rt: &R, log: Option<&str>) -> bool {
     }
 }
 
+/// Whether the folder for what jobs print is there, if there is to be one.
+pub(crate) fn has_output<R: Files>(rt: &R, output: Option<&str>) -> bool {
+    let Some(path) = output else {
+        return true;
+    };
+    match fs::metadata(rt, path) {
+        Ok(found) => found.is_dir(),
+        Err(_) => false,
+    }
+}
+
 /// The plan that was checked, unless it was gathered, and what is to be warned of.
-fn accept(alloc: Global, checked: Checked, warnings: Bytes) -> Result<Accepted, Rejection> {
+fn accept(
+    alloc: Global,
+    checked: Checked,
+    warnings: Bytes,
+    digest: [u8; 32],
+) -> Result<Accepted, Rejection>
+    ensures { IfOk result (λ accepted. (accepted.checked ≡ checked)
+        × (accepted.warnings ≡ warnings ++ plan_notes (plan_in checked))
+        × (accepted.digest ≡ digest)) }
+{
     if is_gathered(checked.plan().crontab().settings()) {
         let fault = b"crontab: GatheredTable: run can't start commands as other users".as_slice();
         let told = Response::fault(alloc, Status::BadInput, b"".as_slice(), fault)?;
@@ -121,22 +170,30 @@ fn accept(alloc: Global, checked: Checked, warnings: Bytes) -> Result<Accepted, 
     }
     let notes = plan_notes(alloc, checked.plan())?;
     match text_behind(warnings, notes.as_slice()) {
-        Ok(warnings) => Ok(Accepted { checked, warnings }),
+        Ok(warnings) => Ok(Accepted {
+            checked,
+            warnings,
+            digest,
+        }),
         Err(_) => Err(Rejection::NoMemory),
     }
 }
 
 /// What the checker rules of a plan and a certificate.
-fn rule(
-    alloc: Global,
-    plan: &Plan,
-    certificate: Certificate,
-    warnings: Bytes,
-) -> Result<Accepted, Rejection> {
-    match check(alloc, plan, certificate) {
-        Ok(checked) => accept(alloc, checked, warnings),
+fn rule(alloc: Global, read: Read) -> Result<Accepted, Rejection>
+    ensures { IfOk result (λ accepted. IsTaken read.plan (content read.certificate) read.digest
+        read.warnings accepted.checked accepted.digest accepted.warnings) }
+{
+    let Read {
+        plan,
+        certificate,
+        warnings,
+        digest,
+    } = read;
+    match check(alloc, &plan, certificate) {
+        Ok(checked) => accept(alloc, checked, warnings, digest),
         Err(CheckError::Fault(fault)) => {
-            let mut text = fault_text(alloc, plan, &fault)?.into_vec();
+            let mut text = fault_text(alloc, &plan, &fault)?.into_vec();
             text.extend_from_slice(b"\n")?;
             Err(Rejection::Answered(Response::refused(text, Bytes::new(alloc))))
         }
@@ -144,22 +201,33 @@ fn rule(
     }
 }
 
-/// The plan and the certificate that files hold, and what is to be warned of.
+/// What files hold: a plan and a certificate, what is to be warned of, and the SHA-256 of the
+/// certificate.
+#[derive(Drop)]
+struct Read {
+    plan: Plan,
+    certificate: Certificate,
+    warnings: Bytes,
+    digest: [u8; 32],
+}
+
+/// Reads a plan and a certificate.
 fn read_files<'a, R: Files + Input>(
     rt: &R,
     alloc: Global,
     files: &CheckWords<'a>,
-) -> Result<(Plan, Certificate, Bytes), Fault<'a>> {
+) -> Result<Read, Fault<'a>> {
     let mut inputs = Machine::new(rt);
     let (table, jobs) = read_tables(alloc, &mut inputs, files.table, files.anacrontab)?;
     let warnings = warnings(alloc, &table, &jobs)?;
     let plan = declared_plan_from(alloc, &mut inputs, files.declarations, table, jobs)?;
-    let limit = MAX_CERTIFICATE as u32;
-    let bytes = bytes_at(alloc, &mut inputs, files.certificate, limit)?;
-    match read_certificate(alloc, bytes.as_slice()) {
-        Ok(certificate) => Ok((plan, certificate, warnings)),
-        Err(error) => Err(Fault::Certificate(error)),
-    }
+    let (certificate, digest) = certificate_from(alloc, &mut inputs, files.certificate)?;
+    Ok(Read {
+        plan,
+        certificate,
+        warnings,
+        digest,
+    })
 }
 
 /// Reads the files of these words anew, and checks them, with one thread.
@@ -171,31 +239,41 @@ pub(crate) fn read_anew<R: Files + Input>(
     if reads_standard(words) {
         return Err(Rejection::StandardInput);
     }
+    if has_no_files(rt, words) {
+        return Err(Rejection::NoFile);
+    }
     if !has_log(rt, words.log) {
         return Err(Rejection::NoLog);
     }
+    if !has_output(rt, words.output) {
+        return Err(Rejection::NoOutput);
+    }
     match read_files(rt, alloc, &words.check) {
-        Ok((plan, certificate, warnings)) => rule(alloc, &plan, certificate, warnings),
+        Ok(read) => rule(alloc, read),
         Err(fault) => Err(Rejection::Answered(fault.response(alloc, b"".as_slice())?)),
     }
 }
 
 impl Accepted {
+    /// What is to be warned of, and behind it the notes on the plan.
+    pub(crate) fn warnings(&self) -> &[u8]
+        ensures { result.now ≡ self.now.warnings }
+    {
+        self.warnings.as_slice()
+    }
+
     /// What these words of `run` order of it.
-    pub(crate) fn order<'a>(self, words: &RunWords<'a>) -> Order<'a>
-        ensures { IsOrderOf (asked_run words.entry.now) result }
+    pub(crate) fn order<'a>(self, words: RunWords<'a>) -> Order<'a>
+        ensures of { IsOrderOf (asked_run words.entry) result }
+        ensures taken { (result.checked ≡ self.checked) × (result.warnings ≡ self.warnings)
+            × (result.digest ≡ self.digest) }
     {
         self.checked.is_safe();
         Order {
             checked: self.checked,
             warnings: self.warnings,
-            files: words.check,
-            stamps: words.stamps,
-            minutes: words.minutes,
-            log: words.log,
-            home: words.home,
-            on_overrun: words.on_overrun,
-            on_failure: words.on_failure,
+            words,
+            digest: self.digest,
         }
     }
 }

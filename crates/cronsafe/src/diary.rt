@@ -3,20 +3,22 @@ use cs_args::version_text;
 use cs_civil::{Minute, date_text};
 use cs_cli::Order;
 use cs_daemon::Cause;
-use cs_machine::{ClockBack, HookCall, JobNote, RunLog, Setup, ToldFile};
+use cs_machine::{ClockBack, HookCall, JobNote, Remarks, RunLog, Setup, ToldFile, push_hex};
+use cs_table::Setting;
 use std::alloc::Global;
 use std::io;
 use std::io::Write;
 use std::rt::{Clock, Files};
 use std::sync::{Mutex, Wait};
 
-/// A hand that writes to a log to which others write too, and keeps the file of the state that the log
-/// tells.
+/// A hand that writes to a log to which others write too, with what runners have left for it, and
+/// keeps the file of the state that the log tells.
 #[derive(Drop)]
 pub(crate) struct Hand<'a, 'r, R, W> {
     rt: &'a R,
     log: &'a Mutex<RunLog<'r, R, W>>,
     file: &'a ToldFile<'a>,
+    remarks: &'a Remarks,
 }
 
 impl<'a, 'r, R, W> Hand<'a, 'r, R, W> {
@@ -24,18 +26,33 @@ impl<'a, 'r, R, W> Hand<'a, 'r, R, W> {
         rt: &'a R,
         log: &'a Mutex<RunLog<'r, R, W>>,
         file: &'a ToldFile<'a>,
+        remarks: &'a Remarks,
     ) -> Hand<'a, 'r, R, W> {
-        Hand { rt, log, file }
+        Hand {
+            rt,
+            log,
+            file,
+            remarks,
+        }
     }
 }
 
-impl<'a, 'r, R: Clock + Files + Wait, W: Write> Hand<'a, 'r, R, W> {
+impl<'a, 'r, R: Clock + Wait, W: Write> Hand<'a, 'r, R, W> {
     /// Writes a line of its own, given without its newline, if the log has times. What it doesn't take
     /// is lost.
     pub(crate) fn note(&mut self, line: &[u8]) {
         let _ = self.log.lock(self.rt).note(line);
     }
 
+    /// Writes what runners have left for the log so.
+    pub(crate) fn note_remarks(&mut self) {
+        for remark in self.remarks.take(self.rt) {
+            self.note(remark.as_slice());
+        }
+    }
+}
+
+impl<'a, 'r, R: Clock + Files + Wait, W: Write> Hand<'a, 'r, R, W> {
     /// Writes each line of a text so, but empty ones.
     pub(crate) fn note_lines(&mut self, text: &[u8]) {
         for line in text.split(|byte| *byte == b'\n') {
@@ -68,6 +85,8 @@ impl<'a, 'r, R: Clock + Files + Wait, W: Write> Hand<'a, 'r, R, W> {
 
 impl<'a, 'r, R: Clock + Wait + Sync, W: Write + Send> Write for Hand<'a, 'r, R, W> {
     fn write(&mut self, line: &[u8]) -> io::Result<usize> {
+        // first why, as the line may tell that a run isn't started
+        self.note_remarks();
         self.log.lock(self.rt).write(line)
     }
 
@@ -84,23 +103,27 @@ fn version() -> &'static str {
 
 /// What a daemon is begun with.
 pub(crate) fn setup_of<'a>(order: &Order<'a>, jobs: &'a [JobNote]) -> Setup<'a> {
-    let files = &order.files;
+    let words = &order.words;
+    let files = &words.check;
     Setup {
         version: version(),
         table: files.table,
         declarations: files.declarations,
         certificate: files.certificate,
+        digest: order.digest,
         anacrontab: files.anacrontab,
         capacity: u64::from(order.checked.plan().capacity()),
+        offset: order.checked.plan().offset(),
         jobs,
-        has_hooks: order.on_overrun.is_some() || order.on_failure.is_some(),
+        has_hooks: words.on_overrun.is_some() || words.on_failure.is_some(),
     }
 }
 
 /// What a log begins with: the files of the tables, and how much may run at once.
-pub(crate) fn opening(alloc: Global, order: &Order<'_>) -> io::Result<Vec<u8>> {
+fn opening(alloc: Global, order: &Order<'_>) -> io::Result<Vec<u8>> {
     let mut line = Vec::new(alloc);
-    let files = &order.files;
+    let words = &order.words;
+    let files = &words.check;
     write!(
         line,
         "running {} with {} and {}",
@@ -110,8 +133,60 @@ pub(crate) fn opening(alloc: Global, order: &Order<'_>) -> io::Result<Vec<u8>> {
         write!(line, " and {path}")?;
     }
     let capacity = order.checked.plan().capacity();
-    write!(line, ", stamps in {}, capacity {capacity}", order.stamps)?;
+    write!(line, ", stamps in {}, capacity {capacity}", words.stamps)?;
+    if let Some(folder) = words.output {
+        write!(line, ", output in {folder}")?;
+    }
     Ok(line)
+}
+
+/// The SHA-256 of the certificate, by which it is told apart from another.
+fn digest_line(alloc: Global, digest: &[u8]) -> io::Result<Vec<u8>> {
+    let mut line = Vec::new(alloc);
+    line.write_all(b"certificate sha256 ")?;
+    push_hex(&mut line, digest)?;
+    Ok(line)
+}
+
+/// Whether cron would heed a setting by mailing what jobs print.
+fn is_mail(setting: &Setting) -> bool {
+    setting.name() == b"MAILTO".as_slice() && !setting.value().is_empty()
+}
+
+/// That such a setting has no effect.
+fn mail_line(alloc: Global, setting: &Setting, table: &str) -> io::Result<Vec<u8>> {
+    let mut line = Vec::new(alloc);
+    let number = setting.number();
+    write!(line, "MAILTO on line {number} of the {table} has no effect")?;
+    Ok(line)
+}
+
+impl<'a, 'r, R: Clock + Files + Wait, W: Write> Hand<'a, 'r, R, W> {
+    /// Notes a line, if there was memory for it.
+    fn note_made(&mut self, line: io::Result<Vec<u8>>) {
+        if let Ok(line) = line {
+            self.note(line.as_slice());
+        }
+    }
+
+    /// Notes which settings of a table would send mail by cron.
+    fn note_mail(&mut self, alloc: Global, settings: &[Setting], table: &str) {
+        for setting in settings {
+            if is_mail(setting) {
+                self.note_made(mail_line(alloc, setting, table));
+            }
+        }
+    }
+
+    /// Notes what a daemon begins with: its files, its certificate, and the settings that have no
+    /// effect.
+    pub(crate) fn note_opening(&mut self, alloc: Global, order: &Order<'_>) {
+        self.note_made(opening(alloc, order));
+        self.note_made(digest_line(alloc, &order.digest));
+        let plan = order.checked.plan();
+        self.note_mail(alloc, plan.crontab().settings(), "crontab");
+        self.note_mail(alloc, plan.anacrontab().settings(), "anacrontab");
+    }
 }
 
 /// What a log ends with: why its daemon has ended.

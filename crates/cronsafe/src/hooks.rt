@@ -1,23 +1,30 @@
 //! Commands of the operator's that are started at what happens to a run.
+ghost use Rattle.std.specs.Prelude.{◌≡◌, IfOk, map, option_map};
+ghost use Rattle.cs_args.specs.Asked.{asked_run};
+ghost use Rattle.cronsafe.specs.Hooks.{hook_command, hook_line, hook_variables};
+
 use crate::diary::Hand;
 use cs_args::RunWords;
-use cs_machine::{HookCall, call_hook};
-use std::alloc::Global;
-use std::io;
+use cs_machine::{HookCall, Remarks, call_hook};
+use std::alloc::{AllocError, Global};
 use std::io::{Stderr, Stdout, Write};
 use std::process::Processes;
 use std::rt::{Clock, Files};
 use std::sync::Wait;
 
-/// The daemon's own standard output and standard error.
+/// The daemon's own standard output and standard error, and where its runners leave what the log is
+/// to tell.
 #[derive(Clone, Copy)]
-pub(crate) struct Streams {
+pub(crate) struct Streams<'a> {
     pub(crate) out: Stdout,
     pub(crate) err: Stderr,
+    pub(crate) remarks: &'a Remarks,
 }
 
 /// The variables of a call.
-fn variables_of(call: &HookCall) -> [(&str, &[u8]); 3] {
+fn variables_of(call: &HookCall) -> [(&str, &[u8]); 3]
+    ensures { map (λ v. (v.0.now, v.1.now)) result ≡ hook_variables call.now }
+{
     match call {
         HookCall::Overrun { run, peers } => [
             ("CRONSAFE_EVENT", b"overrun".as_slice()),
@@ -33,7 +40,10 @@ fn variables_of(call: &HookCall) -> [(&str, &[u8]); 3] {
 }
 
 /// The command for a call, if there is one.
-fn command_for<'a>(words: &RunWords<'a>, call: &HookCall) -> Option<&'a str> {
+fn command_for<'a>(words: &RunWords<'a>, call: &HookCall) -> Option<&'a str>
+    ensures { option_map (λ command. command.now) result
+        ≡ hook_command (asked_run words.now) call.now }
+{
     match call {
         HookCall::Overrun { .. } => words.on_overrun,
         HookCall::Failure { .. } => words.on_failure,
@@ -41,14 +51,16 @@ fn command_for<'a>(words: &RunWords<'a>, call: &HookCall) -> Option<&'a str> {
 }
 
 /// What the log says of a command that is started, or can't be.
-fn hook_line(alloc: Global, command: &str, is_started: bool) -> io::Result<Vec<u8>> {
-    let mut line = Vec::new(alloc);
-    line.write_all(if is_started {
-        b"outside of the plan: started ".as_slice()
+fn hook_line(alloc: Global, command: &str, is_started: bool) -> Result<Vec<u8>, AllocError>
+    ensures { IfOk result (λ line. line.items ≡ hook_line command.now is_started) }
+{
+    let mut line = Vec::from_slice(alloc, b"outside of the plan: ".as_slice())?;
+    line.extend_from_slice(if is_started {
+        b"started ".as_slice()
     } else {
-        b"outside of the plan: can't start "
+        b"can't start ".as_slice()
     })?;
-    line.write_all(command.as_bytes())?;
+    line.extend_from_slice(command.as_bytes())?;
     Ok(line)
 }
 
@@ -57,7 +69,7 @@ pub(crate) fn call_hooks<R: Files + Clock + Wait + Processes, W: Write>(
     rt: &R,
     alloc: Global,
     words: &RunWords<'_>,
-    streams: Streams,
+    streams: Streams<'_>,
     hand: &mut Hand<'_, '_, R, W>,
 ) {
     for call in hand.take_calls() {

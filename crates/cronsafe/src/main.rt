@@ -23,9 +23,42 @@ mod watch;
 use crate::hooks::Streams;
 use crate::program::run_program;
 use cs_io::Printer;
-use cs_machine::{Home, ShellRunner, hold_streams};
+use cs_machine::{Home, Remarks, RunnerSetup, ShellRunner, hold_streams};
+use std::alloc::Global;
+use std::fs::File;
 use std::io::IsTerminal;
-use std::process::ExitCode;
+use std::process::{ExitCode, Processes};
+use std::rt::Files;
+use std::sync::Wait;
+
+/// What runners are made with, whatever their words: the machine, and where they tell something.
+#[derive(Drop)]
+struct Ground<'x, R> {
+    rt: &'x R,
+    alloc: Global,
+    streams: Streams<'x>,
+}
+
+impl<'x, R: Processes + Files<File = File> + Wait> Ground<'x, R> {
+    /// Returns a runner.
+    fn runner(&self, setup: RunnerSetup) -> ShellRunner<'x, R> {
+        let home = if setup.has_home {
+            Home::of_process(self.rt, self.alloc)
+        } else {
+            None
+        };
+        ShellRunner::new(
+            self.rt,
+            self.alloc,
+            self.streams.out,
+            self.streams.err,
+            self.streams.remarks,
+            home,
+            setup.tells_signals,
+            setup.output,
+        )
+    }
+}
 
 fn main(rt: HostRuntime) -> ExitCode {
     // before anything else is opened
@@ -34,22 +67,23 @@ fn main(rt: HostRuntime) -> ExitCode {
     let mut out = Printer::new(rt.stdout());
     let mut err = Printer::new(rt.stderr());
     let alloc = rt.alloc();
+    let remarks = Remarks::new(alloc);
+    let streams = Streams {
+        out: rt.stdout(),
+        err: rt.stderr(),
+        remarks: &remarks,
+    };
+    let ground = Ground {
+        rt: &rt,
+        alloc,
+        streams,
+    };
     run_program(
         &rt,
         is_watched,
-        Streams {
-            out: rt.stdout(),
-            err: rt.stderr(),
-        },
+        streams,
         &mut out,
         &mut err,
-        |has_home| {
-            let home = if has_home {
-                Home::of_process(&rt, alloc)
-            } else {
-                None
-            };
-            ShellRunner::new(&rt, alloc, rt.stdout(), rt.stderr(), home)
-        },
+        |setup| ground.runner(setup),
     )
 }

@@ -20,6 +20,8 @@ pub(crate) enum Obstacle {
     NoHome,
     /// The log can't be opened.
     NoLog,
+    /// There is no such folder for what jobs print.
+    NoOutput,
 }
 
 impl Obstacle {
@@ -41,6 +43,7 @@ impl Obstacle {
             Obstacle::RequestStays => "can't remove old requests from ",
             Obstacle::NoHome => "no home folder, the user of this process isn't in ",
             Obstacle::NoLog => "can't write ",
+            Obstacle::NoOutput => "no folder ",
         }
     }
 
@@ -49,9 +52,10 @@ impl Obstacle {
         ensures { result.now ≡ named self order.now }
     {
         match self {
-            Obstacle::NoLog => order.log.unwrap_or(""),
+            Obstacle::NoLog => order.words.log.unwrap_or(""),
+            Obstacle::NoOutput => order.words.output.unwrap_or(""),
             Obstacle::NoHome => "/etc/passwd",
-            _ => order.stamps,
+            _ => order.words.stamps,
         }
     }
 }

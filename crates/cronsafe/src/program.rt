@@ -8,6 +8,7 @@ use cs_daemon::Cause;
 use cs_device::Runner;
 use cs_files::Status;
 use cs_io::{Machine, Output};
+use cs_machine::RunnerSetup;
 use jiff_core::Timestamp;
 use std::alloc::Global;
 use std::fs::File;
@@ -64,15 +65,21 @@ fn time_for<R: Clock + Env + Files + AllocGlobal>(rt: &R, words: &[String]) -> O
 }
 
 /// Runs the program on the machine's words, files and clock, with these two outputs, the second of
-/// which someone may watch. Commands are run by runners that `new_runner` makes,
-/// with the user's home folder or without.
+/// which someone may watch. Commands are run by runners that `new_runner` makes.
 pub(crate) fn run_program<
     R: Files<File = File> + Input + Env + Clock + AllocGlobal + Threads + Wait + Sync + Processes,
     O: Output + Write + Send,
     E: Output,
     W: Runner + Send + Drop,
-    F: Fn(bool) -> W + Drop,
->(rt: &R, is_watched: bool, streams: Streams, out: &mut O, err: &mut E, new_runner: F) -> ExitCode
+    F: Fn(RunnerSetup) -> W + Drop,
+>(
+    rt: &R,
+    is_watched: bool,
+    streams: Streams<'_>,
+    out: &mut O,
+    err: &mut E,
+    new_runner: F,
+) -> ExitCode
     requires { F.IsAlwaysCallable new_runner }
 {
     let alloc = rt.alloc();

@@ -1,9 +1,9 @@
 //! Asking the daemon of a folder of stamps to read its files anew.
-ghost use Rattle.std.specs.Prelude.{◌≡◌, IfOk};
+ghost use Rattle.std.specs.Prelude.{◌≡◌, IfOk, MatchResult};
 ghost use Rattle.cs_files.specs.Response.{status_of};
-ghost use Rattle.cronsafe.specs.Asking.{MayTell};
+ghost use Rattle.cronsafe.specs.Asking.{MayTell, refused};
 ghost use Rattle.cronsafe.specs.Ending.{sink};
-ghost use Rattle.cronsafe.specs.Reloading.{IsOutcome, Reloads, answer_awaited};
+ghost use Rattle.cronsafe.specs.Reloading.{IsOutcome, IsToldOf, Reloads, answer_awaited};
 
 use crate::asking::{Absence, Refusal, find_daemon, wait_for};
 use crate::ending::{finish, run_out};
@@ -39,14 +39,17 @@ fn look<R: Files<File = File>>(
     folder: &str,
     request: &RequestFile,
 ) -> Option<Result<(), Refusal>> {
+    // a daemon that has answered may have ended by now
+    if !request.is_there(rt) {
+        return Some(Ok(()));
+    }
     match FolderLock::take(rt, folder) {
         Ok(_lock) => {
             let _ = request.remove(rt);
             Some(Err(Refusal::NoneToAsk(Absence::NoDaemon)))
         }
         Err(LockFault::Failed) => Some(Err(Refusal::NoneToAsk(Absence::Unlocked))),
-        Err(LockFault::InUse) if request.is_there(rt) => None,
-        Err(LockFault::InUse) => Some(Ok(())),
+        Err(LockFault::InUse) => None,
     }
 }
 
@@ -81,7 +84,7 @@ fn ask_and_wait<R: Files<File = File> + Clock + Wait, E: Output>(
 
 /// What is told of a daemon's answer.
 fn response_to(alloc: Global, folder: &str, text: &[u8]) -> Result<Response, AllocError>
-    ensures { IfOk result (IsOutcome folder.now) }
+    ensures { IfOk result (IsToldOf folder.now text.now) }
 {
     let Some(reply) = read_reply(text) else {
         return Refusal::Unanswered.response(alloc, folder);
@@ -96,7 +99,9 @@ fn response_of(
     folder: &str,
     answer: Result<Vec<u8>, Refusal>,
 ) -> Result<Response, AllocError>
-    ensures { IfOk result (IsOutcome folder.now) }
+    ensures told { MatchResult answer (λ text. IfOk result (IsToldOf folder.now text.items))
+        (λ refusal. IfOk result (λ r. r ≡ refused refusal folder.now)) }
+    ensures outcome { IfOk result (IsOutcome folder.now) }
 {
     match answer {
         Ok(text) => response_to(alloc, folder, text.as_slice()),

@@ -18,6 +18,7 @@ use cs_cli::Answer;
 use cs_device::Runner;
 use cs_files::Status;
 use cs_io::{Folders, Output};
+use cs_machine::RunnerSetup;
 use std::alloc::Global;
 use std::convert::AsStr;
 use std::fs::File;
@@ -33,12 +34,12 @@ fn carry_out<
     O: Output + Write + Send,
     E: Output,
     W: Runner + Send + Drop,
-    F: Fn(bool) -> W + Drop,
+    F: Fn(RunnerSetup) -> W + Drop,
 >(
     rt: &R,
     alloc: Global,
     answer: Answer<'_>,
-    streams: Streams,
+    streams: Streams<'_>,
     out: &mut O,
     err: &mut E,
     new_runner: F,
@@ -68,7 +69,7 @@ fn carry_out<
 /// folder of stamps, or a clock that can't be read or goes back.
 ///
 /// The words of `run` come back when the run has ended, and its log is written to standard output. Its
-/// commands are run by runners that `new_runner` makes, with the user's home folder or without. A draft tells the offset of clocks, and `lint`
+/// commands are run by runners that `new_runner` makes. A draft tells the offset of clocks, and `lint`
 /// the changes of a time zone's clocks after the instant.
 pub(crate) fn run_words<
     R: Threads + Wait + Sync + Files<File = File> + Input + Clock + Processes,
@@ -77,14 +78,14 @@ pub(crate) fn run_words<
     O: Output + Write + Send,
     E: Output,
     W: Runner + Send + Drop,
-    F: Fn(bool) -> W + Drop,
+    F: Fn(RunnerSetup) -> W + Drop,
 >(
     rt: &R,
     alloc: Global,
     words: &[S],
     now: Now,
     inputs: &mut I,
-    streams: Streams,
+    streams: Streams<'_>,
     out: &mut O,
     err: &mut E,
     new_runner: F,

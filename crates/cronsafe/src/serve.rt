@@ -4,12 +4,11 @@ ghost use Rattle.cs_check.specs.Checked.{plan_in};
 ghost use Rattle.cs_files.specs.Response.{status_of};
 ghost use Rattle.cronsafe.specs.Ending.{sink};
 ghost use Rattle.cs_args.specs.Asked.{asked_run};
-ghost use Rattle.cronsafe.specs.Anew.{words_in};
 ghost use Rattle.cronsafe.specs.Serve.{IsFollowed, IsNextOf, IsServedBehind, IsServedBy, Refuses};
 ghost use Rattle.cronsafe.specs.Serve.{RunsOutBehind, Serves, ServesOne, cause_status, farewell};
 
-use crate::anew::{Accepted, open_log, words_of};
-use crate::diary::{Hand, closing, gap_line, opening, setup_of};
+use crate::anew::{Accepted, has_output, open_log};
+use crate::diary::{Hand, closing, gap_line, setup_of};
 use crate::ending::{finish, run_out, tell};
 use crate::hooks::{Streams, call_hooks};
 use crate::notes::notes_of;
@@ -24,7 +23,8 @@ use cs_files::Status;
 use cs_history::Run;
 use cs_io::Output;
 use cs_machine::{
-    FolderLock, Home, JobNote, LockFault, MachineClock, RunLog, StampsFolder, runners_by,
+    FolderLock, Home, JobNote, LockFault, MachineClock, RunLog, RunnerSetup, RunnerWords,
+    StampsFolder, runners_by,
 };
 use std::alloc::{AllocError, Global};
 use std::fs::File;
@@ -187,7 +187,7 @@ fn next_of<'a, R: Clock>(
 {
     match (cause, accepted) {
         (Cause::Stopped, Some(accepted)) => {
-            let order = accepted.order(words);
+            let order = accepted.order(*words);
             Some(Next { order, clock })
         }
         _ => None,
@@ -210,7 +210,7 @@ fn serve_on<
     words: RunWords<'w>,
     clock: MachineClock<'w, R, Idle>,
     jobs: &'x [JobNote],
-    streams: Streams,
+    streams: Streams<'x>,
     files: &'x DaemonFiles<'x>,
     stamps: &mut StampsFolder<'_, '_, R>,
     runners: Vec<W>,
@@ -218,7 +218,7 @@ fn serve_on<
     is_timed: bool,
     err: &mut E,
 ) -> (Status, Option<Next<'w, R>>)
-    requires words { asked_run words ≡ words_in order }
+    requires words { asked_run words ≡ asked_run order.words }
     requires runners { vec_len runners ≡ (plan_in order.checked).capacity }
     requires fresh { stamps.old.failures ≡ 0 }
     ensures served { IsServedBehind order.entry
@@ -233,10 +233,8 @@ fn serve_on<
     tell(err, order.warnings.as_slice());
     let setup = setup_of(&order, jobs);
     let log = Mutex::new(RunLog::new(rt, alloc, &mut *log, is_timed, setup));
-    let mut hand = Hand::new(rt, &log, &files.state);
-    if let Ok(line) = opening(alloc, &order) {
-        hand.note(line.as_slice());
-    }
+    let mut hand = Hand::new(rt, &log, &files.state, streams.remarks);
+    hand.note_opening(alloc, &order);
     hand.keep_state();
     let watch = Watch::new(
         rt,
@@ -244,7 +242,7 @@ fn serve_on<
         files,
         words,
         streams,
-        Hand::new(rt, &log, &files.state),
+        Hand::new(rt, &log, &files.state, streams.remarks),
     );
     let (mut clock, _) = clock.resumed(order.checked.plan().offset(), watch);
     let (status, cause) = serve_by(
@@ -262,10 +260,23 @@ fn serve_on<
     let offset = clock.offset();
     let (mut clock, watch) = clock.resumed(offset, Idle);
     let accepted = watch.into_accepted();
-    if accepted.is_some() {
+    if cause == Cause::Stopped && accepted.is_some() {
         note_gap(alloc, &mut hand, &mut clock);
     }
     (status, next_of(cause, accepted, &words, clock))
+}
+
+/// How many files of each job are kept in the folder for what jobs print, where that isn't said.
+const KEPT: u64 = 30;
+
+/// What the runners are made with, by the words. A log without times doesn't tell signals.
+fn runner_words<'a>(words: &RunWords<'a>) -> RunnerWords<'a> {
+    RunnerWords {
+        has_home: words.home,
+        tells_signals: words.log.is_some(),
+        output: words.output,
+        keep: words.keep.unwrap_or(KEPT),
+    }
 }
 
 /// Runs one order until it ends. Without `--log` the log is written to standard output. A runner is
@@ -276,13 +287,13 @@ fn serve_one<
     O: Output + Write + Send,
     E: Output,
     W: Runner + Send + Drop,
-    F: Fn(bool) -> W + Drop,
+    F: Fn(RunnerSetup) -> W + Drop,
 >(
     rt: &'x R,
     alloc: Global,
     order: Order<'x>,
     clock: MachineClock<'x, R, Idle>,
-    streams: Streams,
+    streams: Streams<'x>,
     files: &DaemonFiles<'x>,
     stamps: &mut StampsFolder<'_, '_, R>,
     out: &mut O,
@@ -305,17 +316,13 @@ fn serve_one<
     let Ok(jobs) = notes_of(alloc, order.checked.plan()) else {
         return (run_out_unserved(&order, err), None);
     };
-    let Ok(runners) = runners_by(
-        alloc,
-        order.checked.plan().capacity(),
-        order.home,
-        new_runner,
-    ) else {
+    let words = order.words;
+    let number = order.checked.plan().capacity();
+    let Ok(runners) = runners_by(alloc, number, runner_words(&words), new_runner) else {
         return (run_out_unserved(&order, err), None);
     };
     let jobs = jobs.as_slice();
-    let words = words_of(&order);
-    match order.log {
+    match words.log {
         None => {
             serve_on(
                 rt, alloc, order, words, clock, jobs, streams, files, stamps, runners, out, false,
@@ -349,12 +356,12 @@ fn serve_in_turn<
     O: Output + Write + Send,
     E: Output,
     W: Runner + Send + Drop,
-    F: Fn(bool) -> W + Drop,
+    F: Fn(RunnerSetup) -> W + Drop,
 >(
     rt: &'x R,
     alloc: Global,
     order: Order<'x>,
-    streams: Streams,
+    streams: Streams<'x>,
     files: &DaemonFiles<'x>,
     stamps: &mut StampsFolder<'_, '_, R>,
     out: &mut O,
@@ -370,7 +377,7 @@ fn serve_in_turn<
         (status_of result) }
 {
     let offset = order.checked.plan().offset();
-    let mut clock = MachineClock::new(rt, offset, order.minutes, Idle);
+    let mut clock = MachineClock::new(rt, offset, order.words.minutes, Idle);
     let mut order = order;
     for _ in rt.forever() {
         let (status, next) = serve_one(
@@ -434,12 +441,12 @@ pub(crate) fn serve<
     O: Output + Write + Send,
     E: Output,
     W: Runner + Send + Drop,
-    F: Fn(bool) -> W + Drop,
+    F: Fn(RunnerSetup) -> W + Drop,
 >(
     rt: &R,
     alloc: Global,
     order: Order<'_>,
-    streams: Streams,
+    streams: Streams<'_>,
     out: &mut O,
     err: &mut E,
     new_runner: F,
@@ -452,13 +459,16 @@ pub(crate) fn serve<
         (sink (E.contents err.new) (E.failed err.new))
         (status_of result) }
 {
-    let Ok(files) = DaemonFiles::of(alloc, order.stamps) else {
+    let Ok(files) = DaemonFiles::of(alloc, order.words.stamps) else {
         return run_out_unserved(&order, err);
     };
-    if order.home && Home::of_process(rt, alloc).is_none() {
+    if order.words.home && Home::of_process(rt, alloc).is_none() {
         return refuse(alloc, &order, Obstacle::NoHome, out, err);
     }
-    match enter(rt, alloc, order.stamps, &files) {
+    if !has_output(rt, order.words.output) {
+        return refuse(alloc, &order, Obstacle::NoOutput, out, err);
+    }
+    match enter(rt, alloc, order.words.stamps, &files) {
         Ok((mut stamps, _lock)) => {
             serve_in_turn(
                 rt,

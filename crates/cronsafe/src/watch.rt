@@ -42,14 +42,14 @@ impl<'f> DaemonFiles<'f> {
 }
 
 /// Looks for the files by which its daemon is asked, keeps the file of the daemon's state, calls hooks,
-/// and writes down what a clock tells.
+/// and writes down what runners and a clock tell.
 #[derive(Drop)]
 pub(crate) struct Watch<'a, 'r, R, W> {
     rt: &'a R,
     alloc: Global,
     files: &'a DaemonFiles<'a>,
     words: RunWords<'a>,
-    streams: Streams,
+    streams: Streams<'a>,
     hand: Hand<'a, 'r, R, W>,
     /// The file that asks for a reload stays, though it was answered.
     is_passed_over: bool,
@@ -62,7 +62,7 @@ impl<'a, 'r, R, W> Watch<'a, 'r, R, W> {
         alloc: Global,
         files: &'a DaemonFiles<'a>,
         words: RunWords<'a>,
-        streams: Streams,
+        streams: Streams<'a>,
         hand: Hand<'a, 'r, R, W>,
     ) -> Watch<'a, 'r, R, W> {
         Watch {
@@ -106,20 +106,22 @@ impl<'a, 'r, R: Files + Clock + Wait, W: Write> Watch<'a, 'r, R, W> {
 
     /// Answers who asked to reload. Whether that could be told.
     fn answer(&mut self, status: Status, first: &[u8], second: &[u8]) -> bool {
-        let is_told = match reply_text(self.alloc, status, first, second) {
-            Ok(text) => {
-                self.files.answer.replace(self.rt, text.as_slice()).is_ok()
-                    && self.files.reload.remove(self.rt).is_ok()
-            }
+        let is_written = match reply_text(self.alloc, status, first, second) {
+            Ok(text) => self.files.answer.replace(self.rt, text.as_slice()).is_ok(),
             Err(AllocError) => false,
         };
-        self.is_passed_over = !is_told;
-        is_told
+        // where the answer can't be written too, so that nobody waits for it for ever
+        let is_removed = self.files.reload.remove(self.rt).is_ok();
+        if !is_removed {
+            let _ = self.files.answer.remove(self.rt);
+        }
+        self.is_passed_over = !is_removed;
+        is_written && is_removed
     }
 
-    /// Takes an accepted plan, unless that can't be told.
+    /// Takes an accepted plan, and answers with what is to be warned of, unless that can't be told.
     fn take(&mut self, accepted: Accepted) -> bool {
-        if !self.answer(Status::Done, b"", b"") {
+        if !self.answer(Status::Done, accepted.warnings(), b"") {
             self.hand.note(b"can't answer, the old plan goes on");
             return false;
         }
@@ -162,6 +164,7 @@ impl<'a, 'r, R: Files + Input + Clock + Wait + Processes, W: Write> Attendant
         } else {
             false
         };
+        self.hand.note_remarks();
         call_hooks(
             self.rt,
             self.alloc,

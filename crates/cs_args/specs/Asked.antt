@@ -66,6 +66,8 @@ asked_run r = record {
   stamps = r.stamps.now;
   minutes = r.minutes;
   log = option_map (λ path. path.now) r.log;
+  output = option_map (λ path. path.now) r.output;
+  keep = r.keep;
   home = r.home;
   on_overrun = option_map (λ command. command.now) r.on_overrun;
   on_failure = option_map (λ command. command.now) r.on_failure;
@@ -172,8 +174,8 @@ AnswersFor view wanted (Err OutOfMemory) = ⊤
 abbrev pub NumberAsked : Option ℕ → Result ℕ UsageFault → Type 0
 NumberAsked = AnswersFor (λ n. n)
 
-abbrev pub MinutesAsked : Option (Option ℕ) → Result (Option ℕ) UsageFault → Type 0
-MinutesAsked = AnswersFor (λ n. n)
+abbrev pub OptionalNumberAsked : Option (Option ℕ) → Result (Option ℕ) UsageFault → Type 0
+OptionalNumberAsked = AnswersFor (λ n. n)
 
 -- and of the text of one that may be left out beside declarations
 abbrev pub MaxAsked : Option Text → Result (Bor Text) UsageFault → Type 0

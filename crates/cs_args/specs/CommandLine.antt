@@ -83,13 +83,19 @@ with_home_and_hooks app = with_rule
     (with_rule (with_rule app (flag_rule (codes "home"))) (option_rule (codes "on-overrun")))
     (option_rule (codes "on-failure"))
 
--- `run TABLE DECLS CERT STAMPS [--anacrontab FILE] [--minutes N] [--log FILE] [--home]
--- [--on-overrun COMMAND] [--on-failure COMMAND]`
+-- `[--log FILE] [--output FOLDER] [--keep N]`
+abbrev pub with_log_and_output : App → App
+with_log_and_output app = with_rule
+    (with_rule (with_rule app (option_rule (codes "log"))) (option_rule (codes "output")))
+    (option_rule (codes "keep"))
+
+-- `run TABLE DECLS CERT STAMPS [--anacrontab FILE] [--minutes N] [--log FILE] [--output FOLDER]
+-- [--keep N] [--home] [--on-overrun COMMAND] [--on-failure COMMAND]`
 unfoldable pub run_app : App
-run_app = with_home_and_hooks
-    (with_rule (with_rule (with_rule (with_rule (with_certificate (new_app (codes "run")))
+run_app = with_home_and_hooks (with_log_and_output
+    (with_rule (with_rule (with_rule (with_certificate (new_app (codes "run")))
     (required_rule (codes "STAMPS"))) (option_rule (codes "anacrontab")))
-    (option_rule (codes "minutes"))) (option_rule (codes "log")))
+    (option_rule (codes "minutes"))))
 
 -- `stop STAMPS [--now]`
 unfoldable pub stop_app : App
@@ -262,13 +268,17 @@ pub record AskedCheck : Type 0 where
   pub anacrontab : Option Text
 
 -- what `run` is asked: what `check` is, the path of a folder of stamps, after how many minutes the
--- clock stops, if it does, the path of a log, if there is one, whether commands run in their user's
--- home folder, and the commands to start at a run past its longest time and at one that fails
+-- clock stops, if it does, the paths of a log and of a folder for the output of the runs, if there
+-- are such, how many files of each job are kept there, if that is told, whether commands run in
+-- their user's home folder, and the commands to start at a run past its longest time and at one
+-- that fails
 pub record AskedRun : Type 0 where
   pub check : AskedCheck
   pub stamps : Text
   pub minutes : Option ℕ
   pub log : Option Text
+  pub output : Option Text
+  pub keep : Option ℕ
   pub home : Bool
   pub on_overrun : Option Text
   pub on_failure : Option Text
@@ -469,24 +479,42 @@ check_in rows =
     })
 
 -- the number of an option that may be left out
-abbrev pub minutes_of : Option Text → Option (Option ℕ)
-minutes_of None = Some None
-minutes_of (Some text) = option_map Some (number_of text)
+abbrev pub optional_number_of : Option Text → Option (Option ℕ)
+optional_number_of None = Some None
+optional_number_of (Some text) = option_map Some (number_of text)
 
--- what the entries of `run` ask: `--minutes` has to be a number where it is given, and standard
--- input is named once at most among the paths of `check`
+-- files are kept in a folder of output, so with one alone
+abbrev pub is_keep_alone : Option ℕ → Option Text → Bool
+is_keep_alone keep output = is_some keep && not (is_some output)
+
+-- how many files of each job are kept beside a folder of output: a number from 1 on, where it is
+-- given
+abbrev pub keep_beside : Option Text → Option Text → Option (Option ℕ)
+keep_beside keep output = option_and_then
+    (λ keep.
+    if is_keep_alone keep output then None
+    else if option_map_or (λ files. files == 0) keep false then None else Some keep)
+    (optional_number_of keep)
+
+-- what the entries of `run` ask: `--minutes` has to be a number where it is given, `--keep` one
+-- from 1 on and beside `--output` alone, and standard input is named once at most among the paths
+-- of `check`
 abbrev pub run_in : List Row → Option AskedRun
 run_in rows =
     let stamps = value_or [] (codes "STAMPS") rows in
-    option_and_then (λ minutes. option_map (λ check. record {
+    let output = first_of (codes "output") rows in
+    option_and_then (λ minutes. option_and_then (λ keep. option_map (λ check. record {
       check = check;
       stamps = stamps;
       minutes = minutes;
       log = first_of (codes "log") rows;
+      output = output;
+      keep = keep;
       home = has_flag (codes "home") rows;
       on_overrun = first_of (codes "on-overrun") rows;
       on_failure = first_of (codes "on-failure") rows;
-    }) (check_in rows)) (minutes_of (first_of (codes "minutes") rows))
+    }) (check_in rows)) (keep_beside (first_of (codes "keep") rows) output))
+    (optional_number_of (first_of (codes "minutes") rows))
 
 -- what the entries of `stop` ask
 abbrev pub stop_in : List Row → AskedStop

@@ -3,9 +3,9 @@ ghost use Rattle.std.specs.Prelude.{◌≡◌, ◌++◌, IfOk, codes, count_by, 
 ghost use Rattle.std.specs.Char.{is_ascii_digit};
 ghost use Rattle.std.specs.List.{list_all};
 ghost use Rattle.clap.specs.Words.{first_of, found_of, rows_of};
-ghost use Rattle.cs_args.specs.CommandLine.{are_dashes, has_flag, is_dash, is_dash_in, is_twice_standard, max_beside, minutes_of, number_of, value_or, values_in};
+ghost use Rattle.cs_args.specs.CommandLine.{are_dashes, has_flag, is_dash, is_dash_in, is_twice_standard, keep_beside, max_beside, number_of, optional_number_of, value_or, values_in};
 ghost use Rattle.cs_args.specs.Asked.{CheckAsked, DayAsked, DayAskedUpTo, FaultOf, HelpAsked, NumberAsked, Parses, ReplayAsked, RequestAsked};
-ghost use Rattle.cs_args.specs.Asked.{AdviseAsked, JudgeAsked, MakeAsked, MaxAsked, MinutesAsked, RunAsked};
+ghost use Rattle.cs_args.specs.Asked.{AdviseAsked, JudgeAsked, MakeAsked, MaxAsked, OptionalNumberAsked, RunAsked};
 ghost use Rattle.cs_args.specs.Asked.{asked_status, asked_stop};
 ghost use Rattle.cs_args.specs.Asked.{ChartAsked, DraftAsked, GatherAsked, LearnAsked, LintAsked};
 ghost use Rattle.cs_args.specs.CommandLine.{is_below_a_day, is_up_to_a_week, reload_in, status_in, stop_in};
@@ -260,27 +260,53 @@ fn check_words<'a>(
     })
 }
 
-/// The number of minutes after which a run is to end, if one is given.
-fn minutes(alloc: Global, text: Option<&str>) -> Result<Option<u64>, UsageFault>
-    ensures { MinutesAsked (minutes_of (option_map (λ text. text.now) text.entry)) result }
+/// The number of an option of `run`, if it is given.
+fn optional_number(alloc: Global, name: &str, text: Option<&str>) -> Result<Option<u64>, UsageFault>
+    ensures { OptionalNumberAsked (optional_number_of (option_map (λ text. text.now) text.entry))
+        result }
 {
     match text {
-        Some(text) => Ok(Some(number(alloc, Subcommand::Run, "--minutes", text)?)),
+        Some(text) => Ok(Some(number(alloc, Subcommand::Run, name, text)?)),
         None => Ok(None),
     }
+}
+
+/// How many files of each job `run` keeps, which can be given beside a folder of them alone.
+fn keep_beside(
+    alloc: Global,
+    keep: Option<&str>,
+    output: Option<&str>,
+) -> Result<Option<u64>, UsageFault>
+    ensures { OptionalNumberAsked (keep_beside (option_map (λ text. text.now) keep.entry)
+        (option_map (λ path. path.now) output.entry)) result }
+{
+    let keep = optional_number(alloc, "--keep", keep)?;
+    if keep.is_some() && output.is_none() {
+        let message = "--keep is given without --output";
+        return Err(UsageFault::NoCall(Subcommand::Run.fault(alloc, message)?));
+    }
+    if keep == Some(0) {
+        let message = "--keep is at least 1";
+        return Err(UsageFault::NoCall(Subcommand::Run.fault(alloc, message)?));
+    }
+    Ok(keep)
 }
 
 /// What the entries of `run` ask.
 fn run_words<'a>(alloc: Global, given: &ArgMatches<'a>) -> Result<RunWords<'a>, UsageFault>
     ensures { RunAsked (rows_of (found_of given.now)) result }
 {
-    let minutes = minutes(alloc, value_of(given, "minutes"))?;
+    let minutes = optional_number(alloc, "--minutes", value_of(given, "minutes"))?;
+    let output = value_of(given, "output");
+    let keep = keep_beside(alloc, value_of(given, "keep"), output)?;
     let check = check_words(alloc, Subcommand::Run, given)?;
     Ok(RunWords {
         check,
         stamps: text_of(given, "STAMPS", ""),
         minutes,
         log: value_of(given, "log"),
+        output,
+        keep,
         home: has_flag(given, "home"),
         on_overrun: value_of(given, "on-overrun"),
         on_failure: value_of(given, "on-failure"),

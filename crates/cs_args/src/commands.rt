@@ -4,7 +4,7 @@ ghost use Rattle.clap.specs.Words.{App, app_of, new_app, new_rule, rule_of, with
 ghost use Rattle.cs_args.specs.CommandLine.{IsLocal, check_app, cronsafe_app, day_app, help_app, judge_and_check_app};
 ghost use Rattle.cs_args.specs.CommandLine.{advise_app, judge_app, make_app, plan_app, replay_app};
 ghost use Rattle.cs_args.specs.CommandLine.{reload_app, room_app, run_app, status_app, stop_app};
-ghost use Rattle.cs_args.specs.CommandLine.{with_certificate, with_home_and_hooks};
+ghost use Rattle.cs_args.specs.CommandLine.{with_certificate, with_home_and_hooks, with_log_and_output};
 ghost use Rattle.cs_args.specs.CommandLine.{top_app, up_to_chart_app, up_to_room_app, up_to_status_app};
 ghost use Rattle.cs_args.specs.CommandLine.{chart_app, draft_app, explain_app, gather_app, lint_app};
 ghost use Rattle.cs_args.specs.CommandLine.{learn_app, many_rule, with_names};
@@ -18,13 +18,14 @@ use crate::texts::{
     DAEMON_STAMPS_HELP, DATE_HELP, DAY_ABOUT, DAY_EXAMPLE, DAYS_HELP, DECLARATIONS_HELP,
     DRAFT_ABOUT, DRAFT_EXAMPLE, DRAFT_MAX_HELP, EXAMPLE, EXCEPT_HELP, EXPLAIN_ABOUT,
     EXPLAIN_EXAMPLE, FACTOR_HELP, FAULTS_ONLY_HELP, FROM_HELP, GATHER_ABOUT, GATHER_EXAMPLE,
-    HELP_ABOUT, HOME_HELP, JUDGE_ABOUT, JUDGE_EXAMPLE, JUDGE_HELP, LEARN_ABOUT, LEARN_EXAMPLE,
-    LINT_ABOUT, LINT_EXAMPLE, LOG_HELP, MAKE_ABOUT, MAKE_EXAMPLE, MAX_HELP, MINUTES_HELP,
-    NAME_HELP, NOW_HELP, ON_FAILURE_HELP, ON_OVERRUN_HELP, ONLY_HELP, RELOAD_ABOUT, RELOAD_EXAMPLE,
-    REPLAY_ABOUT, REPLAY_EXAMPLE, REPLAY_LOG_HELP, REPLAY_MAX_HELP, ROOM_ABOUT, ROOM_EXAMPLE,
-    ROOT_HELP, RUN_ABOUT, RUN_EXAMPLE, RUN_LOG_HELP, SCRIPT_HELP, SHOW_SCRIPT_HELP, STAMPS_HELP,
-    STATUS_ABOUT, STATUS_EXAMPLE, STATUS_JSON_HELP, STOP_ABOUT, STOP_EXAMPLE, STORY_HELP,
-    SYSTEM_HELP, TABLE_HELP, TO_HELP, UPDATE_HELP, USER_HELP, WITHIN_HELP, ZONE_HELP,
+    HELP_ABOUT, HOME_HELP, JUDGE_ABOUT, JUDGE_EXAMPLE, JUDGE_HELP, KEEP_HELP, LEARN_ABOUT,
+    LEARN_EXAMPLE, LINT_ABOUT, LINT_EXAMPLE, LOG_HELP, MAKE_ABOUT, MAKE_EXAMPLE, MAX_HELP,
+    MINUTES_HELP, NAME_HELP, NOW_HELP, ON_FAILURE_HELP, ON_OVERRUN_HELP, ONLY_HELP, OUTPUT_HELP,
+    RELOAD_ABOUT, RELOAD_EXAMPLE, REPLAY_ABOUT, REPLAY_EXAMPLE, REPLAY_LOG_HELP, REPLAY_MAX_HELP,
+    ROOM_ABOUT, ROOM_EXAMPLE, ROOT_HELP, RUN_ABOUT, RUN_EXAMPLE, RUN_LOG_HELP, SCRIPT_HELP,
+    SHOW_SCRIPT_HELP, STAMPS_HELP, STATUS_ABOUT, STATUS_EXAMPLE, STATUS_JSON_HELP, STOP_ABOUT,
+    STOP_EXAMPLE, STORY_HELP, SYSTEM_HELP, TABLE_HELP, TO_HELP, UPDATE_HELP, USER_HELP,
+    WITHIN_HELP, ZONE_HELP,
 };
 use crate::version::version_text;
 use clap::error::ErrorKind;
@@ -282,8 +283,22 @@ fn with_home_and_hooks<'a>(
     with_option(alloc, command, "on-failure", "COMMAND", ON_FAILURE_HELP)
 }
 
-/// `run TABLE DECLS CERT STAMPS [--anacrontab FILE] [--minutes N] [--log FILE] [--home]
-/// [--on-overrun COMMAND] [--on-failure COMMAND]`.
+/// A command with `[--log FILE] [--output FOLDER] [--keep N]`.
+fn with_log_and_output<'a>(
+    alloc: Global,
+    command: Result<Command<'a>, AllocError>,
+) -> Result<Command<'a>, AllocError>
+    ensures app { (app : App) → IfOk command.entry (λ c. app_of c ≡ app)
+        → IfOk result (λ c. app_of c ≡ with_log_and_output app) }
+    ensures local { IfOk command.entry IsLocal → IfOk result IsLocal }
+{
+    let command = with_option(alloc, command, "log", "FILE", RUN_LOG_HELP);
+    let command = with_option(alloc, command, "output", "FOLDER", OUTPUT_HELP);
+    with_option(alloc, command, "keep", "N", KEEP_HELP)
+}
+
+/// `run TABLE DECLS CERT STAMPS [--anacrontab FILE] [--minutes N] [--log FILE] [--output FOLDER]
+/// [--keep N] [--home] [--on-overrun COMMAND] [--on-failure COMMAND]`.
 #[tactic(auto, unfolding(crate::specs::CommandLine::run_app))]
 fn run_command<'a>(alloc: Global) -> Result<Command<'a>, AllocError>
     ensures app { IfOk result (λ c. app_of c ≡ run_app) }
@@ -294,7 +309,7 @@ fn run_command<'a>(alloc: Global) -> Result<Command<'a>, AllocError>
     let command = with_required(alloc, command, "STAMPS", STAMPS_HELP);
     let command = with_option(alloc, command, "anacrontab", "FILE", ANACRONTAB_HELP);
     let command = with_option(alloc, command, "minutes", "N", MINUTES_HELP);
-    let command = with_option(alloc, command, "log", "FILE", RUN_LOG_HELP);
+    let command = with_log_and_output(alloc, command);
     with_home_and_hooks(alloc, command)
 }
 

@@ -67,6 +67,11 @@ pub struct RunWords<'a> {
     /// The path of a file to whose end the log goes, or `-` for standard output; standard output
     /// where there is none, and then without times.
     pub log: Option<&'a str>,
+    /// The path of a folder in which each run gets a file for its output; the daemon's own streams
+    /// where there is none.
+    pub output: Option<&'a str>,
+    /// How many files of each job are kept there, one at least; 30 where there is no number.
+    pub keep: Option<u64>,
     /// Whether commands run with HOME, LOGNAME and USER of the user that cronsafe runs as, in that
     /// user's home folder.
     pub home: bool,

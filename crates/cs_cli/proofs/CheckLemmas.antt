@@ -1,18 +1,26 @@
 -- What was accepted, and the files that denote it.
-use Rattle.std.proofs.Common.{◌≡◌, ◌≢◌, ℕ, List, Option, Some, None, Result, Ok, Err, IfOk, option_map, subst, sym}
+use Rattle.std.proofs.Common.{◌≡◌, ◌≢◌, ◌<◌, ◌∙◌, ℕ, true, List, Option, Some, None, IfSome, Result, Ok, Err, IfOk, ap, inl, inr, length, nat_lt, option_map, subst, sym}
+use Rattle.std.proofs.lemmas.Bool.{lt-ltb}
 use Rattle.cs_crontab.specs.Crontab.{Table}
 use Rattle.cs_anacrontab.specs.Anacrontab.{Table as JobTable}
 use Rattle.cs_decl.specs.Plan.{Declared}
+use Rattle.cs_cert.specs.Certificate.{content}
 use Rattle.cs_cert.specs.Content.{Content}
+use Rattle.cs_cert.specs.Denoted.{certificate_by}
+use Rattle.cs_cert.specs.declared.certificate.Certificate.{Certificate}
+use Rattle.cs_cert.specs.declared.fault.CertFault.TheVariants.{TooLong}
+use Rattle.cs_cert.specs.declared.limits.TheConstants.{MAX_CERTIFICATE}
 use Rattle.cs_check.specs.Checked.{certificate_in, plan_in}
 use Rattle.cs_check.specs.declared.checked.Checked.{Checked}
 use Rattle.cs_args.specs.CommandLine.{AskedCheck}
-use Rattle.cs_cli.specs.Check.{AreRead, ReadsCertificate}
-use Rattle.cs_files.specs.Reads.{ReadsDeclared}
+use Rattle.cs_cli.specs.Check.{AreRead, IsDigestOf, ReadsCertificate, said}
+use Rattle.cs_files.specs.Reads.{IsRead, MeansIt, ReadsDeclared, without_rest}
+use Rattle.cs_files.specs.declared.fault.Fault.{Fault}
 use Rattle.clap.specs.Words.{Text}
+use Rattle.sha2.specs.Sha256.{sha256}
 use Rattle.cs_files.specs.Response.{Ending}
 use Rattle.cs_files.specs.Trouble.{Trouble, ends, trouble_status}
-use Rattle.cs_io.specs.Files.{Failed}
+use Rattle.cs_io.specs.Files.{Failed, IsFresh, IsUpTo}
 use Rattle.cs_files.specs.Trouble.{InAnacrontab, InCertificate, InCrontab, InDeclarations, InGathered, InScript, InWords, NoTimeZone, Unread}
 
 -- what was accepted is what was read
@@ -24,6 +32,46 @@ are_read files a tables before plan x (Ok checked) one two same = record {
   plan = subst (λ (p : Declared). ReadsDeclared files tables a.declarations before before (Ok p)) (sym same.0) one;
   certificate = subst (λ (d : Content). ReadsCertificate files a.certificate before before (Ok d)) (sym same.1) two;
 }
+
+-- bytes that denote a certificate aren't too long
+not_too_long : (bytes : List ℕ) (c : Content) → certificate_by bytes ≡ Ok c → MAX_CERTIFICATE < length bytes → ⊥
+unfolding certificate_by
+not_too_long bytes c is long =
+    let past : nat_lt MAX_CERTIFICATE (length bytes) ≡ true = lt-ltb MAX_CERTIFICATE (length bytes) long in
+    let clash : Err TooLong ≡ Ok c = rw past at is in absurd (cc)
+
+-- what was read and hashed is what the file holds
+pub digest_read : (files left : List ℕ → Option (List ℕ)) (path : Text) (bytes : List ℕ) (result : Result (Certificate × List ℕ) Fault)
+    → IsFresh files left → IsRead MAX_CERTIFICATE path left bytes → MeansIt {M = Content} (λ b c. certificate_by b ≡ c) InCertificate bytes (said (without_rest result))
+    → IfOk result (λ found. found.1 ≡ sha256 bytes) → IfOk result (λ found. IsDigestOf files path (content found.0) found.1)
+digest_read files left path bytes (Err fault) fresh read tells hashed = hashed
+digest_read files left path bytes (Ok found) fresh read tells hashed = record {
+  bytes = bytes;
+  denote = tells;
+  held = by_file (files path) (left path) (fresh path) read;
+  hashed = hashed;
+}
+  where
+    same : (text : List ℕ) → IsUpTo MAX_CERTIFICATE text bytes → bytes ≡ text
+    same text (inl e) = e
+    same text (inr long) = absurd (not_too_long bytes (content found.0) tells long.0)
+
+    by_file : (whole rest : Option (List ℕ)) → IfSome whole (λ text. rest ≡ Some text) → IfSome rest (λ text. IsUpTo MAX_CERTIFICATE text bytes) → IfSome whole (λ text. bytes ≡ text)
+    by_file None rest same_rest up = same_rest
+    by_file (Some text) rest same_rest up = same text (subst (λ (o : Option (List ℕ)). IfSome o (λ t. IsUpTo MAX_CERTIFICATE t bytes)) same_rest up)
+
+-- the digest of the certificate that was read is that of the one that was accepted
+pub digest_accepted : (files : List ℕ → Option (List ℕ)) (path : Text) (plan : Declared) (x : Content) (digest : List ℕ) (found : Result Checked Ending)
+    → IsDigestOf files path x digest → IfOk found (λ checked. (plan_in checked ≡ plan) × (certificate_in checked ≡ x))
+    → IfOk found (λ checked. IsDigestOf files path (certificate_in checked) digest)
+digest_accepted files path plan x digest (Err answer) is same = same
+digest_accepted files path plan x digest (Ok checked) is same = subst (λ (c : Content). IsDigestOf files path c digest) (sym same.1) is
+
+-- the digest is that of what the file holds
+pub digest_of : (files : List ℕ → Option (List ℕ)) (path : Text) (c : Content) (digest text : List ℕ)
+    → files path ≡ Some text → IsDigestOf files path c digest → digest ≡ sha256 text
+digest_of files path c digest text holds is =
+    is.hashed ∙ ap sha256 (subst (λ (o : Option (List ℕ)). IfSome o (λ t. is.bytes ≡ t)) holds is.held)
 
 -- a fault never has status 0
 fails : (t : Trouble) → trouble_status t ≢ 0

@@ -37,6 +37,7 @@ use Rattle.cs_cli.specs.Answer.{IsOfOthers, IsOrder}
 use Rattle.cs_cli.specs.Check.{AnswersCheck, IsProofOf, verdict_text}
 use Rattle.cs_cli.specs.Judge.{AnswersJudge, AnswersMake, AnswersWanted, IsJudged, IsJudgedAt, JudgesPlan, outcome_status, wanted_of}
 use Rattle.cs_cli.specs.Safe.{IsChecked, IsSafe}
+use Rattle.cs_cli.proofs.CheckLemmas.{digest_of}
 use Rattle.cs_cli.specs.Theorem.{DenoteJobs, DenotesPlan, Given, Hold, HoldsIt, IsCalmPlan, IsCalmSchedule, IsGatheredSchedule, IsJudgedSafe, IsJudgedUnknown, IsJudgedUnsafe, IsOrdered, IsPrintedSchedule, IsRefused, IsSafePlan, IsSafeSchedule}
 use Rattle.cs_gather.specs.declared.places.Place.{Place}
 use Rattle.cs_cli.specs.declared.answer.Order.{Order}
@@ -149,12 +150,8 @@ ordered_schedule files a before after order given certificate hold holds ordered
   plan = refl;
   content = refl;
   own = ordered.own;
-  stamps = ordered.stamps;
-  minutes = ordered.minutes;
-  log = ordered.log;
-  home = ordered.home;
-  on_overrun = ordered.on_overrun;
-  on_failure = ordered.on_failure;
+  words = ordered.words;
+  digest = digest_of files a.check.certificate (certificate_in order.checked) order.digest certificate holds ordered.digest;
 }
 
 pub ordered_checked : (files : List ℕ → Option (List ℕ)) (a : AskedRun) (before after : Failed) (order : Order)

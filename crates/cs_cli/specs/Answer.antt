@@ -1,15 +1,15 @@
 -- What a call comes to: an answer that ends it, an order to run tables, or words to stop a daemon,
 -- to have it read its files anew or to tell what it does.
-use Rattle.std.specs.Prelude.{◌≡◌, ◌≢◌, ◌⊎◌, ℕ, Bool, true, false, List, [], ◌++◌, Option, codes, option_map, ⊤}
+use Rattle.std.specs.Prelude.{◌≡◌, ◌≢◌, ◌⊎◌, ℕ, Bool, true, false, List, [], ◌++◌, Option, codes, ⊤}
 use Rattle.cs_gather.specs.Gather.{is_gathered}
 use Rattle.cs_report.specs.Warning.{plan_notes}
 use Rattle.cs_check.specs.declared.checked.Checked.{Checked}
 use Rattle.cs_decl.specs.Plan.{as_plan}
-use Rattle.cs_check.specs.Checked.{IsHeadline, plan_in}
-use Rattle.cs_args.specs.Asked.{asked_check}
+use Rattle.cs_check.specs.Checked.{IsHeadline, certificate_in, plan_in}
+use Rattle.cs_args.specs.Asked.{asked_run}
 use Rattle.cs_args.specs.CommandLine.{AskedRun}
 use Rattle.cs_io.specs.Files.{Failed}
-use Rattle.cs_cli.specs.Check.{AnswersCheck, IsProofOf, safe_text}
+use Rattle.cs_cli.specs.Check.{AnswersCheck, IsDigestOf, IsProofOf, safe_text}
 use Rattle.cs_cli.specs.Safe.{IsAcceptance}
 use Rattle.cs_files.specs.Response.{Ending, complaint, done}
 use Rattle.cs_cli.specs.declared.answer.Answer.{Answer}
@@ -36,22 +36,17 @@ IfEnds P (Tells words) = ⊤
 abbrev pub is_of_gathered : Checked → Bool
 is_of_gathered checked = is_gathered (plan_in checked).crontab.settings
 
--- `check` would answer `safe` and the same warnings and notes, and what is to be run is the plan and
--- the certificate that the files denote, of which every legal history in time is safe, with the
--- files, the stamps, the minutes, the log, the home folder and the commands that were asked
+-- `check` would answer `safe` and the same warnings and notes, and what is to be run is the plan
+-- and the certificate that the files denote, of which every legal history in time is safe, as it
+-- was asked, with the digest of the certificate's bytes
 pub record IsOrder (a : AskedRun) (files : List ℕ → Option (List ℕ)) (before failed : Failed)
     (order : Order) : Type 0 where
   pub safe : AnswersCheck a.check files before failed (done safe_text order.warnings)
   pub proof : IsProofOf files a.check before order.checked
   pub headline : IsHeadline (as_plan (plan_in order.checked))
   pub own : is_of_gathered order.checked ≡ false
-  pub named : asked_check order.files ≡ a.check
-  pub stamps : order.stamps.now ≡ a.stamps
-  pub minutes : order.minutes ≡ a.minutes
-  pub log : option_map (λ path. path.now) order.log ≡ a.log
-  pub home : order.home ≡ a.home
-  pub on_overrun : option_map (λ command. command.now) order.on_overrun ≡ a.on_overrun
-  pub on_failure : option_map (λ command. command.now) order.on_failure ≡ a.on_failure
+  pub words : asked_run order.words ≡ a
+  pub digest : IsDigestOf files a.check.certificate (certificate_in order.checked) order.digest
 
 -- the fault of a crontab that was gathered: `run` starts each command as its own user
 abbrev pub gathered_fault : List ℕ

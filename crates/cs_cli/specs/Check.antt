@@ -1,9 +1,10 @@
 -- What is answered to `check`: whether a certificate is accepted for the tables as they are
 -- declared, or the first rule that isn't met.
 use Rattle.std.specs.Prelude.{◌≡◌, ℕ, List, ◌∷◌, ◌++◌, [], Option, Some, None, Result, Ok, Err}
-use Rattle.std.specs.Prelude.{codes, ⊤}
+use Rattle.std.specs.Prelude.{IfSome, codes, ⊤}
 use Rattle.std.specs.Result.{result_map_both}
 use Rattle.clap.specs.Words.{Text}
+use Rattle.sha2.specs.Sha256.{sha256}
 use Rattle.cs_crontab.specs.Crontab.{Table}
 use Rattle.cs_anacrontab.specs.Anacrontab.{Table as JobTable}
 use Rattle.cs_decl.specs.Plan.{Declared}
@@ -99,6 +100,15 @@ verdict plan places reach (Some fault) = record {
       ++ (fault_places plan places fault ++ (overload_notes plan reach fault ++ stale_note fault));
 }
 
+-- this is the SHA-256 (FIPS 180-4) of bytes that denote a certificate, and the file at a path holds
+-- these bytes
+pub record IsDigestOf (files : List ℕ → Option (List ℕ)) (path : Text) (c : Content)
+    (digest : List ℕ) : Type 0 where
+  pub bytes : List ℕ
+  pub denote : certificate_by bytes ≡ Ok c
+  pub held : IfSome (files path) (λ text. bytes ≡ text)
+  pub hashed : digest ≡ sha256 bytes
+
 -- the certificate at a path
 abbrev pub ReadsCertificate : (List ℕ → Option (List ℕ)) → Text → Failed → Failed
     → Result Content Trouble → Type 0
@@ -146,16 +156,16 @@ AnswersCheck a files =
 -- the answer to `check` by what the files come to: `safe`, with what is to be warned of and then
 -- the notes on the plan, or another
 abbrev pub ending_of : Examined → Ending
-ending_of (Accepted checked warnings) =
+ending_of (Accepted checked warnings digest) =
     done safe_text (warnings ++ plan_notes (plan_in checked))
 ending_of (Ended answer) = answer
 
--- what holds of the plan and of the warnings where the checker has accepted it
-abbrev pub IfAccepted : Examined → (Checked → List ℕ → Type 0) → Type 0
-IfAccepted (Accepted checked warnings) P = P checked warnings
+-- what holds of the plan, of the warnings and of the digest where the checker has accepted it
+abbrev pub IfAccepted : Examined → (Checked → List ℕ → List ℕ → Type 0) → Type 0
+IfAccepted (Accepted checked warnings digest) P = P checked warnings digest
 IfAccepted (Ended answer) P = ⊤
 
 -- and of the answer where it has not
 abbrev pub IfEnded : Examined → (Ending → Type 0) → Type 0
-IfEnded (Accepted checked warnings) P = ⊤
+IfEnded (Accepted checked warnings digest) P = ⊤
 IfEnded (Ended answer) P = P answer

@@ -1,6 +1,7 @@
 -- What the words of `check`, `judge`, `make` and `run` say of the bytes of their files.
-use Rattle.std.specs.Prelude.{◌≡◌, ◌⊎◌, ℕ, true, false, List, [], ◌∷◌, ◌++◌, Option, option_map, Some, None, Ok, ⊤}
+use Rattle.std.specs.Prelude.{◌≡◌, ◌⊎◌, ℕ, true, false, List, [], ◌∷◌, ◌++◌, Option, Some, None, Ok, ⊤}
 use Rattle.clap.specs.Words.{Text}
+use Rattle.sha2.specs.Sha256.{sha256}
 use Rattle.cs_crontab.specs.Crontab.{Table}
 use Rattle.cs_crontab.specs.Faults.{Means}
 use Rattle.cs_anacrontab.specs.Anacrontab.{Table as JobTable, no_lines as no_jobs}
@@ -25,6 +26,7 @@ use Rattle.cs_maker.specs.declared.reason.Reason.{Reason}
 use Rattle.cs_judge.specs.Answer.{unknown_text, unsafe_text}
 use Rattle.cs_judge.specs.Breach.{IsBreach}
 use Rattle.cs_judge.specs.declared.breach.Breach.{Breach}
+use Rattle.cs_args.specs.Asked.{asked_run}
 use Rattle.cs_args.specs.CommandLine.{AskedRun}
 use Rattle.cs_files.specs.Response.{Ending}
 use Rattle.cs_cli.specs.Check.{verdict_text}
@@ -90,20 +92,16 @@ pub record IsCalmSchedule (given : Given) (certificate : List ℕ) : Type 0 wher
   pub schedule : IsSafeSchedule given certificate
   pub calm : IsCalmPlan schedule.plan schedule.content
 
--- an order to run is of such a plan and certificate, of a crontab that wasn't gathered, with the
--- folder, the minutes, the log, the home folder and the commands that were asked
+-- an order to run is of such a plan and certificate, of a crontab that wasn't gathered, as it was
+-- asked, with the SHA-256 (FIPS 180-4) of the certificate
 pub record IsOrdered (given : Given) (certificate : List ℕ) (a : AskedRun) (order : Order) : Type 0
   where
     pub schedule : IsSafeSchedule given certificate
     pub plan : plan_in order.checked ≡ schedule.plan
     pub content : certificate_in order.checked ≡ schedule.content
     pub own : is_gathered schedule.plan.crontab.settings ≡ false
-    pub stamps : order.stamps.now ≡ a.stamps
-    pub minutes : order.minutes ≡ a.minutes
-    pub log : option_map (λ path. path.now) order.log ≡ a.log
-    pub home : order.home ≡ a.home
-    pub on_overrun : option_map (λ command. command.now) order.on_overrun ≡ a.on_overrun
-    pub on_failure : option_map (λ command. command.now) order.on_failure ≡ a.on_failure
+    pub words : asked_run order.words ≡ a
+    pub digest : order.digest ≡ sha256 certificate
 
 -- the crontab of such a plan was gathered, which is told on standard error alone
 pub record IsGatheredSchedule (given : Given) (certificate : List ℕ) (ending : Ending) : Type 0

@@ -2,7 +2,7 @@
 ghost use Rattle.std.specs.Prelude.{◌≡◌, ◌++◌, [], IfOk, codes};
 ghost use Rattle.cs_files.specs.Response.{complaint};
 
-use cs_args::{CheckWords, StatusWords, StopWords};
+use cs_args::{RunWords, StatusWords, StopWords};
 use cs_check::Checked;
 use cs_civil::Bytes;
 use cs_files::{Response, Status};
@@ -30,23 +30,10 @@ pub struct Order<'a> {
     pub checked: Checked,
     /// What is to be warned of, and behind it the notes on the plan.
     pub warnings: Bytes,
-    /// The paths of the files that say what is to be run.
-    pub files: CheckWords<'a>,
-    /// The path of a folder of stamps.
-    pub stamps: &'a str,
-    /// After how many minutes the clock stops; never where there is no number.
-    pub minutes: Option<u64>,
-    /// The path of a file to whose end the log goes, or `-` for standard output; standard output
-    /// where there is none, and then without times.
-    pub log: Option<&'a str>,
-    /// Whether commands run with HOME, LOGNAME and USER of the user that cronsafe runs as, in that
-    /// user's home folder.
-    pub home: bool,
-    /// The shell command that is started when a run passes its longest time.
-    pub on_overrun: Option<&'a str>,
-    /// The shell command that is started when a run ends with a status other than 0, or can't be
-    /// started.
-    pub on_failure: Option<&'a str>,
+    /// What `run` is asked.
+    pub words: RunWords<'a>,
+    /// The SHA-256 (FIPS 180-4) of the certificate's bytes, as they were read.
+    pub digest: [u8; 32],
 }
 
 impl Order<'_> {

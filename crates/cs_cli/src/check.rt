@@ -8,17 +8,18 @@ ghost use Rattle.cs_report.specs.Told.{told};
 ghost use Rattle.cs_report.specs.Warning.{plan_notes};
 ghost use Rattle.cs_args.specs.Asked.{asked_check};
 ghost use Rattle.cs_io.specs.Files.{AreReadInTurn, IsFresh, IsReadAlone};
-ghost use Rattle.cs_cli.specs.Check.{AnswersCheck, AreRead, IfAccepted, IfEnded, Judges};
-ghost use Rattle.cs_cli.specs.Check.{ReadsCertificate, answer_of, ending_of, fault_places, safe_text};
-ghost use Rattle.cs_cli.specs.Check.{said, stale_note, verdict};
+ghost use Rattle.cs_cli.specs.Check.{AnswersCheck, AreRead, IfAccepted, IfEnded, IsDigestOf};
+ghost use Rattle.cs_cli.specs.Check.{Judges, ReadsCertificate, answer_of, ending_of, fault_places};
+ghost use Rattle.cs_cli.specs.Check.{safe_text, said, stale_note, verdict};
 ghost use Rattle.cs_cli.specs.Overload.{overload_notes};
 ghost use Rattle.cs_files.specs.RanOut.{IsWarned};
 ghost use Rattle.cs_files.specs.Response.{done};
-ghost use Rattle.cs_files.specs.Reads.{MeansIt, PlacesIn};
+ghost use Rattle.cs_files.specs.Reads.{MeansIt, PlacesIn, without_rest};
 ghost use Rattle.cs_cli.specs.Safe.{AreSafe, IsAcceptance, IsSafe};
 ghost use Rattle.cs_files.specs.Trouble.{CameTo, InCertificate, IsHonest, IsHonestOf, IsOfContent};
 ghost use Rattle.cs_files.specs.Turn.{check_paths};
 ghost use Rattle.cs_cert.specs.Denoted.{certificate_by};
+ghost use Rattle.sha2.specs.Sha256.{sha256};
 
 use crate::overload::push_overload_notes;
 use crate::places::{push_fault_places, push_stale_note};
@@ -35,30 +36,36 @@ use cs_files::{
 use cs_gather::Place;
 use cs_io::Inputs;
 use cs_report::{fault_text, plan_notes, warnings};
+use sha2::{Digest, Sha256};
 use std::alloc::{AllocError, Global};
 use std::thread::Threads;
 
-/// The certificate that the bytes denote.
-fn certificate_in<'a>(alloc: Global, bytes: &[u8]) -> Result<Certificate, Fault<'a>>
+/// The certificate that the bytes denote, and their SHA-256.
+fn certificate_in<'a>(alloc: Global, bytes: &[u8]) -> Result<(Certificate, [u8; 32]), Fault<'a>>
     ensures value { MeansIt (λ bytes c. certificate_by bytes ≡ c) InCertificate bytes.now
-        (said result) }
+        (said (without_rest result)) }
+    ensures digest { IfOk result (λ found. found.1 ≡ sha256 bytes.now) }
     ensures status { IfErr result IsOfContent }
 {
     match read_certificate(alloc, bytes) {
-        Ok(certificate) => Ok(certificate),
+        Ok(certificate) => Ok((certificate, Sha256::digest(bytes))),
         Err(error) => Err(Fault::Certificate(error)),
     }
 }
 
-/// The certificate at a path.
-fn certificate_from<'a, I: Inputs>(
+/// The certificate that the file at a path denotes, and the SHA-256 (FIPS 180-4) of the file's
+/// bytes. The errors: the file can't be read, its bytes denote none, or want of memory.
+pub fn certificate_from<'a, I: Inputs>(
     alloc: Global,
     inputs: &mut I,
     path: &'a str,
-) -> Result<Certificate, Fault<'a>>
+) -> Result<(Certificate, [u8; 32]), Fault<'a>>
     ensures step { IsFresh (I.whole inputs.old) (I.left inputs.old)
         → CameTo (ReadsCertificate (I.whole inputs.old) path.now
-        (I.failed inputs.old) (I.failed inputs.new)) (said result) }
+        (I.failed inputs.old) (I.failed inputs.new)) (said (without_rest result)) }
+    ensures digest { IsFresh (I.whole inputs.old) (I.left inputs.old)
+        → IfOk result (λ found. IsDigestOf (I.whole inputs.old) path.now (content found.0)
+        found.1) }
     ensures works { OnOk result (I.failed inputs.new ≡ I.failed inputs.old) }
     ensures alone { IsReadAlone path.now (I.reads inputs.old) (I.reads inputs.new) }
     ensures status { IfErr result (IsHonestOf (I.failed inputs.new) (I.reads inputs.new)) }
@@ -134,7 +141,8 @@ fn ruling<R: Threads + Sync>(
     }
 }
 
-/// What the checker rules of the declarations and the certificate, once both tables were read.
+/// What the checker rules of the declarations and the certificate, once both tables were read, and
+/// the SHA-256 of the certificate's bytes.
 fn ruling_on_files<'a, R: Threads + Sync, I: Inputs>(
     rt: &R,
     alloc: Global,
@@ -142,16 +150,20 @@ fn ruling_on_files<'a, R: Threads + Sync, I: Inputs>(
     request: &CheckWords<'a>,
     tables: (Crontab, Anacrontab),
     places: &[Place],
-) -> Result<Result<Checked, Response>, Fault<'a>>
+) -> Result<(Result<Checked, Response>, [u8; 32]), Fault<'a>>
     ensures step { IsFresh (I.whole inputs.old) (I.left inputs.old)
         → PlacesIn (I.whole inputs.old) (asked_check request.now).table tables.0 places.now
         → CameTo (Judges (I.whole inputs.old) (asked_check request.now) tables
-        (I.failed inputs.old) (I.failed inputs.new)) (result_map_both answer_of (λ e. e) result) }
+        (I.failed inputs.old) (I.failed inputs.new)) (result_map_both answer_of (λ e. e)
+        (without_rest result)) }
     ensures read { IsFresh (I.whole inputs.old) (I.left inputs.old)
-        → IfOk result (λ found. IfOk found (AreRead (I.whole inputs.old) (asked_check request.now)
-        tables (I.failed inputs.old))) }
-    ensures safe { IfOk result (λ found. IfOk found IsSafe) }
-    ensures refused { IfOk result (λ found. IfErr found (λ answer. answer.status ≡ 1)) }
+        → IfOk result (λ found. IfOk found.0 (AreRead (I.whole inputs.old)
+        (asked_check request.now) tables (I.failed inputs.old))) }
+    ensures digest { IsFresh (I.whole inputs.old) (I.left inputs.old)
+        → IfOk result (λ found. IfOk found.0 (λ checked. IsDigestOf (I.whole inputs.old)
+        (asked_check request.now).certificate (certificate_in checked) found.1)) }
+    ensures safe { IfOk result (λ found. IfOk found.0 IsSafe) }
+    ensures refused { IfOk result (λ found. IfErr found.0 (λ answer. answer.status ≡ 1)) }
     ensures status { IfErr result (IsHonestOf (I.failed inputs.new) (I.reads inputs.new)) }
     ensures turn { AreReadInTurn ((asked_check request.now).declarations
         ∷ (asked_check request.now).certificate ∷ [])
@@ -159,15 +171,16 @@ fn ruling_on_files<'a, R: Threads + Sync, I: Inputs>(
 {
     let (table, jobs) = tables;
     let plan = declared_plan_from(alloc, inputs, request.declarations, table, jobs)?;
-    let certificate = certificate_from(alloc, inputs, request.certificate)?;
-    Ok(ruling(rt, alloc, plan, places, certificate)?)
+    let (certificate, digest) = certificate_from(alloc, inputs, request.certificate)?;
+    Ok((ruling(rt, alloc, plan, places, certificate)?, digest))
 }
 
 /// What the files of a call come to.
 #[derive(Drop)]
 pub(crate) enum Examined {
-    /// The plan, with the certificate that the checker has accepted, and what is to be warned of.
-    Accepted(Checked, Bytes),
+    /// The plan, with the certificate that the checker has accepted, what is to be warned of, and
+    /// the SHA-256 of the certificate's bytes.
+    Accepted(Checked, Bytes, [u8; 32]),
     /// A fault, or the first rule that isn't met, ends the call.
     Ended(Response),
 }
@@ -184,8 +197,13 @@ pub(crate) fn examine<R: Threads + Sync, I: Inputs>(
         → IfOk result (λ found. AnswersCheck (asked_check request.now) (I.whole inputs.old)
         (I.failed inputs.old) (I.failed inputs.new) (ending_of found)) }
     ensures accepted { IsFresh (I.whole inputs.old) (I.left inputs.old)
-        → IfOk result (λ found. IfAccepted found (IsAcceptance (I.whole inputs.old)
-        (asked_check request.now) (I.failed inputs.old))) }
+        → IfOk result (λ found. IfAccepted found (λ checked warnings digest.
+        IsAcceptance (I.whole inputs.old) (asked_check request.now) (I.failed inputs.old)
+        checked warnings)) }
+    ensures digest { IsFresh (I.whole inputs.old) (I.left inputs.old)
+        → IfOk result (λ found. IfAccepted found (λ checked warnings digest.
+        IsDigestOf (I.whole inputs.old) (asked_check request.now).certificate
+        (certificate_in checked) digest)) }
     ensures ended { IfOk result (λ found. IfEnded found (λ answer. (answer.status ≢ 0)
         × IsHonest (I.failed inputs.new) (I.reads inputs.new) answer)) }
     ensures warned { IsFresh (I.whole inputs.old) (I.left inputs.old)
@@ -201,12 +219,13 @@ pub(crate) fn examine<R: Threads + Sync, I: Inputs>(
         Err(fault) => return Ok(Examined::Ended(fault.response(alloc, b"".as_slice())?)),
     };
     let warnings = warnings(alloc, &tables.0, &tables.1)?;
-    let ruling = match ruling_on_files(rt, alloc, inputs, request, tables, places.as_slice()) {
-        Ok(ruling) => ruling,
+    let places = places.as_slice();
+    let (ruling, digest) = match ruling_on_files(rt, alloc, inputs, request, tables, places) {
+        Ok(found) => found,
         Err(fault) => return Ok(Examined::Ended(fault.response_behind(alloc, warnings)?)),
     };
     match ruling {
-        Ok(checked) => Ok(Examined::Accepted(checked, warnings)),
+        Ok(checked) => Ok(Examined::Accepted(checked, warnings, digest)),
         Err(answer) => Ok(Examined::Ended(answer.behind(warnings)?)),
     }
 }
@@ -265,7 +284,7 @@ pub fn answer_check<R: Threads + Sync, I: Inputs>(
         (I.reads inputs.old) (I.reads inputs.new) }
 {
     match examine(rt, alloc, request, inputs)? {
-        Examined::Accepted(checked, warnings) => acceptance(alloc, checked.plan(), warnings),
+        Examined::Accepted(checked, warnings, _) => acceptance(alloc, checked.plan(), warnings),
         Examined::Ended(answer) => Ok(answer),
     }
 }

@@ -33,10 +33,10 @@ fn refuse_gathered(alloc: Global, warnings: Bytes) -> Result<Response, RanOut>
     }
 }
 
-/// Answers `run TABLE DECLS CERT STAMPS [--anacrontab FILE] [--minutes N] [--log FILE] [--home]
-/// [--on-overrun COMMAND] [--on-failure COMMAND]`: like `check` where that doesn't answer `safe`,
-/// else with what to run, but with a fault where the crontab was gathered.
-/// The only error is want of memory.
+/// Answers `run TABLE DECLS CERT STAMPS [--anacrontab FILE] [--minutes N] [--log FILE]
+/// [--output FOLDER] [--keep N] [--home] [--on-overrun COMMAND] [--on-failure COMMAND]`: like
+/// `check` where that doesn't answer `safe`, else with what to run, but with a fault where the
+/// crontab was gathered. The only error is want of memory.
 pub fn answer_run<'a, R: Threads + Sync, I: Inputs>(
     rt: &R,
     alloc: Global,
@@ -56,7 +56,7 @@ pub fn answer_run<'a, R: Threads + Sync, I: Inputs>(
         (I.reads inputs.old) (I.reads inputs.new) }
 {
     match examine(rt, alloc, &request.check, inputs)? {
-        Examined::Accepted(checked, warnings) => {
+        Examined::Accepted(checked, warnings, digest) => {
             if is_gathered(checked.plan().crontab().settings()) {
                 return Ok(Answer::Ends(refuse_gathered(alloc, warnings)?));
             }
@@ -64,13 +64,8 @@ pub fn answer_run<'a, R: Threads + Sync, I: Inputs>(
             Ok(Answer::Runs(Order {
                 checked,
                 warnings,
-                files: request.check,
-                stamps: request.stamps,
-                minutes: request.minutes,
-                log: request.log,
-                home: request.home,
-                on_overrun: request.on_overrun,
-                on_failure: request.on_failure,
+                words: *request,
+                digest,
             }))
         }
         Examined::Ended(answer) => Ok(Answer::Ends(answer)),

@@ -11,6 +11,7 @@ use Rattle.cs_device.specs.Asked.{Asked}
 use Rattle.cs_device.specs.declared.runner.Outcome.{Outcome}
 use Rattle.cs_device.specs.declared.runner.Outcome.TheVariants.{NotStarted}
 use Rattle.cs_daemon.specs.InTurn.{InTurn}
+use Rattle.cs_daemon.specs.Names.{run_name}
 
 -- each name that is set, in order, with its last value (crontab(5))
 pub record AreSet (settings : List SettingLine) (variables : List Variable) : Type 0 where
@@ -29,28 +30,32 @@ pub record IsOfJob (table : Anacrontab) (line : JobLine) (asked : Asked) : Type 
   pub variables : AreSet (above line.number table.settings) asked.variables
 
 -- what is asked for a job of the plan, by its number: those of the crontab are first
-abbrev pub IsFor : Declared → ℕ → Asked → Type 0
-IsFor d job asked =
+abbrev pub IsForJob : Declared → ℕ → Asked → Type 0
+IsForJob d job asked =
     ((line : CommandLine) × (slice_get d.crontab.lines job ≡ Some line) × IsOfCommand d.crontab line asked)
     ⊎ ((line : JobLine) × (crons d ≤ job)
     × (slice_get d.anacrontab.lines (job - crons d) ≡ Some line) × IsOfJob d.anacrontab line asked)
+
+-- the same for a run of it, under the run's name
+abbrev pub IsFor : Declared → Run → Asked → Type 0
+IsFor d run asked = (asked.name ≡ run_name d run) × IsForJob d run.job asked
 
 -- the number is no job's
 abbrev pub IsPast : Declared → ℕ → Type 0
 IsPast d job = crons d + length d.anacrontab.lines ≤ job
 
 module _ {W : Type 0} (runs : W → Asked → Outcome → W → Type 0) (d : Declared) where
-  -- The runner runs the command of the job, once, and nothing else. If there is no such job, it
-  -- runs nothing, and the run isn't started.
-  abbrev pub RunsJob : ℕ → W → Outcome → W → Type 0
-  RunsJob job old outcome new =
-      ((asked : Asked) × IsFor d job asked × runs old asked outcome new)
-      ⊎ (IsPast d job × (outcome ≡ NotStarted) × (new ≡ old))
+  -- The runner runs the command of the run's job, under the run's name, once, and nothing else. If
+  -- there is no such job, it runs nothing, and the run isn't started.
+  abbrev pub RunsJob : Run → W → Outcome → W → Type 0
+  RunsJob run old outcome new =
+      ((asked : Asked) × IsFor d run asked × runs old asked outcome new)
+      ⊎ (IsPast d run.job × (outcome ≡ NotStarted) × (new ≡ old))
 
   -- the same, or memory runs out before the command is run
   abbrev pub CarriesOut : Run → W → Outcome → W → Type 0
   CarriesOut run old outcome new =
-      RunsJob run.job old outcome new ⊎ ((outcome ≡ NotStarted) × (new ≡ old))
+      RunsJob run old outcome new ⊎ ((outcome ≡ NotStarted) × (new ≡ old))
 
   -- runs with their outcomes, one after the other
   abbrev pub CarriesOutAll : List (Run × Outcome) → W → W → Type 0

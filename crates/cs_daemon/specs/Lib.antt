@@ -2,6 +2,8 @@ pub mod Causes
 pub mod Commands
 pub mod Deeds
 pub mod InTurn
+pub mod LogLines
+pub mod Names
 pub mod NoPlan
 pub mod Shelf
 pub mod Stamps

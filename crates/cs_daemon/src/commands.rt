@@ -4,6 +4,7 @@ ghost use Rattle.cs_daemon.specs.Commands.{CarriesOut, IsOfCommand, IsOfJob, Run
 ghost use Rattle.cs_device.specs.Asked.{Asked};
 
 use crate::dispatch::Taken;
+use crate::names::run_name;
 use cs_anacrontab::{Anacrontab, Job};
 use cs_civil::Bytes;
 use cs_crontab::{Crontab, Line, command_parts};
@@ -49,64 +50,69 @@ pub(crate) fn carry_out<W: Runner>(
     ensures runs { CarriesOut W.runs plan.now taken runner.old result.1 runner.new }
 {
     let run = taken.into_run();
-    let outcome = match run_command(alloc, plan, runner, usize::from(run.job)) {
+    let outcome = match run_command(alloc, plan, runner, run) {
         Ok(outcome) => outcome,
         Err(_) => Outcome::NotStarted,
     };
     (Returned { run }, outcome)
 }
 
-/// Runs the command of a job, with its input and its settings. The only error is out of memory.
+/// Runs the command of a run's job for it, with its input and its settings. The only error is out of
+/// memory.
 fn run_command<W: Runner>(
     alloc: Global,
     plan: &Plan,
     runner: &mut W,
-    job: usize,
+    run: Run,
 ) -> Result<Outcome, AllocError>
     ensures runs { IfOk result (λ outcome.
-        RunsJob W.runs plan.now job runner.old outcome runner.new) }
+        RunsJob W.runs plan.now run runner.old outcome runner.new) }
     ensures err { OnErr result (runner.new ≡ runner.old) }
 {
+    let name = run_name(alloc, plan, run)?;
+    let job = usize::from(run.job);
     let crontab = plan.crontab();
     if let Some(line) = crontab.lines().get(job) {
-        return run_line(alloc, crontab, runner, line);
+        return run_line(alloc, crontab, runner, name.as_slice(), line);
     }
     let anacrontab = plan.anacrontab();
     let Some(line) = anacrontab.lines().get(job - crontab.lines().len()) else {
         return Ok(Outcome::NotStarted);
     };
-    run_job_line(alloc, anacrontab, runner, line)
+    run_job_line(alloc, anacrontab, runner, name.as_slice(), line)
 }
 
-/// Runs the command of a crontab's line.
+/// Runs the command of a crontab's line, for the run of this name.
 fn run_line<W: Runner>(
     alloc: Global,
     table: &Crontab,
     runner: &mut W,
+    name: &[u8],
     line: &Line,
 ) -> Result<Outcome, AllocError>
-    ensures runs { IfOk result (λ outcome. (asked : Asked) × IsOfCommand table.now line.now asked
-        × W.runs runner.old asked outcome runner.new) }
+    ensures runs { IfOk result (λ outcome. (asked : Asked) × (asked.name ≡ name.now)
+        × IsOfCommand table.now line.now asked × W.runs runner.old asked outcome runner.new) }
     ensures err { OnErr result (runner.new ≡ runner.old) }
 {
     let env = table.env_of(alloc, line.number())?;
     let (command, input) = command_parts(alloc, line.command())?;
-    Ok(runner.run(command.as_slice(), lent(&input), env.as_slice()))
+    Ok(runner.run(name, command.as_slice(), lent(&input), env.as_slice()))
 }
 
-/// Runs the command of an anacrontab's line.
+/// Runs the command of an anacrontab's line, for the run of this name.
 fn run_job_line<W: Runner>(
     alloc: Global,
     table: &Anacrontab,
     runner: &mut W,
+    name: &[u8],
     line: &Job,
 ) -> Result<Outcome, AllocError>
-    ensures runs { IfOk result (λ outcome. (asked : Asked) × IsOfJob table.now line.now asked
-        × W.runs runner.old asked outcome runner.new) }
+    ensures runs { IfOk result (λ outcome. (asked : Asked) × (asked.name ≡ name.now)
+        × IsOfJob table.now line.now asked × W.runs runner.old asked outcome runner.new) }
     ensures err { OnErr result (runner.new ≡ runner.old) }
 {
     let env = table.env_of(alloc, line.number())?;
-    Ok(runner.run(line.command(), None, env.as_slice()))
+    Ok(runner.run(name, line.command(), None, env.as_slice()))
 }
 
 fn lent(input: &Option<Bytes>) -> Option<&[u8]>

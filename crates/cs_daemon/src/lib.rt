@@ -10,6 +10,7 @@ mod end;
 mod laws;
 mod lines;
 mod log;
+mod names;
 mod notices;
 mod plan_ledger;
 mod shared;
@@ -22,3 +23,4 @@ pub use end::{Cause, DaemonEnd};
 pub use laws::{
     starts_are_handed_out, starts_differ, what_a_round_says, what_a_store_holds, what_a_tick_says,
 };
+pub use names::{push_job_front, push_job_name};

@@ -1,10 +1,16 @@
 //! The texts of the log's lines.
+ghost use Rattle.std.specs.Prelude.{◌≡◌, ◌++◌, OnOk};
+ghost use Rattle.std.specs.Fmt.{signed_decimal};
+ghost use Rattle.cs_daemon.specs.LogLines.{bare_end, end_text, identifier_at, line_text};
+ghost use Rattle.cs_daemon.specs.LogLines.{numbered_end, outage_text, told_text};
+ghost use Rattle.cs_daemon.specs.Names.{run_name};
 
+use crate::names::push_run_name;
 use cs_civil::{Minute, date_text};
 use cs_decl::Plan;
 use cs_device::Outcome;
 use cs_history::Run;
-use std::io;
+use std::alloc::{AllocError, Global};
 
 /// A line of the log.
 #[derive(Clone, Copy)]
@@ -27,73 +33,123 @@ pub(crate) enum LogLine {
     StampNotWritten(usize),
 }
 
-/// Writes the line, with its newline.
-pub(crate) fn write_line<O: io::Write>(out: &mut O, plan: &Plan, line: LogLine) -> io::Result<()> {
+/// Adds the line, with its newline. The only error is out of memory.
+#[tactic(auto, unfolding(crate::specs::LogLines::line_text))]
+pub(crate) fn push_line(
+    alloc: Global,
+    text: &mut Vec<u8>,
+    plan: &Plan,
+    line: LogLine,
+) -> Result<(), AllocError>
+    ensures { OnOk result (text.new.items ≡ text.old.items ++ line_text plan.now line) }
+{
+    push_told(alloc, text, plan, line)?;
+    text.extend_from_slice(b"\n")
+}
+
+/// Adds what the line tells.
+fn push_told(
+    alloc: Global,
+    text: &mut Vec<u8>,
+    plan: &Plan,
+    line: LogLine,
+) -> Result<(), AllocError>
+    ensures { OnOk result (text.new.items ≡ text.old.items ++ told_text plan.now line) }
+{
     match line {
-        LogLine::Started(run) => write_run(out, b"started ", plan, run)?,
-        LogLine::Waiting(run) => write_run(out, b"waiting ", plan, run)?,
-        LogLine::Skipped(run) => write_run(out, b"skipped ", plan, run)?,
-        LogLine::Overrun(run) => write_run(out, b"overrun ", plan, run)?,
-        LogLine::Ended(run, outcome) => write_end(out, plan, run, outcome)?,
-        LogLine::Outage(from, to) => write_outage(out, from, to)?,
-        LogLine::StampNotRead(job) => write_stamp(out, b"stamp not read ", plan, job)?,
-        LogLine::StampNotWritten(job) => write_stamp(out, b"stamp not written ", plan, job)?,
-    }
-    out.write_all(b"\n")
-}
-
-/// A word, and the run's name: its line or its identifier, and its minute.
-fn write_run<O: io::Write>(out: &mut O, word: &[u8], plan: &Plan, run: Run) -> io::Result<()> {
-    out.write_all(word)?;
-    write_job(out, plan, usize::from(run.job))?;
-    match Minute::new(run.at) {
-        Some(minute) => out.write_all(&date_text(minute)),
-        None => Ok(()),
+        LogLine::Started(run) => push_run(alloc, text, b"started ", plan, run),
+        LogLine::Waiting(run) => push_run(alloc, text, b"waiting ", plan, run),
+        LogLine::Skipped(run) => push_run(alloc, text, b"skipped ", plan, run),
+        LogLine::Overrun(run) => push_run(alloc, text, b"overrun ", plan, run),
+        LogLine::Ended(run, outcome) => push_end(alloc, text, plan, run, outcome),
+        LogLine::Outage(from, to) => push_outage(text, from, to),
+        LogLine::StampNotRead(job) => push_stamp(text, b"stamp not read ", plan, job),
+        LogLine::StampNotWritten(job) => push_stamp(text, b"stamp not written ", plan, job),
     }
 }
 
-fn write_job<O: io::Write>(out: &mut O, plan: &Plan, job: usize) -> io::Result<()> {
-    let cron = plan.crontab().lines();
-    if let Some(line) = cron.get(job) {
-        return write!(out, "line {} due ", line.number());
-    }
-    let Some(line) = plan
-        .anacrontab()
-        .lines()
-        .get(job.saturating_sub(cron.len()))
-    else {
-        return Ok(());
-    };
-    out.write_all(b"job ")?;
-    out.write_all(line.identifier())?;
-    out.write_all(b" at ")
+/// Adds a word and the run's name.
+fn push_run(
+    alloc: Global,
+    text: &mut Vec<u8>,
+    word: &[u8],
+    plan: &Plan,
+    run: Run,
+) -> Result<(), AllocError>
+    ensures { OnOk result (text.new.items ≡ text.old.items ++ (word.now ++ run_name plan.now run)) }
+{
+    text.extend_from_slice(word)?;
+    push_run_name(alloc, text, plan, run)
 }
 
-fn write_end<O: io::Write>(out: &mut O, plan: &Plan, run: Run, outcome: Outcome) -> io::Result<()> {
+fn push_end(
+    alloc: Global,
+    text: &mut Vec<u8>,
+    plan: &Plan,
+    run: Run,
+    outcome: Outcome,
+) -> Result<(), AllocError>
+    ensures { OnOk result (text.new.items ≡ text.old.items ++ end_text plan.now run outcome) }
+{
     match outcome {
-        Outcome::Exited(status) => {
-            write_run(out, b"ended ", plan, run)?;
-            write!(out, " status {status}")
-        }
-        Outcome::Ended => {
-            write_run(out, b"ended ", plan, run)?;
-            out.write_all(b" status none")
-        }
-        Outcome::NotStarted => write_run(out, b"not started ", plan, run),
+        Outcome::Exited(status) => push_numbered_end(alloc, text, plan, run, b" status ", status),
+        Outcome::Killed(signal) => push_numbered_end(alloc, text, plan, run, b" signal ", signal),
+        Outcome::Ended => push_bare_end(alloc, text, plan, run),
+        Outcome::NotStarted => push_run(alloc, text, b"not started ", plan, run),
     }
 }
 
-fn write_outage<O: io::Write>(out: &mut O, from: Minute, to: Minute) -> io::Result<()> {
-    out.write_all(b"outage ")?;
-    out.write_all(&date_text(from))?;
-    out.write_all(b" to ")?;
-    out.write_all(&date_text(to))
+/// Adds the end of a run, with a word and a number.
+#[tactic(auto, unfolding(crate::specs::LogLines::numbered_end))]
+fn push_numbered_end(
+    alloc: Global,
+    text: &mut Vec<u8>,
+    plan: &Plan,
+    run: Run,
+    word: &[u8],
+    number: i32,
+) -> Result<(), AllocError>
+    ensures { OnOk result (text.new.items
+        ≡ text.old.items ++ numbered_end plan.now run word.now number) }
+{
+    push_run(alloc, text, b"ended ", plan, run)?;
+    text.extend_from_slice(word)?;
+    text.extend_from_slice(number.to_string(alloc)?.as_bytes())
 }
 
-fn write_stamp<O: io::Write>(out: &mut O, words: &[u8], plan: &Plan, job: usize) -> io::Result<()> {
-    out.write_all(words)?;
-    match plan.anacrontab().lines().get(job) {
-        Some(line) => out.write_all(line.identifier()),
-        None => Ok(()),
+/// Adds the end of a run of which there is no number.
+#[tactic(auto, unfolding(crate::specs::LogLines::bare_end))]
+fn push_bare_end(alloc: Global, text: &mut Vec<u8>, plan: &Plan, run: Run) -> Result<(), AllocError>
+    ensures { OnOk result (text.new.items ≡ text.old.items ++ bare_end plan.now run) }
+{
+    push_run(alloc, text, b"ended ", plan, run)?;
+    text.extend_from_slice(b" status none")
+}
+
+#[tactic(auto, unfolding(crate::specs::LogLines::outage_text))]
+fn push_outage(text: &mut Vec<u8>, from: Minute, to: Minute) -> Result<(), AllocError>
+    ensures { OnOk result (text.new.items ≡ text.old.items ++ outage_text from to) }
+{
+    text.extend_from_slice(b"outage ")?;
+    text.extend_from_slice(&date_text(from))?;
+    text.extend_from_slice(b" to ")?;
+    text.extend_from_slice(&date_text(to))
+}
+
+/// Adds words, and the identifier of an anacron job by its place in the anacrontab.
+fn push_stamp(text: &mut Vec<u8>, words: &[u8], plan: &Plan, place: usize) -> Result<(), AllocError>
+    ensures { OnOk result (text.new.items
+        ≡ text.old.items ++ (words.now ++ identifier_at plan.now place)) }
+{
+    text.extend_from_slice(words)?;
+    text.extend_from_slice(identifier_at(plan, place))
+}
+
+fn identifier_at(plan: &Plan, place: usize) -> &[u8]
+    ensures { result.now ≡ identifier_at plan.now place }
+{
+    match plan.anacrontab().lines().get(place) {
+        Some(line) => line.identifier(),
+        None => b"",
     }
 }

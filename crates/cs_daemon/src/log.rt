@@ -1,6 +1,6 @@
 //! The log that all threads write to.
 
-use crate::lines::{LogLine, write_line};
+use crate::lines::{LogLine, push_line};
 use cs_decl::Plan;
 use std::alloc::Global;
 use std::io;
@@ -9,6 +9,7 @@ use std::io;
 /// that can't be made or written is lost, and counted.
 #[derive(Drop)]
 pub(crate) struct Log<'w, O> {
+    alloc: Global,
     plan: &'w Plan,
     out: &'w mut O,
     line: Vec<u8>,
@@ -19,6 +20,7 @@ impl<'w, O: io::Write> Log<'w, O> {
     /// No line yet.
     pub(crate) fn new(alloc: Global, plan: &'w Plan, out: &'w mut O) -> Log<'w, O> {
         Log {
+            alloc,
             plan,
             out,
             line: Vec::new(alloc),
@@ -64,7 +66,7 @@ impl<'w, O: io::Write> Log<'w, O> {
 
     fn try_write(&mut self, line: LogLine) -> io::Result<()> {
         self.line.clear();
-        write_line(&mut self.line, self.plan, line)?;
+        push_line(self.alloc, &mut self.line, self.plan, line)?;
         self.out.write_all(self.line.as_slice())
     }
 }

@@ -9,7 +9,9 @@ use cs_civil::Bytes;
 pub enum Outcome {
     /// It exited with this status, from 0 to 255 on this machine.
     Exited(i32),
-    /// It ended without a status, for example by a signal.
+    /// A signal of this number ended it.
+    Killed(i32),
+    /// It ended without a status, and nothing is told of a signal.
     Ended,
     /// It could not be started.
     NotStarted,
@@ -29,9 +31,17 @@ pub trait Runner {
     ghost failures: { Self → ℕ };
 
     /// Runs a command with this standard input, or an empty one, and these settings, each a name
-    /// and its value, in its environment. Returns when it has ended.
-    fn run(&mut self, command: &[u8], input: Option<&[u8]>, env: &[(Bytes, Bytes)]) -> Outcome
-        ensures runs { runs self.old (asked command.now input.entry env.now) result self.new }
+    /// and its value, in its environment, for the run of this name, as a log has it. Returns when it
+    /// has ended.
+    fn run(
+        &mut self,
+        name: &[u8],
+        command: &[u8],
+        input: Option<&[u8]>,
+        env: &[(Bytes, Bytes)],
+    ) -> Outcome
+        ensures runs { runs self.old (asked name.now command.now input.entry env.now) result
+            self.new }
         ensures failures { failures self.old ≤ failures self.new }
         ensures failed { result ≡ NotStarted → failures self.old < failures self.new };
 }

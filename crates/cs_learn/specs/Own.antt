@@ -22,11 +22,15 @@ started_in text = do
   name ← name_in text
   if_so (is_nothing name.1) name.0
 
--- It has ended where ` status ` follows.
+-- what follows ` status ` or ` signal `
+abbrev pub ending_in : List ℕ → Option (List ℕ)
+ending_in text = or_else (behind (codes " status ") text) (behind (codes " signal ") text)
+
+-- It has ended where either follows.
 unfoldable pub ended_in : List ℕ → Option RunName
 ended_in text = do
   name ← name_in text
-  status ← behind (codes " status ") name.1
+  ending ← ending_in name.1
   Some name.0
 
 abbrev pub started_parts : List ℕ → Option (Sign × RunName)

@@ -1,6 +1,6 @@
 //! What this program's own log tells of a run of a crontab's line.
 ghost use Rattle.std.specs.Prelude.{◌≡◌, ◌≤◌, IfSome, option_map};
-ghost use Rattle.cs_learn.specs.Own.{name_in, started_in, ended_in, own_parts, started_parts, ended_parts};
+ghost use Rattle.cs_learn.specs.Own.{name_in, started_in, ended_in, ending_in, own_parts, started_parts, ended_parts};
 
 use crate::log_line::{RunName, Sign};
 use cs_retrace::run::numbered;
@@ -30,12 +30,22 @@ fn started(text: &[u8]) -> Option<RunName>
     Some(name)
 }
 
+/// What follows the word for a run's end.
+fn ending(text: &[u8]) -> Option<&[u8]>
+    ensures { option_map (λ rest. rest.now) result ≡ ending_in text.now }
+{
+    match behind(b" status ", text) {
+        Some(status) => Some(status),
+        None => behind(b" signal ", text),
+    }
+}
+
 #[tactic(auto, unfolding(crate::specs::Own::ended_in))]
 fn ended(text: &[u8]) -> Option<RunName>
     ensures { result ≡ ended_in text.now }
 {
     let (name, rest) = name(text)?;
-    behind(b" status ", rest)?;
+    ending(rest)?;
     Some(name)
 }
 

@@ -1,6 +1,11 @@
 pub mod Ends
 pub mod Hooks
+pub mod Joins
+pub mod Kept
 pub mod Moments
 pub mod Names
+pub mod Outages
 pub mod Parts
+pub mod Runs
+pub mod Shapes
 pub mod Texts

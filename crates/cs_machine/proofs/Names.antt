@@ -1,7 +1,8 @@
 -- Two files of a folder.
-use Rattle.std.proofs.Common.{◌≡◌, ◌≢◌, ◌∙◌, ℕ, Bool, true, false, ◌||◌, List, [], ◌∷◌, ◌++◌, sym, ap, append_assoc, reverse, refl, true≢false, arith}
+use Rattle.std.proofs.Common.{◌≡◌, ◌≢◌, ◌∙◌, ℕ, true, List, ◌++◌, get_or, sym, ap, append_assoc, reverse, refl, true≢false, arith}
 use Rattle.std.specs.Prelude.{codes}
 use Rattle.std.specs.List.{list_any}
+use Rattle.std.proofs.Math.Bool.{or-true}
 use Rattle.std.proofs.lemmas.List.{append_cancel_left, reverse-append}
 use Rattle.std.proofs.lemmas.List.Folds.{list_any-append}
 use Rattle.cs_machine.specs.Files.{IsFileName, is_kept_out, file_of, new_file_of, reload_file_of, stop_file_of}
@@ -10,14 +11,10 @@ pub own_file : (folder a b : List ℕ) → file_of folder a ≡ file_of folder b
 own_file folder a b same = append_cancel_left (folder ++ codes "/") a b same
 
 -- a text with a blank after it has a byte that names don't have
-ends_badly : (bit : Bool) → (bit || true) ≡ true
-ends_badly true = refl
-ends_badly false = refl
-
 pub new_file_apart : (folder a b : List ℕ) → IsFileName b → new_file_of folder a ≢ file_of folder b
 new_file_apart folder a b name same =
     let named : a ++ codes " new" ≡ b = own_file folder (a ++ codes " new") b (sym (append_assoc (folder ++ codes "/") a (codes " new")) ∙ same) in
-    let bad : list_any is_kept_out b ≡ true = sym (ap (list_any is_kept_out) named) ∙ list_any-append is_kept_out a (codes " new") ∙ ends_badly (list_any is_kept_out a) in
+    let bad : list_any is_kept_out b ≡ true = sym (ap (list_any is_kept_out) named) ∙ list_any-append is_kept_out a (codes " new") ∙ or-true (list_any is_kept_out a) in
     absurd (true≢false (sym bad ∙ name.clean))
 
 -- a name with a byte that names don't have
@@ -32,16 +29,11 @@ stop_file_apart folder a name same = kept_out_apart folder (codes "cronsafe stop
 pub reload_file_apart : (folder a : List ℕ) → IsFileName a → reload_file_of folder ≢ file_of folder a
 reload_file_apart folder a name same = kept_out_apart folder (codes "cronsafe reload") a refl name same
 
--- the first of a list, 0 where there is none
-abbrev first : List ℕ → ℕ
-first [] = 0
-first (x ∷ xs) = x
-
 -- a text that ends like " new" ends with 119
-last_of_new : (folder name a : List ℕ) → file_of folder name ≡ new_file_of folder a → first (reverse name) ≡ 119
+last_of_new : (folder name a : List ℕ) → file_of folder name ≡ new_file_of folder a → get_or (reverse name) 0 0 ≡ 119
 last_of_new folder name a same =
     let named : name ≡ a ++ codes " new" = own_file folder name (a ++ codes " new") (same ∙ append_assoc (folder ++ codes "/") a (codes " new")) in
-    ap (λ xs. first (reverse xs)) named ∙ ap first (reverse-append a (codes " new"))
+    ap (λ xs. get_or (reverse xs) 0 0) named ∙ ap (λ xs. get_or xs 0 0) (reverse-append a (codes " new"))
 
 -- the texts end with different letters
 pub stop_file_not_new : (folder a : List ℕ) → stop_file_of folder ≢ new_file_of folder a

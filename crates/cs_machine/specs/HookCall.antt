@@ -6,11 +6,22 @@ use Rattle.cs_machine.specs.declared.hook_call.HookCall.{HookCall as TheCall}
 use Rattle.cs_machine.specs.declared.hook_call.HookCall.TheVariants.{Overrun, Failure}
 use Rattle.cs_machine.specs.declared.setup.JobNote.{JobNote}
 
--- a line tells the end of a run with a status, which is one word
+-- a line tells the end of a run, behind its name this, and then one word
+abbrev pub EndsBy : List ℕ → List ℕ → List ℕ → List ℕ → Type 0
+EndsBy words run what word =
+    (words ≡ codes "ended " ++ run ++ what ++ codes " " ++ word)
+    × (list_any (λ b. b == 32) word ≡ false)
+
+-- it tells the end of a run by a signal, with its number
+abbrev pub TellsSignal : List ℕ → List ℕ → List ℕ → Type 0
+TellsSignal words run status =
+    (number : List ℕ) × EndsBy words run (codes " signal") number
+    × (status ≡ codes "signal " ++ number)
+
+-- it tells the end of a run, with a status, which is one word, or by a signal
 abbrev pub TellsEnd : List ℕ → List ℕ → List ℕ → Type 0
 TellsEnd words run status =
-    (words ≡ codes "ended " ++ run ++ codes " status " ++ status)
-    × (list_any (λ b. b == 32) status ≡ false)
+    EndsBy words run (codes " status") status ⊎ TellsSignal words run status
 
 -- it tells that a run couldn't be started, or ended with another status than 0
 abbrev pub TellsFailure : List ℕ → List ℕ → List ℕ → Type 0

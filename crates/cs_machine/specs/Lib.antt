@@ -2,9 +2,13 @@ pub mod Files
 pub mod HookCall
 pub mod Home
 pub mod Hook
+pub mod LeftOut
+pub mod NextDue
+pub mod Output
 pub mod Passing
 pub mod Report
 pub mod RunLog
+pub mod Runners
 pub mod Setup
 pub mod Shell
 pub mod StartText

@@ -1,6 +1,7 @@
 -- What a clock tells where the machine's shows a minute, when one that was given a number of minutes
 -- stops, and a minute at another offset.
-use Rattle.std.specs.Prelude.{◌≡◌, ◌↔◌, ◌≤◌, ℕ, ◌-◌, ℤ, pos, ◌+ℤ◌, Bool, false, nat_le, nat_lt, if◌then◌else◌, Option, Some, None}
+use Rattle.std.specs.Prelude.{◌≡◌, ◌↔◌, ◌≤◌, ℕ, ◌-◌, ℤ, pos, negsuc, ◌+ℤ◌, ◌*ℤ◌, Bool, false, nat_le, nat_lt, if◌then◌else◌, Option, Some, None}
+use Rattle.std.specs.Int.{int_div_euclid}
 use Rattle.cs_civil.specs.Calendar.{first_minute, last_minute}
 use Rattle.cs_device.specs.declared.clock.Tick.{Tick}
 use Rattle.cs_device.specs.declared.clock.Tick.TheVariants.{At, Stop}
@@ -38,6 +39,16 @@ is_over None first minute = false
 -- what a clock shows at a minute, by its limit and its first minute
 abbrev pub shown : Option ℕ → Option ℕ → ℕ → Tick
 shown limit first minute = if is_over limit first minute then Stop else At minute
+
+-- a number of minutes since 1970-01-01 00:00, if it is that of a civil minute
+abbrev pub civil_minute : ℤ → Option ℕ
+civil_minute (pos n) =
+    if nat_le first_minute n then (if nat_le n last_minute then Some n else None) else None
+civil_minute (negsuc n) = None
+
+-- the minute that a clock with this offset from UTC shows in a second since 1970-01-01 00:00 UTC
+abbrev pub clock_minute : ℤ → ℕ → Option ℕ
+clock_minute offset second = civil_minute (int_div_euclid (pos second +ℤ pos 60 *ℤ offset) (pos 60))
 
 -- two minutes, each with its offset from UTC, are the same instant
 abbrev pub IsSameInstant : ℤ → ℕ → ℤ → ℕ → Type 0

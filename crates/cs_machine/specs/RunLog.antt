@@ -1,5 +1,5 @@
 -- The lines of a daemon's log, with times.
-use Rattle.std.specs.Prelude.{◌≡◌, ◌≢◌, ◌⊎◌, ℕ, true, ◌/◌, ◌%◌, nat_le, if◌then◌else◌, List, [], ◌∷◌, ◌++◌, flat_map, codes, decimal, Option, Some, None}
+use Rattle.std.specs.Prelude.{◌≡◌, ◌≢◌, ◌⊎◌, ℕ, Bool, true, false, ◌&&◌, ◌/◌, ◌%◌, nat_le, if◌then◌else◌, List, [], ◌∷◌, ◌++◌, flat_map, codes, decimal, Option, Some, None}
 use Rattle.cs_civil.specs.Calendar.{last_day}
 use Rattle.cs_civil.specs.Text.{day_text, two_digits}
 use Rattle.cs_gather.specs.Gathered.{shown}
@@ -7,7 +7,9 @@ use Rattle.cs_machine.specs.Setup.{peers_of}
 use Rattle.cs_machine.specs.declared.hook_call.HookCall.{HookCall as TheCall}
 use Rattle.cs_machine.specs.declared.setup.JobNote.{JobNote}
 use Rattle.cs_machine.specs.declared.setup.Setup.{Setup}
+use Rattle.cs_machine.specs.declared.state.State.{State}
 use Rattle.cs_machine.specs.HookCall.{Keeps}
+use Rattle.cs_machine.specs.State.{Takes}
 
 -- `2024-09-13T23:30:01Z`, of a moment in seconds since 1970-01-01 00:00 UTC
 abbrev pub moment_text : ℕ → List ℕ
@@ -41,7 +43,16 @@ Follows at words jobs text =
     × (text ≡ peers_text at run (peers_of run jobs)))
     ⊎ (((run : List ℕ) → words ≢ codes "overrun " ++ run) × (text ≡ []))
 
--- the calls behind a line: none is kept without hooks, and what memory isn't there for
-abbrev pub IsCalled : Setup → List ℕ → List TheCall → List TheCall → Type 0
-IsCalled setup words before after =
-    ((setup.has_hooks ≡ true) × Keeps words setup.jobs.now before after) ⊎ (after ≡ before)
+-- the calls behind a line, with hooks and without; where memory ran out, the line's may be missing
+abbrev pub IsCalled : Setup → List ℕ → Bool → List TheCall → List TheCall → Type 0
+IsCalled setup words kept before after =
+    ((setup.has_hooks ≡ true) × Keeps words setup.jobs.now before after)
+    ⊎ (((setup.has_hooks && kept) ≡ false) × (after ≡ before))
+
+-- what a line that is told in this second does to the state and to the calls, as far as there was
+-- memory
+abbrev pub NotesLine : Setup → List ℕ → Option ℕ → State → State → List TheCall → List TheCall
+    → Type 0
+NotesLine setup words at before after calls calls' =
+    (kept : Bool) × Takes words at setup.jobs.now kept before after
+    × IsCalled setup words kept calls calls'

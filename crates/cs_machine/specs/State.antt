@@ -1,7 +1,11 @@
 -- What the lines of a daemon's log tell of its runs.
-use Rattle.std.specs.Prelude.{◌≡◌, ◌≢◌, ◌⊎◌, ℕ, ◌+◌, ◌-◌, ◌^◌, nat_eq, nat_lt, nat_le, if◌then◌else◌, Bool, true, ◌||◌, not, List, [], ◌∷◌, ◌++◌, filter, bytes_eq, codes, Option, None, Some}
+use Rattle.std.specs.Prelude.{◌≡◌, ◌≢◌, ◌⊎◌, ℕ, ◌+◌, ◌-◌, ◌^◌, nat_eq, nat_lt, nat_le, if◌then◌else◌, Bool, true, false, ◌||◌, not, List, [], ◌∷◌, ◌++◌, filter, bytes_eq, codes, Option, None, Some}
 use Rattle.std.specs.List.{starts_with}
+use Rattle.cs_machine.specs.LeftOut.{LeavesOut, held}
+use Rattle.cs_machine.specs.Starts.{Notes, is_last_of}
 use Rattle.cs_machine.specs.declared.counts.Counts.{Counts}
+use Rattle.cs_machine.specs.declared.setup.JobNote.{JobNote}
+use Rattle.cs_machine.specs.declared.state.State.{State}
 
 -- whether a line begins so
 abbrev pub begins : List ℕ → List ℕ → Bool
@@ -35,11 +39,12 @@ ends_wait words name =
     || begins words (codes "outage "))
 
 -- the names of runs behind a line: one that begins so tells of one run more, whose name comes behind
--- the others unless memory runs out; any other takes out those that it ends
-abbrev pub IsNoted : List ℕ → (List ℕ → Bool) → List ℕ → List (List ℕ) → List (List ℕ) → Type 0
-IsNoted front is_ended words before after =
+-- the others, unless memory runs out; any other takes out those that it ends
+abbrev pub IsNoted : List ℕ → (List ℕ → Bool) → List ℕ → Bool
+    → List (List ℕ) → List (List ℕ) → Type 0
+IsNoted front is_ended words kept before after =
     ((name : List ℕ) × (words ≡ front ++ name)
-    × ((after ≡ before ++ name ∷ []) ⊎ (after ≡ before)))
+    × ((after ≡ before ++ name ∷ []) ⊎ ((kept ≡ false) × (after ≡ before))))
     ⊎ (((name : List ℕ) → words ≢ front ++ name)
     × (after ≡ filter (λ name. not (is_ended name)) before))
 
@@ -53,3 +58,40 @@ fault_after words at before =
 abbrev pub is_past : Option ℕ → ℕ → Bool
 is_past None at = true
 is_past (Some before) at = nat_lt at before || nat_le (before + 60) at
+
+-- that of a daemon that began in this second, with no line yet
+pub record Begins (at : Option ℕ) (state : State) : Type 0 where
+  pub since : state.since ≡ at
+  pub names : (state.starts.runs.items ≡ []) × (state.late.items ≡ [])
+      × (state.waiting.items ≡ [])
+  pub counts : (state.counts ≡ no_counts) × (state.left_out ≡ 0)
+  pub stamp_fault_at : state.stamp_fault_at ≡ None
+  pub stopping : state.is_stopping ≡ false
+  pub due : (state.has_changed ≡ true) × (state.written_at ≡ None)
+
+-- what a line that is told in this second does to the state of a daemon with these jobs; where
+-- memory ran out for the name of a run, not all is kept
+pub record Takes (words : List ℕ) (at : Option ℕ) (jobs : List JobNote) (kept : Bool)
+    (before after : State) : Type 0 where
+  pub runs : Notes words at kept before.starts.runs.items after.starts.runs.items
+  pub waiting : IsNoted (codes "waiting ") (ends_wait words) words kept
+      before.waiting.items after.waiting.items
+  pub late : IsNoted (codes "overrun ") (is_last_of words) words kept
+      before.late.items after.late.items
+  pub counts : after.counts ≡ counted_in words before.counts
+  pub left_out : (count : ℕ) × LeavesOut words jobs count
+      × (after.left_out ≡ held (before.left_out + count))
+  pub stamp_fault_at : after.stamp_fault_at ≡ fault_after words at before.stamp_fault_at
+  pub due : after.has_changed ≡ true
+  pub left : (after.since ≡ before.since) × (after.is_stopping ≡ before.is_stopping)
+      × (after.written_at ≡ before.written_at)
+
+-- what it does to the state that the daemon starts nothing more: it drops the runs that wait
+abbrev pub Stops : State → State → Type 0
+Stops before after =
+    (after ≡ record before { is_stopping = true; has_changed = true; waiting = after.waiting })
+    × (after.waiting.items ≡ [])
+
+-- that state, written in this second
+abbrev pub written_in : ℕ → State → State
+written_in at state = record state { has_changed = false; written_at = Some at }

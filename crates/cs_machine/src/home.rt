@@ -1,10 +1,11 @@
 //! The user whose commands are run, and the user's folder.
-ghost use Rattle.std.specs.Prelude.{◌≡◌, ◌++◌, IfOk, length, option_map, slice_get, decimal};
+ghost use Rattle.std.specs.Prelude.{◌≡◌, IfOk, length, option_map};
 ghost use Rattle.std.specs.List.{find};
 ghost use Rattle.std.specs.Option.{option_copied};
-ghost use Rattle.cs_machine.specs.Home.{field, fields_of, home_of, home_on, is_entry_of, is_same};
+ghost use Rattle.cs_machine.specs.Home.{fields_of, home_of, home_on, is_entry_of, is_same};
 ghost use Rattle.cs_machine.specs.Home.{lines_of};
 
+use crate::pieces::piece;
 use cs_civil::{Bytes, push_number};
 use std::alloc::{AllocError, Global};
 use std::fs;
@@ -21,6 +22,9 @@ pub struct Home {
 
 /// The most bytes of the users' entries that are read: a mebibyte.
 const MOST: u64 = 1_048_576;
+
+/// What stands between the fields of an entry.
+const COLON: u8 = b':';
 
 /// The fields of an entry.
 const FIELDS: usize = 7;
@@ -82,7 +86,7 @@ fn home_of(alloc: Global, user: u32, text: &[u8]) -> Result<Option<Home>, AllocE
 fn home_on(alloc: Global, line: &[u8]) -> Result<Option<Home>, AllocError>
     ensures { IfOk result (λ home. home ≡ home_on line.now) }
 {
-    let (Some(user), Some(folder)) = (field(line, USER), field(line, FOLDER)) else {
+    let (Some(user), Some(folder)) = (piece(line, COLON, USER), piece(line, COLON, FOLDER)) else {
         return Ok(None);
     };
     Ok(Some(Home {
@@ -103,7 +107,7 @@ fn entry_of<'t>(number: &[u8], text: &'t [u8]) -> Option<&'t [u8]>
 fn is_entry_of(number: &[u8], line: &[u8]) -> bool
     ensures { result ≡ is_entry_of number.now line.now }
 {
-    field_count(line) == FIELDS && is_same(number, field(line, NUMBER))
+    field_count(line) == FIELDS && is_same(number, piece(line, COLON, NUMBER))
 }
 
 fn is_same(wanted: &[u8], field: Option<&[u8]>) -> bool
@@ -118,11 +122,5 @@ fn is_same(wanted: &[u8], field: Option<&[u8]>) -> bool
 fn field_count(line: &[u8]) -> usize
     ensures { result ≡ length (fields_of line.now) }
 {
-    line.split(|byte| *byte == b':').count()
-}
-
-fn field(line: &[u8], index: usize) -> Option<&[u8]>
-    ensures { option_map (λ field. field.now) result ≡ field line.now index }
-{
-    line.split(|byte| *byte == b':').nth(index)
+    line.split(|byte| *byte == COLON).count()
 }

@@ -1,7 +1,7 @@
 //! What happened to a run, for which a command of the operator's is started.
 ghost use Rattle.std.specs.Prelude.{◌≡◌, ◌≢◌, ◌++◌, ◌==◌, ℕ, List, false, codes, IfOk, IfSome, IsNone, OnErr, OnOk};
 ghost use Rattle.std.specs.List.{list_any};
-ghost use Rattle.cs_machine.specs.HookCall.{Keeps, Tells, TellsEnd, TellsFailure};
+ghost use Rattle.cs_machine.specs.HookCall.{EndsBy, Keeps, Tells, TellsEnd, TellsFailure, TellsSignal};
 ghost use Rattle.cs_machine.specs.declared.hook_call.HookCall.{HookCall as TheCall};
 
 use crate::setup::{JobNote, peers_of};
@@ -20,11 +20,12 @@ pub enum HookCall {
         /// there are none.
         peers: Bytes,
     },
-    /// It couldn't be started, or ended with another status than 0.
+    /// It couldn't be started, or ended with another status than 0, or by a signal.
     Failure {
         /// Its name.
         run: Bytes,
-        /// The status as the log tells it, `none` where there is none, or `not started`.
+        /// The status as the log tells it, `none` where there is none, `signal` and its number where
+        /// a signal ended it, or `not started`.
         status: Bytes,
     },
 }
@@ -42,14 +43,34 @@ fn around_last_blank(text: &[u8]) -> Option<(&[u8], &[u8])>
     Some((&text[..at], &text[at + 1..]))
 }
 
-/// The name of the run whose end a line tells, and its status.
+/// The name of the run whose end a line tells, behind it this, and then one word: that word too.
+fn ended_by<'w>(words: &'w [u8], what: &[u8]) -> Option<(&'w [u8], &'w [u8])>
+    ensures some { IfSome result (λ p. EndsBy words.now p.0.now what.now p.1.now) }
+    ensures none { IsNone result → (run word : List ℕ) → ¬ (EndsBy words.now run what.now word) }
+{
+    let (front, word) = around_last_blank(words)?;
+    let run = front.strip_prefix(b"ended ")?.strip_suffix(what)?;
+    Some((run, word))
+}
+
+/// The name of the run whose end by a signal a line tells, and `signal` with its number.
+fn signalled_run(words: &[u8]) -> Option<(&[u8], &[u8])>
+    ensures some { IfSome result (λ p. TellsSignal words.now p.0.now p.1.now) }
+    ensures none { IsNone result → (run status : List ℕ) → ¬ (TellsSignal words.now run status) }
+{
+    let (run, _) = ended_by(words, b" signal")?;
+    Some((run, &words[b"ended ".len() + run.len() + 1..]))
+}
+
+/// The name of the run whose end a line tells, and its status or its signal.
 fn ended_run(words: &[u8]) -> Option<(&[u8], &[u8])>
     ensures some { IfSome result (λ p. TellsEnd words.now p.0.now p.1.now) }
     ensures none { IsNone result → (run status : List ℕ) → ¬ (TellsEnd words.now run status) }
 {
-    let (front, status) = around_last_blank(words)?;
-    let run = front.strip_prefix(b"ended ")?.strip_suffix(b" status")?;
-    Some((run, status))
+    match ended_by(words, b" status") {
+        Some(told) => Some(told),
+        None => signalled_run(words),
+    }
 }
 
 /// The name of the run that a line tells to have failed, and what is told of that.

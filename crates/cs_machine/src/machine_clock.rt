@@ -1,14 +1,13 @@
 //! The machine's clock, in whole minutes.
 ghost use Rattle.std.specs.Prelude.{◌≡◌, ◌↔◌, ◌<◌, ◌≤◌, ◌+◌, ◌-◌, pos, IsTrue, IfSome, Some};
 ghost use Rattle.std.specs.Prelude.{None, ℕ, []};
-ghost use Rattle.std.specs.Prelude.{◌+ℤ◌, ◌*ℤ◌, unwrap_or, is_some, true, false};
-ghost use Rattle.std.specs.Int.{int_div_euclid};
+ghost use Rattle.std.specs.Prelude.{◌+ℤ◌, unwrap_or, is_some, true, false};
 ghost use Rattle.cs_civil.specs.Calendar.{first_minute, last_minute};
 ghost use Rattle.cs_device.specs.Rise.{risen_by, top_by};
 ghost use Rattle.cs_device.specs.Telling.{nothing_told};
 ghost use Rattle.cs_device.specs.declared.clock.Tick.TheVariants.{Failed};
 ghost use Rattle.cs_machine.specs.declared.attendant.ClockBack.{ClockBack};
-ghost use Rattle.cs_machine.specs.Passing.{held, is_behind, IsBackAt, IsMoved, latest, shown};
+ghost use Rattle.cs_machine.specs.Passing.{clock_minute, held, is_behind, IsBackAt, IsMoved, latest, shown};
 
 use crate::attendant::{Attendant, ClockBack};
 use crate::seconds::unix_seconds;
@@ -238,9 +237,8 @@ fn is_near(latest: Minute, minute: Minute) -> bool
 }
 
 /// The minute this many seconds after 1970-01-01 00:00 UTC, if it is in range.
-fn minute_after(seconds: u64, offset: i16) -> Option<Minute>
-    ensures { IfSome result (λ minute. pos minute
-        ≡ int_div_euclid (pos seconds +ℤ pos 60 *ℤ offset) (pos 60)) }
+pub(crate) fn minute_after(seconds: u64, offset: i16) -> Option<Minute>
+    ensures { result ≡ clock_minute offset seconds }
 {
     minute_at(i64::try_from(seconds).ok()?, offset).ok()
 }

@@ -28,6 +28,8 @@ struct ToldCounts {
     skipped: u64,
     overruns: u64,
     outages: u64,
+    /// Runs that the outages left out.
+    left_out: u64,
     not_started: u64,
     stamps_not_written: u64,
 }
@@ -47,6 +49,8 @@ pub struct Report {
     is_stopping: bool,
     running: Vec<ToldRun>,
     waiting: Vec<String>,
+    /// The name of the run that is due next, if one is told.
+    next_due: Option<String>,
     counts: ToldCounts,
     stamp_fault_at: Option<u64>,
 }
@@ -109,6 +113,15 @@ fn count_at(value: &Value, name: &str) -> Result<u64, Misread> {
     value_at(value, name)?.as_u64().ok_or(BAD_SHAPE)
 }
 
+/// How many runs the outages left out: a number below 2^64, or no member, as a daemon of an earlier
+/// version tells it, and then 0.
+fn left_out_of(value: &Value) -> Result<u64, Misread> {
+    match value.get("left_out") {
+        Some(count) => count.as_u64().ok_or(BAD_SHAPE),
+        None => Ok(0),
+    }
+}
+
 /// A member that is a moment, as text.
 fn moment_at(alloc: Global, value: &Value, name: &str) -> Result<String, Misread> {
     let text = text_at(alloc, value, name)?;
@@ -146,6 +159,31 @@ fn may_meet_of(alloc: Global, value: &Value) -> Result<String, Misread> {
     match value.get("may_meet") {
         Some(peers) => plain_text(alloc, peers),
         None => Ok(String::new(alloc)),
+    }
+}
+
+/// What is due next: a text, null, or no member, as a daemon of an earlier version tells it.
+fn next_due_of(alloc: Global, value: &Value) -> Result<Option<String>, Misread> {
+    match value.get("next_due") {
+        Some(next) if !next.is_null() => Ok(Some(plain_text(alloc, next)?)),
+        _ => Ok(None),
+    }
+}
+
+/// Whether a text is that of a SHA-256: 64 hexadecimal digits, in lower case.
+fn is_checksum(text: &[u8]) -> bool {
+    let is_digit = |byte: &u8| matches!(*byte, b'0'..=b'9' | b'a'..=b'f');
+    text.len() == 64 && text.iter().all(is_digit)
+}
+
+/// Refuses a checksum of the certificate that is none. A daemon of an earlier version tells none.
+fn see_checksum(value: &Value) -> Result<(), Misread> {
+    let Some(told) = value.get("certificate_sha256") else {
+        return Ok(());
+    };
+    match told.as_str() {
+        Some(text) if is_checksum(text.as_bytes()) => Ok(()),
+        _ => Err(BAD_SHAPE),
     }
 }
 
@@ -188,20 +226,22 @@ fn read_counts(value: &Value) -> Result<ToldCounts, Misread> {
         skipped: count_at(value, "skipped")?,
         overruns: count_at(value, "overruns")?,
         outages: count_at(value, "outages")?,
+        left_out: left_out_of(value)?,
         not_started: count_at(value, "not_started")?,
         stamps_not_written: count_at(value, "stamps_not_written")?,
     })
 }
 
 /// Reads the text of a daemon's state. A fault if it is no JSON, a member is absent or has another
-/// type, or a text in it holds a control character; other members are passed over. A run's `until` and
-/// `may_meet` may be absent.
+/// type, or a text in it holds a control character; other members are passed over. `next_due`,
+/// `left_out` and `certificate_sha256` may be absent, and so may a run's `until` and `may_meet`.
 pub fn read_report(alloc: Global, state: &[u8]) -> Result<Report, Misread> {
     let value = parse(alloc, state)?;
     let told_at = text_at(alloc, &value, "at")?;
     let Some(at) = read_moment(told_at.as_bytes()) else {
         return Err(BAD_SHAPE);
     };
+    see_checksum(&value)?;
     Ok(Report {
         at,
         told_at,
@@ -214,6 +254,7 @@ pub fn read_report(alloc: Global, state: &[u8]) -> Result<Report, Misread> {
         is_stopping: member(alloc, &value, "stopping")?,
         running: read_running(alloc, &value)?,
         waiting: read_waiting(alloc, &value)?,
+        next_due: next_due_of(alloc, &value)?,
         counts: read_counts(&value)?,
         stamp_fault_at: moment_or_null(&value, "stamp_fault_at")?,
     })
@@ -269,6 +310,7 @@ impl ToldCounts {
             ", stamps not written ",
             self.stamps_not_written,
         )?;
+        push_count(alloc, text, ", left out ", self.left_out)?;
         text.extend_from_slice(b"\n")
     }
 }
@@ -308,6 +350,9 @@ impl Report {
         }
         for name in self.waiting.iter() {
             push_texts(&mut text, &[name.as_str(), " waits\n"])?;
+        }
+        if let Some(next) = &self.next_due {
+            push_texts(&mut text, &["next is ", next.as_str(), "\n"])?;
         }
         self.counts.push(alloc, &mut text)?;
         Ok(text)

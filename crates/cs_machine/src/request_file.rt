@@ -1,7 +1,8 @@
 //! The files by which a daemon is asked for something.
 ghost use Rattle.std.specs.Prelude.{◌≡◌, IfOk, string_bytes};
-ghost use Rattle.cs_machine.specs.Files.{file_of, reload_file_of, stop_file_of};
+ghost use Rattle.cs_machine.specs.Files.{reload_file_of, stop_file_of};
 
+use crate::paths::path_in;
 use crate::replacing::remove_file;
 use std::alloc::{AllocError, Global};
 use std::fs::OpenOptions;
@@ -22,7 +23,8 @@ impl RequestFile {
     pub fn to_stop(alloc: Global, folder: &str) -> Result<RequestFile, AllocError>
         ensures { IfOk result (λ file. string_bytes file.path ≡ stop_file_of folder.now) }
     {
-        RequestFile::of(alloc, folder, "cronsafe stop")
+        let path = path_in(alloc, folder, "cronsafe stop")?;
+        Ok(RequestFile { path })
     }
 
     /// Returns the file by which a folder's daemon is asked to read its tables again, whether it's
@@ -30,16 +32,7 @@ impl RequestFile {
     pub fn to_reload(alloc: Global, folder: &str) -> Result<RequestFile, AllocError>
         ensures { IfOk result (λ file. string_bytes file.path ≡ reload_file_of folder.now) }
     {
-        RequestFile::of(alloc, folder, "cronsafe reload")
-    }
-
-    /// The file of that name in a folder.
-    fn of(alloc: Global, folder: &str, name: &str) -> Result<RequestFile, AllocError>
-        ensures { IfOk result (λ file. string_bytes file.path ≡ file_of folder.now name.now) }
-    {
-        let mut path = String::from_str(alloc, folder)?;
-        path.push_str("/")?;
-        path.push_str(name)?;
+        let path = path_in(alloc, folder, "cronsafe reload")?;
         Ok(RequestFile { path })
     }
 

@@ -1,18 +1,25 @@
 //! The daemon's log, and the state that it tells.
-ghost use Rattle.std.specs.Prelude.{◌≡◌, ◌++◌, ◌||◌, ℕ, List, Option, None, OnOk, IfSome, IsSome};
+ghost use Rattle.std.specs.Prelude.{◌≡◌, ◌++◌, ◌||◌, ℕ, List, Option, None, OnOk, IfSome};
 ghost use Rattle.std.specs.Prelude.{[], true, false};
 ghost use Rattle.std.specs.Io.KnownBytes.{Appends};
-ghost use Rattle.cs_machine.specs.RunLog.{Follows, IsCalled, line_text};
-ghost use Rattle.cs_machine.specs.Starts.{EndsAfter};
-ghost use Rattle.cs_machine.specs.State.{is_past};
+ghost use Rattle.std.specs.Result.{is_ok};
+ghost use Rattle.cs_machine.specs.RunLog.{Follows, IsCalled, NotesLine, line_text};
+ghost use Rattle.cs_machine.specs.Starts.{span_of};
+ghost use Rattle.cs_machine.specs.NextDue.{IsQuiet};
+ghost use Rattle.cs_machine.specs.State.{Begins, Stops, Takes, is_past};
+ghost use Rattle.cs_machine.specs.StateText.{TellsNext, state_text};
+ghost use Rattle.cs_machine.specs.declared.next_due.NextDue.{NextDue};
 
 use crate::hook_call::{HookCall, keep_call};
 use crate::line_text::{push_line, push_meeting};
+use crate::machine_clock::minute_after;
+use crate::next_due::{NextDue, QuietTime, next_due};
 use crate::seconds::unix_seconds;
 use crate::setup::Setup;
+use crate::starts::Noted;
 use crate::state::State;
 use crate::state_text::state_text;
-use std::alloc::Global;
+use std::alloc::{AllocError, Global};
 use std::io::Write;
 use std::{io, mem, time};
 
@@ -35,8 +42,10 @@ pub struct RunLog<'r, R, W> {
     setup: Setup<'r>,
     line: Vec<u8>,
     state: State,
+    quiet: QuietTime,
     /// What commands of the operator's are to be started for, and wasn't taken yet.
     calls: Vec<HookCall>,
+    ghost known: { IsQuiet setup.jobs.now quiet.from quiet.end },
 }
 
 impl<'r, R: time::Clock, W: Write> RunLog<'r, R, W> {
@@ -52,7 +61,7 @@ impl<'r, R: time::Clock, W: Write> RunLog<'r, R, W> {
         ensures out { result.out ≡ out }
         ensures is_timed { result.is_timed ≡ is_timed }
         ensures setup { result.setup ≡ setup.entry }
-        ensures starts { result.state.starts.runs.items ≡ [] }
+        ensures state { (at : Option ℕ) × Begins at result.state }
         ensures calls { result.calls.items ≡ [] }
     {
         RunLog {
@@ -63,6 +72,7 @@ impl<'r, R: time::Clock, W: Write> RunLog<'r, R, W> {
             setup,
             line: Vec::new(alloc),
             state: State::new(alloc, unix_seconds(rt)),
+            quiet: QuietTime::NONE,
             calls: Vec::new(alloc),
         }
     }
@@ -73,6 +83,8 @@ impl<'r, R: time::Clock, W: Write> RunLog<'r, R, W> {
             × Appends (W.contents self.old.out) (W.contents self.new.out)
             (line_text at text.now None)) }
         ensures untimed { self.old.is_timed ≡ false → self.new.out ≡ self.old.out }
+        ensures left { (self.new.state ≡ self.old.state) × (self.new.calls ≡ self.old.calls)
+            × (self.new.setup ≡ self.old.setup) × (self.new.is_timed ≡ self.old.is_timed) }
     {
         if self.is_timed {
             let at = unix_seconds(self.rt);
@@ -83,54 +95,73 @@ impl<'r, R: time::Clock, W: Write> RunLog<'r, R, W> {
 
     /// Takes a line of the daemon, given without its newline, and writes it with its time, and with
     /// for how long a run took whose end it tells; by the same call the line that follows it, if a run
-    /// is late.
+    /// is late. Where memory runs out for what it tells, the line is written nevertheless.
     fn tell(&mut self, words: &[u8]) -> io::Result<()>
-        ensures lines { OnOk result ((at : Option ℕ) × (span : Option ℕ) × (meeting : List ℕ)
-            × Appends (W.contents self.old.out) (W.contents self.new.out)
-            (line_text at words.now span ++ meeting)
-            × Follows at words.now self.old.setup.jobs.now meeting
-            × IfSome span (EndsAfter words.now at self.old.state.starts.runs.items)) }
-        ensures calls { IsCalled self.old.setup words.now
-            self.old.calls.items self.new.calls.items }
+        ensures kept { (at : Option ℕ) × NotesLine self.old.setup words.now at
+            self.old.state self.new.state self.old.calls.items self.new.calls.items
+            × OnOk result ((meeting : List ℕ) × Follows at words.now self.old.setup.jobs.now meeting
+            × Appends (W.contents self.old.out) (W.contents self.new.out) (line_text at words.now
+            (span_of words.now at self.old.state.starts.runs.items) ++ meeting)) }
+        ensures left { (self.new.setup ≡ self.old.setup)
+            × (self.new.is_timed ≡ self.old.is_timed) }
     {
         let at = unix_seconds(self.rt);
-        let span = self.take(words, at);
+        let span = self.take(words, at).span;
         self.line.clear();
         push_line(self.alloc, &mut self.line, at, words, span)?;
         push_meeting(self.alloc, &mut self.line, at, words, self.setup.jobs)?;
         self.out.write_all(self.line.as_slice())
     }
 
-    /// Takes a line of the daemon, and writes it as it is.
+    /// Takes a line of the daemon, and writes it as it is. Where memory runs out for what it tells,
+    /// the line is written nevertheless.
     fn pass(&mut self, words: &[u8], line: &[u8]) -> io::Result<()>
+        ensures kept { (at : Option ℕ) × NotesLine self.old.setup words.now at
+            self.old.state self.new.state self.old.calls.items self.new.calls.items }
         ensures line { OnOk result
             (Appends (W.contents self.old.out) (W.contents self.new.out) line.now) }
-        ensures calls { IsCalled self.old.setup words.now
-            self.old.calls.items self.new.calls.items }
+        ensures left { (self.new.setup ≡ self.old.setup)
+            × (self.new.is_timed ≡ self.old.is_timed) }
     {
         let at = unix_seconds(self.rt);
         let _ = self.take(words, at);
         self.out.write_all(line)
     }
 
-    /// Notes what a line tells, and returns for how many seconds a run took whose end it tells.
-    fn take(&mut self, words: &[u8], at: Option<u64>) -> Option<u64>
-        ensures span { IfSome result (EndsAfter words.now at self.old.state.starts.runs.items) }
-        ensures calls { IsCalled self.old.setup words.now
+    /// Notes what a line tells in this second.
+    fn take(&mut self, words: &[u8], at: Option<u64>) -> Noted
+        ensures span { result.span ≡ span_of words.now at self.old.state.starts.runs.items }
+        ensures state { Takes words.now at self.old.setup.jobs.now result.is_kept
+            self.old.state self.new.state }
+        ensures calls { IsCalled self.old.setup words.now result.is_kept
             self.old.calls.items self.new.calls.items }
-        ensures left { (self.new.out ≡ self.old.out) × (self.new.setup ≡ self.old.setup) }
+        ensures left { (self.new.out ≡ self.old.out) × (self.new.setup ≡ self.old.setup)
+            × (self.new.is_timed ≡ self.old.is_timed) }
     {
-        if self.setup.has_hooks {
-            // where memory runs out, no command is started
-            let _ = keep_call(self.alloc, &mut self.calls, words, self.setup.jobs);
+        let called = self.note_call(words);
+        self.state.take(words, at, self.setup.jobs).and(called)
+    }
+
+    /// Keeps what a line tells that is called for, for a daemon with hooks. The only error is out of
+    /// memory, and then it isn't kept.
+    fn note_call(&mut self, words: &[u8]) -> Result<(), AllocError>
+        ensures calls { IsCalled self.old.setup words.now (is_ok result)
+            self.old.calls.items self.new.calls.items }
+        ensures left { (self.new.out ≡ self.old.out) × (self.new.setup ≡ self.old.setup)
+            × (self.new.state ≡ self.old.state) × (self.new.is_timed ≡ self.old.is_timed) }
+    {
+        if !self.setup.has_hooks {
+            return Ok(());
         }
-        self.state.take(words, at)
+        keep_call(self.alloc, &mut self.calls, words, self.setup.jobs)
     }
 
     /// Makes a line, and writes it by one call.
     fn write_line(&mut self, at: Option<u64>, words: &[u8]) -> io::Result<()>
-        ensures { OnOk result (Appends (W.contents self.old.out) (W.contents self.new.out)
+        ensures line { OnOk result (Appends (W.contents self.old.out) (W.contents self.new.out)
             (line_text at words.now None)) }
+        ensures left { (self.new.state ≡ self.old.state) × (self.new.calls ≡ self.old.calls)
+            × (self.new.setup ≡ self.old.setup) × (self.new.is_timed ≡ self.old.is_timed) }
     {
         self.line.clear();
         push_line(self.alloc, &mut self.line, at, words, None)?;
@@ -141,22 +172,35 @@ impl<'r, R: time::Clock, W: Write> RunLog<'r, R, W> {
     /// 256 calls, and none for a daemon without hooks.
     pub fn take_calls(&mut self) -> Vec<HookCall>
         ensures taken { result.items ≡ self.old.calls.items }
-        ensures left { self.new.calls.items ≡ [] }
+        ensures none { self.new.calls.items ≡ [] }
+        ensures left { (self.new.out ≡ self.old.out) × (self.new.setup ≡ self.old.setup)
+            × (self.new.state ≡ self.old.state) × (self.new.is_timed ≡ self.old.is_timed) }
     {
         mem::replace(&mut self.calls, Vec::new(self.alloc))
     }
 
     /// Notes that the daemon starts nothing more, and writes why as a line of our own.
-    pub fn note_end(&mut self, why: &[u8]) -> io::Result<()> {
+    pub fn note_end(&mut self, why: &[u8]) -> io::Result<()>
+        ensures timed { self.old.is_timed ≡ true → OnOk result ((at : Option ℕ)
+            × Appends (W.contents self.old.out) (W.contents self.new.out)
+            (line_text at why.now None)) }
+        ensures untimed { self.old.is_timed ≡ false → self.new.out ≡ self.old.out }
+        ensures state { Stops self.old.state self.new.state }
+        ensures left { (self.new.calls ≡ self.old.calls) × (self.new.setup ≡ self.old.setup)
+            × (self.new.is_timed ≡ self.old.is_timed) }
+    {
         self.state.stop();
         self.note(why)
     }
 
     /// The text of the state, if a line came since it was asked for last, or that is a minute ago; it
     /// is one JSON object in one line. None too where the clock can't be read or memory runs out.
+    #[tactic(auto, unfolding(crate::specs::StateText::state_text, crate::specs::StateText::runs_text, crate::specs::StateText::faults_text))]
     pub fn state_if_due(&mut self) -> Option<Vec<u8>>
-        ensures due { IsSome result → (at : ℕ)
-            × ((self.old.state.has_changed || is_past self.old.state.written_at at) ≡ true) }
+        ensures due { IfSome result (λ text. (at : ℕ) × (next : Option NextDue)
+            × ((self.old.state.has_changed || is_past self.old.state.written_at at) ≡ true)
+            × TellsNext self.old.setup self.old.state.is_stopping at next
+            × (text.items ≡ state_text self.old.setup self.old.state next at)) }
         ensures left { (self.new.out ≡ self.old.out) × (self.new.setup ≡ self.old.setup)
             × (self.new.calls ≡ self.old.calls) }
     {
@@ -164,7 +208,22 @@ impl<'r, R: time::Clock, W: Write> RunLog<'r, R, W> {
         if !self.state.is_due(at) {
             return None;
         }
-        state_text(self.alloc, &self.setup, &self.state, at).ok()
+        let next = self.next_due(at);
+        state_text(self.alloc, &self.setup, &self.state, &next, at).ok()
+    }
+
+    /// What is due first behind the minute of this second; nothing where the daemon starts nothing
+    /// more.
+    fn next_due(&mut self, at: u64) -> Option<NextDue<'r>>
+        ensures next { TellsNext self.old.setup self.old.state.is_stopping at result }
+        ensures left { (self.new.out ≡ self.old.out) × (self.new.setup ≡ self.old.setup)
+            × (self.new.state ≡ self.old.state) × (self.new.calls ≡ self.old.calls) }
+    {
+        if self.state.is_stopping {
+            return None;
+        }
+        let after = minute_after(at, self.setup.offset)?;
+        next_due(self.setup.jobs, &mut self.quiet, after)
     }
 }
 

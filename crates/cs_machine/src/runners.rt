@@ -1,22 +1,85 @@
 //! Runners for a daemon.
-ghost use Rattle.std.specs.Prelude.{◌≡◌, IfOk, vec_len};
+ghost use Rattle.std.specs.Prelude.{◌≡◌, All, IfOk, vec_len};
+ghost use Rattle.cs_machine.specs.Runners.{IsMadeBy, IsMadeWith, IsOutputOf};
 
+use crate::output::OutputFolder;
 use std::alloc::{AllocError, Global};
 
-/// Makes this number of runners, each by a call of `new_runner`, with the user's home folder or
-/// without. The only error is out of memory.
-pub fn runners_by<W: Drop, F: Fn(bool) -> W + Drop>(
+/// What each runner of a daemon is made with, as words.
+#[derive(Clone, Copy)]
+pub struct RunnerWords<'a> {
+    /// Whether commands get the user's variables and run in the user's home folder.
+    pub has_home: bool,
+    /// Whether a signal that ended a command is told.
+    pub tells_signals: bool,
+    /// The path of the folder in which each run gets a file for its output; the daemon's own streams
+    /// where there is none.
+    pub output: Option<&'a str>,
+    /// How many files of each job are kept there, at least 1.
+    pub keep: u64,
+}
+
+/// What one runner is made with.
+#[derive(Drop)]
+pub struct RunnerSetup {
+    /// Whether commands get the user's variables and run in the user's home folder.
+    pub has_home: bool,
+    /// Whether a signal that ended a command is told.
+    pub tells_signals: bool,
+    /// The folder in which each run gets a file for its output, if there is one.
+    pub output: Option<OutputFolder>,
+}
+
+/// The folder for the output, if there is one. The only error is out of memory.
+fn output_of(alloc: Global, words: RunnerWords<'_>) -> Result<Option<OutputFolder>, AllocError>
+    ensures { IfOk result (IsOutputOf words.entry) }
+{
+    match words.output {
+        Some(path) => Ok(Some(OutputFolder::new(alloc, path, words.keep)?)),
+        None => Ok(None),
+    }
+}
+
+/// What one runner is made with by these words. The only error is out of memory.
+fn setup_of(alloc: Global, words: RunnerWords<'_>) -> Result<RunnerSetup, AllocError>
+    ensures { IfOk result (IsMadeWith words.entry) }
+{
+    Ok(RunnerSetup {
+        has_home: words.has_home,
+        tells_signals: words.tells_signals,
+        output: output_of(alloc, words)?,
+    })
+}
+
+/// Makes a runner by these words. The only error is out of memory.
+fn runner_by<W: Drop, F: Fn(RunnerSetup) -> W + Drop>(
+    alloc: Global,
+    words: RunnerWords<'_>,
+    new_runner: &F,
+) -> Result<W, AllocError>
+    requires { F.IsAlwaysCallable new_runner.now }
+    ensures { IfOk result (IsMadeBy (F.post new_runner.now) words.entry) }
+{
+    let setup = setup_of(alloc, words)?;
+    Ok(new_runner(setup))
+}
+
+/// Makes this number of runners, each by a call of `new_runner` with what these words say. The only
+/// error is out of memory.
+pub fn runners_by<W: Drop, F: Fn(RunnerSetup) -> W + Drop>(
     alloc: Global,
     number: u8,
-    has_home: bool,
+    words: RunnerWords<'_>,
     new_runner: &F,
 ) -> Result<Vec<W>, AllocError>
     requires { F.IsAlwaysCallable new_runner.now }
-    ensures { IfOk result (λ runners. vec_len runners ≡ number) }
+    ensures number { IfOk result (λ runners. vec_len runners ≡ number) }
+    ensures made { IfOk result
+        (λ runners. All (IsMadeBy (F.post new_runner.now) words.entry) runners.items) }
 {
     let mut runners = Vec::new(alloc);
     for _ in 0..number {
-        runners.push(new_runner(has_home))?;
+        runners.push(runner_by(alloc, words, new_runner)?)?;
     }
     Ok(runners)
 }

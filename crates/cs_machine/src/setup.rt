@@ -3,6 +3,7 @@ ghost use Rattle.std.specs.Prelude.{◌≡◌, option_map};
 ghost use Rattle.cs_machine.specs.Setup.{end_of, note_of, peers_of};
 
 use cs_civil::Bytes;
+use cs_schedule::Schedule;
 
 /// What a daemon tells of a job besides its runs.
 #[derive(Drop)]
@@ -14,10 +15,12 @@ pub struct JobNote {
     /// The names of the jobs whose runs may meet a run of it that is late, such as
     /// `line 5, job backup`; none where it is empty.
     pub peers: Bytes,
+    /// When its line of the crontab is due; none for a job of the anacrontab.
+    pub when: Option<Schedule>,
 }
 
-/// What a daemon was begun with: the program's version, the paths of its files, how much may run at
-/// once, and what it tells of its jobs.
+/// What a daemon was begun with: the program's version, its files, how much may run at once, the
+/// operator's clock, and what it tells of its jobs.
 #[derive(Clone, Copy)]
 pub struct Setup<'a> {
     /// The program's version, as `1.2.3`.
@@ -28,10 +31,14 @@ pub struct Setup<'a> {
     pub declarations: &'a str,
     /// The path of its certificate.
     pub certificate: &'a str,
+    /// The SHA-256 of the certificate's bytes (FIPS 180-4).
+    pub digest: [u8; 32],
     /// The path of its anacrontab.
     pub anacrontab: Option<&'a str>,
     /// The greatest weight of the jobs that may run at once.
     pub capacity: u64,
+    /// The minutes by which the operator's clock is ahead of UTC.
+    pub offset: i16,
     /// What is told of its jobs. A run is of the first job whose front begins its name.
     pub jobs: &'a [JobNote],
     /// Whether commands of the operator's are started at what happens to a run.

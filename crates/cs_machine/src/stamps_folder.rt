@@ -1,11 +1,9 @@
 //! Stamps in a folder, one file for each (anacron(8)).
-ghost use Rattle.std.specs.Prelude.{◌≡◌, ◌≢◌, ◌↔◌, ◌≤◌, ℕ, [], IsTrue, IfOk, IsErr, MatchOption};
-ghost use Rattle.std.specs.Prelude.{string_bytes};
-ghost use Rattle.std.specs.List.{list_any};
+ghost use Rattle.std.specs.Prelude.{◌≡◌, ◌≢◌, ◌≤◌, ℕ, [], IfOk, IsErr, MatchOption};
 ghost use Rattle.cs_anacrontab.specs.Stamp.{IsStampText};
 ghost use Rattle.cs_civil.specs.Calendar.{last_day};
-ghost use Rattle.cs_machine.specs.Files.{IsFileName, is_kept_out, file_of, new_file_of};
 
+use crate::paths::{file_name, new_path_in, path_in};
 use crate::replacing::replace_file;
 use cs_anacrontab::{read_stamp, stamp_text};
 use cs_civil::Day;
@@ -13,7 +11,7 @@ use cs_device::{Failures, Stamp, StampStore};
 use std::alloc::Global;
 use std::io::{ErrorKind, Read};
 use std::rt::Files;
-use std::{fs, io, str};
+use std::{fs, io};
 
 /// The path names no folder, or can't be looked at.
 #[derive(Clone, Copy, Debug, PartialEq, Eq)]
@@ -32,22 +30,6 @@ pub struct StampsFolder<'r, 'f, R> {
     alloc: Global,
     folder: &'f str,
     failures: Failures,
-}
-
-/// Whether a text can be the name of a stamp's file, like each identifier of an anacrontab.
-fn is_file_name(name: &str) -> bool
-    ensures { IsTrue result ↔ IsFileName name.now }
-{
-    !matches!(name, "" | "." | "..") && !has_kept_out(name.as_bytes())
-}
-
-/// Whether a slash or a blank is among these bytes.
-fn has_kept_out(bytes: &[u8]) -> bool
-    ensures { result ≡ list_any is_kept_out bytes.now }
-{
-    bytes
-        .iter()
-        .any(|byte| *byte == b'/' || *byte == b' ' || *byte == b'\t')
 }
 
 /// The bytes of the longest stamp, and one more.
@@ -97,38 +79,10 @@ impl<'r, 'f, R: Files> StampsFolder<'r, 'f, R> {
         self.failures = Failures::none();
     }
 
-    /// The path of an identifier's file. An error too if it can't be the name of one.
-    fn file_of(&self, identifier: &[u8]) -> io::Result<String>
-        ensures { IfOk result
-            (λ path. IsFileName identifier.now
-            × (string_bytes path ≡ file_of self.now.folder.now identifier.now)) }
-    {
-        let Ok(name) = str::from_utf8(identifier) else {
-            return Err(io::Error::from(ErrorKind::InvalidInput));
-        };
-        if !is_file_name(name) {
-            return Err(io::Error::from(ErrorKind::InvalidInput));
-        }
-        let mut path = String::from_str(self.alloc, self.folder)?;
-        path.push_str("/")?;
-        path.push_str(name)?;
-        Ok(path)
-    }
-
-    /// The path at which it is first written, which with its blank is no identifier's.
-    fn new_file_of(&self, identifier: &[u8]) -> io::Result<String>
-        ensures { IfOk result
-            (λ path. string_bytes path ≡ new_file_of self.now.folder.now identifier.now) }
-    {
-        let mut path = self.file_of(identifier)?;
-        path.push_str(" new")?;
-        Ok(path)
-    }
-
     /// The day in an identifier's file, none if it is empty or absent. What is no file isn't opened:
     /// a pipe would keep the daemon waiting.
     fn look(&self, identifier: &[u8]) -> io::Result<Option<Day>> {
-        let path = self.file_of(identifier)?;
+        let path = path_in(self.alloc, self.folder, file_name(identifier)?)?;
         match fs::metadata(self.rt, path.as_str()) {
             Ok(found) if found.is_file() => {}
             Ok(_) => return Err(io::Error::from(ErrorKind::InvalidData)),
@@ -144,8 +98,9 @@ impl<'r, 'f, R: Files> StampsFolder<'r, 'f, R> {
 
     /// Writes a stamp, so that a crash leaves the old stamp or the new one.
     fn replace(&self, identifier: &[u8], day: Day) -> io::Result<()> {
-        let path = self.file_of(identifier)?;
-        let new_path = self.new_file_of(identifier)?;
+        let name = file_name(identifier)?;
+        let path = path_in(self.alloc, self.folder, name)?;
+        let new_path = new_path_in(self.alloc, self.folder, name)?;
         replace_file(
             self.rt,
             self.folder,

@@ -1,8 +1,10 @@
 //! The runs that a log has told to have started, and not yet to have ended.
-ghost use Rattle.std.specs.Prelude.{◌≡◌, ◌++◌, ◌∷◌, [], codes, nat_eq, bytes_eq, None, IfSome, IsNone};
-ghost use Rattle.std.specs.Prelude.{◌≢◌, ℕ, List, true, Some, OnOk, OnErr, IsSome, MatchOption};
-ghost use Rattle.std.specs.List.{starts_with};
-ghost use Rattle.cs_machine.specs.Starts.{is_end_of, is_no_start_of, is_last_of, place_of, tells_end, TakesOut, EndsAfter};
+ghost use Rattle.std.specs.Prelude.{◌≡◌, ◌++◌, ◌&&◌, [], None, OnErr, OnOk, if◌then◌else◌, nat_eq};
+ghost use Rattle.std.specs.List.{position, starts_with};
+ghost use Rattle.std.specs.Result.{is_ok};
+ghost use Rattle.std.specs.Map.{lookup, remove_entry};
+ghost use Rattle.cs_machine.specs.Starts.{Notes, is_end_of, is_end_with, is_last_of, is_no_start_of};
+ghost use Rattle.cs_machine.specs.Starts.{seconds_between, span_of, start_at, tells_end};
 
 use cs_civil::Bytes;
 use std::alloc::{AllocError, Global};
@@ -13,6 +15,29 @@ use std::alloc::{AllocError, Global};
 pub(crate) struct Starts {
     alloc: Global,
     runs: Vec<(Bytes, u64)>,
+}
+
+/// What was noted of a line.
+#[derive(Drop)]
+pub(crate) struct Noted {
+    /// For how many seconds a run took whose end it tells: 0 where the clock was put back. None for
+    /// any other line, where the start wasn't noted, and without a time.
+    pub(crate) span: Option<u64>,
+    /// Whether there was memory for all that it tells.
+    pub(crate) is_kept: bool,
+}
+
+impl Noted {
+    /// The same, where something else of the line was kept too, or memory ran out for it.
+    pub(crate) fn and(self, other: Result<(), AllocError>) -> Noted
+        ensures span { result.span ≡ self.span }
+        ensures kept { result.is_kept ≡ (self.is_kept && is_ok other) }
+    {
+        Noted {
+            span: self.span,
+            is_kept: self.is_kept && other.is_ok(),
+        }
+    }
 }
 
 const ENDED: &[u8] = b"ended ";
@@ -27,12 +52,19 @@ fn begins_with(text: &[u8], first: &[u8], second: &[u8]) -> bool
     text.starts_with(first) && text[first.len()..].starts_with(second)
 }
 
-/// Whether the words tell the end of the run of this name, with its status.
+/// Whether the words tell the end of the run of this name, and behind that this.
 #[tactic(auto, using(crate::proofs::Parts::starts_in_two))]
+fn is_end_with(words: &[u8], name: &[u8], what: &[u8]) -> bool
+    ensures { result ≡ is_end_with words.now name.now what.now }
+{
+    words.starts_with(ENDED) && begins_with(&words[ENDED.len()..], name, what)
+}
+
+/// Whether the words tell the end of the run of this name, with its status or its signal.
 fn is_end_of(words: &[u8], name: &[u8]) -> bool
     ensures { result ≡ is_end_of words.now name.now }
 {
-    words.starts_with(ENDED) && begins_with(&words[ENDED.len()..], name, b" status ")
+    is_end_with(words, name, b" status ") || is_end_with(words, name, b" signal ")
 }
 
 /// Whether the words tell that the run of this name couldn't be started.
@@ -43,12 +75,16 @@ fn is_no_start_of(words: &[u8], name: &[u8]) -> bool
     words.starts_with(NOT_STARTED) && name == &words[NOT_STARTED.len()..]
 }
 
-/// The name of the run whose start the words tell, if they tell one.
-fn started_name(words: &[u8]) -> Option<&[u8]>
-    ensures { MatchOption result ((name : List ℕ) → words.now ≢ codes "started " ++ name)
-        (λ name. words.now ≡ codes "started " ++ name.now) }
+/// For how many seconds a run took whose end the words tell in this second, and that started in that
+/// one: 0 where the clock was put back. None for any other words, and where either isn't known.
+fn span(words: &[u8], at: Option<u64>, started: Option<u64>) -> Option<u64>
+    ensures { result ≡ (if tells_end words.now then seconds_between started at else None) }
 {
-    words.strip_prefix(b"started ")
+    if !words.starts_with(ENDED) {
+        return None;
+    }
+    let started = started?;
+    Some(at?.saturating_sub(started))
 }
 
 impl Starts {
@@ -69,46 +105,36 @@ impl Starts {
         self.runs.as_slice()
     }
 
-    /// Notes what a line tells of a run in this second, and returns for how many seconds a run took
-    /// that has ended. None for any other line, where the start wasn't noted, and without a time.
-    pub(crate) fn note(&mut self, words: &[u8], at: Option<u64>) -> Option<u64>
-        ensures seconds { IfSome result (EndsAfter words.now at self.old.runs.items) }
-        ensures known { (run now : ℕ) → place_of words.now self.old.runs.items ≡ Some run
-            → tells_end words.now ≡ true → at ≡ Some now → IsSome result }
+    /// Notes what a line tells of a run in this second. A start without a time isn't noted, nor one
+    /// for which memory runs out.
+    #[tactic(auto, using(crate::proofs::Runs::span_same))]
+    pub(crate) fn note(&mut self, words: &[u8], at: Option<u64>) -> Noted
+        ensures span { result.span ≡ span_of words.now at self.old.runs.items }
+        ensures runs { Notes words.now at result.is_kept self.old.runs.items self.new.runs.items }
     {
-        let Some(started) = self.take(words) else {
-            // where memory runs out, the end is told without its seconds
-            let _ = self.note_start(words, at);
-            return None;
+        let Some(name) = words.strip_prefix(b"started ") else {
+            let started = self.take(words);
+            return Noted {
+                span: span(words, at, started),
+                is_kept: true,
+            };
         };
-        if !words.starts_with(ENDED) {
-            return None;
+        Noted {
+            span: None,
+            is_kept: self.add(name, at).is_ok(),
         }
-        Some(at?.saturating_sub(started))
     }
 
-    /// Notes the start that the words tell in this second, if they tell one. The only error is out
-    /// of memory, and then it isn't noted.
-    fn note_start(&mut self, words: &[u8], at: Option<u64>) -> Result<(), AllocError>
-        ensures noted { OnOk result ((name : List ℕ) (now : ℕ)
-            → words.now ≡ codes "started " ++ name → at ≡ Some now
-            → self.new.runs.items ≡ self.old.runs.items ++ (name, now) ∷ []) }
-        ensures other { ((name : List ℕ) → words.now ≢ codes "started " ++ name)
-            → self.new.runs.items ≡ self.old.runs.items }
+    /// Adds a run that started in this second; without a time nothing. The only error is out of
+    /// memory, and then it isn't added.
+    fn add(&mut self, name: &[u8], at: Option<u64>) -> Result<(), AllocError>
+        ensures ok { OnOk result
+            (self.new.runs.items ≡ self.old.runs.items ++ start_at name.now at) }
         ensures err { OnErr result (self.new.runs.items ≡ self.old.runs.items) }
     {
-        let (Some(name), Some(at)) = (started_name(words), at) else {
+        let Some(at) = at else {
             return Ok(());
         };
-        self.add(name, at)
-    }
-
-    /// Adds a run. The only error is out of memory, and then it isn't added.
-    fn add(&mut self, name: &[u8], at: u64) -> Result<(), AllocError>
-        ensures ok { OnOk result
-            (self.new.runs.items ≡ self.old.runs.items ++ (name.now, at) ∷ []) }
-        ensures err { OnErr result (self.new.runs.items ≡ self.old.runs.items) }
-    {
         let name = Bytes::from_slice(self.alloc, name)?;
         self.runs.push((name, at))?;
         Ok(())
@@ -117,10 +143,9 @@ impl Starts {
     /// Takes out the first run of which the words tell the end, or that it couldn't be started, and
     /// returns the second in which it started.
     fn take(&mut self, words: &[u8]) -> Option<u64>
-        ensures taken { IfSome result (λ at.
-            TakesOut words.now at self.old.runs.items self.new.runs.items) }
-        ensures none { IsNone result → place_of words.now self.old.runs.items ≡ None }
-        ensures left { IsNone result → self.new.runs.items ≡ self.old.runs.items }
+        ensures taken { result ≡ lookup (is_last_of words.now) self.old.runs.items }
+        ensures left { self.new.runs.items
+            ≡ remove_entry (is_last_of words.now) self.old.runs.items }
     {
         let place = self.place(words)?;
         let (_, at) = self.runs.remove(place);
@@ -129,7 +154,7 @@ impl Starts {
 
     /// Which run the words tell the end of, or that it couldn't be started.
     fn place(&self, words: &[u8]) -> Option<usize>
-        ensures { result ≡ place_of words.now self.now.runs.items }
+        ensures { result ≡ position (λ run. is_last_of words.now run.0) self.now.runs.items }
     {
         self.runs
             .iter()

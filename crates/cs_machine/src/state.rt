@@ -1,12 +1,14 @@
 //! What a daemon does, as its log tells it.
-ghost use Rattle.std.specs.Prelude.{◌≡◌, ◌++◌, ◌∷◌, [], true, IfSome, OnErr, OnOk, bytes_eq, codes, filter, not};
-ghost use Rattle.cs_machine.specs.Starts.{EndsAfter, is_last_of};
-ghost use Rattle.std.specs.Prelude.{◌||◌, None, Some, false};
+ghost use Rattle.std.specs.Prelude.{◌≡◌, ◌++◌, ◌∷◌, ◌||◌, [], true, false, None, Some, OnErr, OnOk, bytes_eq, codes, filter, not};
 ghost use Rattle.std.specs.List.{list_any};
-ghost use Rattle.cs_machine.specs.State.{IsNoted, counted_in, ends_wait, fault_after, is_past, no_counts};
+ghost use Rattle.std.specs.Result.{is_ok};
+ghost use Rattle.cs_machine.specs.Starts.{is_last_of, span_of};
+ghost use Rattle.cs_machine.specs.State.{Begins, IsNoted, Stops, Takes, ends_wait, fault_after, is_past, written_in};
 
 use crate::counts::Counts;
-use crate::starts::{Starts, is_last_of};
+use crate::left_out::left_out_by;
+use crate::setup::JobNote;
+use crate::starts::{Noted, Starts, is_last_of};
 use cs_civil::Bytes;
 use std::alloc::{AllocError, Global};
 
@@ -25,6 +27,8 @@ pub(crate) struct State {
     /// The names of the runs that wait for a lock.
     pub(crate) waiting: Vec<Bytes>,
     pub(crate) counts: Counts,
+    /// How many runs of the crontab the outages left out; the last count of 64 bits stays.
+    pub(crate) left_out: u64,
     /// When a stamp last couldn't be written.
     pub(crate) stamp_fault_at: Option<u64>,
     pub(crate) is_stopping: bool,
@@ -97,31 +101,44 @@ fn end_late(late: &mut Vec<Bytes>, words: &[u8])
     );
 }
 
-/// Notes that a run waits, or waits no longer.
-fn note_wait(alloc: Global, waiting: &mut Vec<Bytes>, words: &[u8])
-    ensures { IsNoted (codes "waiting ") (ends_wait words.now) words.now
+/// Notes that a run waits, or waits no longer. The only error is out of memory, and then it isn't
+/// noted that it waits.
+fn note_wait(alloc: Global, waiting: &mut Vec<Bytes>, words: &[u8]) -> Result<(), AllocError>
+    ensures { IsNoted (codes "waiting ") (ends_wait words.now) words.now (is_ok result)
         waiting.old.items waiting.new.items }
 {
     match words.strip_prefix(b"waiting ") {
-        // where memory runs out, it isn't told that the run waits
-        Some(name) => {
-            let _ = add(alloc, waiting, name);
+        Some(name) => add(alloc, waiting, name),
+        None => {
+            end_waits(waiting, words);
+            Ok(())
         }
-        None => end_waits(waiting, words),
     }
 }
 
-/// Notes that a run is late, or has ended.
-fn note_late(alloc: Global, late: &mut Vec<Bytes>, words: &[u8])
-    ensures { IsNoted (codes "overrun ") (is_last_of words.now) words.now
+/// Notes that a run is late, or has ended. The only error is out of memory, and then it isn't noted
+/// that it is late.
+fn note_late(alloc: Global, late: &mut Vec<Bytes>, words: &[u8]) -> Result<(), AllocError>
+    ensures { IsNoted (codes "overrun ") (is_last_of words.now) words.now (is_ok result)
         late.old.items late.new.items }
 {
     match words.strip_prefix(b"overrun ") {
-        // where memory runs out, it isn't told that the run is late
-        Some(name) => {
-            let _ = add(alloc, late, name);
+        Some(name) => add(alloc, late, name),
+        None => {
+            end_late(late, words);
+            Ok(())
         }
-        None => end_late(late, words),
+    }
+}
+
+/// When a stamp last couldn't be written, behind a line that is told in this second.
+fn fault_after(words: &[u8], at: Option<u64>, before: Option<u64>) -> Option<u64>
+    ensures { result ≡ fault_after words.now at before }
+{
+    if words.starts_with(b"stamp not written ") {
+        at
+    } else {
+        before
     }
 }
 
@@ -139,13 +156,7 @@ fn is_past(written_at: Option<u64>, at: u64) -> bool
 impl State {
     /// That of a daemon that begins, with no line yet.
     pub(crate) fn new(alloc: Global, at: Option<u64>) -> State
-        ensures since { result.since ≡ at }
-        ensures names { (result.starts.runs.items ≡ []) × (result.late.items ≡ [])
-            × (result.waiting.items ≡ []) }
-        ensures counts { result.counts ≡ no_counts }
-        ensures stamp_fault_at { result.stamp_fault_at ≡ None }
-        ensures stopping { result.is_stopping ≡ false }
-        ensures due { (result.has_changed ≡ true) × (result.written_at ≡ None) }
+        ensures { Begins at result }
     {
         State {
             alloc,
@@ -154,6 +165,7 @@ impl State {
             late: Vec::new(alloc),
             waiting: Vec::new(alloc),
             counts: Counts::NONE,
+            left_out: 0,
             stamp_fault_at: None,
             is_stopping: false,
             has_changed: true,
@@ -161,39 +173,24 @@ impl State {
         }
     }
 
-    /// Takes a line that is told in this second, and returns for how many seconds a run took whose end
-    /// it tells. None for any other line, where the start wasn't noted, and without a time.
-    pub(crate) fn take(&mut self, words: &[u8], at: Option<u64>) -> Option<u64>
-        ensures seconds { IfSome result (EndsAfter words.now at self.old.starts.runs.items) }
-        ensures waiting { IsNoted (codes "waiting ") (ends_wait words.now) words.now
-            self.old.waiting.items self.new.waiting.items }
-        ensures late { IsNoted (codes "overrun ") (is_last_of words.now) words.now
-            self.old.late.items self.new.late.items }
-        ensures counts { self.new.counts ≡ counted_in words.now self.old.counts }
-        ensures stamp_fault_at { self.new.stamp_fault_at
-            ≡ fault_after words.now at self.old.stamp_fault_at }
-        ensures due { self.new.has_changed ≡ true }
-        ensures left { (self.new.since ≡ self.old.since)
-            × (self.new.is_stopping ≡ self.old.is_stopping) }
+    /// Takes a line of a daemon with these jobs that is told in this second. Where memory runs out
+    /// for the name of a run, only that isn't noted.
+    pub(crate) fn take(&mut self, words: &[u8], at: Option<u64>, jobs: &[JobNote]) -> Noted
+        ensures span { result.span ≡ span_of words.now at self.old.starts.runs.items }
+        ensures state { Takes words.now at jobs.now result.is_kept self.old self.new }
     {
         self.has_changed = true;
-        note_wait(self.alloc, &mut self.waiting, words);
-        note_late(self.alloc, &mut self.late, words);
+        let waits = note_wait(self.alloc, &mut self.waiting, words);
+        let lates = note_late(self.alloc, &mut self.late, words);
         self.counts = self.counts.with(words);
-        if words.starts_with(b"stamp not written ") {
-            self.stamp_fault_at = at;
-        }
-        self.starts.note(words, at)
+        self.left_out = self.left_out.saturating_add(left_out_by(words, jobs));
+        self.stamp_fault_at = fault_after(words, at, self.stamp_fault_at);
+        self.starts.note(words, at).and(waits).and(lates)
     }
 
     /// Notes that the daemon starts nothing more: it drops the runs that wait.
     pub(crate) fn stop(&mut self)
-        ensures stopping { self.new.is_stopping ≡ true }
-        ensures waiting { self.new.waiting.items ≡ [] }
-        ensures due { self.new.has_changed ≡ true }
-        ensures left { (self.new.starts ≡ self.old.starts) × (self.new.late ≡ self.old.late)
-            × (self.new.counts ≡ self.old.counts) × (self.new.since ≡ self.old.since)
-            × (self.new.stamp_fault_at ≡ self.old.stamp_fault_at) }
+        ensures { Stops self.old self.new }
     {
         self.has_changed = true;
         self.is_stopping = true;
@@ -211,8 +208,7 @@ impl State {
     /// that is a minute ago, or the clock was put back. From then on it counts as written.
     pub(crate) fn is_due(&mut self, at: u64) -> bool
         ensures due { result ≡ (self.old.has_changed || is_past self.old.written_at at) }
-        ensures written { result ≡ true
-            → self.new ≡ record self.old { has_changed = false; written_at = Some at } }
+        ensures written { result ≡ true → self.new ≡ written_in at self.old }
         ensures left { result ≡ false → self.new ≡ self.old }
     {
         let is_due = self.has_changed || is_past(self.written_at, at);

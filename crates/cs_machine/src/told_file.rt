@@ -2,6 +2,7 @@
 ghost use Rattle.std.specs.Prelude.{◌≡◌, ◌++◌, IfOk, codes, string_bytes};
 ghost use Rattle.cs_machine.specs.Files.{answer_file_of, file_of, new_file_of, state_file_of};
 
+use crate::paths::{new_path_in, path_in};
 use crate::replacing::{remove_file, replace_file};
 use std::alloc::{AllocError, Global};
 use std::io::{ErrorKind, Read};
@@ -19,25 +20,6 @@ pub struct ToldFile<'f> {
 
 /// The most bytes of such a file that are read: a mebibyte.
 const MOST: u64 = 1_048_576;
-
-/// The path of a file in a folder.
-fn path_of(alloc: Global, folder: &str, name: &str) -> Result<String, AllocError>
-    ensures { IfOk result (λ path. string_bytes path ≡ file_of folder.now name.now) }
-{
-    let mut path = String::from_str(alloc, folder)?;
-    path.push_str("/")?;
-    path.push_str(name)?;
-    Ok(path)
-}
-
-/// The path at which it's first written.
-fn new_path_of(alloc: Global, folder: &str, name: &str) -> Result<String, AllocError>
-    ensures { IfOk result (λ path. string_bytes path ≡ new_file_of folder.now name.now) }
-{
-    let mut path = path_of(alloc, folder, name)?;
-    path.push_str(" new")?;
-    Ok(path)
-}
 
 impl<'f> ToldFile<'f> {
     /// Returns the file of a folder in which its daemon tells its state, whether it's there or not.
@@ -70,8 +52,8 @@ impl<'f> ToldFile<'f> {
             (λ file. string_bytes file.new_path ≡ new_file_of folder.now name.now) }
         ensures folder { IfOk result (λ file. file.folder.now ≡ folder.now) }
     {
-        let path = path_of(alloc, folder, name)?;
-        let new_path = new_path_of(alloc, folder, name)?;
+        let path = path_in(alloc, folder, name)?;
+        let new_path = new_path_in(alloc, folder, name)?;
         Ok(ToldFile {
             folder,
             path,

@@ -1,7 +1,7 @@
 -- The script of the history that a daemon's log tells.
 use Rattle.std.specs.Prelude.{◌≡◌, ℕ, zero, suc, ◌+◌, ◌-◌, max, Bool, true, false, ◌==◌, nat_lt, if◌then◌else◌, List, [], ◌++◌, ◌∷◌, fold, codes, decimal, Option, Some, None}
-use Rattle.std.specs.List.Sorted.{IsNonDecreasingBy, IsPermutation}
-use Rattle.cs_retrace.specs.Trace.{Traced}
+use Rattle.std.specs.List.Sorted.{IsPermutation, IsSortedByKey}
+use Rattle.cs_retrace.specs.Trace.{Traced, place_cmp, place_of}
 use Rattle.cs_retrace.specs.Pieces.{minute_bytes, minute_line}
 use Rattle.cs_retrace.specs.declared.entry.Turn.{Turn}
 use Rattle.cs_retrace.specs.declared.entry.Turn.TheVariants.{Comes, Begins, Follows, Goes}
@@ -49,14 +49,14 @@ behind_event script event = record {
   is_up = is_up_behind event.turn script.is_up;
 }
 
-abbrev pub number_text : ℕ → List ℕ
-number_text daemons = codes "# daemon " ++ (decimal daemons ++ codes " of the log, the last\n")
+abbrev pub last_text : ℕ → List ℕ
+last_text daemons = decimal daemons ++ codes " of the log, the last\n"
 
 -- a comment, unless the log is that of one daemon from its beginning on
 unfoldable pub origin_text : ℕ → List ℕ
 origin_text daemons =
     if daemons == 0 then codes "# the log doesn't tell where its daemon began\n"
-    else (if daemons == 1 then [] else number_text daemons)
+    else (if daemons == 1 then [] else codes "# daemon " ++ last_text daemons)
 
 -- a daemon that began there comes up then
 unfoldable pub opening_text : ℕ → Bool → List ℕ
@@ -78,8 +78,8 @@ abbrev pub is_long : ℕ × Bool → ℕ → Bool
 is_long opening latest = nat_lt MOST_MINUTES (latest - opening.0)
 
 -- The events come in order of their places.
-abbrev pub IsInOrder : List Entry → List Entry → Type 0
-IsInOrder told events = IsPermutation told events × IsNonDecreasingBy (λ e. e.place) events
+unfoldable pub IsInOrder : List Entry → List Entry → Type 0
+IsInOrder told events = IsPermutation told events × IsSortedByKey place_of place_cmp events
 
 abbrev pub IsWritten : ℕ → ℕ × Bool → ℕ → List Entry → Option (List ℕ) → Type 0
 IsWritten daemons opening latest told None = is_long opening latest ≡ true

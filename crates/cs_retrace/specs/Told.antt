@@ -45,7 +45,8 @@ outage_in text = do
 abbrev pub begins : List ℕ → Bool
 begins text = is_some (behind (codes "running ") text)
 
--- a daemon is asked to stop, or ends
+-- a daemon starts nothing more: it is asked to stop, it has accepted other files, or it ends
 abbrev pub is_end : List ℕ → Bool
-is_end text = bytes_eq text (codes "asked to stop") || bytes_eq text (codes "stopped")
-    || is_some (behind (codes "ended, for ") text)
+is_end text = bytes_eq text (codes "asked to stop")
+    || bytes_eq text (codes "reload accepted, the runs under way end first")
+    || bytes_eq text (codes "stopped") || is_some (behind (codes "ended, for ") text)

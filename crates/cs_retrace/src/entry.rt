@@ -1,6 +1,6 @@
 //! What happened in one minute, as a line of a script.
-ghost use Rattle.std.specs.Prelude.{◌≡◌, ◌+◌, ◌*◌, min};
-ghost use Rattle.cs_retrace.specs.Trace.{turn_number, place_of};
+ghost use Rattle.std.specs.Prelude.{◌≡◌};
+ghost use Rattle.cs_retrace.specs.Trace.{place_of, turn_number};
 
 use cs_civil::Bytes;
 
@@ -33,20 +33,22 @@ impl Turn {
 /// An event of a script.
 #[derive(Debug, Drop)]
 pub(crate) struct Entry {
-    /// The place among all events, which are in order of it.
-    pub(crate) place: u64,
     /// The minute.
     pub(crate) at: u64,
     /// Where in its minute.
     pub(crate) turn: Turn,
+    /// Where among the events of that minute and turn: the number of a line of the crontab, or how
+    /// many events the log has told before.
+    pub(crate) order: u64,
     /// The line of the script, with its newline; empty where only the minute is known.
     pub(crate) text: Bytes,
 }
 
-/// The place of an event: by minute, then by turn, then by the given order, which is that of the
-/// crontab's lines, or that in which the log tells.
-pub(crate) fn place_of(at: u64, turn: Turn, order: u64) -> u64
-    ensures { result ≡ place_of at turn order }
-{
-    (at.min(4_300_000_000) * 4 + turn.number()) * 16_777_216 + order.min(16_777_215)
+impl Entry {
+    /// Its place among all events: by minute, then by turn, then by order.
+    pub(crate) fn place(&self) -> (u64, u64, u64)
+        ensures { result ≡ place_of self.now }
+    {
+        (self.at, self.turn.number(), self.order)
+    }
 }

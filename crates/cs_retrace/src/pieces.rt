@@ -1,5 +1,5 @@
 //! The lines of a script.
-ghost use Rattle.std.specs.Prelude.{◌≡◌, ◌++◌, ◌∷◌, [], IfOk, OnOk, Option};
+ghost use Rattle.std.specs.Prelude.{◌≡◌, ◌++◌, ◌∷◌, [], IfOk, OnOk};
 ghost use Rattle.cs_retrace.specs.Pieces.{minute_bytes, job_text, begin_line, got_line, catch_line, end_line, up_line, minute_line};
 
 use cs_civil::{Minute, date_text};

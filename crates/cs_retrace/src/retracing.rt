@@ -24,7 +24,7 @@ fn in_order(events: Vec<Entry>) -> Result<Vec<Entry>, AllocError>
     ensures { IfOk result (λ ordered. IsInOrder events.items ordered.items) }
 {
     let mut events = events;
-    events.sort_by_key(|event| event.place)?;
+    events.sort_by_key(|event| event.place())?;
     Ok(events)
 }
 

@@ -1,5 +1,5 @@
 //! The runs that a line of a daemon's log names.
-ghost use Rattle.std.specs.Prelude.{◌≡◌, ◌≤◌, IfSome, option_map};
+ghost use Rattle.std.specs.Prelude.{◌≡◌, option_map};
 ghost use Rattle.cs_retrace.specs.Run.{minute_in, due_in, numbered_in, line_in, job_in, run_in};
 
 use crate::stamp::date;

@@ -1,5 +1,5 @@
 //! What a line of a daemon's log tells, behind its time.
-ghost use Rattle.std.specs.Prelude.{◌≡◌, option_map, IsTrue};
+ghost use Rattle.std.specs.Prelude.{◌≡◌, option_map};
 ghost use Rattle.cs_retrace.specs.Told.{verb_of, said_in, unstarted_in, told_in, outage_in, begins, is_end};
 
 use crate::run::{due, run};
@@ -88,11 +88,12 @@ pub(crate) fn begins(text: &[u8]) -> bool
     behind(b"running ", text).is_some()
 }
 
-/// Whether a daemon is asked to stop, or ends.
+/// Whether a daemon starts nothing more: it is asked to stop, it has accepted other files, or it ends.
 pub(crate) fn is_end(text: &[u8]) -> bool
     ensures { result ≡ is_end text.now }
 {
     is_word(text, b"asked to stop")
+        || is_word(text, b"reload accepted, the runs under way end first")
         || is_word(text, b"stopped")
         || behind(b"ended, for ", text).is_some()
 }

@@ -1,20 +1,20 @@
 //! The events that the lines of a log tell.
-ghost use Rattle.std.specs.Prelude.{◌≡◌, [], IfOk, OnOk, length, option_map};
-ghost use Rattle.std.specs.List.{fold};
-ghost use Rattle.cs_table.specs.Text.{lines_of};
+ghost use Rattle.std.specs.Prelude.{◌≡◌, IfOk, OnOk};
 ghost use Rattle.cs_retrace.specs.Told.{told_in, outage_in};
-ghost use Rattle.cs_retrace.specs.Trace.{nothing, with_event, with_next, settled_minute, begun, got, is_waiting};
-ghost use Rattle.cs_retrace.specs.Trace.{started, waits, skipped, ended, behind_run, behind_outage, behind_end};
-ghost use Rattle.cs_retrace.specs.Trace.{behind_other, behind_told, opened, begun_anew, behind_words, by_clock};
-ghost use Rattle.cs_retrace.specs.Trace.{behind_timed, behind_line, traced};
+ghost use Rattle.cs_retrace.specs.Trace.{nothing, with_event, with_next, gone, come, reached};
+ghost use Rattle.cs_retrace.specs.Trace.{settled_minute, begun, is_waiting, got, started, waits};
+ghost use Rattle.cs_retrace.specs.Trace.{skipped, ended, overrun, behind_run, behind_outage};
+ghost use Rattle.cs_retrace.specs.Trace.{behind_end, behind_other, behind_told, opened, begun_anew};
+ghost use Rattle.cs_retrace.specs.Trace.{behind_words, by_clock, behind_line, traced};
 
-use crate::entry::{Entry, Turn, place_of};
+use crate::entry::{Entry, Turn};
 use crate::moment::Moment;
 use crate::pieces::{begin_line, catch_line, end_line, got_line, up_line};
 use crate::stamp::time_and_rest;
 use crate::told::{Verb, begins, is_end, outage, told};
 use cs_civil::Sequence;
 use cs_table::text::first_line;
+use indexmap::IndexMap;
 use std::alloc::{AllocError, Global};
 use std::marker::Model;
 
@@ -29,7 +29,8 @@ pub(crate) struct Trace {
     /// The latest minute.
     pub(crate) latest: u64,
     freed: u64,
-    waiting: Vec<(u64, u64)>,
+    /// Of the runs that were told to wait, by line and minute, whether they wait still.
+    waiting: IndexMap<(u64, u64), bool>,
     /// The events, as the log tells them.
     pub(crate) events: Vec<Entry>,
 }
@@ -45,7 +46,7 @@ impl Model for Trace {
       is_over = t.is_over;
       latest = t.latest;
       freed = t.freed;
-      waiting = t.waiting.items;
+      waiting = t.waiting.entries;
       events = t.events.items;
     } };
 }
@@ -73,7 +74,7 @@ impl Trace {
             is_over: false,
             latest: 0,
             freed: 0,
-            waiting: Vec::new(alloc),
+            waiting: IndexMap::new(alloc),
             events: Vec::new(alloc),
         }
     }
@@ -82,9 +83,9 @@ impl Trace {
         ensures { OnOk result (self.new ≡ with_event self.old at turn order text.items) }
     {
         self.events.push(Entry {
-            place: place_of(at, turn, order),
             at,
             turn,
+            order,
             text: Sequence::from_vec(text),
         })?;
         self.latest = self.latest.max(at);
@@ -96,6 +97,30 @@ impl Trace {
     {
         let order = self.events.len() as u64;
         self.put(at, turn, order, text)
+    }
+
+    fn go(&mut self, alloc: Global, at: u64) -> Result<(), AllocError>
+        ensures { OnOk result (self.new ≡ gone self.old at) }
+    {
+        let down = Vec::from_slice(alloc, b"down\n".as_slice())?;
+        self.put_next(at, Turn::Goes, down)
+    }
+
+    fn come(&mut self, alloc: Global, at: u64) -> Result<(), AllocError>
+        ensures { OnOk result (self.new ≡ come self.old at) }
+    {
+        let up = up_line(alloc, at)?;
+        self.put_next(at, Turn::Comes, up)
+    }
+
+    fn reach(&mut self, alloc: Global, at: u64) -> Result<(), AllocError>
+        ensures { OnOk result (self.new ≡ reached self.old at) }
+    {
+        if self.is_over && self.latest < at {
+            self.come(alloc, at)?;
+            self.go(alloc, at)?;
+        }
+        Ok(())
     }
 
     fn settled_minute(&self, second: u64) -> u64
@@ -111,17 +136,22 @@ impl Trace {
         self.put(due, Turn::Begins, line, text)
     }
 
-    fn get(&mut self, alloc: Global, name: &[u8], due: u64) -> Result<(), AllocError>
-        ensures { OnOk result (self.new ≡ got self.old name.now due) }
-    {
-        let text = got_line(alloc, name, due)?;
-        self.put_next(due.max(self.freed), Turn::Follows, text)
-    }
-
     fn is_waiting(&self, line: u64, due: u64) -> bool
         ensures { result ≡ is_waiting self.now line due }
     {
-        self.waiting.iter().any(|run| run.0 == line && run.1 == due)
+        match self.waiting.get(&(line, due)) {
+            Some(waits) => *waits,
+            None => false,
+        }
+    }
+
+    fn get(&mut self, alloc: Global, line: u64, name: &[u8], due: u64) -> Result<(), AllocError>
+        ensures { OnOk result (self.new ≡ got self.old line name.now due) }
+    {
+        let text = got_line(alloc, name, due)?;
+        self.put_next(due.max(self.freed), Turn::Follows, text)?;
+        self.waiting.insert((line, due), false)?;
+        Ok(())
     }
 
     fn start(
@@ -134,7 +164,7 @@ impl Trace {
         ensures { OnOk result (self.new ≡ started self.old line name.now at) }
     {
         match line {
-            Some(line) if self.is_waiting(line, at) => self.get(alloc, name, at),
+            Some(line) if self.is_waiting(line, at) => self.get(alloc, line, name, at),
             Some(line) => self.begin(alloc, line, name, at),
             None => {
                 let text = catch_line(alloc, name)?;
@@ -156,7 +186,7 @@ impl Trace {
             return Ok(());
         };
         self.begin(alloc, line, name, at)?;
-        self.waiting.push((line, at))?;
+        self.waiting.insert((line, at), true)?;
         Ok(())
     }
 
@@ -186,10 +216,19 @@ impl Trace {
         ensures { OnOk result (self.new ≡ ended self.old second line name.now at) }
     {
         let minute = self.settled_minute(second);
+        self.reach(alloc, minute)?;
         let text = end_line(alloc, line, name, at)?;
         self.put_next(minute, Turn::Follows, text)?;
         self.freed = minute;
         Ok(())
+    }
+
+    fn overrun(&mut self, alloc: Global, second: u64) -> Result<(), AllocError>
+        ensures { OnOk result (self.new ≡ overrun self.old second) }
+    {
+        let minute = second / 60;
+        self.reach(alloc, minute)?;
+        self.put_next(minute, Turn::Follows, Vec::new(alloc))
     }
 
     fn run(
@@ -208,7 +247,7 @@ impl Trace {
             Verb::Waiting => self.wait(alloc, line, name, at),
             Verb::Skipped => self.skip(alloc, line, name, at),
             Verb::Ended => self.end(alloc, second, line, name, at),
-            Verb::Overrun => self.put_next(second / 60, Turn::Follows, Vec::new(alloc)),
+            Verb::Overrun => self.overrun(alloc, second),
         }
     }
 
@@ -216,10 +255,8 @@ impl Trace {
         ensures { OnOk result (self.new ≡ behind_outage self.old minutes) }
     {
         let (from, to) = minutes;
-        let down = Vec::from_slice(alloc, b"down\n".as_slice())?;
-        self.put_next(from, Turn::Goes, down)?;
-        let up = up_line(alloc, to)?;
-        self.put_next(to, Turn::Comes, up)
+        self.go(alloc, from)?;
+        self.come(alloc, to)
     }
 
     fn end_daemon(&mut self, alloc: Global, second: u64) -> Result<(), AllocError>
@@ -229,8 +266,7 @@ impl Trace {
             return Ok(());
         }
         let minute = self.settled_minute(second);
-        let down = Vec::from_slice(alloc, b"down\n".as_slice())?;
-        self.put_next(minute, Turn::Goes, down)?;
+        self.go(alloc, minute)?;
         self.is_over = true;
         Ok(())
     }

@@ -1,6 +1,7 @@
 //! The script of events in their order.
-ghost use Rattle.std.specs.Prelude.{◌≡◌, ◌≤◌, ◌-◌, ◌+◌, ◌++◌, OnOk, IfOk, fold};
-ghost use Rattle.cs_retrace.specs.Script.{minutes, minutes_before, now_behind, is_up_behind, behind_event, number_text, opening_text, origin_text, written};
+ghost use Rattle.std.specs.Prelude.{◌≡◌, ◌++◌, OnOk, IfOk};
+ghost use Rattle.cs_retrace.specs.Script.{minutes, minutes_before, now_behind, is_up_behind};
+ghost use Rattle.cs_retrace.specs.Script.{behind_event, last_text, opening_text, origin_text, written};
 
 use crate::entry::{Entry, Turn};
 use crate::pieces::{push_minute, push_minute_line};
@@ -82,14 +83,12 @@ impl Writing {
     }
 }
 
-/// Adds that the script is that of the last daemon.
-fn push_daemons(alloc: Global, text: &mut Vec<u8>, daemons: u64) -> Result<(), AllocError>
-    ensures { OnOk result (text.new.items ≡ text.old.items ++ number_text daemons) }
+/// Adds the number of the last daemon, and a newline.
+fn push_last(alloc: Global, text: &mut Vec<u8>, daemons: u64) -> Result<(), AllocError>
+    ensures { OnOk result (text.new.items ≡ text.old.items ++ last_text daemons) }
 {
-    text.extend_from_slice(b"# daemon ")?;
     push_number(alloc, text, u128::from(daemons))?;
-    text.extend_from_slice(b" of the log, the last\n")?;
-    Ok(())
+    text.extend_from_slice(b" of the log, the last\n")
 }
 
 /// Adds where the script comes from, if that isn't a log of one daemon from its beginning on.
@@ -103,7 +102,8 @@ fn push_origin(alloc: Global, text: &mut Vec<u8>, daemons: u64) -> Result<(), Al
     if daemons == 1 {
         return Ok(());
     }
-    push_daemons(alloc, text, daemons)
+    text.extend_from_slice(b"# daemon ")?;
+    push_last(alloc, text, daemons)
 }
 
 /// Adds the start.

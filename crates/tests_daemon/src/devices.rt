@@ -92,7 +92,11 @@ impl<'a, R: time::Clock> Clock for ListClock<'a, R> {
     }
 }
 
-/// Answers that each command has exited with 3, but for one that isn't started.
+/// The name of the run that a signal ends.
+const KILLED: &str = "job cron.daily at 2024-01-01 01:00";
+
+/// Answers that each command has exited with 3, but for one that isn't started, and for the run of one
+/// name, which signal 9 ends.
 #[derive(Drop)]
 pub(crate) struct FailingRunner {
     pub(crate) runs: u64,
@@ -108,10 +112,19 @@ impl Runner for FailingRunner {
 
     ghost failures = { λ r. r.failures };
 
-    fn run(&mut self, _command: &[u8], _input: Option<&[u8]>, _env: &[(Bytes, Bytes)]) -> Outcome {
+    fn run(
+        &mut self,
+        name: &[u8],
+        _command: &[u8],
+        _input: Option<&[u8]>,
+        _env: &[(Bytes, Bytes)],
+    ) -> Outcome {
         self.runs = self.runs.saturating_add(1);
         if self.runs == self.fails && self.failures.count() {
             return Outcome::NotStarted;
+        }
+        if name == KILLED.as_bytes() {
+            return Outcome::Killed(9);
         }
         Outcome::Exited(3)
     }

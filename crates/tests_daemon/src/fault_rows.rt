@@ -144,7 +144,8 @@ fn is_stamped(played: &Played) -> bool {
     }
 }
 
-/// A stamp that can't be written twice is tried in each tick, logged each time, and then written.
+/// A stamp that can't be written twice is tried in each tick, logged each time, and then written. A
+/// signal ends the job's run.
 #[test]
 fn stamp_not_written(rt: HostRuntime) {
     let alloc: Global = rt.alloc();
@@ -155,6 +156,6 @@ fn stamp_not_written(rt: HostRuntime) {
     let played = play(&rt, alloc, &script);
     assert!(&rt; played.end.cause == Cause::Stopped && played.end.stamp_faults == 2);
     assert!(&rt; played.count("stamp not written cron.daily\n") == 2);
-    assert!(&rt; played.count("ended job cron.daily at 2024-01-01 01:00 status 3\n") == 1);
+    assert!(&rt; played.count("ended job cron.daily at 2024-01-01 01:00 signal 9\n") == 1);
     assert!(&rt; is_stamped(&played));
 }

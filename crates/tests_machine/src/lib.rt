@@ -10,6 +10,8 @@ mod folders;
 #[cfg(test)]
 mod logs;
 #[cfg(test)]
+mod outputs;
+#[cfg(test)]
 mod reads;
 #[cfg(test)]
 mod scratch;

@@ -11,7 +11,7 @@ type Row = (&'static [(Option<u64>, &'static str)], &'static str);
 /// 2024-09-13 23:30:01 UTC: 19,979 days and 84,601 seconds.
 const SECOND: u64 = 1_726_270_201;
 
-const ROWS: [Row; 12] = [
+const ROWS: [Row; 13] = [
     (&[], ""),
     (
         &[
@@ -66,6 +66,18 @@ const ROWS: [Row; 12] = [
         "2024-09-13T23:30:01Z started line 2 due 2024-09-13 23:30\n\
          2024-09-13T23:30:06Z not started line 2 due 2024-09-13 23:30\n\
          2024-09-13T23:30:07Z ended line 2 due 2024-09-13 23:30 status 0\n",
+    ),
+    // an end by a signal
+    (
+        &[
+            (Some(SECOND), "started line 5 due 2024-09-13 23:30\n"),
+            (
+                Some(SECOND + 7),
+                "ended line 5 due 2024-09-13 23:30 signal 9\n",
+            ),
+        ],
+        "2024-09-13T23:30:01Z started line 5 due 2024-09-13 23:30\n\
+         2024-09-13T23:30:08Z ended line 5 due 2024-09-13 23:30 signal 9 after 7 s\n",
     ),
     // a clock that is put back
     (
@@ -169,8 +181,10 @@ fn setup_of(jobs: &[JobNote]) -> Setup<'_> {
         table: "evening.cron",
         declarations: "evening.json",
         certificate: "evening.cert",
+        digest: [0; 32],
         anacrontab: None,
         capacity: 1,
+        offset: 0,
         jobs,
         has_hooks: false,
     }

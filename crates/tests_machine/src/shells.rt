@@ -1,7 +1,7 @@
 //! Commands, as the shell of this machine runs them.
 use cs_civil::Bytes;
 use cs_device::{Outcome, Runner};
-use cs_machine::ShellRunner;
+use cs_machine::{Remarks, ShellRunner};
 use std::alloc::Global;
 use std::process::Abort;
 
@@ -111,15 +111,38 @@ fn outcome<R: Abort + AllocGlobal, W: Runner>(
     settings: &[Setting],
 ) -> Outcome {
     let env = environment(rt, rt.alloc(), settings);
-    runner.run(command, input, env.as_slice())
+    runner.run(
+        b"line 1 due 2024-09-13 23:30",
+        command,
+        input,
+        env.as_slice(),
+    )
 }
 
 #[test]
 fn outcomes(rt: HostRuntime) {
-    let mut runner = ShellRunner::new(&rt, rt.alloc(), rt.stdout(), rt.stderr(), None);
+    let remarks = Remarks::new(rt.alloc());
+    let (out, err) = (rt.stdout(), rt.stderr());
+    let mut runner = ShellRunner::new(&rt, rt.alloc(), out, err, &remarks, None, false, None);
     for (command, input, settings, wanted) in &ROWS {
         let got = outcome(&rt, &mut runner, command, *input, settings);
         assert!(rt; got == *wanted, "{command:?} {settings:?}");
+    }
+}
+
+/// A runner that tells signals.
+#[test]
+fn signals(rt: HostRuntime) {
+    let remarks = Remarks::new(rt.alloc());
+    let (out, err) = (rt.stdout(), rt.stderr());
+    let mut runner = ShellRunner::new(&rt, rt.alloc(), out, err, &remarks, None, true, None);
+    for (command, wanted) in [
+        (b"kill -9 $$".as_slice(), Outcome::Killed(9)),
+        (b"kill -15 $$", Outcome::Killed(15)),
+        (b"exit 137", Outcome::Exited(137)),
+    ] {
+        let got = outcome(&rt, &mut runner, command, None, &[]);
+        assert!(rt; got == wanted, "{command:?}");
     }
 }
 
@@ -128,7 +151,9 @@ fn outcomes(rt: HostRuntime) {
 fn long_inputs(rt: HostRuntime) {
     let input = vec![in rt.alloc(); b'x'; 1_000_000].expect(&rt, "memory");
     let input = Some(input.as_slice());
-    let mut runner = ShellRunner::new(&rt, rt.alloc(), rt.stdout(), rt.stderr(), None);
+    let remarks = Remarks::new(rt.alloc());
+    let (out, err) = (rt.stdout(), rt.stderr());
+    let mut runner = ShellRunner::new(&rt, rt.alloc(), out, err, &remarks, None, false, None);
     for (command, status) in [
         (b"[ $(wc -c) -eq 1000000 ]".as_slice(), 0),
         (b"[ \"$(head -c 3)\" = xxx ]", 0),

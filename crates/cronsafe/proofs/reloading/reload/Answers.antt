@@ -12,7 +12,7 @@ returns-in_default g c =
     (err-old, inl refl, inr ran)
 
 pub returns-in-Ok-response_of : goal.returns-in-Ok-response_of
-returns-in-Ok-response_of g c = (_, c.ask_and_wait-answer.ensures, inl (_, c.in-Ok-response_of.ensures, c.finish.ensures))
+returns-in-Ok-response_of g c = (_, c.ask_and_wait-answer.ensures, inl (_, c.in-Ok-response_of.ensures.outcome, c.finish.ensures))
 
 pub returns : goal.returns
 returns g c =

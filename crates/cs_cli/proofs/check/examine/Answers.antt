@@ -1,8 +1,8 @@
-use Rattle.std.proofs.Common.{◌≡◌, ◌++◌, [], ◌∷◌, IfOk, Result, Ok, Err, Some, option_map, refl, subst}
+use Rattle.std.proofs.Common.{◌≡◌, ◌++◌, ℕ, List, Option, [], ◌∷◌, IfOk, Result, Ok, Err, Some, option_map, refl, subst}
 use Rattle.cs_args.specs.Asked.{asked_check}
-use Rattle.cs_check.specs.Checked.{plan_in}
+use Rattle.cs_check.specs.Checked.{certificate_in, plan_in}
 use Rattle.cs_check.specs.declared.checked.Checked.{Checked}
-use Rattle.cs_cli.specs.Check.{AreRead, Judges, answer_of, safe_text}
+use Rattle.cs_cli.specs.Check.{AreRead, IsDigestOf, Judges, answer_of, safe_text}
 use Rattle.cs_cli.specs.Safe.{IsSafe}
 use Rattle.cs_report.specs.Warning.{plan_notes}
 use Rattle.cs_files.specs.Response.{Ending, done}
@@ -24,9 +24,9 @@ returns-in-Ok-ruling-clause-value g c = λ fresh.
     let after = g.I.Inputs.failed c.ruling_on_files.new.inputs in
     let a = asked_check c.args.request.now in
     let both = c.in-Ok.found.0 in
-    let found = c.in-Ok-ruling_on_files.ruling in
+    let found = c.in-Ok-ruling_on_files.found.0 in
     let one = subst (λ (f : Failed). ReadsTables files a.table a.anacrontab before f (Ok both)) c.in-Ok.ensures.works (c.in-Ok.ensures.step fresh) in
-    let other = moved (λ w f. Judges w a both f after (Ok (answer_of found))) (g.I.Inputs.whole c.read_placed_tables-read.new.inputs) files (g.I.Inputs.failed c.read_placed_tables-read.new.inputs) before c.read_placed_tables-read.ensures.whole c.in-Ok.ensures.works (c.in-Ok-ruling_on_files.ensures.step (c.in-Ok.ensures.fresh fresh) (placed_on a.table both c.in-Ok.found.1 c.as_slice-2.result.now (g.I.Inputs.whole c.read_placed_tables-read.new.inputs) files c.read_placed_tables-read.ensures.whole c.as_slice-2.ensures (c.in-Ok.ensures.places fresh))) in
+    let other = moved (λ w f. Judges w a both f after (Ok (answer_of found))) (g.I.Inputs.whole c.read_placed_tables-read.new.inputs) files (g.I.Inputs.failed c.read_placed_tables-read.new.inputs) before c.read_placed_tables-read.ensures.whole c.in-Ok.ensures.works (c.in-Ok-ruling_on_files.ensures.step (c.in-Ok.ensures.fresh fresh) (placed_on a.table both c.in-Ok.found.1 c.as_slice-places.result.now (g.I.Inputs.whole c.read_placed_tables-read.new.inputs) files c.read_placed_tables-read.ensures.whole c.as_slice-places.ensures (c.in-Ok.ensures.places fresh))) in
     let notes = plan_notes (plan_in c.in-Ok-ruling.checked) in
     answered (ReadsTables files a.table a.anacrontab) (λ b. Judges files a b) before after both c.in_ok-warnings.warnings (done safe_text notes) (done safe_text (c.in_ok-warnings.warnings ++ notes)) one c.in_ok-warnings.ensures
     (subst (λ (r : Result Checked Ending). Judges files a both before after (Ok (answer_of r))) c.in-Ok-ruling.is other) refl
@@ -39,7 +39,7 @@ returns-clause-value g c = λ fresh.
     let a = asked_check c.args.request.now in
     let both = c.in-Ok.found.0 in
     let one = subst (λ (f : Failed). ReadsTables files a.table a.anacrontab before f (Ok both)) c.in-Ok.ensures.works (c.in-Ok.ensures.step fresh) in
-    let other = moved (λ w f. Judges w a both f after (Ok (answer_of c.in-Ok-ruling_on_files.ruling))) (g.I.Inputs.whole c.read_placed_tables-read.new.inputs) files (g.I.Inputs.failed c.read_placed_tables-read.new.inputs) before c.read_placed_tables-read.ensures.whole c.in-Ok.ensures.works (c.in-Ok-ruling_on_files.ensures.step (c.in-Ok.ensures.fresh fresh) (placed_on a.table both c.in-Ok.found.1 c.as_slice-2.result.now (g.I.Inputs.whole c.read_placed_tables-read.new.inputs) files c.read_placed_tables-read.ensures.whole c.as_slice-2.ensures (c.in-Ok.ensures.places fresh))) in
+    let other = moved (λ w f. Judges w a both f after (Ok (answer_of c.in-Ok-ruling_on_files.found.0))) (g.I.Inputs.whole c.read_placed_tables-read.new.inputs) files (g.I.Inputs.failed c.read_placed_tables-read.new.inputs) before c.read_placed_tables-read.ensures.whole c.in-Ok.ensures.works (c.in-Ok-ruling_on_files.ensures.step (c.in-Ok.ensures.fresh fresh) (placed_on a.table both c.in-Ok.found.1 c.as_slice-places.result.now (g.I.Inputs.whole c.read_placed_tables-read.new.inputs) files c.read_placed_tables-read.ensures.whole c.as_slice-places.ensures (c.in-Ok.ensures.places fresh))) in
     answered (ReadsTables files a.table a.anacrontab) (λ b. Judges files a b) before after both c.in_ok-warnings.warnings c.in-Err-ruling.answer c.in_ok-behind-in-Err-ruling.field-0 one c.in_ok-warnings.ensures
     (subst (λ (r : Result Checked Ending). Judges files a both before after (Ok (answer_of r))) c.in-Err-ruling.is other) c.in_ok-behind-in-Err-ruling.ensures.told
 
@@ -50,12 +50,21 @@ returns-in-Ok-ruling-clause-accepted g c = λ fresh.
     let a = asked_check c.args.request.now in
     let both = c.in-Ok.found.0 in
     let one = subst (λ (f : Failed). ReadsTables files a.table a.anacrontab before f (Ok both)) c.in-Ok.ensures.works (c.in-Ok.ensures.step fresh) in
-    let rest = moved (λ w f. IfOk c.in-Ok-ruling_on_files.ruling (AreRead w a both f)) (g.I.Inputs.whole c.read_placed_tables-read.new.inputs) files (g.I.Inputs.failed c.read_placed_tables-read.new.inputs) before c.read_placed_tables-read.ensures.whole c.in-Ok.ensures.works (c.in-Ok-ruling_on_files.ensures.read (c.in-Ok.ensures.fresh fresh)) in
+    let rest = moved (λ w f. IfOk c.in-Ok-ruling_on_files.found.0 (AreRead w a both f)) (g.I.Inputs.whole c.read_placed_tables-read.new.inputs) files (g.I.Inputs.failed c.read_placed_tables-read.new.inputs) before c.read_placed_tables-read.ensures.whole c.in-Ok.ensures.works (c.in-Ok-ruling_on_files.ensures.read (c.in-Ok.ensures.fresh fresh)) in
     record {
       proof = record { tables = both; read = one; rest = subst (λ (r : Result Checked Ending). IfOk r (AreRead files a both before)) c.in-Ok-ruling.is rest };
       safe = subst (λ (r : Result Checked Ending). IfOk r IsSafe) c.in-Ok-ruling.is c.in-Ok-ruling_on_files.ensures.safe;
       warned = (both, one, c.in_ok-warnings.ensures);
     }
+
+pub returns-in-Ok-ruling-clause-digest : goal.returns-in-Ok-ruling-clause-digest
+returns-in-Ok-ruling-clause-digest g c = λ fresh.
+    let files = g.I.Inputs.whole c.args.inputs.now in
+    let a = asked_check c.args.request.now in
+    let digest = c.in-Ok-ruling_on_files.found.1 in
+    let found = c.in-Ok-ruling_on_files.found.0 in
+    let is = subst (λ (w : List ℕ → Option (List ℕ)). IfOk found (λ checked. IsDigestOf w a.certificate (certificate_in checked) digest)) c.read_placed_tables-read.ensures.whole (c.in-Ok-ruling_on_files.ensures.digest (c.in-Ok.ensures.fresh fresh)) in
+    subst (λ (r : Result Checked Ending). IfOk r (λ checked. IsDigestOf files a.certificate (certificate_in checked) digest)) c.in-Ok-ruling.is is
 
 pub returns-in-Err-ruling_on_files-clause-value : goal.returns-in-Err-ruling_on_files-clause-value
 returns-in-Err-ruling_on_files-clause-value g c = λ fresh.
@@ -66,7 +75,7 @@ returns-in-Err-ruling_on_files-clause-value g c = λ fresh.
     let both = c.in-Ok.found.0 in
     let fault = c.in-Err-ruling_on_files.fault in
     let one = subst (λ (f : Failed). ReadsTables files a.table a.anacrontab before f (Ok both)) c.in-Ok.ensures.works (c.in-Ok.ensures.step fresh) in
-    let other = moved (λ w f. CameTo (Judges w a both f after) (Err fault)) (g.I.Inputs.whole c.read_placed_tables-read.new.inputs) files (g.I.Inputs.failed c.read_placed_tables-read.new.inputs) before c.read_placed_tables-read.ensures.whole c.in-Ok.ensures.works (c.in-Err-ruling_on_files.ensures.step (c.in-Ok.ensures.fresh fresh) (placed_on a.table both c.in-Ok.found.1 c.as_slice-2.result.now (g.I.Inputs.whole c.read_placed_tables-read.new.inputs) files c.read_placed_tables-read.ensures.whole c.as_slice-2.ensures (c.in-Ok.ensures.places fresh))) in
+    let other = moved (λ w f. CameTo (Judges w a both f after) (Err fault)) (g.I.Inputs.whole c.read_placed_tables-read.new.inputs) files (g.I.Inputs.failed c.read_placed_tables-read.new.inputs) before c.read_placed_tables-read.ensures.whole c.in-Ok.ensures.works (c.in-Err-ruling_on_files.ensures.step (c.in-Ok.ensures.fresh fresh) (placed_on a.table both c.in-Ok.found.1 c.as_slice-places.result.now (g.I.Inputs.whole c.read_placed_tables-read.new.inputs) files c.read_placed_tables-read.ensures.whole c.as_slice-places.ensures (c.in-Ok.ensures.places fresh))) in
     answered_fault (ReadsTables files a.table a.anacrontab) (λ b. Judges files a b) before after both c.in_ok-warnings.warnings fault c.in_ok-response_behind-in-Err-ruling_on_files.field-0 one c.in_ok-warnings.ensures other
     c.in_ok-response_behind-in-Err-ruling_on_files.ensures.told
 

@@ -1,13 +1,13 @@
-use Rattle.std.proofs.Common.{◌≡◌, ◌∙◌, [], ◌∷◌, Ok, Err, inr, refl, subst}
+use Rattle.std.proofs.Common.{◌≡◌, ◌∙◌, ℕ, List, Option, [], ◌∷◌, Ok, Err, inr, refl, subst}
 use Rattle.std.proofs.lemmas.Result.{err_from_is_err_and}
 use Rattle.cs_cert.specs.Certificate.{content}
 use Rattle.cs_cert.specs.Content.{Content}
-use Rattle.cs_cli.specs.Check.{IsVerdict, ReadsCertificate}
+use Rattle.cs_cli.specs.Check.{IsDigestOf, IsVerdict, ReadsCertificate}
 use Rattle.cs_files.specs.Reads.{ReadsDeclared}
 use Rattle.cs_args.specs.Asked.{asked_check}
 use Rattle.cs_files.specs.Reads.{AndThen, GivesSome}
 use Rattle.cs_files.specs.Trouble.{CameTo}
-use Rattle.cs_cli.proofs.CheckLemmas.{are_read}
+use Rattle.cs_cli.proofs.CheckLemmas.{are_read, digest_accepted}
 use Rattle.cs_files.proofs.TroubleLemmas.{goes_on, moved, stops}
 use Rattle.cs_io.specs.Files.{Failed}
 use Rattle.cs_files.proofs.TurnLemmas.{first_read}
@@ -53,6 +53,15 @@ returns-clause-read g c = λ fresh.
     let same : after ≡ before = c.in_ok-certificate.ensures.works ∙ c.in_ok-plan.ensures.works in
     are_read files a c.args.tables before plan x c.in_ok-ruling.field-0 one
     (subst (λ (f : Failed). ReadsCertificate files a.certificate before f (Ok x)) same two) c.in_ok-ruling.ensures.same
+
+pub returns-clause-digest : goal.returns-clause-digest
+returns-clause-digest g c = λ fresh.
+    let files = g.I.Inputs.whole c.args.inputs.now in
+    let a = asked_check c.args.request.now in
+    let x = content c.in_ok-certificate.certificate in
+    let digest = c.in_ok-certificate.digest in
+    let is = subst (λ (w : List ℕ → Option (List ℕ)). IsDigestOf w a.certificate x digest) c.declared_plan_from.ensures.whole (c.in_ok-certificate.ensures.digest (c.in_ok-plan.ensures.fresh fresh)) in
+    digest_accepted files a.certificate c.in_ok-plan.plan x digest c.in_ok-ruling.field-0 is c.in_ok-ruling.ensures.same
 
 pub returns-in_err-plan-clause-turn : goal.returns-in_err-plan-clause-turn
 returns-in_err-plan-clause-turn g c =

@@ -1,4 +1,4 @@
-use Rattle.std.proofs.Common.{rules, None}
+use Rattle.std.proofs.Common.{refl, rules, None}
 use Rattle.cs_device.specs.Asked.{asked}
 use Rattle.cs_daemon.proofs.Carrying.{of_job}
 use Rattle.cs_daemon.proofs.commands.run_job_line.Goals as goal
@@ -6,8 +6,9 @@ use Rattle.cs_daemon.proofs.commands.run_job_line.Goals as goal
 pub returns-clause-runs : goal.returns-clause-runs
 returns-clause-runs g c =
     let env = c.as_slice.result.now in (
-      asked c.command.result.now None env,
-      of_job c.args.table.now c.args.line.now c.number.result c.command.result.now c.in_ok-env.env env
+      asked c.args.name.now c.command.result.now None env,
+      refl,
+      of_job c.args.table.now c.args.line.now c.args.name.now c.number.result c.command.result.now c.in_ok-env.env env
           c.number.ensures c.command.ensures c.in_ok-env.ensures.names c.in_ok-env.ensures.values (search rules),
       c.run.ensures.runs,
     )

@@ -1,4 +1,4 @@
-use Rattle.std.proofs.Common.{rules}
+use Rattle.std.proofs.Common.{refl, rules}
 use Rattle.cs_device.specs.Asked.{asked}
 use Rattle.cs_daemon.proofs.Carrying.{of_command}
 use Rattle.cs_daemon.proofs.commands.run_line.Goals as goal
@@ -7,8 +7,9 @@ pub returns-clause-runs : goal.returns-clause-runs
 returns-clause-runs g c =
     let command = c.as_slice.result.now in
     let env = c.as_slice-2.result.now in (
-      asked command c.lent.result env,
-      of_command c.args.table.now c.args.line.now c.number.result c.command.result.now c.in_ok-command.command command c.in_ok-command.input c.lent.result c.in_ok-env.env env
+      asked c.args.name.now command c.lent.result env,
+      refl,
+      of_command c.args.table.now c.args.line.now c.args.name.now c.number.result c.command.result.now c.in_ok-command.command command c.in_ok-command.input c.lent.result c.in_ok-env.env env
           c.number.ensures c.command.ensures c.in_ok-command.ensures.parts c.in_ok-env.ensures.names c.in_ok-env.ensures.values (search rules) (search rules) (search rules),
       c.run.ensures.runs,
     )

@@ -1,7 +1,7 @@
-use Rattle.std.proofs.Common.{◌≡◌, ◌++◌, ◌∙◌, ℕ, List, Result, Ok, Err, OnOk, if◌then◌else◌, ap, append_assoc, codes}
-use Rattle.std.specs.Result.{is_ok}
+use Rattle.std.proofs.Common.{◌≡◌, ◌++◌, ◌∙◌, ℕ, List, ap, append_assoc, codes}
 use Rattle.std.proofs.lemmas.Result.{on_ok_weaker}
 use Rattle.cs_machine.specs.StateText.{moment_member, text_member, run_text}
+use Rattle.cs_machine.proofs.Joins.{added}
 use Rattle.cs_machine.proofs.state_text.push_run.Goals as goal
 
 -- a text to which six parts are added, one after the other
@@ -14,11 +14,6 @@ joined t t1 t2 t3 t4 t5 t6 a b c d e f e1 e2 e3 e4 e5 e6 =
     ∙ append_assoc ((t ++ a) ++ b) c (d ++ (e ++ f))
     ∙ append_assoc (t ++ a) b (c ++ (d ++ (e ++ f)))
     ∙ append_assoc t a (b ++ (c ++ (d ++ (e ++ f))))
-
--- what `extend_from_slice` says on success
-added : {X E : Type 0} (r : Result X E) (t x y : List ℕ) → t ≡ (if is_ok r then x else y) → OnOk r (t ≡ x)
-added (Ok v) t x y is = is
-added (Err e) t x y is = tt
 
 pub returns : goal.returns
 unfolding run_text

@@ -1,7 +1,9 @@
-use Rattle.std.proofs.Common.{rules}
-use Rattle.std.proofs.lemmas.List.Sorted.{IsNonDecreasingBy-from_sort_by_key}
-use Rattle.cs_retrace.specs.declared.entry.Entry.{Entry}
+use Rattle.std.proofs.Common.{◌≡◌, rules}
+use Rattle.std.proofs.lemmas.Fn.{always_returns_same}
+use Rattle.cs_retrace.specs.Trace.{place_of}
+use Rattle.cs_retrace.specs.Script.{IsInOrder}
 use Rattle.cs_retrace.proofs.retracing.in_order.Goals as goal
 
 pub returns : goal.returns
-returns c = (c.sort_by_key.ensures.permutation, IsNonDecreasingBy-from_sort_by_key (λ (e : Entry). e.place) _ c.in_ok-sort_by_key.ensures.sorted (λ a r q k. search rules))
+unfolding IsInOrder
+returns c = (c.sort_by_key.ensures.permutation, c.in_ok-sort_by_key.ensures.sorted place_of (always_returns_same _ (λ a r. r ≡ place_of a.0.now) _ (λ a r q k. search rules)))

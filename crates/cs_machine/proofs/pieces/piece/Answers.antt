@@ -2,8 +2,8 @@ use Rattle.std.proofs.Common.{◌==◌, rules}
 use borrow.Author.Tests.{tests}
 use Rattle.std.proofs.lemmas.Iterator.Consumers.{nth_from_yields_List}
 use Rattle.std.proofs.lemmas.Iterator.Splits.{YieldsList-from_slice_split}
-use Rattle.cs_machine.proofs.home.field.Goals as goal
+use Rattle.cs_machine.proofs.pieces.piece.Goals as goal
 
 pub returns : goal.returns
 returns c = nth_from_yields_List c.nth.result _ c.args.index c.nth.ensures.ran
-    (YieldsList-from_slice_split _ (λ b. b == 58) c.args.line.now c.split.ensures.rest c.split.ensures.done c.split.ensures.closure (λ x r q k. search (rules, tests)))
+    (YieldsList-from_slice_split _ (λ b. b == c.args.separator) c.args.text.now c.split.ensures.rest c.split.ensures.done c.split.ensures.closure (λ x r q k. search (rules, tests)))

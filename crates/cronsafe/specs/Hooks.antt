@@ -1,0 +1,25 @@
+-- The commands of the operator's that are started at what happens to a run.
+use Rattle.std.specs.Prelude.{ℕ, Bool, if◌then◌else◌, List, [], ◌∷◌, ◌++◌, codes, Option}
+use Rattle.cs_args.specs.CommandLine.{AskedRun}
+use Rattle.cs_machine.specs.declared.hook_call.HookCall.{HookCall}
+use Rattle.cs_machine.specs.declared.hook_call.HookCall.TheVariants.{Failure, Overrun}
+
+-- the command for a call, if there is one
+abbrev pub hook_command : AskedRun → HookCall → Option (List ℕ)
+hook_command a (Overrun run peers) = a.on_overrun
+hook_command a (Failure run status) = a.on_failure
+
+-- its variables: what happened, to which run, and which jobs may meet that, or its status
+abbrev pub hook_variables : HookCall → List (List ℕ × List ℕ)
+hook_variables (Overrun run peers) =
+    (codes "CRONSAFE_EVENT", codes "overrun") ∷ (codes "CRONSAFE_RUN", run)
+    ∷ (codes "CRONSAFE_MAY_MEET", peers) ∷ []
+hook_variables (Failure run status) =
+    (codes "CRONSAFE_EVENT", codes "failure") ∷ (codes "CRONSAFE_RUN", run)
+    ∷ (codes "CRONSAFE_STATUS", status) ∷ []
+
+-- the line of a log, by whether the command was started
+abbrev pub hook_line : List ℕ → Bool → List ℕ
+hook_line command is_started =
+    codes "outside of the plan: "
+    ++ (if is_started then codes "started " else codes "can't start ") ++ command

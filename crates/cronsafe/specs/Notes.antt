@@ -1,0 +1,40 @@
+-- What a daemon tells of the jobs of its plan.
+use Rattle.std.specs.Prelude.{ℕ, Bool, not, ◌&&◌, ◌||◌, if◌then◌else◌, List, [], ◌++◌, codes, drop, flat_map, length, slice_get, Option, None, Some, option_and_then}
+use Rattle.cs_crontab.specs.Crontab.{CommandLine}
+use Rattle.cs_crontab.specs.declared.table.When.{When}
+use Rattle.cs_crontab.specs.declared.table.When.TheVariants.{At, Reboot}
+use Rattle.cs_daemon.specs.Names.{job_front, job_name}
+use Rattle.cs_decl.specs.Plan.{Declared, as_plan, job_at}
+use Rattle.cs_history.specs.Lists.{below}
+use Rattle.cs_history.specs.Plan.{Plan, is_cron, rivals, takes_lock}
+use Rattle.cs_machine.specs.declared.setup.JobNote.{JobNote}
+use Rattle.cs_schedule.specs.declared.schedule.Schedule.{Schedule}
+
+-- A run of the second job may meet a late run of the first: both belong to one exclusive group, not
+-- both take its lock, and not both are of the anacrontab, of which one job runs at a time.
+abbrev pub may_meet : Plan → ℕ → ℕ → Bool
+may_meet p late other =
+    rivals p late other && ((is_cron p late || is_cron p other)
+    && not (takes_lock p late && takes_lock p other))
+
+-- the name of such a job, behind a comma
+abbrev pub peer : Declared → ℕ → ℕ → List ℕ
+peer d late other =
+    if may_meet (as_plan d) late other then codes ", " ++ job_name d other else []
+
+-- the names of such jobs, in their order, with commas between them
+abbrev pub peers : Declared → ℕ → List ℕ
+peers d late = drop 2 (flat_map (peer d late) (below (length d.jobs)))
+
+abbrev pub schedule_in : CommandLine → Option Schedule
+schedule_in line = elim line.when [ At schedule ↦ Some schedule | Reboot ↦ None ]
+
+-- what the names of a job's runs begin with, its longest time, the minutes at which it is due, and
+-- which jobs' runs may meet a late run of it
+abbrev pub note : Declared → ℕ → JobNote
+note d job = record {
+  front = job_front d job;
+  max = (job_at d job).max;
+  when = option_and_then schedule_in (slice_get d.crontab.lines job);
+  peers = peers d job;
+}

@@ -1,0 +1,61 @@
+-- The files that the output of runs goes to, and what is told where one can't be opened.
+use Rattle.std.specs.Prelude.{◌≡◌, ℕ, ◌-◌, ◌&&◌, ◌==◌, if◌then◌else◌, Bool, true, not, List, ◌++◌, length, map, take, drop, bytes_eq, slice_get, string_bytes, codes, Option, Some, None, String}
+use Rattle.std.specs.Char.{is_ascii_digit}
+use Rattle.std.specs.List.{list_all, slice_split}
+use Rattle.std.specs.List.Sorted.{IsPermutation, IsSorted}
+use Rattle.std.specs.String.{string_cmp}
+use Rattle.cs_machine.specs.StartText.{place_text}
+
+-- a word of a run's name, by its number from 0
+abbrev pub word : List ℕ → ℕ → Option (List ℕ)
+word run n = slice_get (slice_split (λ b. b == 32) run) n
+
+-- `2024-09-13T23:30-line-3`, of these words
+abbrev pub named : Option (List ℕ) → Option (List ℕ) → Option (List ℕ) → Option (List ℕ)
+    → Option (List ℕ)
+named (Some day) (Some time) (Some kind) (Some job) =
+    Some (day ++ codes "T" ++ time ++ codes "-" ++ kind ++ codes "-" ++ job)
+named (Some day) (Some time) (Some kind) None = None
+named (Some day) (Some time) None job = None
+named (Some day) None kind job = None
+named None time kind job = None
+
+-- the name of the file of a run such as `line 3 due 2024-09-13 23:30`
+abbrev pub output_name : List ℕ → Option (List ℕ)
+output_name run = named (word run 3) (word run 4) (word run 0) (word run 1)
+
+-- a byte, with `0` in place of each digit
+abbrev pub zeroed : ℕ → ℕ
+zeroed b = if is_ascii_digit b then 48 else b
+
+-- whether a text has the shape of a moment
+abbrev pub is_moment : List ℕ → Bool
+is_moment text = bytes_eq (map zeroed text) (codes "0000-00-00T00:00")
+
+-- whether a name is that of a file of the same job: a moment, and behind it the same
+abbrev pub is_of_job : List ℕ → List ℕ → Bool
+is_of_job file name = is_moment (take 16 name) && bytes_eq (drop 16 name) (drop 16 file)
+
+-- whether it is that of another file of the job
+abbrev pub is_other_of : List ℕ → List ℕ → Bool
+is_other_of file name = not (bytes_eq name file) && is_of_job file name
+
+-- names of other files of the job
+abbrev pub AreOthers : {Z : Type 0} → List ℕ → List (String Z) → Type 0
+AreOthers {Z} file names = list_all (λ name. is_other_of file (string_bytes name)) names ≡ true
+
+-- these names in order, without the last ones, of which so many are left out
+abbrev pub AreFirst : {Z : Type 0} → ℕ → List (String Z) → List (String Z) → Type 0
+AreFirst {Z} left names first =
+    (sorted : List (String Z)) × IsPermutation names sorted × IsSorted string_cmp sorted
+    × (first ≡ take (length sorted - left) sorted)
+
+-- the files that are removed before this one is opened, so that at most so many of its job are kept
+abbrev pub AreOld : {Z : Type 0} → List ℕ → ℕ → List (String Z) → Type 0
+AreOld {Z} file keep old =
+    (others : List (String Z)) × AreOthers file others × AreFirst (keep - 1) others old
+
+-- what is told where the file of a run can't be opened: the run, the folder and the machine's error
+abbrev pub output_text : List ℕ → List ℕ → List ℕ → List ℕ
+output_text run folder why =
+    codes "can't keep the output of " ++ run ++ place_text (Some folder) ++ codes ": " ++ why

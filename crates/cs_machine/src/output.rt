@@ -1,0 +1,232 @@
+//! A folder in which the output of each run has a file of its own.
+ghost use Rattle.std.specs.Prelude.{◌≡◌, ◌++◌, Some, drop, string_bytes};
+ghost use Rattle.std.specs.Prelude.{IfOk, OnOk, length, take, true, ◌+◌};
+ghost use Rattle.cs_machine.specs.Output.{AreFirst, AreOld, AreOthers, is_moment, is_of_job};
+ghost use Rattle.cs_machine.specs.Output.{is_other_of, output_name, output_text, zeroed};
+
+use crate::paths::{file_name, path_in};
+use crate::pieces::piece;
+use crate::start_text::push_place;
+use cs_civil::Bytes;
+use std::alloc::{AllocError, Global};
+use std::fs::{OpenFile, OpenOptions};
+use std::io::ErrorKind;
+use std::rt::Files;
+use std::{fs, io};
+
+/// A folder in which the output of each run has a file of its own: of the run
+/// `line 3 due 2024-09-13 23:30` it's `2024-09-13T23:30-line-3`. So a job's files have the same end,
+/// and are in the order of their minutes.
+#[derive(Drop)]
+pub struct OutputFolder {
+    path: String,
+    keep: u64,
+}
+
+/// The shape of the moment in front of a file's name, with `0` for each digit.
+const SHAPE: &[u8] = b"0000-00-00T00:00";
+
+/// The name of a run's file. None if the run's name isn't like `line 3 due 2024-09-13 23:30`. The
+/// only error is out of memory.
+fn output_name(alloc: Global, run: &[u8]) -> Result<Option<Bytes>, AllocError>
+    ensures { IfOk result (λ name. name ≡ output_name run.now) }
+{
+    let (Some(day), Some(time)) = (piece(run, b' ', 3), piece(run, b' ', 4)) else {
+        return Ok(None);
+    };
+    let (Some(kind), Some(job)) = (piece(run, b' ', 0), piece(run, b' ', 1)) else {
+        return Ok(None);
+    };
+    let mut name = Vec::from_slice(alloc, day)?;
+    name.push(b'T')?;
+    name.extend_from_slice(time)?;
+    name.push(b'-')?;
+    name.extend_from_slice(kind)?;
+    name.push(b'-')?;
+    name.extend_from_slice(job)?;
+    Ok(Some(Bytes::from_vec(name)))
+}
+
+/// A byte, or `0` for a digit.
+fn zeroed(byte: u8) -> u8
+    ensures { result ≡ zeroed byte }
+{
+    if byte.is_ascii_digit() { b'0' } else { byte }
+}
+
+/// Whether a text has the shape of a moment.
+fn is_moment(text: &[u8]) -> bool
+    ensures { result ≡ is_moment text.now }
+{
+    if text.len() != SHAPE.len() {
+        return false;
+    }
+    for at in 0..SHAPE.len() {
+        if zeroed(text[at]) != SHAPE[at] {
+            return false;
+        }
+    }
+    true
+}
+
+/// The moment in a file's name, and what stands behind it.
+fn parts(name: &[u8]) -> (&[u8], &[u8])
+    ensures moment { result.0.now ≡ take 16 name.now }
+    ensures behind { result.1.now ≡ drop 16 name.now }
+{
+    match name.split_at_checked(SHAPE.len()) {
+        Some(parts) => parts,
+        None => (name, b"".as_slice()),
+    }
+}
+
+/// Whether a name is that of a file of the same job.
+fn is_of_job(file: &[u8], name: &[u8]) -> bool
+    ensures { result ≡ is_of_job file.now name.now }
+{
+    let (moment, behind) = parts(name);
+    let (_, wanted) = parts(file);
+    is_moment(moment) && behind == wanted
+}
+
+/// Whether a name is that of another file of the same job.
+fn is_other_of(file: &[u8], name: &[u8]) -> bool
+    ensures { result ≡ is_other_of file.now name.now }
+{
+    name != file && is_of_job(file, name)
+}
+
+/// Adds a name, if it is that of another file of the same job. The only error is out of memory.
+fn add_other(
+    alloc: Global,
+    names: &mut Vec<String>,
+    file: &[u8],
+    name: &str,
+) -> Result<(), AllocError>
+    ensures others { AreOthers file.now names.old.items → AreOthers file.now names.new.items }
+    ensures added { OnOk result (is_other_of file.now name.now ≡ true
+        → length names.new.items ≡ length names.old.items + 1) }
+{
+    if !is_other_of(file, name.as_bytes()) {
+        return Ok(());
+    }
+    let name = String::from_str(alloc, name)?;
+    names.push(name)?;
+    Ok(())
+}
+
+/// The names of a folder's other files of the job of this file. One that isn't UTF-8 isn't among
+/// them.
+fn others<R: Files>(rt: &R, alloc: Global, folder: &str, file: &[u8]) -> io::Result<Vec<String>>
+    ensures { IfOk result (λ names. AreOthers file.now names.items) }
+{
+    let mut names = Vec::new(alloc);
+    for entry in fs::read_dir(&(rt, alloc), folder)? {
+        if let Ok(entry) = entry {
+            add_other(alloc, &mut names, file, entry.file_name())?;
+        }
+    }
+    Ok(names)
+}
+
+/// Puts names in order, and leaves out the last ones, so many. The only error is out of memory.
+fn keep_first(names: &mut Vec<String>, left: u64) -> Result<(), AllocError>
+    ensures { OnOk result (AreFirst left names.old.items names.new.items) }
+{
+    names.sort()?;
+    names.truncate((names.len() as u64).saturating_sub(left) as usize);
+    Ok(())
+}
+
+/// Opens a file for appending, and makes it if it isn't there. What is no file isn't opened: a pipe
+/// would keep the daemon waiting.
+fn open_file<R: Files>(rt: &R, path: &str) -> io::Result<R::File> {
+    match fs::symlink_metadata(rt, path) {
+        Ok(found) if found.is_file() => {}
+        Ok(_) => return Err(io::Error::new(ErrorKind::InvalidInput, "no regular file is there")),
+        Err(error) if error.kind() == ErrorKind::NotFound => {}
+        Err(error) => return Err(error),
+    }
+    OpenOptions::new().append(true).create(true).open(rt, path)
+}
+
+impl OutputFolder {
+    /// Returns the folder at that path, whether it's there or not. Of each job so many files are
+    /// kept, and at least one. The only error is out of memory.
+    pub fn new(alloc: Global, path: &str, keep: u64) -> Result<OutputFolder, AllocError>
+        ensures path { IfOk result (λ folder. string_bytes folder.path ≡ path.now) }
+        ensures keep { IfOk result (λ folder. folder.keep ≡ keep) }
+    {
+        let path = String::from_str(alloc, path)?;
+        Ok(OutputFolder { path, keep })
+    }
+
+    /// Returns the folder's path.
+    pub(crate) fn path(&self) -> &str
+        ensures { result.now ≡ string_bytes self.now.path }
+    {
+        self.path.as_str()
+    }
+
+    /// The names of the files that are removed before this one is opened.
+    fn old<R: Files>(&self, rt: &R, alloc: Global, file: &[u8]) -> io::Result<Vec<String>>
+        ensures { IfOk result (λ names. AreOld file.now self.now.keep names.items) }
+    {
+        let mut names = others(rt, alloc, self.path.as_str(), file)?;
+        keep_first(&mut names, self.keep.saturating_sub(1))?;
+        Ok(names)
+    }
+
+    /// Removes the oldest files of this file's job. What can't be removed stays.
+    fn make_room<R: Files>(&self, rt: &R, alloc: Global, file: &[u8]) -> io::Result<()> {
+        for name in &self.old(rt, alloc, file)? {
+            let path = path_in(alloc, self.path.as_str(), file_name(name.as_bytes())?)?;
+            let _ = fs::remove_file(rt, path.as_str());
+        }
+        Ok(())
+    }
+
+    /// The name of a run's file. An error too if the run's name gives none.
+    fn name_of(alloc: Global, run: &[u8]) -> io::Result<Bytes>
+        ensures { IfOk result (λ name. output_name run.now ≡ Some name) }
+    {
+        match output_name(alloc, run)? {
+            Some(name) => Ok(name),
+            None => Err(io::Error::from(ErrorKind::InvalidInput)),
+        }
+    }
+
+    /// Opens the file of a run for appending, twice, once its job's oldest files are removed, so that
+    /// with it at most so many are left as are kept. What can't be listed or removed stays.
+    pub(crate) fn open<R: Files>(
+        &self,
+        rt: &R,
+        alloc: Global,
+        run: &[u8],
+    ) -> io::Result<(R::File, R::File)> {
+        let name = OutputFolder::name_of(alloc, run)?;
+        let path = path_in(alloc, self.path.as_str(), file_name(name.as_slice())?)?;
+        let _ = self.make_room(rt, alloc, name.as_slice());
+        let file = open_file(rt, path.as_str())?;
+        let other = file.try_clone()?;
+        Ok((file, other))
+    }
+}
+
+/// Adds what is told of a run whose file can't be opened, with the machine's error. The only error is
+/// out of memory.
+pub(crate) fn push_output_fault(
+    text: &mut Vec<u8>,
+    run: &[u8],
+    folder: &[u8],
+    why: &[u8],
+) -> Result<(), AllocError>
+    ensures { OnOk result (text.new.items
+        ≡ text.old.items ++ output_text run.now folder.now why.now) }
+{
+    text.extend_from_slice(b"can't keep the output of ")?;
+    text.extend_from_slice(run)?;
+    push_place(text, Some(folder))?;
+    text.extend_from_slice(b": ")?;
+    text.extend_from_slice(why)
+}

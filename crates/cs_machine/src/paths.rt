@@ -1,0 +1,57 @@
+//! The paths of the files in a folder.
+ghost use Rattle.std.specs.Prelude.{◌≡◌, ◌↔◌, IsTrue, IsErr, IfOk, string_bytes};
+ghost use Rattle.std.specs.List.{list_any};
+ghost use Rattle.std.specs.Str.{IsUtf8};
+ghost use Rattle.cs_machine.specs.Files.{IsFileName, file_of, is_kept_out, new_file_of};
+
+use std::alloc::{AllocError, Global};
+use std::io::ErrorKind;
+use std::{io, str};
+
+/// Whether a slash or a blank is among these bytes.
+fn has_kept_out(bytes: &[u8]) -> bool
+    ensures { result ≡ list_any is_kept_out bytes.now }
+{
+    bytes
+        .iter()
+        .any(|byte| *byte == b'/' || *byte == b' ' || *byte == b'\t')
+}
+
+/// Whether a text can be the name of a file without blanks, like each identifier of an anacrontab.
+fn is_file_name(name: &str) -> bool
+    ensures { IsTrue result ↔ IsFileName name.now }
+{
+    !matches!(name, "" | "." | "..") && !has_kept_out(name.as_bytes())
+}
+
+/// A name as text. An error exactly if it isn't UTF-8, or can't be the name of a file without blanks.
+pub(crate) fn file_name(name: &[u8]) -> io::Result<&str>
+    ensures text { IfOk result (λ text. (text.now ≡ name.now) × IsFileName name.now) }
+    ensures refused { IsErr result → ¬ (IsUtf8 name.now × IsFileName name.now) }
+{
+    match str::from_utf8(name) {
+        Ok(text) if is_file_name(text) => Ok(text),
+        _ => Err(io::Error::from(ErrorKind::InvalidInput)),
+    }
+}
+
+/// The path of the file of this name in a folder: the folder, `/` and the name. The only error is out
+/// of memory.
+pub(crate) fn path_in(alloc: Global, folder: &str, name: &str) -> Result<String, AllocError>
+    ensures { IfOk result (λ path. string_bytes path ≡ file_of folder.now name.now) }
+{
+    let mut path = String::from_str(alloc, folder)?;
+    path.push_str("/")?;
+    path.push_str(name)?;
+    Ok(path)
+}
+
+/// The path at which that file is first written, which with its blank is no identifier's. The only
+/// error is out of memory.
+pub(crate) fn new_path_in(alloc: Global, folder: &str, name: &str) -> Result<String, AllocError>
+    ensures { IfOk result (λ path. string_bytes path ≡ new_file_of folder.now name.now) }
+{
+    let mut path = path_in(alloc, folder, name)?;
+    path.push_str(" new")?;
+    Ok(path)
+}

@@ -5,6 +5,7 @@ ghost use Rattle.cs_table.specs.Text.{begins_with};
 ghost use Rattle.cs_gather.specs.RunParts.{ended, first_call, is_among, is_of, is_option, is_path, is_plain, is_quiet, is_shell_byte, of_call, of_fault, of_folder, refused, seen, why, with_folder, with_operand, with_option, with_value, with_word};
 
 use crate::running::RunParts;
+use cs_table::text::is_among;
 use std::marker::Model;
 use std::str;
 
@@ -91,11 +92,15 @@ fn is_quiet_word(word: &[u8]) -> bool
     ensures { result ≡ is_among (codes "--report" ∷ codes "-v" ∷ codes "--verbose"
         ∷ codes "--exit-on-error" ∷ codes "--new-session" ∷ codes "--stdin" ∷ []) word.now }
 {
-    match word {
-        b"--report" | b"-v" | b"--verbose" => true,
-        b"--exit-on-error" | b"--new-session" | b"--stdin" => true,
-        _ => false,
-    }
+    let words: [&[u8]; 6] = [
+        b"--report",
+        b"-v",
+        b"--verbose",
+        b"--exit-on-error",
+        b"--new-session",
+        b"--stdin",
+    ];
+    is_among(&words, word)
 }
 
 /// Whether an option has a value behind `=`, and changes nothing about which programs run.
@@ -117,7 +122,8 @@ fn is_quiet(word: &[u8]) -> bool
 fn awaits_value(word: &[u8]) -> bool
     ensures { result ≡ is_among (codes "-a" ∷ codes "-u" ∷ []) word.now }
 {
-    word == b"-a".as_slice() || word == b"-u".as_slice()
+    let words: [&[u8]; 2] = [b"-a", b"-u"];
+    is_among(&words, word)
 }
 
 fn begins_with(byte: u8, word: &[u8]) -> bool

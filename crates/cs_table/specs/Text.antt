@@ -1,6 +1,7 @@
 -- Lines, words and numbers of a text.
-use Rattle.std.specs.Prelude.{◌≡◌, ◌≢◌, ℕ, Bool, true, false, not, ◌&&◌, ◌||◌, ◌==◌, nat_le, if◌then◌else◌, List, [], ◌∷◌, length, ◌+◌, ◌-◌, ◌*◌}
-use Rattle.std.specs.List.{onto_first, fold, list_all}
+use Rattle.std.specs.Prelude.{◌≡◌, ◌≢◌, ℕ, Bool, true, false, not, ◌&&◌, ◌||◌, ◌==◌, nat_le, bytes_eq, if◌then◌else◌, List, [], ◌∷◌, length, ◌+◌, ◌-◌, ◌*◌}
+use Rattle.std.specs.Borrow.{Bor}
+use Rattle.std.specs.List.{onto_first, fold, list_all, list_any}
 
 -- A newline ends a line. A rest without newline is a line too, unless it's empty.
 unfoldable pub lines_of : List ℕ → List (List ℕ)
@@ -24,6 +25,10 @@ is_solid b = not (is_blank b)
 
 abbrev pub is_digit : ℕ → Bool
 is_digit b = nat_le 48 b && nat_le b 57
+
+-- the word is one of these, as the program holds them
+abbrev pub is_one_of : List (Bor (List ℕ)) → List ℕ → Bool
+is_one_of words word = list_any (λ w. bytes_eq w.now word) words
 
 -- the number that digits stand for, after those that stand for n
 unfoldable pub decimal_from : ℕ → List ℕ → ℕ

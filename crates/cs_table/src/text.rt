@@ -1,7 +1,7 @@
 //! Lines, words and numbers of crontabs and anacrontabs.
 ghost use Rattle.std.specs.Prelude.{◌≡◌, ◌==◌, ◌≢◌, [], ◌∷◌, ◌<◌, ◌+◌, length, min, IfSome, IfNone};
 ghost use Rattle.std.specs.List.{list_all, list_any};
-ghost use Rattle.cs_table.specs.Text.{is_blank, is_solid, is_digit, front, after, lines_of, decimal};
+ghost use Rattle.cs_table.specs.Text.{is_blank, is_solid, is_digit, is_one_of, front, after, lines_of, decimal};
 ghost use Rattle.cs_table.specs.SettingReading.{is_other, trimmed};
 
 use memchr::memchr;
@@ -70,6 +70,14 @@ pub fn trim_end(text: &[u8]) -> &[u8]
         rest = others;
     }
     rest
+}
+
+/// Checks whether the word is one of these. It is proved once, where a `match` over byte strings is
+/// proved byte by byte wherever it stands.
+pub fn is_among(words: &[&[u8]], word: &[u8]) -> bool
+    ensures { result ≡ is_one_of words.now word.now }
+{
+    words.contains(&word)
 }
 
 /// Returns the word at the front, and what follows it.

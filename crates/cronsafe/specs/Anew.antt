@@ -2,7 +2,7 @@
 use Rattle.std.specs.Prelude.{◌≡◌, ℕ, false, List, ◌++◌, codes}
 use Rattle.cs_args.specs.Asked.{asked_run}
 use Rattle.cs_args.specs.CommandLine.{AskedRun}
-use Rattle.cs_cert.specs.Content.{Content}
+use Rattle.cs_claims.specs.Content.{Content}
 use Rattle.cs_check.specs.Checked.{IsHeadline, certificate_in, plan_in}
 use Rattle.cs_check.specs.declared.checked.Checked.{Checked}
 use Rattle.cs_cli.specs.Answer.{is_of_gathered}

@@ -3,15 +3,15 @@ ghost use Rattle.std.specs.Prelude.{◌≡◌, ◌++◌, IfOk, false};
 ghost use Rattle.cs_args.specs.Asked.{asked_run};
 ghost use Rattle.cs_cli.specs.Answer.{is_of_gathered};
 ghost use Rattle.cs_files.specs.Response.{status_of};
-ghost use Rattle.cs_cert.specs.Certificate.{content};
+ghost use Rattle.cs_claims.specs.Certificate.{content};
 ghost use Rattle.cs_check.specs.Checked.{plan_in};
 ghost use Rattle.cs_report.specs.Warning.{plan_notes};
 ghost use Rattle.cronsafe.specs.Anew.{IsOrderOf, IsTaken, rejected_status, rejected_text};
 
 use cs_args::{CheckWords, RunWords};
-use cs_cert::Certificate;
 use cs_check::{CheckError, Checked, check};
 use cs_civil::Bytes;
+use cs_claims::Certificate;
 use cs_cli::{Order, certificate_from};
 use cs_decl::Plan;
 use cs_files::{Fault, Response, Status, declared_plan_from, read_tables, text_behind};

@@ -1,7 +1,7 @@
 use crate::gains::{MINUTES_OF_DAY, waits_for};
 use crate::latest::latest_starts;
 use crate::queue::{Queue, QueuedRun};
-use cs_cert::MAX_GROUPS;
+use cs_claims::MAX_GROUPS;
 use cs_profile::{Calendar, DAYS_BEFORE, Facts};
 use cs_windows::{Window, touches};
 use indexmap::{IndexMap, IndexSet};

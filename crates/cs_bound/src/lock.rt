@@ -2,7 +2,7 @@
 use crate::carry::least_carries;
 use crate::gains::{Arrivals, arrivals_by_profile, waits_for};
 use crate::reaches::{Longest, longest_waits};
-use cs_cert::MAX_GROUPS;
+use cs_claims::MAX_GROUPS;
 use cs_profile::Facts;
 use std::alloc::{AllocError, Global};
 

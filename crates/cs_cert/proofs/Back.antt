@@ -9,15 +9,15 @@ use Rattle.cs_json.specs.Shape.{all_as, list_as}
 use Rattle.cs_json.specs.declared.fault.JsonFault.{JsonFault}
 use Rattle.cs_wait.specs.declared.backlog.Piece.{Piece}
 use Rattle.cs_windows.specs.declared.tree.Entry.{Entry}
-use Rattle.cs_cert.specs.declared.class.Class.{Class}
-use Rattle.cs_cert.specs.declared.class.DueList.{DueList}
-use Rattle.cs_cert.specs.declared.class.GroupBacklog.{GroupBacklog}
+use Rattle.cs_claims.specs.declared.class.Class.{Class}
+use Rattle.cs_claims.specs.declared.class.DueList.{DueList}
+use Rattle.cs_claims.specs.declared.class.GroupBacklog.{GroupBacklog}
 use Rattle.cs_windows.specs.declared.reach.JobReach.{JobReach}
-use Rattle.cs_cert.specs.Rules.{backlog_fits, class_fits, due_fits, due_list_fits, entry_fits, group_backlog_fits, has_carries, has_carry, is_at_midnight, is_backlog_from, is_carries}
+use Rattle.cs_claims.specs.Rules.{backlog_fits, class_fits, due_fits, due_list_fits, entry_fits, group_backlog_fits, has_carries, has_carry, is_at_midnight, is_backlog_from, is_carries}
 use Rattle.cs_cert.specs.Said.{carry_class_said, carry_said, class_said, due_list_said, entry_said, group_backlog_said, held, piece_said, reach_said}
 use Rattle.cs_cert.specs.Written.{carry_class_data, carry_data, class_data, due_list_data, entry_data, group_backlog_data, list_data, number_data, piece_data, reach_data}
-use Rattle.cs_cert.proofs.Backlogs.{so_backlog}
-use Rattle.cs_cert.proofs.Both.{and_both, both_and}
+use Rattle.cs_claims.proofs.Backlogs.{so_backlog}
+use Rattle.cs_claims.proofs.Both.{and_both, both_and}
 
 -- a number in range is held as it is
 pub held_back : (top n : ℕ) → n ≤ top → min n top ≡ n

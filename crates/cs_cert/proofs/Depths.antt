@@ -13,14 +13,14 @@ use Rattle.cs_windows.specs.Tree as minute
 use Rattle.cs_wait.specs.Bounds.{at}
 use Rattle.cs_windows.specs.declared.tree.Entry.{Entry}
 use Rattle.cs_wait.specs.declared.backlog.Piece.{Piece}
-use Rattle.cs_cert.specs.declared.class.Class.{Class}
-use Rattle.cs_cert.specs.declared.class.DueList.{DueList}
-use Rattle.cs_cert.specs.declared.class.GroupBacklog.{GroupBacklog}
-use Rattle.cs_cert.specs.Content.{Content, StretchTree}
-use Rattle.cs_cert.specs.Rules.{is_shallow}
-use Rattle.cs_cert.specs.Rules as rule
+use Rattle.cs_claims.specs.declared.class.Class.{Class}
+use Rattle.cs_claims.specs.declared.class.DueList.{DueList}
+use Rattle.cs_claims.specs.declared.class.GroupBacklog.{GroupBacklog}
+use Rattle.cs_claims.specs.Content.{Content, StretchTree}
+use Rattle.cs_claims.specs.Rules.{is_shallow}
+use Rattle.cs_claims.specs.Rules as rule
 use Rattle.cs_cert.specs.Written.{carry_class_data, carry_data, certificate_data, class_data, first_version_data, second_version_data, third_version_data, listed_data, day_tree_data, due_list_data, entry_data, group_backlog_data, list_data, minute_tree_data, number_data, piece_data, reach_data, stretch_data}
-use Rattle.cs_cert.proofs.Both.{and_both}
+use Rattle.cs_claims.proofs.Both.{and_both}
 
 -- ---- depth
 

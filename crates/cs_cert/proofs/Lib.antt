@@ -1,10 +1,5 @@
 pub mod Back
-pub mod Backlogs
-pub mod Both
 pub mod Depths
-pub mod Keeping
 pub mod RoundTrip
-pub mod Seen
-pub mod Splits
 pub mod Trees
 pub mod TreesBack

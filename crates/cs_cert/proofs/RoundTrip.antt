@@ -11,19 +11,19 @@ use Rattle.cs_json.specs.Shape.{list_as}
 use Rattle.cs_json.proofs.Items.{json_back}
 use Rattle.cs_daytree.specs.Tree as day
 use Rattle.cs_daytree.specs.Possible.{all_numbers, splits_fit}
-use Rattle.cs_cert.specs.declared.class.Class.{Class}
+use Rattle.cs_claims.specs.declared.class.Class.{Class}
 use Rattle.cs_windows.specs.declared.reach.JobReach.{JobReach}
-use Rattle.cs_cert.specs.declared.fault.CertFault.{CertFault}
-use Rattle.cs_cert.specs.Content.{Content, StretchTree}
+use Rattle.cs_claims.specs.declared.fault.CertFault.{CertFault}
+use Rattle.cs_claims.specs.Content.{Content, StretchTree}
 use Rattle.cs_cert.specs.Denoted.{carried_said, certificate_by, content_in, content_said, listed_said, stretch_said}
-use Rattle.cs_cert.specs.Rules.{class_fits, classes_shaped, fault_of, has_carries, has_days, has_entries, is_carries, lengths_fit, is_of_classes, is_shallow, is_split_well, most_days, most_reach, or_fault}
+use Rattle.cs_claims.specs.Rules.{class_fits, classes_shaped, fault_of, has_carries, has_days, has_entries, is_carries, lengths_fit, is_of_classes, is_shallow, is_split_well, most_days, most_reach, or_fault}
 use Rattle.cs_cert.specs.Said.{carry_class_said, class_said, held, reach_said}
 use Rattle.cs_cert.specs.TreeSaid.{day_tree_said}
 use Rattle.cs_cert.specs.Written.{carry_class_data, certificate_data, class_data, day_tree_data, list_data, number_data, reach_data, stretch_data}
 use Rattle.cs_cert.proofs.Back.{carry_class_back, carry_class_fits, class_back, list_back, numbers_back, reach_back}
 use Rattle.cs_cert.proofs.Depths.{certificate_depth}
-use Rattle.cs_cert.proofs.Keeping.{Rules, few_classes, list_parts, rules_hold, which_version}
-use Rattle.cs_cert.proofs.Both.{and_both, both_and}
+use Rattle.cs_claims.proofs.Keeping.{Rules, few_classes, list_parts, rules_hold, which_version}
+use Rattle.cs_claims.proofs.Both.{and_both, both_and}
 use Rattle.cs_cert.proofs.TreesBack.{day_back, minute_back}
 
 abbrev stretch_fits : ℕ → ℕ → StretchTree → Bool

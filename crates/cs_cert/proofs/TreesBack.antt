@@ -8,12 +8,12 @@ use Rattle.cs_daytree.specs.Possible.{Numbers, is_part_of, kept, narrowed, numbe
 use Rattle.cs_daytree.specs.declared.tree.KindPart.{KindPart}
 use Rattle.cs_daytree.specs.declared.tree.KindPart.TheVariants.{Month, Day, Weekday}
 use Rattle.cs_windows.specs.Tree as minute
-use Rattle.cs_cert.specs.Rules.{entries_fit, entry_fits, leaves_pass, splits_inside}
+use Rattle.cs_claims.specs.Rules.{entries_fit, entry_fits, leaves_pass, splits_inside}
 use Rattle.cs_cert.specs.Said.{entry_said}
 use Rattle.cs_cert.specs.TreeSaid.{day_leaf_said, day_split_said, day_tree_said, minute_leaf_said, minute_split_said, minute_tree_said, part_said}
 use Rattle.cs_cert.specs.Written.{day_tree_data, entry_data, minute_tree_data, part_name}
 use Rattle.cs_cert.proofs.Back.{entry_back, held_back, list_back, numbers_back}
-use Rattle.cs_cert.proofs.Both.{and_both, both_and}
+use Rattle.cs_claims.proofs.Both.{and_both, both_and}
 use Rattle.cs_cert.proofs.Trees.{day_leaf, day_split, minute_leaf, minute_split}
 
 -- ---- minute trees

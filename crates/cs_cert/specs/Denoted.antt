@@ -7,10 +7,10 @@ use Rattle.cs_json.specs.Bytes.{json_of}
 use Rattle.cs_json.specs.Gives.{◌>>=◌}
 use Rattle.cs_json.specs.Shape.{is_among, list_as, member_as, object_with}
 use Rattle.cs_json.specs.declared.fault.JsonFault.{JsonFault}
-use Rattle.cs_cert.specs.declared.fault.CertFault.{CertFault}
-use Rattle.cs_cert.specs.declared.fault.CertFault.TheVariants.{TooLong, NotJson, BadVersion, BadShape}
-use Rattle.cs_cert.specs.Content.{Content, StretchTree}
-use Rattle.cs_cert.specs.Rules.{judged}
+use Rattle.cs_claims.specs.declared.fault.CertFault.{CertFault}
+use Rattle.cs_claims.specs.declared.fault.CertFault.TheVariants.{TooLong, NotJson, BadVersion, BadShape}
+use Rattle.cs_claims.specs.Content.{Content, StretchTree}
+use Rattle.cs_claims.specs.Rules.{judged}
 use Rattle.cs_cert.specs.Said.{carry_class_said, class_said, held, reach_said}
 use Rattle.cs_cert.specs.TreeSaid.{day_tree_said, minute_tree_said}
 

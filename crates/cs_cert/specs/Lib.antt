@@ -1,10 +1,4 @@
-pub mod Answers
-pub mod Certificate
-pub mod Content
 pub mod Denoted
-pub mod Kept
-pub mod Printed
-pub mod Rules
 pub mod Said
 pub mod TreeSaid
 pub mod Written

@@ -6,11 +6,11 @@ use Rattle.cs_json.specs.Shape.{is_among, list_as, member_as, object_with, pair_
 use Rattle.cs_json.specs.declared.fault.JsonFault.{JsonFault}
 use Rattle.cs_wait.specs.declared.backlog.Piece.{Piece}
 use Rattle.cs_windows.specs.declared.tree.Entry.{Entry}
-use Rattle.cs_cert.specs.declared.class.Class.{Class}
-use Rattle.cs_cert.specs.declared.class.DueList.{DueList}
-use Rattle.cs_cert.specs.declared.class.GroupBacklog.{GroupBacklog}
+use Rattle.cs_claims.specs.declared.class.Class.{Class}
+use Rattle.cs_claims.specs.declared.class.DueList.{DueList}
+use Rattle.cs_claims.specs.declared.class.GroupBacklog.{GroupBacklog}
 use Rattle.cs_windows.specs.declared.reach.JobReach.{JobReach}
-use Rattle.cs_cert.specs.Rules.{is_backlog_from}
+use Rattle.cs_claims.specs.Rules.{is_backlog_from}
 
 -- a number from 0 to top as it is, any other as top
 abbrev pub capped : ℕ → ℤ → ℕ

@@ -9,11 +9,11 @@ use Rattle.cs_windows.specs.Tree as minute
 use Rattle.cs_daytree.specs.Tree as day
 use Rattle.cs_daytree.specs.declared.tree.KindPart.{KindPart}
 use Rattle.cs_daytree.specs.declared.tree.KindPart.TheVariants.{Month, Day, Weekday}
-use Rattle.cs_cert.specs.declared.class.Class.{Class}
-use Rattle.cs_cert.specs.declared.class.DueList.{DueList}
-use Rattle.cs_cert.specs.declared.class.GroupBacklog.{GroupBacklog}
+use Rattle.cs_claims.specs.declared.class.Class.{Class}
+use Rattle.cs_claims.specs.declared.class.DueList.{DueList}
+use Rattle.cs_claims.specs.declared.class.GroupBacklog.{GroupBacklog}
 use Rattle.cs_windows.specs.declared.reach.JobReach.{JobReach}
-use Rattle.cs_cert.specs.Content.{Content, StretchTree}
+use Rattle.cs_claims.specs.Content.{Content, StretchTree}
 
 abbrev pub number_data : ℕ → Data
 number_data n = number (unsigned n)

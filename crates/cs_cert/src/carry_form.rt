@@ -8,10 +8,10 @@ ghost use Rattle.cs_json.specs.Shape.{all_as, list_as};
 ghost use Rattle.cs_cert.specs.Said.{carry_class_said, carry_said};
 ghost use Rattle.cs_cert.specs.Written.{carry_class_data, carry_data, list_data};
 
-use crate::class::{Class, GroupBacklog};
 use crate::form::{Form, items, pair, read_pair};
 use crate::list_form::held_backlog;
 use cs_civil::Sequence;
+use cs_claims::{Class, GroupBacklog};
 use cs_json::{Misread, only_members, value_at};
 use cs_wait::Piece;
 use serde_json::{Value, json};

@@ -5,19 +5,16 @@ ghost use Rattle.serde_json.specs.Data.{member, no_members, object};
 ghost use Rattle.serde_json.specs.View.{view};
 ghost use Rattle.serde_json.specs.Written.{compact_text};
 ghost use Rattle.cs_json.specs.Gives as json;
-ghost use Rattle.cs_cert.specs.Answers.{Gives};
-ghost use Rattle.cs_cert.specs.Certificate.{content};
-ghost use Rattle.cs_cert.specs.Content.{content_of};
+ghost use Rattle.cs_claims.specs.Answers.{Gives};
+ghost use Rattle.cs_claims.specs.Certificate.{content};
+ghost use Rattle.cs_claims.specs.Content.{content_of};
 ghost use Rattle.cs_cert.specs.Denoted.{carried_said, certificate_by, content_in, content_said, is_other_version, json_in, listed_said, stretches_name};
 ghost use Rattle.cs_cert.specs.Written.{certificate_data, listed_data, number_data, third_version_data};
 
 use crate::carry_form::{read_carry_classes, write_carry_classes};
-use crate::certificate::Certificate;
-use crate::fault::{CertError, CertFault};
 use crate::form::{Form, member};
-use crate::limits::MAX_CERTIFICATE;
-use crate::parts::Parts;
 use cs_civil::Sequence;
+use cs_claims::{CertError, CertFault, Certificate, MAX_CERTIFICATE, Parts};
 use cs_json::{Misread, only_members, parse, value_at};
 use serde_json::{Value, json};
 use std::alloc::{AllocError, Global};
@@ -210,7 +207,7 @@ fn listed_value(alloc: Global, parts: &Parts) -> Result<Value, AllocError>
 fn to_value(alloc: Global, certificate: &Certificate) -> Result<Value, AllocError>
     ensures { IfOk result (λ v. view v ≡ certificate_data (content certificate.now)) }
 {
-    let parts = &certificate.parts;
+    let parts = certificate.as_parts();
     if parts.version == 3 {
         carried_value(alloc, parts)
     } else {

@@ -5,13 +5,13 @@ ghost use Rattle.serde_json.specs.View.{view};
 ghost use Rattle.cs_json.specs.Gives.{Gives};
 ghost use Rattle.cs_json.specs.Shape.{member_as};
 ghost use Rattle.cs_windows.specs.Tree.{Tree, tree_of};
-ghost use Rattle.cs_cert.specs.Content.{StretchTree, stretch_of};
+ghost use Rattle.cs_claims.specs.Content.{StretchTree, stretch_of};
 ghost use Rattle.cs_cert.specs.Denoted.{stretch_said};
 ghost use Rattle.cs_cert.specs.TreeSaid.{minute_leaf_said, minute_split_said, minute_tree_said};
 ghost use Rattle.cs_cert.specs.Written.{minute_tree_data, stretch_data};
 
 use crate::form::{Form, member};
-use crate::stretch::Stretch;
+use cs_claims::Stretch;
 use cs_json::{Misread, only_members, value_at};
 use cs_windows::MinuteTree;
 use serde_json::{Value, json};

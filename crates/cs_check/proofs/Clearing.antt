@@ -3,8 +3,8 @@ use Rattle.std.proofs.Common.{◌≡◌, ℕ, ◌<◌, ◌-◌, Bool, if◌then�
 use Rattle.std.specs.Prelude.{unwrap_or, IsTrue}
 use Rattle.std.proofs.lemmas.Bool.{lt-ltb}
 use Rattle.cs_history.specs.Plan.{Plan, IsPlan}
-use Rattle.cs_cert.specs.declared.class.Class.{Class}
-use Rattle.cs_cert.specs.Certificate.{bound_in, is_due_in}
+use Rattle.cs_claims.specs.declared.class.Class.{Class}
+use Rattle.cs_claims.specs.Certificate.{bound_in, is_due_in}
 use Rattle.cs_classes.specs.Claim.{Claimed, as_certificate, class_at}
 use Rattle.cs_classes.specs.Reaches.{Clears, bounds_of}
 use Rattle.cs_wait.specs.Bounds.{ClearsBy, at_days}

@@ -5,9 +5,9 @@ use Rattle.std.specs.List.{list_all}
 use Rattle.std.proofs.lemmas.Bool.{and_parts, leb-true}
 use Rattle.cs_daytree.specs.Rising.{each_next}
 use Rattle.cs_decl.specs.Plan.{Declared, as_plan}
-use Rattle.cs_cert.specs.Content.{Content}
-use Rattle.cs_cert.specs.Kept.{Keeps}
-use Rattle.cs_cert.specs.Rules.{most_reach}
+use Rattle.cs_claims.specs.Content.{Content}
+use Rattle.cs_claims.specs.Kept.{Keeps}
+use Rattle.cs_claims.specs.Rules.{most_reach}
 use Rattle.cs_windows.specs.Reach.{reach_of}
 use Rattle.cs_windows.specs.declared.reach.JobReach.{JobReach}
 use Rattle.cs_history.specs.Plan.{IsPlan, is_cron, waits}

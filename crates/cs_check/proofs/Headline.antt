@@ -11,7 +11,7 @@ use Rattle.cs_schedule.specs.Times.{is_due as is_time_due}
 use Rattle.cs_decl.specs.Plan.{Declared, as_plan, command_of, is_due}
 use Rattle.cs_windows.specs.declared.reach.JobReach.{JobReach}
 use Rattle.cs_classes.specs.Planned.{due_on, is_due_on, reach_by}
-use Rattle.cs_cert.specs.Content.{Content}
+use Rattle.cs_claims.specs.Content.{Content}
 use Rattle.cs_classes.specs.Claim.{Claimed, as_certificate}
 use Rattle.cs_classes.specs.StandsFor.{claimed, days_by}
 use Rattle.cs_theorem.specs.Faults.{Fault}

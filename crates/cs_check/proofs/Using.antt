@@ -16,7 +16,7 @@ use Rattle.cs_classes.specs.StandsFor.{days_by}
 use Rattle.cs_classes.specs.Used.{HaveClasses, IsInUse}
 use Rattle.cs_check.specs.Case.{IsFit}
 use Rattle.cs_classes.specs.Said.{said}
-use Rattle.cs_cert.specs.declared.class.Class.{Class}
+use Rattle.cs_claims.specs.declared.class.Class.{Class}
 use Rattle.cs_theorem.specs.Accepted.{nth}
 use Rattle.cs_check.specs.declared.case.Case.{Case}
 use Rattle.cs_check.specs.Stretches.{IsCase}

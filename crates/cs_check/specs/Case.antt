@@ -3,7 +3,7 @@ use Rattle.std.specs.Prelude.{ℕ, List, Option}
 use Rattle.cs_decl.specs.Plan.{Declared, as_plan}
 use Rattle.cs_windows.specs.declared.reach.JobReach.{JobReach}
 use Rattle.cs_classes.specs.Planned.{due_on, reach_by}
-use Rattle.cs_cert.specs.Content.{Content}
+use Rattle.cs_claims.specs.Content.{Content}
 use Rattle.cs_classes.specs.Claim.{Claimed, as_certificate}
 use Rattle.cs_classes.specs.StandsFor.{claimed, days_by}
 use Rattle.cs_history.specs.Plan.{IsPlan}

@@ -2,8 +2,8 @@
 use Rattle.std.specs.Prelude.{◌≡◌, ℕ, ◌≤◌, Option, Some, ⊤, length}
 use Rattle.std.specs.List.{AllByRecursion}
 use Rattle.cs_decl.specs.Plan.{Declared, as_plan}
-use Rattle.cs_cert.specs.Content.{Content}
-use Rattle.cs_cert.specs.Certificate.{content}
+use Rattle.cs_claims.specs.Content.{Content}
+use Rattle.cs_claims.specs.Certificate.{content}
 use Rattle.cs_check.specs.declared.checked.Checked.{Checked}
 use Rattle.cs_history.specs.Plan.{Plan, IsReached}
 use Rattle.cs_history.specs.Calm.{Holds, IsCalm, window_of}

@@ -9,7 +9,7 @@ use Rattle.cs_theorem.specs.Certificate.{Certificate, Stretch}
 use Rattle.cs_theorem.specs.Accepted.{AreWithin, AreApart, ListsAll, AreFree, arrivals, nth, windows_of}
 use Rattle.cs_theorem.specs.Faults.{Fault, BacklogRises, ReachTooShort, WindowMissing, Collision, OverCapacity, SkipBlocked, blocked_in, clears_by, collision_in, due_fault, first_of, has_waiter, minute_of, missing_in, or_else, overload_in, rise_in, stretch_fault, unless, used_stretches}
 use Rattle.cs_wait.specs.Bounds as bounds
-use Rattle.cs_cert.specs.declared.class.Class.{Class}
+use Rattle.cs_claims.specs.declared.class.Class.{Class}
 use Rattle.cs_classes.specs.Claim.{Claimed, as_certificate, class_at}
 use Rattle.cs_decl.specs.Plan.{Declared, as_plan}
 use Rattle.cs_overlap.specs.Roles.{IsOf}

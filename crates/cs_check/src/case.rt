@@ -12,8 +12,8 @@ ghost use Rattle.cs_windows.specs.Window.{IsRising};
 
 use crate::class_day::ClassDay;
 use crate::due::Basis;
-use cs_cert::{Class, reach_of};
 use cs_civil::Minute;
+use cs_claims::{Class, reach_of};
 use cs_classes::{Claim, UsedStretch, last_day, stretch_length};
 use cs_decl::Plan;
 use cs_overlap::Roles;

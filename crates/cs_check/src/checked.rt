@@ -1,8 +1,8 @@
 ghost use Rattle.std.specs.Prelude.{◌≡◌, None};
-ghost use Rattle.cs_cert.specs.Certificate.{content};
+ghost use Rattle.cs_claims.specs.Certificate.{content};
 ghost use Rattle.cs_check.specs.Case.{fault_of};
 
-use cs_cert::Certificate;
+use cs_claims::Certificate;
 use cs_decl::Plan;
 
 /// A plan with a certificate that the checker has accepted. Only [`check`](crate::check) and

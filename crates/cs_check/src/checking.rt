@@ -1,6 +1,6 @@
 //! The checker, with one thread and with several.
 ghost use Rattle.std.specs.Prelude.{◌≡◌, [], IfErr, IfOk, IsTrue, None, OnOk};
-ghost use Rattle.cs_cert.specs.Certificate.{content};
+ghost use Rattle.cs_claims.specs.Certificate.{content};
 ghost use Rattle.cs_classes.specs.Said.{said};
 ghost use Rattle.cs_check.specs.Case.{IsAcceptedWith, IsFit, claim_fault, fault_of, length_for, reach_for};
 ghost use Rattle.cs_check.specs.Checked.{IsBroken, IsCalmThroughout, IsHeadline, IsLengthFor};
@@ -16,7 +16,7 @@ use crate::order::later_fault;
 use crate::reaches::have_reaches;
 use crate::stretches::in_use;
 use crate::workers::CheckWorkers;
-use cs_cert::Certificate;
+use cs_claims::Certificate;
 use cs_classes::{Claim, OneThread, SeveralThreads, UsedStretch, claim_by, work_out};
 use cs_decl::Plan;
 use cs_wait::Backlog;

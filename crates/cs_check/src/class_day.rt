@@ -6,7 +6,7 @@ ghost use Rattle.cs_classes.specs.Claim.{class_at};
 
 use crate::due::Basis;
 use crate::reaches::all_settle;
-use cs_cert::Class;
+use cs_claims::Class;
 use cs_classes::{Claim, GroupDay, group_days};
 use std::alloc::{AllocError, Global};
 

@@ -11,7 +11,7 @@ ghost use Rattle.cs_report.specs.Told.{told};
 
 use crate::case::Case;
 use crate::due::Basis;
-use cs_cert::{Class, reach_of};
+use cs_claims::{Class, reach_of};
 use cs_classes::{UsedStretch, clears, waits};
 use cs_report::CheckFault;
 

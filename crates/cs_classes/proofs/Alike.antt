@@ -9,8 +9,8 @@ use Rattle.cs_windows.specs.Windows.{day_minutes}
 use Rattle.cs_windows.proofs.Members.{Has, has_range, range_has}
 use Rattle.cs_theorem.specs.Faults.{Fault, ClassNotDue, first_of, is_due_alike, or_else, same_bool, unless}
 use Rattle.cs_theorem.proofs.Below.{below_range}
-use Rattle.cs_cert.specs.Certificate.{is_due_in}
-use Rattle.cs_cert.specs.declared.class.Class.{Class}
+use Rattle.cs_claims.specs.Certificate.{is_due_in}
+use Rattle.cs_claims.specs.declared.class.Class.{Class}
 use Rattle.cs_classes.specs.Claim.{Claimed, as_certificate, class_at, class_of}
 use Rattle.cs_classes.specs.DayMinutes.{AreDueSets}
 use Rattle.cs_classes.specs.declared.likeness.Likeness.{Likeness}

@@ -3,8 +3,8 @@ use Rattle.std.proofs.Common.{◌≡◌, ℕ, ◌+◌, ◌<◌, ◌++◌, ◌∷
 use Rattle.std.proofs.lemmas.Bool.{cases_lt}
 use Rattle.std.proofs.lemmas.List.{get_or_push, get_or_append_left}
 use Rattle.cs_theorem.specs.Faults.{has_waiter}
-use Rattle.cs_cert.specs.Certificate.{bound_in}
-use Rattle.cs_cert.specs.declared.class.Class.{Class}
+use Rattle.cs_claims.specs.Certificate.{bound_in}
+use Rattle.cs_claims.specs.declared.class.Class.{Class}
 use Rattle.cs_classes.specs.declared.group_day.GroupDay.{GroupDay}
 use Rattle.cs_classes.specs.GroupDays.{AreGroupDays, IsGroupDay, Leads, no_day}
 use Rattle.cs_classes.specs.Work.{IsSteady, arrivals_in}

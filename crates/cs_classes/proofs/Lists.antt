@@ -1,7 +1,7 @@
 -- Sets of minutes by what they have, and lists of numbers below one.
 use Rattle.std.proofs.Common.{◌≡◌, ℕ, zero, ◌+◌, ◌<◌, length, slice_index_or, map, Bor, Bool, true, false, cond, List, [], ◌∷◌, ◌++◌, filter, suc, if◌then◌else◌, nat_eq, refl, sym, ap, ◌∙◌, subst, arith}
 use Rattle.std.specs.List.{list_any}
-use Rattle.cs_cert.specs.declared.class.Class.{Class}
+use Rattle.cs_claims.specs.declared.class.Class.{Class}
 use Rattle.cs_classes.specs.Claim.{class_at}
 use Rattle.std.proofs.lemmas.Bool.{both_ways, eq-eqb, eqb-true, false_from_ne_true}
 use Rattle.cs_history.specs.Lists.{total, below}

@@ -4,7 +4,7 @@ use Rattle.std.specs.Prelude.{IfOk, MatchResult, Contains}
 use Rattle.std.specs.List.{AllZip}
 use Rattle.std.specs.declared.alloc.AllocError.{AllocError}
 use Rattle.std.proofs.lemmas.Slice.Zip.{AllZip-long}
-use Rattle.cs_cert.specs.declared.class.Class.{Class}
+use Rattle.cs_claims.specs.declared.class.Class.{Class}
 use Rattle.cs_classes.specs.Claim.{Claimed, class_at}
 use Rattle.cs_decl.specs.Plan.{Declared}
 use Rattle.cs_classes.specs.declared.likeness.Likeness.{Likeness}

@@ -8,8 +8,8 @@ use Rattle.std.proofs.lemmas.Slice.Zip.{AllZip-map}
 use Rattle.cs_theorem.proofs.Below.{below_range}
 use Rattle.cs_civil.specs.Calendar.{Kind}
 use Rattle.cs_civil.specs.Order.{all_kinds}
-use Rattle.cs_cert.specs.Certificate.{class_of}
-use Rattle.cs_cert.specs.Content.{Content}
+use Rattle.cs_claims.specs.Certificate.{class_of}
+use Rattle.cs_claims.specs.Content.{Content}
 use Rattle.cs_decl.specs.Plan.{Declared}
 use Rattle.cs_classes.specs.StandsFor.{bare, claimed, first_kind, worked_of}
 use Rattle.cs_history.specs.Lists.{below}

@@ -2,8 +2,8 @@
 use Rattle.std.specs.Prelude.{ℕ, ◌<◌, [], List, length, slice_index_or}
 use Rattle.cs_civil.specs.Calendar.{Kind}
 use Rattle.cs_daytree.specs.Tree as day
-use Rattle.cs_cert.specs.declared.class.Class.{Class}
-use Rattle.cs_cert.specs.Certificate.{bound_in, is_due_in}
+use Rattle.cs_claims.specs.declared.class.Class.{Class}
+use Rattle.cs_claims.specs.Certificate.{bound_in, is_due_in}
 use Rattle.cs_windows.specs.Reach.{reach_of}
 use Rattle.cs_windows.specs.declared.reach.JobReach.{JobReach}
 use Rattle.cs_theorem.specs.Certificate.{Certificate, Stretch}

@@ -1,7 +1,7 @@
 -- The minutes of one day in a list.
 use Rattle.std.specs.Prelude.{◌≡◌, ℕ, ◌+◌, ◌<◌, ◌≤◌, List, [], ◌∷◌, length, slice_index_or}
-use Rattle.cs_cert.specs.Certificate.{is_due_in}
-use Rattle.cs_cert.specs.declared.class.Class.{Class}
+use Rattle.cs_claims.specs.Certificate.{is_due_in}
+use Rattle.cs_claims.specs.declared.class.Class.{Class}
 use Rattle.cs_schedule.specs.Numbers.{has}
 
 -- minutes of a day from the least on, each once, rising

@@ -1,8 +1,8 @@
 -- What a class has for the lock of a group on its days, without the days before and after.
 use Rattle.std.specs.Prelude.{◌≡◌, ℕ, ◌+◌, ◌<◌, ◌≤◌, ◌↔◌, IsTrue, true, false, List, length, slice_index_or}
 use Rattle.cs_theorem.specs.Faults.{has_waiter}
-use Rattle.cs_cert.specs.Certificate.{bound_in}
-use Rattle.cs_cert.specs.declared.class.Class.{Class}
+use Rattle.cs_claims.specs.Certificate.{bound_in}
+use Rattle.cs_claims.specs.declared.class.Class.{Class}
 use Rattle.cs_classes.specs.Work.{arrivals_in}
 use Rattle.cs_classes.specs.declared.group_day.GroupDay.{GroupDay}
 use Rattle.cs_history.specs.Plan.{Plan}

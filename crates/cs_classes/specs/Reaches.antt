@@ -1,7 +1,7 @@
 -- Whether all that waits for the lock of a group has had it within a reach.
 use Rattle.std.specs.Prelude.{◌≡◌, ℕ, ◌<◌, true, List, map, unwrap_or}
-use Rattle.cs_cert.specs.declared.class.Class.{Class}
-use Rattle.cs_cert.specs.Certificate.{bound_in, is_due_in}
+use Rattle.cs_claims.specs.declared.class.Class.{Class}
+use Rattle.cs_claims.specs.Certificate.{bound_in, is_due_in}
 use Rattle.cs_history.specs.Plan.{Plan}
 use Rattle.cs_wait.specs.Bounds.{ClearsBy}
 use Rattle.cs_classes.specs.Claim.{class_at}

@@ -1,5 +1,5 @@
 -- What is claimed where a certificate is judged.
-use Rattle.cs_cert.specs.Certificate.{content}
+use Rattle.cs_claims.specs.Certificate.{content}
 use Rattle.cs_classes.specs.Claim.{Claimed}
 use Rattle.cs_classes.specs.WorkedOut.{judged}
 use Rattle.cs_classes.specs.declared.claim.Claim.{Claim}

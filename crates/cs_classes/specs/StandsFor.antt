@@ -10,11 +10,11 @@ use Rattle.cs_wait.specs.Bounds.{following}
 use Rattle.cs_history.specs.Lists.{below}
 use Rattle.cs_windows.specs.declared.reach.JobReach.{JobReach}
 use Rattle.cs_decl.specs.Plan.{Declared, as_plan, crons}
-use Rattle.cs_cert.specs.Certificate.{bound_in, class_of}
-use Rattle.cs_cert.specs.Content.{Content, StretchTree}
-use Rattle.cs_cert.specs.declared.class.Class.{Class}
-use Rattle.cs_cert.specs.declared.class.DueList.{DueList}
-use Rattle.cs_cert.specs.declared.class.GroupBacklog.{GroupBacklog}
+use Rattle.cs_claims.specs.Certificate.{bound_in, class_of}
+use Rattle.cs_claims.specs.Content.{Content, StretchTree}
+use Rattle.cs_claims.specs.declared.class.Class.{Class}
+use Rattle.cs_claims.specs.declared.class.DueList.{DueList}
+use Rattle.cs_claims.specs.declared.class.GroupBacklog.{GroupBacklog}
 use Rattle.cs_theorem.specs.Certificate.{Stretch}
 use Rattle.cs_theorem.specs.Faults.{chains, has_waiter, same_list, stretch_length}
 use Rattle.cs_classes.specs.Claim.{Claimed, class_at}

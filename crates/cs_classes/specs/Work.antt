@@ -1,7 +1,7 @@
 -- What waits for the lock of a group, from one day to the next.
 use Rattle.std.specs.Prelude.{◌≡◌, ℕ, ◌<◌, ◌+◌, ◌-◌, ◌∷◌, [], Bool, true, false, not, ◌||◌, Option, Some, None, if◌then◌else◌, filter, nat_le, slice_index, slice_index_or, length, List}
-use Rattle.cs_cert.specs.declared.class.Class.{Class}
-use Rattle.cs_cert.specs.Certificate.{bound_in, is_due_in, pieces_of}
+use Rattle.cs_claims.specs.declared.class.Class.{Class}
+use Rattle.cs_claims.specs.Certificate.{bound_in, is_due_in, pieces_of}
 use Rattle.cs_history.specs.Lists.{total, below}
 use Rattle.cs_history.specs.Plan.{Plan, locks}
 use Rattle.cs_wait.specs.Bounds.{StepsHold, at_days}

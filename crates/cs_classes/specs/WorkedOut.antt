@@ -1,9 +1,9 @@
 -- What was worked out of a certificate.
 use Rattle.std.specs.Prelude.{◌≡◌, ◌==◌, ℕ, true, false, List, map, find, Option, None, Some, option_map}
 use Rattle.cs_civil.specs.Calendar.{Kind}
-use Rattle.cs_cert.specs.Certificate.{class_of}
-use Rattle.cs_cert.specs.Content.{Content}
-use Rattle.cs_cert.specs.declared.class.Class.{Class}
+use Rattle.cs_claims.specs.Certificate.{class_of}
+use Rattle.cs_claims.specs.Content.{Content}
+use Rattle.cs_claims.specs.declared.class.Class.{Class}
 use Rattle.cs_theorem.specs.Certificate.{Stretch}
 use Rattle.cs_classes.specs.Claim.{Claimed}
 use Rattle.cs_classes.specs.StandsFor.{bare, class_lists, days_for, listed, worked_classes}

@@ -1,10 +1,10 @@
 //! What is judged of a certificate: its own classes and stretches, or those that were worked out.
 ghost use Rattle.std.specs.Prelude.{◌≡◌, length};
-ghost use Rattle.cs_cert.specs.Certificate.{content};
+ghost use Rattle.cs_claims.specs.Certificate.{content};
 ghost use Rattle.cs_classes.specs.WorkedOut.{classes_by};
 
 use crate::working_out::WorkedOut;
-use cs_cert::Certificate;
+use cs_claims::Certificate;
 use cs_windows::MinuteTree;
 
 /// What is judged of a certificate, borrowed.

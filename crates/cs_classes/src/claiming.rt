@@ -1,6 +1,6 @@
 //! Making a claim, and reading its parts.
 ghost use Rattle.std.specs.Prelude.{◌≡◌, ◌<◌, Some, length, slice_get};
-ghost use Rattle.cs_cert.specs.Certificate.{content};
+ghost use Rattle.cs_claims.specs.Certificate.{content};
 ghost use Rattle.cs_daytree.specs.Tree.{tree_of};
 ghost use Rattle.cs_classes.specs.Claim.{HasClassOfEach};
 ghost use Rattle.cs_classes.specs.Said.{said};
@@ -10,7 +10,7 @@ ghost use Rattle.cs_classes.specs.WorkedOut.{IsWorkedOut};
 
 use crate::claim::{Claim, JudgedStretch};
 use crate::working_out::WorkedOut;
-use cs_cert::{Certificate, Class};
+use cs_claims::{Certificate, Class};
 use cs_daytree::DayTree;
 use cs_decl::Plan;
 use cs_windows::JobReach;

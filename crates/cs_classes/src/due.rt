@@ -1,11 +1,11 @@
 ghost use Rattle.std.specs.Prelude.{◌≡◌, [], ℕ, ◌<◌, ◌||◌, ◌&&◌, IfOk, length, nat_eq, slice_index_or};
 ghost use Rattle.std.specs.List.{list_any};
 ghost use Rattle.cs_daytree.specs.Tree.{has as is_listed};
-ghost use Rattle.cs_cert.specs.Certificate.{is_due_in};
+ghost use Rattle.cs_claims.specs.Certificate.{is_due_in};
 ghost use Rattle.cs_classes.specs.DayMinutes.{AreDueSets, AreRising};
 ghost use Rattle.cs_schedule.specs.Numbers.{has};
 
-use cs_cert::{Class, DueList};
+use cs_claims::{Class, DueList};
 use cs_schedule::MinuteSet;
 use std::alloc::{AllocError, Global};
 

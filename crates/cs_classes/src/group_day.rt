@@ -1,6 +1,6 @@
 //! What classes have for the locks of groups: two are compared without a look at their minutes.
 ghost use Rattle.std.specs.Prelude.{◌≡◌, ◌<◌, ◌↔◌, ℕ, [], IfOk, IsTrue, length, slice_index_or};
-ghost use Rattle.cs_cert.specs.declared.class.Class.{Class};
+ghost use Rattle.cs_claims.specs.declared.class.Class.{Class};
 ghost use Rattle.cs_classes.specs.GroupDays.{AreGroupDays, IsGroupDay, Leads, no_day};
 ghost use Rattle.cs_classes.specs.Work.{IsSteady};
 ghost use Rattle.cs_decl.specs.Plan.{as_plan};
@@ -8,8 +8,8 @@ ghost use Rattle.cs_history.specs.Plan.{Plan as TheoryPlan};
 
 use crate::locks::has_waiter;
 use crate::steps::{arrivals_in, backlog_of};
-use cs_cert::Class;
 use cs_civil::MINUTES_OF_DAY;
+use cs_claims::Class;
 use cs_decl::Plan;
 use cs_wait::{Backlog, steps_within};
 use std::alloc::{AllocError, Global};

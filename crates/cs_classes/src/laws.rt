@@ -1,6 +1,6 @@
 ghost use Rattle.std.specs.Prelude.{◌≡◌, None};
 ghost use Rattle.cs_theorem.specs.Faults.{leaf_fault, stretch_fault, used_stretches};
-ghost use Rattle.cs_cert.specs.Content.{Content};
+ghost use Rattle.cs_claims.specs.Content.{Content};
 ghost use Rattle.cs_classes.specs.Claim.{as_certificate};
 ghost use Rattle.cs_classes.specs.StandsFor.{claimed, days_for};
 ghost use Rattle.cs_decl.specs.Plan.{Declared, as_plan};

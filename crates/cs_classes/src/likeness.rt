@@ -5,8 +5,8 @@ ghost use Rattle.cs_decl.specs.Plan.{Declared};
 ghost use Rattle.cs_schedule.specs.Numbers.{has};
 
 use crate::due::due_sets;
-use cs_cert::Class;
 use cs_civil::{DayKind, Sequence};
+use cs_claims::Class;
 use cs_crontab::{Line, When};
 use cs_decl::Plan;
 use cs_schedule::MinuteSet;

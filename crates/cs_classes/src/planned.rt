@@ -4,7 +4,7 @@ ghost use Rattle.cs_history.specs.Calm.{reach};
 ghost use Rattle.cs_windows.specs.Occupied.{job_of};
 ghost use Rattle.cs_classes.specs.Planned.{IsSchedule, cron_reach, planned, planned_job};
 
-use cs_cert::{JobReach, reach_of};
+use cs_claims::{JobReach, reach_of};
 use cs_crontab::When;
 use cs_decl::{Job, Plan};
 use cs_schedule::Schedule;

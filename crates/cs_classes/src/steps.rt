@@ -1,8 +1,8 @@
 //! Arrivals for the locks of the groups, and the first step from one day to the next at which a
 //! bound doesn't follow them.
 ghost use Rattle.std.specs.Prelude.{◌≡◌, ◌≤◌, ◌<◌, ◌+◌, ◌*◌, ◌^◌, ℕ, [], IfOk, if◌then◌else◌, length, slice_index};
-ghost use Rattle.cs_cert.specs.Certificate.{pieces_of};
-ghost use Rattle.cs_cert.specs.declared.class.Class.{Class};
+ghost use Rattle.cs_claims.specs.Certificate.{pieces_of};
+ghost use Rattle.cs_claims.specs.declared.class.Class.{Class};
 ghost use Rattle.cs_history.specs.Plan.{Plan as TheoryPlan};
 ghost use Rattle.cs_classes.specs.DayMinutes.{AreRising};
 ghost use Rattle.cs_classes.specs.Work.{AreWorks, IsWork, arrivals_in, brought, rise_at, rise_between, rise_of};
@@ -11,8 +11,8 @@ ghost use Rattle.cs_schedule.specs.Numbers.{has};
 
 use crate::due::due_in_order;
 use crate::locks::{cron_job, has_waiter, locks};
-use cs_cert::{Class, GroupBacklog};
 use cs_civil::MINUTES_OF_DAY;
+use cs_claims::{Class, GroupBacklog};
 use cs_decl::Plan;
 use cs_schedule::MinuteSet;
 use cs_wait::{Arrivals, Backlog, step_ok};

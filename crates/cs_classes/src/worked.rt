@@ -1,6 +1,6 @@
 //! What a class of version 3 stands for on days of a kind.
 ghost use Rattle.std.specs.Prelude.{◌≡◌, ◌≤◌, ◌<◌, ◌++◌, [], Some, IfOk, OnOk, filter, map};
-ghost use Rattle.cs_cert.specs.Certificate.{bound_in};
+ghost use Rattle.cs_claims.specs.Certificate.{bound_in};
 ghost use Rattle.cs_classes.specs.Planned.{is_due_on};
 ghost use Rattle.cs_classes.specs.StandsFor.{bound_of, due_list, due_of, unbounded, waited_groups, worked_class};
 ghost use Rattle.cs_decl.specs.Plan.{as_plan};
@@ -8,8 +8,8 @@ ghost use Rattle.cs_windows.specs.Windows.{day_minutes};
 
 use crate::locks::has_waiter;
 use crate::steps::{arrivals_in, backlog_of};
-use cs_cert::{Class, DueList, GroupBacklog};
 use cs_civil::{DayKind, Sequence};
+use cs_claims::{Class, DueList, GroupBacklog};
 use cs_crontab::{Line, When};
 use cs_decl::Plan;
 use cs_schedule::MinuteSet;

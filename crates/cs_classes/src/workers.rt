@@ -1,7 +1,7 @@
 //! Who goes through the classes of a certificate: one thread, or several.
 ghost use denote.Param.Send.{IsSync};
 ghost use Rattle.std.specs.Prelude.{◌≡◌, ◌<◌, IfOk, length, map, ⊤};
-ghost use Rattle.cs_cert.specs.Certificate.{content};
+ghost use Rattle.cs_claims.specs.Certificate.{content};
 ghost use Rattle.cs_classes.specs.Likeness.{AreLikenesses, AreTimes, IsRow};
 ghost use Rattle.cs_classes.specs.WorkedOut.{classed_kind};
 ghost use Rattle.cs_civil.specs.Order.{all_kinds};
@@ -12,8 +12,8 @@ ghost use Rattle.cs_decl.specs.Plan.{Declared};
 use crate::claim::Claim;
 use crate::likeness::{Likeness, row_of, times_of_jobs};
 use crate::working_out::{class_of_number, classed_kinds};
-use cs_cert::{Certificate, Class};
 use cs_civil::Sequence;
+use cs_claims::{Certificate, Class};
 use cs_decl::Plan;
 use rayon::prelude::*;
 use std::alloc::{AllocError, Global};

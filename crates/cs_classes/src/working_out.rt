@@ -1,6 +1,6 @@
 //! What a certificate of version 3 stands for, worked out from the plan.
 ghost use Rattle.std.specs.Prelude.{◌≡◌, ◌<◌, IfOk, length, map};
-ghost use Rattle.cs_cert.specs.Certificate.{content};
+ghost use Rattle.cs_claims.specs.Certificate.{content};
 ghost use Rattle.cs_classes.specs.Used.{classes_in};
 ghost use Rattle.cs_classes.specs.WorkedOut.{IsWorkedOut, IsWorkedOutOf, classed_kind, first_classed};
 ghost use Rattle.cs_civil.specs.Order.{all_kinds};
@@ -11,8 +11,8 @@ use crate::fitting::stretch_length;
 use crate::planned::occupied;
 use crate::worked::worked_class;
 use crate::workers::Workers;
-use cs_cert::{Certificate, Class};
 use cs_civil::{DayKind, Sequence, all_kinds};
+use cs_claims::{Certificate, Class};
 use cs_decl::Plan;
 use indexmap::IndexSet;
 use std::alloc::{AllocError, Global};

@@ -4,12 +4,12 @@ use Rattle.std.proofs.lemmas.Bool.{lt-ltb}
 use Rattle.cs_crontab.specs.Crontab.{Table}
 use Rattle.cs_anacrontab.specs.Anacrontab.{Table as JobTable}
 use Rattle.cs_decl.specs.Plan.{Declared}
-use Rattle.cs_cert.specs.Certificate.{content}
-use Rattle.cs_cert.specs.Content.{Content}
+use Rattle.cs_claims.specs.Certificate.{content}
+use Rattle.cs_claims.specs.Content.{Content}
 use Rattle.cs_cert.specs.Denoted.{certificate_by}
-use Rattle.cs_cert.specs.declared.certificate.Certificate.{Certificate}
-use Rattle.cs_cert.specs.declared.fault.CertFault.TheVariants.{TooLong}
-use Rattle.cs_cert.specs.declared.limits.TheConstants.{MAX_CERTIFICATE}
+use Rattle.cs_claims.specs.declared.certificate.Certificate.{Certificate}
+use Rattle.cs_claims.specs.declared.fault.CertFault.TheVariants.{TooLong}
+use Rattle.cs_claims.specs.declared.limits.TheConstants.{MAX_CERTIFICATE}
 use Rattle.cs_check.specs.Checked.{certificate_in, plan_in}
 use Rattle.cs_check.specs.declared.checked.Checked.{Checked}
 use Rattle.cs_args.specs.CommandLine.{AskedCheck}

@@ -9,7 +9,7 @@ use Rattle.cs_history.specs.Calm.{load}
 use Rattle.cs_decl.specs.Plan.{Declared, as_plan}
 use Rattle.cs_windows.specs.Windows.{windows_on}
 use Rattle.cs_windows.specs.declared.window.Window.{Window}
-use Rattle.cs_cert.specs.Content.{Content}
+use Rattle.cs_claims.specs.Content.{Content}
 use Rattle.cs_theorem.specs.Accepted.{IsChain, IsFollowed, run_in, windows_of}
 use Rattle.cs_theorem.specs.Certificate.{Stretch}
 use Rattle.cs_theorem.specs.Faults.{OverCapacity, last_of}

@@ -13,12 +13,12 @@ use Rattle.cs_decl.specs.Plan.{Declared, IsWhole, as_plan, no_job}
 use Rattle.cs_decl.proofs.Plans.{resolved}
 use Rattle.cs_windows.specs.Reach.{reach_of}
 use Rattle.cs_windows.specs.declared.reach.JobReach.{JobReach}
-use Rattle.cs_cert.specs.Content.{Content}
+use Rattle.cs_claims.specs.Content.{Content}
 use Rattle.cs_cert.specs.Denoted.{certificate_by, content_in, json_in, ◌then◌}
-use Rattle.cs_cert.specs.Rules.{judged, or_fault, most_reach, fault_of as certificate_fault, reach_fits}
-use Rattle.cs_cert.specs.declared.fault.CertFault.{CertFault}
-use Rattle.cs_cert.specs.declared.fault.CertFault.TheVariants.{TooLong}
-use Rattle.cs_cert.proofs.Keeping.{keeps}
+use Rattle.cs_claims.specs.Rules.{judged, or_fault, most_reach, fault_of as certificate_fault, reach_fits}
+use Rattle.cs_claims.specs.declared.fault.CertFault.{CertFault}
+use Rattle.cs_claims.specs.declared.fault.CertFault.TheVariants.{TooLong}
+use Rattle.cs_claims.proofs.Keeping.{keeps}
 use Rattle.cs_theorem.specs.Accepted.{EndWithin, IsAccepted, IsLength, IsModest}
 use Rattle.cs_theorem.specs.Faults.{first_fault, stretch_length}
 use Rattle.cs_theorem.proofs.Lengths.{length_is}

@@ -11,10 +11,10 @@ use Rattle.cs_decl.specs.Plan.{Declared}
 use Rattle.cs_gather.specs.Places.{places_told}
 use Rattle.cs_gather.specs.declared.places.Place.{Place}
 use Rattle.cs_theorem.specs.Faults.{Fault, ClassNotDue, Missing, BacklogRises, ReachTooShort, WindowMissing, Collision, OverCapacity, SkipBlocked}
-use Rattle.cs_cert.specs.Certificate.{content}
-use Rattle.cs_cert.specs.Content.{Content}
+use Rattle.cs_claims.specs.Certificate.{content}
+use Rattle.cs_claims.specs.Content.{Content}
 use Rattle.cs_cert.specs.Denoted.{certificate_by}
-use Rattle.cs_cert.specs.declared.certificate.Certificate.{Certificate}
+use Rattle.cs_claims.specs.declared.certificate.Certificate.{Certificate}
 use Rattle.cs_check.specs.Case.{fault_of}
 use Rattle.cs_check.specs.Checked.{certificate_in, plan_in}
 use Rattle.cs_check.specs.declared.checked.Checked.{Checked}

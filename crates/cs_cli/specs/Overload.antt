@@ -9,7 +9,7 @@ use Rattle.cs_decl.specs.Plan.{Declared, as_plan}
 use Rattle.cs_windows.specs.Windows.{windows_on}
 use Rattle.cs_windows.specs.declared.reach.JobReach.{JobReach}
 use Rattle.cs_windows.specs.declared.window.Window.{Window}
-use Rattle.cs_cert.specs.Content.{Content}
+use Rattle.cs_claims.specs.Content.{Content}
 use Rattle.cs_theorem.specs.Accepted.{run_in}
 use Rattle.cs_theorem.specs.Faults.{Fault, ClassNotDue, Missing, BacklogRises, ReachTooShort, WindowMissing, Collision, OverCapacity, SkipBlocked}
 use Rattle.cs_theorem.specs.Windows.{holders}

@@ -16,7 +16,7 @@ use Rattle.cs_decl.specs.Join.{joined}
 use Rattle.cs_decl.specs.Meaning.{declared_by}
 use Rattle.cs_decl.specs.Plan.{Declared, as_plan}
 use Rattle.cs_decl.specs.declared.entries.Entries.{Entries}
-use Rattle.cs_cert.specs.Content.{Content}
+use Rattle.cs_claims.specs.Content.{Content}
 use Rattle.cs_cert.specs.Denoted.{certificate_by}
 use Rattle.cs_theorem.specs.Faults.{Fault}
 use Rattle.cs_check.specs.Case.{fault_of, reach_for}

@@ -2,7 +2,7 @@
 ghost use Rattle.std.specs.Prelude.{◌≡◌, ◌≢◌, ◌∷◌, ◌++◌, [], IfErr, IfOk, None, OnOk, Some};
 ghost use Rattle.std.specs.Result.{result_map_both};
 ghost use Rattle.cs_check.specs.Checked.{certificate_in, plan_in};
-ghost use Rattle.cs_cert.specs.Certificate.{content};
+ghost use Rattle.cs_claims.specs.Certificate.{content};
 ghost use Rattle.cs_check.specs.Case.{fault_of};
 ghost use Rattle.cs_report.specs.Told.{told};
 ghost use Rattle.cs_report.specs.Warning.{plan_notes};
@@ -25,9 +25,10 @@ use crate::overload::push_overload_notes;
 use crate::places::{push_fault_places, push_stale_note};
 use cs_anacrontab::Anacrontab;
 use cs_args::CheckWords;
-use cs_cert::{Certificate, JobReach, MAX_CERTIFICATE, read_certificate};
+use cs_cert::read_certificate;
 use cs_check::{CheckError, CheckFault, Checked, check_parallel};
 use cs_civil::Bytes;
+use cs_claims::{Certificate, JobReach, MAX_CERTIFICATE};
 use cs_crontab::Crontab;
 use cs_decl::Plan;
 use cs_files::{

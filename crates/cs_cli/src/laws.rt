@@ -2,7 +2,7 @@
 //! is judged of a certificate of version 1.
 ghost use Rattle.std.specs.Prelude.{◌≡◌, ◌≢◌, ◌≤◌, ◌↔◌, ℕ, All, List, None, Ok, Option, Some};
 ghost use Rattle.cs_args.specs.CommandLine.{AskedCheck, AskedJudge, AskedMake, AskedRun};
-ghost use Rattle.cs_cert.specs.Content.{Content};
+ghost use Rattle.cs_claims.specs.Content.{Content};
 ghost use Rattle.cs_cert.specs.Denoted.{certificate_by};
 ghost use Rattle.cs_check.specs.Case.{fault_of};
 ghost use Rattle.cs_check.specs.Checked.{IsLengthFor};

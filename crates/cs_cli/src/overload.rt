@@ -1,7 +1,7 @@
 //! What may run at a minute at which the windows of a plan weigh too much.
 ghost use Rattle.std.specs.Prelude.{◌≡◌, ◌≤◌, ◌<◌, ◌++◌, ◌+◌, ℕ, IfOk, OnOk};
 ghost use Rattle.cs_civil.specs.Calendar.{kind, last_day};
-ghost use Rattle.cs_cert.specs.Content.{Content};
+ghost use Rattle.cs_claims.specs.Content.{Content};
 ghost use Rattle.cs_decl.specs.Plan.{Declared};
 ghost use Rattle.cs_report.specs.Refused.{catch_up_name, from_name, start_of, window_name};
 ghost use Rattle.cs_report.specs.Refused.{window_text};
@@ -11,11 +11,11 @@ ghost use Rattle.cs_cli.specs.Overload.{TellsTheLoad, kinds_to, of_job, others_t
 ghost use Rattle.cs_cli.specs.Overload.{overload_notes, run_end, run_line, run_note, run_notes};
 ghost use Rattle.cs_cli.specs.Overload.{weight_line, windows_at};
 
-use cs_cert::JobReach;
 use cs_civil::{
     Day, DayKind, FIRST_MINUTE, LAST_MINUTE, MINUTES_OF_DAY, Minute, date_text, kind_of,
     push_number,
 };
+use cs_claims::JobReach;
 use cs_classes::{occupied, stretch_length};
 use cs_decl::{Job, Plan, identifier_of, push_due_name};
 use cs_report::CheckFault;

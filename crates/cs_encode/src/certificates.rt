@@ -1,8 +1,8 @@
 use crate::class::classes_of;
 use crate::day_trees::day_tree;
 use crate::minute_trees::minute_tree;
-use cs_cert::{CertError, CertFault, Certificate, Stretch};
 use cs_civil::{MINUTES_OF_DAY, Sequence};
+use cs_claims::{CertError, CertFault, Certificate, Stretch};
 use cs_profile::{Classing, Facts};
 use cs_windows::{JobReach, Window};
 use std::alloc::{AllocError, Global};

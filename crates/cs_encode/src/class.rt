@@ -1,6 +1,6 @@
 //! What a certificate says of the days of one class.
-use cs_cert::{CertError, CertFault, Class, DueList, GroupBacklog};
 use cs_civil::Sequence;
+use cs_claims::{CertError, CertFault, Class, DueList, GroupBacklog};
 use cs_profile::{DayClass, Facts, GroupBound, Task};
 use cs_wait::{Backlog, BadPiece, Piece};
 use std::alloc::{AllocError, Global};

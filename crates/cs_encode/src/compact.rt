@@ -1,11 +1,11 @@
 //! Certificates that say only what a plan doesn't.
 ghost use Rattle.std.specs.Prelude.{◌≡◌, IfOk};
-ghost use Rattle.cs_cert.specs.Certificate.{content};
+ghost use Rattle.cs_claims.specs.Certificate.{content};
 
 use crate::class::group_backlog;
 use crate::day_trees::day_tree;
-use cs_cert::{CertError, CertFault, Certificate, Class, GroupBacklog};
 use cs_civil::Sequence;
+use cs_claims::{CertError, CertFault, Certificate, Class, GroupBacklog};
 use cs_profile::{Classing, DayClass, GroupBound};
 use cs_wait::Piece;
 use cs_windows::JobReach;

@@ -1,6 +1,6 @@
 use crate::choice::{Choice, Tally, best_choice};
 use crate::kinds::{Classed, Possible, all_classed, number_in};
-use cs_cert::MAX_DEPTH;
+use cs_claims::MAX_DEPTH;
 use cs_daytree::DayTree;
 use std::alloc::{AllocError, Global};
 

@@ -1,6 +1,6 @@
 use crate::cut::{best_cut, most_at_once, turns};
-use cs_cert::MAX_ENTRIES;
 use cs_civil::{MINUTES_OF_DAY, Sequence};
+use cs_claims::MAX_ENTRIES;
 use cs_windows::{Entry, MinuteTree, Window, touches};
 use std::alloc::{AllocError, Global};
 

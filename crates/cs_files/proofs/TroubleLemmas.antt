@@ -18,10 +18,10 @@ use Rattle.cs_report.specs.Faults.{Means as MeansScript}
 use Rattle.cs_report.specs.Grammar.{Numbered}
 use Rattle.cs_report.specs.Script.{Fault as ScriptFault}
 use Rattle.cs_report.specs.declared.script.TheConstants.{MAX_SCRIPT}
-use Rattle.cs_cert.specs.Content.{Content}
+use Rattle.cs_claims.specs.Content.{Content}
 use Rattle.cs_cert.specs.Denoted.{certificate_by}
-use Rattle.cs_cert.specs.declared.fault.CertFault.{CertFault}
-use Rattle.cs_cert.specs.declared.limits.TheConstants.{MAX_CERTIFICATE}
+use Rattle.cs_claims.specs.declared.fault.CertFault.{CertFault}
+use Rattle.cs_claims.specs.declared.limits.TheConstants.{MAX_CERTIFICATE}
 use Rattle.cs_report.specs.Warning.{warnings as warnings_text}
 use Rattle.cs_io.specs.Files.{Failed, IsFresh, IsReadOut, IsTooLong, IsUpTo, Reads}
 use Rattle.cs_io.specs.declared.inputs.TheConstants.{MOST_READS}

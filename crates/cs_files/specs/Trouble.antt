@@ -21,10 +21,10 @@ use Rattle.cs_report.specs.Printed.{fault_text as script_fault_text}
 use Rattle.cs_report.specs.Script.{Fault as ScriptFault}
 use Rattle.cs_report.specs.declared.script_fault.ScriptError.{ScriptError}
 use Rattle.cs_report.specs.declared.script_fault.ScriptError.TheVariants as script_error
-use Rattle.cs_cert.specs.Printed.{fault_text as certificate_fault_text}
-use Rattle.cs_cert.specs.declared.fault.CertFault.{CertFault}
-use Rattle.cs_cert.specs.declared.fault.CertError.{CertError}
-use Rattle.cs_cert.specs.declared.fault.CertError.TheVariants as cert_error
+use Rattle.cs_claims.specs.Printed.{fault_text as certificate_fault_text}
+use Rattle.cs_claims.specs.declared.fault.CertFault.{CertFault}
+use Rattle.cs_claims.specs.declared.fault.CertError.{CertError}
+use Rattle.cs_claims.specs.declared.fault.CertError.TheVariants as cert_error
 use Rattle.cs_args.specs.Words.{word_fault}
 use Rattle.cs_args.specs.declared.question.WordFault.{WordFault}
 use Rattle.cs_args.specs.declared.question.WordFault.TheVariants.{BadHours, BadMax, Date}

@@ -1,6 +1,6 @@
 -- What an answer stands for.
 use Rattle.std.proofs.Common.{◌≡◌, inl, inr, ℕ, List}
-use Rattle.cs_cert.specs.Content.{Content}
+use Rattle.cs_claims.specs.Content.{Content}
 use Rattle.cs_check.specs.Checked.{IsHeadline, certificate_in}
 use Rattle.cs_decl.specs.Plan.{Declared, as_plan}
 use Rattle.cs_gather.specs.declared.places.Place.{Place}

@@ -9,10 +9,10 @@ use Rattle.cs_history.specs.declared.event.Event.TheVariants.{Minute, Begin, Got
 use Rattle.cs_history.specs.declared.script.Script.{Script}
 use Rattle.cs_decl.specs.Plan.{Declared}
 use Rattle.cs_theorem.specs.Faults.{Fault}
-use Rattle.cs_cert.specs.Content.{Content}
+use Rattle.cs_claims.specs.Content.{Content}
 use Rattle.cs_cert.specs.Denoted.{certificate_by}
 use Rattle.cs_cert.specs.Written.{certificate_data}
-use Rattle.cs_cert.specs.declared.limits.TheConstants.{MAX_CERTIFICATE}
+use Rattle.cs_claims.specs.declared.limits.TheConstants.{MAX_CERTIFICATE}
 use Rattle.cs_check.specs.Checked.{certificate_in}
 use Rattle.cs_report.specs.Refused.{fault_text}
 use Rattle.cs_report.specs.Told.{told}

@@ -2,7 +2,7 @@
 use Rattle.std.specs.Prelude.{◌≡◌, true, Some, None, ⊤}
 use Rattle.cs_history.specs.declared.script.Script.{Script}
 use Rattle.cs_decl.specs.Plan.{Declared, as_plan}
-use Rattle.cs_cert.specs.Content.{Content}
+use Rattle.cs_claims.specs.Content.{Content}
 use Rattle.cs_check.specs.Case.{fault_of, reach_for}
 use Rattle.cs_check.specs.Checked.{IsCalmThroughout, IsHeadline, certificate_in, plan_in}
 use Rattle.cs_check.specs.declared.checked.Checked.{Checked}

@@ -1,7 +1,7 @@
 //! The texts printed for a judged plan.
 ghost use Rattle.std.specs.Prelude.{◌≡◌, ◌++◌, IfOk, IfSome, OnOk};
 ghost use Rattle.std.specs.List.{filter_map};
-ghost use Rattle.cs_cert.specs.Certificate.{content};
+ghost use Rattle.cs_claims.specs.Certificate.{content};
 ghost use Rattle.cs_check.specs.Checked.{certificate_in};
 ghost use Rattle.cs_judge.specs.Answer.{IsAnswer, IsCertificate, IsMade, IsSafeMade};
 ghost use Rattle.cs_judge.specs.Answer.{job_of, outcome_of, refusal_text, story_places, unknown_outcome};
@@ -14,8 +14,9 @@ use crate::breach::Breach;
 use crate::judged::Judged;
 use crate::story::push_story;
 use crate::waiters::push_reason_lines;
-use cs_cert::{Certificate, MAX_CERTIFICATE, least_text, write_certificate};
+use cs_cert::write_certificate;
 use cs_check::Checked;
+use cs_claims::{Certificate, MAX_CERTIFICATE, least_text};
 use cs_counterexample::{Shown, shown_text};
 use cs_decl::Plan;
 use cs_gather::{Place, push_places_told};

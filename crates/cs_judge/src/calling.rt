@@ -7,8 +7,8 @@ ghost use Rattle.cs_judge.specs.Judged.{IsJudgement};
 ghost use Rattle.cs_judge.specs.declared.judged.Judged.TheVariants.{Safe};
 
 use crate::judging::check;
-use cs_cert::reach_of;
 use cs_check::Checked;
+use cs_claims::reach_of;
 use cs_decl::Plan;
 use cs_maker::Maker;
 use std::alloc::{AllocError, Global};

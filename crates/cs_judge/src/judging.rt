@@ -1,5 +1,5 @@
 ghost use Rattle.std.specs.Prelude.{◌≡◌, IfErr, IfOk, IfSome, true};
-ghost use Rattle.cs_cert.specs.Certificate.{content};
+ghost use Rattle.cs_claims.specs.Certificate.{content};
 ghost use Rattle.cs_check.specs.Checked.{certificate_in};
 ghost use Rattle.cs_report.specs.ScriptText.{is_nameable};
 ghost use Rattle.cs_judge.specs.Form.{IsJudgedBy};
@@ -9,8 +9,8 @@ ghost use Rattle.cs_judge.specs.declared.judged.Judged.TheVariants.{Safe};
 use crate::answers::Wanted;
 use crate::breach::{Breach, first_breach};
 use crate::judged::Judged;
-use cs_cert::Certificate;
 use cs_check::{CheckError, Checked, check_parallel};
+use cs_claims::Certificate;
 use cs_counterexample::{NotShown, Shown, prove_unsafe};
 use cs_decl::Plan;
 use cs_history::Script;

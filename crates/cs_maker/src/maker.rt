@@ -1,9 +1,9 @@
 //! The maker of one plan, and its compact certificate.
 ghost use Rattle.std.specs.Prelude.{◌≡◌, IfOk, IfSome};
-ghost use Rattle.cs_cert.specs.Certificate.{content};
+ghost use Rattle.cs_claims.specs.Certificate.{content};
 
 use cs_bound::{Bounds, least_bounds};
-use cs_cert::Certificate;
+use cs_claims::Certificate;
 use cs_decl::Plan;
 use cs_encode::compact_certificate;
 use cs_profile::Facts;

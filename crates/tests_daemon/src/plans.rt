@@ -4,9 +4,10 @@ ghost use Rattle.cs_history.specs.Plan.{first_start};
 
 use arrayvec::ArrayVec;
 use cs_anacrontab::{Anacrontab, read_anacrontab};
-use cs_cert::{Certificate, read_certificate};
+use cs_cert::read_certificate;
 use cs_check::{CheckError, Checked, check};
 use cs_civil::Minute;
+use cs_claims::Certificate;
 use cs_crontab::{Crontab, read_crontab};
 use cs_decl::{Declarations, Plan, join, read_declarations};
 use cs_history::Start;

@@ -1,5 +1,5 @@
 use Rattle.std.proofs.lemmas.Result.{IfOk-weaker}
-use Rattle.cs_cert.specs.Certificate.{content}
+use Rattle.cs_claims.specs.Certificate.{content}
 use Rattle.cs_cert.proofs.Depths.{certificate_no_float}
 use Rattle.cs_cert.proofs.RoundTrip.{written_back}
 use Rattle.cs_cert.proofs.file.write_certificate.Goals as goal

@@ -1,5 +1,5 @@
 use Rattle.std.proofs.Common.{refl, sym, ◌∙◌}
-use Rattle.cs_cert.proofs.Backlogs.{backlog_so, no_backlog}
+use Rattle.cs_claims.proofs.Backlogs.{backlog_so, no_backlog}
 use Rattle.cs_cert.proofs.list_form.held_backlog.Goals as goal
 
 pub returns-in-Ok : goal.returns-in-Ok

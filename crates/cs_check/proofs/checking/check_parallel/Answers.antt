@@ -1,4 +1,4 @@
-use Rattle.cs_cert.specs.Certificate.{content}
+use Rattle.cs_claims.specs.Certificate.{content}
 use Rattle.cs_check.proofs.Headline.{accepted, calm_throughout, headline, length_of, stays}
 use Rattle.cs_check.proofs.checking.check_parallel.Goals as goal
 

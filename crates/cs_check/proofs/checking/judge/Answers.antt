@@ -1,7 +1,7 @@
 use Rattle.std.proofs.Common.{◌≡◌, Option, None, subst, sym}
 use Rattle.std.specs.Prelude.{IfErr, OnOk}
 use Rattle.cs_theorem.specs.Faults.{Fault}
-use Rattle.cs_cert.specs.Certificate.{content}
+use Rattle.cs_claims.specs.Certificate.{content}
 use Rattle.cs_classes.specs.Said.{said}
 use Rattle.cs_classes.specs.Claim.{Claimed}
 use Rattle.cs_check.specs.Case.{IsFit}

@@ -1,4 +1,4 @@
-use Rattle.cs_cert.specs.Certificate.{content}
+use Rattle.cs_claims.specs.Certificate.{content}
 use Rattle.cs_check.proofs.Fitting.{fits}
 use Rattle.cs_check.proofs.checking.look_at.Goals as goal
 

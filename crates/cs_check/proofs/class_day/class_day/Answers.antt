@@ -1,6 +1,6 @@
 use Rattle.std.proofs.Common.{subst}
 use Rattle.cs_classes.specs.Said.{said}
-use Rattle.cs_cert.specs.declared.class.Class.{Class}
+use Rattle.cs_claims.specs.declared.class.Class.{Class}
 use Rattle.cs_classes.specs.GroupDays.{AreGroupDays}
 use Rattle.cs_decl.specs.Plan.{as_plan}
 use Rattle.cs_check.specs.ClassDays.{Settle}

@@ -2,7 +2,7 @@ use Rattle.std.proofs.Common.{ℕ, ◌-◌, Some, option_map, sym, ap, ◌∙◌
 use Rattle.cs_theorem.specs.Accepted.{nth}
 use Rattle.cs_theorem.specs.Faults.{Fault, BacklogRises, minute_of}
 use Rattle.cs_classes.specs.Said.{said}
-use Rattle.cs_cert.specs.declared.class.Class.{Class}
+use Rattle.cs_claims.specs.declared.class.Class.{Class}
 use Rattle.cs_classes.specs.Used.{seen}
 use Rattle.cs_classes.specs.Claim.{as_certificate, class_at}
 use Rattle.cs_classes.specs.Work.{rise_between}

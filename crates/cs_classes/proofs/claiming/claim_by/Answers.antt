@@ -1,4 +1,4 @@
-use Rattle.cs_cert.specs.Certificate.{content}
+use Rattle.cs_claims.specs.Certificate.{content}
 use Rattle.cs_classes.proofs.WorkedClasses.{as_many, judged_is}
 use Rattle.cs_classes.proofs.claiming.claim_by.Goals as goal
 

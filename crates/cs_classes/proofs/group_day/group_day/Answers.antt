@@ -1,6 +1,6 @@
 use Rattle.std.proofs.Common.{◌≡◌, ℕ, sym, ap, ◌∙◌, refl, arith, slice_index, List}
 use Rattle.std.proofs.lemmas.Bool.{both_ways}
-use Rattle.cs_cert.specs.Certificate.{bound_in}
+use Rattle.cs_claims.specs.Certificate.{bound_in}
 use Rattle.cs_classes.specs.Work.{arrivals_in}
 use Rattle.cs_decl.specs.Plan.{as_plan}
 use Rattle.cs_wait.specs.Bounds.{at}

@@ -1,5 +1,5 @@
 use Rattle.std.proofs.Common.{◌≡◌, ◌++◌, drop, length, map, take}
-use Rattle.cs_cert.specs.Certificate.{bound_in}
+use Rattle.cs_claims.specs.Certificate.{bound_in}
 use Rattle.cs_wait.specs.Bounds.{at}
 use Rattle.cs_classes.proofs.reach.bounds_of.Given as goal
 

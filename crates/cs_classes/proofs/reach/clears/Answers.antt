@@ -1,6 +1,6 @@
 use Rattle.std.proofs.Common.{◌≡◌, ℕ, List, length, map, take, subst, sym, ap, ◌∙◌, arith, Bor, unwrap_or}
-use Rattle.cs_cert.specs.declared.class.Class.{Class}
-use Rattle.cs_cert.specs.Certificate.{bound_in, is_due_in}
+use Rattle.cs_claims.specs.declared.class.Class.{Class}
+use Rattle.cs_claims.specs.Certificate.{bound_in, is_due_in}
 use Rattle.cs_decl.specs.Plan.{as_plan}
 use Rattle.cs_wait.specs.Bounds.{ClearsBy, at}
 use Rattle.cs_wait.specs.declared.backlog.Backlog.{Backlog}

@@ -1,5 +1,5 @@
 use Rattle.std.proofs.Common.{◌≡◌, ◌≤◌, ◌<◌, ◌*◌, ℕ, if◌then◌else◌, filter, length, slice_index}
-use Rattle.cs_cert.specs.Certificate.{is_due_in}
+use Rattle.cs_claims.specs.Certificate.{is_due_in}
 use Rattle.cs_decl.specs.Plan.{as_plan}
 use Rattle.cs_history.specs.Lists.{total, below}
 use Rattle.cs_history.specs.Plan.{locks}

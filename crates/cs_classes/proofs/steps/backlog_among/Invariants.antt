@@ -1,5 +1,5 @@
 use Rattle.std.proofs.Common.{◌≡◌, drop}
-use Rattle.cs_cert.specs.Certificate.{pieces_of}
+use Rattle.cs_claims.specs.Certificate.{pieces_of}
 use Rattle.cs_classes.proofs.steps.backlog_among.Given as goal
 
 abbrev pub invariant-loop-of_group : goal.invariant-loop-of_group

@@ -1,6 +1,6 @@
 use Rattle.std.proofs.Common.{◌≡◌, None}
 use Rattle.std.specs.List.{range_with_len}
-use Rattle.cs_cert.specs.declared.class.Class.{Class}
+use Rattle.cs_claims.specs.declared.class.Class.{Class}
 use Rattle.cs_history.specs.Plan.{Plan}
 use Rattle.cs_theorem.specs.Faults.{first_of}
 use Rattle.cs_classes.specs.Work.{AreWorks, rise_of}

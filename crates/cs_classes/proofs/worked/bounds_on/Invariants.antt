@@ -1,6 +1,6 @@
 use Rattle.std.proofs.Common.{◌≡◌, filter, map}
 use Rattle.cs_theorem.specs.Faults.{has_waiter}
-use Rattle.cs_cert.specs.Certificate.{bound_in}
+use Rattle.cs_claims.specs.Certificate.{bound_in}
 use Rattle.cs_classes.specs.StandsFor.{bound_of}
 use Rattle.cs_decl.specs.Plan.{as_plan}
 use Rattle.cs_history.specs.Lists.{below}

@@ -1,7 +1,7 @@
 use Rattle.std.proofs.Common.{◌≡◌, ℕ, suc, ◌+◌, ◌<◌, ◌++◌, length, List, [], ◌∷◌, filter, refl, sym, ap, ◌∙◌, arith}
 use Rattle.std.specs.Prelude.{flat_map, slice_index_or}
 use Rattle.std.proofs.lemmas.List.Concat.{flat_map-append}
-use Rattle.cs_cert.specs.declared.class.DueList.{DueList}
+use Rattle.cs_claims.specs.declared.class.DueList.{DueList}
 use Rattle.cs_crontab.specs.Crontab.{CommandLine, Table}
 use Rattle.cs_decl.specs.Plan.{Declared, command_of, no_command}
 use Rattle.cs_civil.specs.Calendar.{Kind}

@@ -1,8 +1,8 @@
 use Rattle.std.proofs.Common.{◌≡◌, ◌<◌, List, Option, length, ap, ◌∙◌, arith}
 use Rattle.std.proofs.lemmas.Result.{IfOk-weaker}
-use Rattle.cs_cert.specs.Certificate.{content}
-use Rattle.cs_cert.specs.declared.class.Class.{Class}
-use Rattle.cs_cert.proofs.Keeping.{few_classes}
+use Rattle.cs_claims.specs.Certificate.{content}
+use Rattle.cs_claims.specs.declared.class.Class.{Class}
+use Rattle.cs_claims.proofs.Keeping.{few_classes}
 use Rattle.cs_classes.specs.WorkedOut.{first_classed}
 use Rattle.cs_classes.specs.declared.working_out.ClassedKind.{ClassedKind}
 use Rattle.cs_civil.specs.Calendar.{Kind}

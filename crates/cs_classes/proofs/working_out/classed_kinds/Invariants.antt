@@ -1,5 +1,5 @@
 use Rattle.std.proofs.Common.{◌≡◌, ◌++◌, map}
-use Rattle.cs_cert.specs.Certificate.{content}
+use Rattle.cs_claims.specs.Certificate.{content}
 use Rattle.cs_civil.specs.Order.{all_kinds}
 use Rattle.cs_classes.specs.WorkedOut.{classed_kind}
 use Rattle.cs_classes.proofs.working_out.classed_kinds.Given as goal

@@ -2,8 +2,8 @@ use Rattle.std.proofs.Common.{◌≡◌, ℕ, List, [], ◌∷◌, map, refl, ap
 use Rattle.std.specs.Prelude.{IfOk, All}
 use Rattle.std.proofs.lemmas.List.Elements.{All-head, All-tail}
 use Rattle.cs_theorem.specs.Faults.{chains}
-use Rattle.cs_cert.specs.Certificate.{class_of, content}
-use Rattle.cs_cert.specs.Content.{Content}
+use Rattle.cs_claims.specs.Certificate.{class_of, content}
+use Rattle.cs_claims.specs.Content.{Content}
 use Rattle.cs_daytree.specs.Tree.{Tree}
 use Rattle.cs_classes.specs.Planned.{due_on, planned, reach_by}
 use Rattle.cs_classes.specs.StandsFor.{class_lists, days_for, distinct}

@@ -1,7 +1,7 @@
 use Rattle.std.proofs.Common.{◌≡◌, ℕ, List, IfOk, subst}
-use Rattle.cs_cert.specs.Content.{Content}
+use Rattle.cs_claims.specs.Content.{Content}
 use Rattle.cs_cert.specs.Denoted.{certificate_by}
-use Rattle.cs_cert.specs.declared.limits.TheConstants.{MAX_CERTIFICATE}
+use Rattle.cs_claims.specs.declared.limits.TheConstants.{MAX_CERTIFICATE}
 use Rattle.cs_cli.specs.Check.{said}
 use Rattle.cs_files.specs.Reads.{MeansIt, without_rest}
 use Rattle.cs_files.specs.Trouble.{InCertificate}

@@ -1,7 +1,7 @@
 use Rattle.std.proofs.Common.{◌≡◌, ◌∙◌, ℕ, List, Option, [], ◌∷◌, Ok, Err, inr, refl, subst}
 use Rattle.std.proofs.lemmas.Result.{err_from_is_err_and}
-use Rattle.cs_cert.specs.Certificate.{content}
-use Rattle.cs_cert.specs.Content.{Content}
+use Rattle.cs_claims.specs.Certificate.{content}
+use Rattle.cs_claims.specs.Content.{Content}
 use Rattle.cs_cli.specs.Check.{IsDigestOf, IsVerdict, ReadsCertificate}
 use Rattle.cs_files.specs.Reads.{ReadsDeclared}
 use Rattle.cs_args.specs.Asked.{asked_check}

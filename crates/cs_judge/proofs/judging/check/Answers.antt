@@ -1,5 +1,5 @@
 use Rattle.std.proofs.Common.{◌≡◌, None, subst, sym}
-use Rattle.cs_cert.specs.Content.{Content}
+use Rattle.cs_claims.specs.Content.{Content}
 use Rattle.cs_check.specs.Case.{fault_of, reach_for}
 use Rattle.cs_check.specs.Checked.{IsCalmThroughout}
 use Rattle.cs_decl.specs.Plan.{as_plan}

@@ -1,6 +1,6 @@
 use Rattle.std.proofs.Common.{◌<◌, List, length, slice_index_or, ap, ◌∙◌, arith}
 use Rattle.cs_classes.specs.Said.{said}
-use Rattle.cs_cert.specs.declared.class.Class.{Class}
+use Rattle.cs_claims.specs.declared.class.Class.{Class}
 use Rattle.cs_classes.specs.Claim.{class_at, no_class}
 use Rattle.cs_classes.proofs.Lists.{within}
 use Rattle.cs_check.proofs.Using.{number_there}

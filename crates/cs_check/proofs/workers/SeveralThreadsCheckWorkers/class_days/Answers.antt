@@ -7,7 +7,7 @@ use Rattle.rayon.specs.declared.range.Iter.{Iter}
 use Rattle.cs_check.specs.declared.due.Basis.{Basis}
 use Rattle.cs_check.specs.declared.class_day.ClassDay.{ClassDay}
 use Rattle.cs_classes.specs.Said.{said}
-use Rattle.cs_cert.specs.declared.class.Class.{Class}
+use Rattle.cs_claims.specs.declared.class.Class.{Class}
 use Rattle.cs_check.specs.ClassDays.{IsClassDay}
 use Rattle.rayon.specs.Numbers.{nat_range}
 use Rattle.rayon.proofs.ToStd.{nat_range-All}

@@ -1,10 +1,10 @@
 use Rattle.std.proofs.Common.{◌≡◌, ◌<◌, ℕ, List, Option, Some, length, map, slice_get, subst, sym, ap, ◌∙◌, arith}
 use Rattle.std.proofs.lemmas.List.{length-map}
 use Rattle.std.proofs.lemmas.Option.{get_or_from_slice_get, slice_get_within}
-use Rattle.cs_cert.specs.Certificate.{content}
-use Rattle.cs_cert.specs.Content.{StretchTree, stretch_of}
-use Rattle.cs_cert.specs.Kept.{IsSound}
-use Rattle.cs_cert.specs.declared.stretch.Stretch.{Stretch as ListedStretch}
+use Rattle.cs_claims.specs.Certificate.{content}
+use Rattle.cs_claims.specs.Content.{StretchTree, stretch_of}
+use Rattle.cs_claims.specs.Kept.{IsSound}
+use Rattle.cs_claims.specs.declared.stretch.Stretch.{Stretch as ListedStretch}
 use Rattle.cs_theorem.specs.Certificate.{Stretch}
 use Rattle.cs_theorem.proofs.Stretches.{map_twice}
 use Rattle.cs_windows.specs.Tree.{tree_of}

@@ -4,9 +4,9 @@ use Rattle.std.specs.Prelude.{IfOk}
 use Rattle.std.specs.declared.alloc.AllocError.{AllocError}
 use Rattle.rayon.specs.declared.iter.min_len.MinLen.{MinLen}
 use Rattle.rayon.specs.declared.range.Iter.{Iter}
-use Rattle.cs_cert.specs.Certificate.{content}
-use Rattle.cs_cert.specs.declared.certificate.Certificate.{Certificate}
-use Rattle.cs_cert.specs.declared.class.Class.{Class}
+use Rattle.cs_claims.specs.Certificate.{content}
+use Rattle.cs_claims.specs.declared.certificate.Certificate.{Certificate}
+use Rattle.cs_claims.specs.declared.class.Class.{Class}
 use Rattle.cs_decl.specs.declared.plan.Plan.{Plan}
 use Rattle.cs_civil.specs.Order.{all_kinds}
 use Rattle.cs_classes.specs.StandsFor.{worked_of}

@@ -1,6 +1,0 @@
-use Rattle.std.proofs.Common.{◌≡◌, drop}
-use Rattle.cs_cert.specs.Certificate.{pieces_of}
-use Rattle.cs_cert.proofs.class.bound_among.Given as goal
-
-abbrev pub invariant-loop-of_group : goal.invariant-loop-of_group
-invariant-loop-of_group l = pieces_of (drop l.of_group-index l.backlog) l.group ≡ pieces_of l.backlog l.group

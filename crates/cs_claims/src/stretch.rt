@@ -1,0 +1,120 @@
+ghost use Rattle.std.specs.Prelude.{◌≡◌, nat_lt};
+ghost use Rattle.std.specs.List.{list_all};
+ghost use Rattle.cs_daytree.specs.Rising.{each_next};
+ghost use Rattle.cs_claims.specs.Content.{stretch_of};
+ghost use Rattle.cs_claims.specs.Rules.{comes_before, has_days, has_entries, has_short_leaves, is_of_classes, is_shallow, is_split_well};
+
+use crate::limits::MAX_DEPTH;
+use crate::minute_tree::{has_entries, has_short_leaves, is_no_deeper_than};
+use cs_civil::Sequence;
+use cs_windows::MinuteTree;
+
+/// Successive days by their classes, eldest first, and the windows that hold each minute of the
+/// last of them.
+///
+/// Version 1 has stretches of two days, version 2 of two to four.
+#[derive(Debug, Drop)]
+pub struct Stretch {
+    /// The classes of the days.
+    pub of: Sequence<u32>,
+    /// The windows of the last day.
+    pub tree: MinuteTree,
+}
+
+impl Stretch {
+    /// Whether it has from two days to the most.
+    fn has_days(&self, most: u8) -> bool
+        ensures { result ≡ has_days most (stretch_of self.now) }
+    {
+        2 <= self.of.len() && self.of.len() <= usize::from(most)
+    }
+
+    /// Whether the tree is no deeper than [`MAX_DEPTH`].
+    fn is_shallow(&self) -> bool
+        ensures { result ≡ is_shallow (stretch_of self.now) }
+    {
+        is_no_deeper_than(&self.tree, MAX_DEPTH)
+    }
+
+    /// Whether each split is inside its range.
+    fn is_split_well(&self) -> bool
+        ensures { result ≡ is_split_well (stretch_of self.now) }
+    {
+        self.tree.splits_inside()
+    }
+
+    /// Whether each class is below the count.
+    fn is_of_classes(&self, count: usize) -> bool
+        ensures { result ≡ is_of_classes count (stretch_of self.now) }
+    {
+        are_below(self.of.as_slice(), count)
+    }
+
+    /// Whether this one comes first: by length, then by their classes.
+    fn comes_before(&self, other: &Stretch) -> bool
+        ensures { result ≡ comes_before self.now.of other.now.of }
+    {
+        let one = self.of.as_slice();
+        let next = other.of.as_slice();
+        one.len() < next.len() || (one.len() == next.len() && one.cmp(next).is_lt())
+    }
+}
+
+fn are_below(classes: &[u32], count: usize) -> bool
+    ensures { result ≡ list_all (λ class. nat_lt class count) classes.now }
+{
+    classes.iter().all(|class| (*class as usize) < count)
+}
+
+/// Whether each stretch has from two days to the most.
+pub(crate) fn have_days(stretches: &[Stretch], most: u8) -> bool
+    ensures { result ≡ list_all (λ s. has_days most (stretch_of s)) stretches.now }
+{
+    stretches.iter().all(|stretch| stretch.has_days(most))
+}
+
+/// Whether no tree is deeper than [`MAX_DEPTH`].
+pub(crate) fn are_shallow(stretches: &[Stretch]) -> bool
+    ensures { result ≡ list_all (λ s. is_shallow (stretch_of s)) stretches.now }
+{
+    stretches.iter().all(|stretch| stretch.is_shallow())
+}
+
+/// Whether each split of a tree is inside its range.
+pub(crate) fn are_split_well(stretches: &[Stretch]) -> bool
+    ensures { result ≡ list_all (λ s. is_split_well (stretch_of s)) stretches.now }
+{
+    stretches.iter().all(|stretch| stretch.is_split_well())
+}
+
+/// Whether each class is below the count.
+pub(crate) fn are_of_classes(stretches: &[Stretch], count: usize) -> bool
+    ensures { result ≡ list_all (λ s. is_of_classes count (stretch_of s)) stretches.now }
+{
+    stretches.iter().all(|stretch| stretch.is_of_classes(count))
+}
+
+/// Whether the stretches rise strictly: by length, then by their classes.
+pub(crate) fn rise(stretches: &[Stretch]) -> bool
+    ensures { result ≡ each_next (λ s t. comes_before s.of t.of) stretches.now }
+{
+    stretches.is_sorted_by(|one, next| one.comes_before(next))
+}
+
+/// Whether each entry has a job and a minute in range, and starts less than `days` days before.
+pub(crate) fn have_entries(stretches: &[Stretch], days: u8) -> bool
+    ensures { result ≡ list_all (λ s. has_entries days (stretch_of s)) stretches.now }
+{
+    stretches
+        .iter()
+        .all(|stretch| has_entries(&stretch.tree, days))
+}
+
+/// Whether no leaf is too long.
+pub(crate) fn have_short_leaves(stretches: &[Stretch]) -> bool
+    ensures { result ≡ list_all (λ s. has_short_leaves (stretch_of s)) stretches.now }
+{
+    stretches
+        .iter()
+        .all(|stretch| has_short_leaves(&stretch.tree))
+}

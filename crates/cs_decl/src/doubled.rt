@@ -5,8 +5,8 @@ ghost use Rattle.json.specs.Value.{value_view, items_view, members_view};
 ghost use Rattle.cs_decl.specs.Doubled.{doubled, doubled_in_items, doubled_in_members};
 ghost use Rattle.cs_decl.specs.Doubled.{doubled_member, first_repeated};
 
+use crate::twice::first_twice;
 use cs_civil::Bytes;
-use indexmap::IndexSet;
 use json::{Error, Scratch, Value};
 use std::alloc::{AllocError, Global};
 
@@ -18,13 +18,11 @@ fn repeated<'a>(
     ensures { IfOk result (λ found. option_map (λ name. name.now) found
         ≡ first_repeated (keys (members_view members.now.items))) }
 {
-    let mut seen: IndexSet<&[u8]> = IndexSet::new(alloc);
-    for member in members {
-        if !seen.insert(member.0.as_bytes())? {
-            return Ok(Some(member.0));
-        }
+    let members = members.as_slice();
+    match first_twice(alloc, members)? {
+        Some(i) => Ok(Some(members[i].0)),
+        None => Ok(None),
     }
-    Ok(None)
 }
 
 #[cycle(doubled)]

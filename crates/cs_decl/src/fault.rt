@@ -1,4 +1,4 @@
-ghost use Rattle.std.specs.Prelude.{◌≡◌, IfOk, string_bytes};
+ghost use Rattle.std.specs.Prelude.{◌≡◌, ◌++◌, IfOk, decimal};
 ghost use Rattle.cs_decl.specs.Printed.{fault_text, place_text, error_text};
 ghost use Rattle.cs_decl.specs.declared.fault.DeclError.TheVariants.{OutOfMemory};
 
@@ -94,25 +94,31 @@ pub enum Place {
     Job(Bytes),
 }
 
+fn numbered(alloc: Global, front: &str, number: u128) -> Result<Bytes, AllocError>
+    ensures { IfOk result (λ text. text ≡ front.now ++ decimal number) }
+{
+    let text = format!(in alloc; "{front}{number}")?;
+    Ok(Bytes::from_vec(text.into_bytes()))
+}
+
 impl Place {
     /// Formats the place as printed after a fault: ` at cron 2`, with entries counted from 1. The
     /// only error is out of memory.
     pub fn text(&self, alloc: Global) -> Result<Bytes, AllocError>
         ensures { IfOk result (λ text. text ≡ place_text self.now) }
     {
-        let text = match self {
-            Place::Group(i) => format!(in alloc; " at group {}", *i as u128 + 1)?,
-            Place::Cron(i) => format!(in alloc; " at cron {}", *i as u128 + 1)?,
-            Place::Anacron(i) => format!(in alloc; " at anacron {}", *i as u128 + 1)?,
-            Place::LeftOut(i) => format!(in alloc; " at left_out {}", *i as u128 + 1)?,
-            Place::Line(number) => format!(in alloc; " at line {number}")?,
+        match self {
+            Place::Group(i) => numbered(alloc, " at group ", *i as u128 + 1),
+            Place::Cron(i) => numbered(alloc, " at cron ", *i as u128 + 1),
+            Place::Anacron(i) => numbered(alloc, " at anacron ", *i as u128 + 1),
+            Place::LeftOut(i) => numbered(alloc, " at left_out ", *i as u128 + 1),
+            Place::Line(number) => numbered(alloc, " at line ", u128::from(*number)),
             Place::Job(identifier) => {
                 let mut text = Vec::from_slice(alloc, b" at job ".as_slice())?;
                 text.extend_from_slice(identifier.as_slice())?;
-                return Ok(Bytes::from_vec(text));
+                Ok(Bytes::from_vec(text))
             }
-        };
-        Ok(Bytes::from_vec(text.into_bytes()))
+        }
     }
 }
 

@@ -1,25 +1,12 @@
 //! Whether the parts of a command make it up.
-ghost use Rattle.std.specs.Prelude.{◌≡◌, All, IfOk, false, map, bytes_eq, position};
+ghost use Rattle.std.specs.Prelude.{◌≡◌, IfOk, false, position};
 ghost use Rattle.std.specs.List.{list_any};
-ghost use Rattle.cs_decl.specs.Faults.{are_bad, first_twice, has_bad_parts, is_bad_max, minutes_of};
+ghost use Rattle.cs_decl.specs.Faults.{are_bad, has_bad_parts, is_bad_max, minutes_of};
 
 use crate::entries::{CronEntry, PartEntry};
 use crate::rows::is_bad_max;
-use indexmap::IndexSet;
+use crate::twice::first_twice;
 use std::alloc::{AllocError, Global};
-
-/// The index of the first part whose name an earlier one has.
-fn twice_part(alloc: Global, parts: &[PartEntry]) -> Result<Option<usize>, AllocError>
-    ensures { IfOk result (λ o. o ≡ first_twice bytes_eq (map (λ p. p.name) parts.now)) }
-{
-    let mut seen: IndexSet<&[u8]> = IndexSet::new(alloc);
-    for (i, part) in parts.iter().enumerate() {
-        if !seen.insert(part.name.as_slice())? {
-            return Ok(Some(i));
-        }
-    }
-    Ok(None)
-}
 
 fn have_bad_max(parts: &[PartEntry]) -> bool
     ensures { result ≡ list_any (λ p. is_bad_max p.max) parts.now }
@@ -42,7 +29,7 @@ fn minutes_of(parts: &[PartEntry]) -> u128
 fn are_bad(alloc: Global, max: i128, parts: &[PartEntry]) -> Result<bool, AllocError>
     ensures { IfOk result (λ b. b ≡ are_bad max parts.now) }
 {
-    if twice_part(alloc, parts)?.is_some() || have_bad_max(parts) {
+    if first_twice(alloc, parts)?.is_some() || have_bad_max(parts) {
         return Ok(true);
     }
     Ok(max < 0 || max.unsigned_abs() != minutes_of(parts))

@@ -11,7 +11,7 @@ use crate::fault::{DeclFault, Place};
 use crate::limits::{MAX_CAPACITY, MAX_GROUPS, MAX_MINUTES, MAX_OFFSET, MAX_WEIGHT};
 use crate::names::{unlisted_anacron, unlisted_cron};
 use crate::parts::first_with_bad_parts;
-use crate::twice::{twice_group, twice_identifier, twice_line};
+use crate::twice::{first_twice, twice_line};
 use cs_civil::MINUTES_OF_DAY;
 use std::alloc::{AllocError, Global};
 
@@ -69,13 +69,13 @@ fn is_bad_pass(pass: Option<i128>) -> bool
 fn twice_declared(alloc: Global, entries: &Entries) -> Result<Option<Found>, AllocError>
     ensures { IfOk result (λ f. f ≡ first_fault (twice_declared entries.now)) }
 {
-    if let Some(i) = twice_group(alloc, entries.groups.as_slice())? {
+    if let Some(i) = first_twice(alloc, entries.groups.as_slice())? {
         return Ok(Some((DeclFault::TwiceDeclared, Some(Place::Group(i)))));
     }
     if let Some(i) = twice_line(alloc, entries.cron.as_slice())? {
         return Ok(Some((DeclFault::TwiceDeclared, Some(Place::Cron(i)))));
     }
-    if let Some(i) = twice_identifier(alloc, entries.anacron.as_slice())? {
+    if let Some(i) = first_twice(alloc, entries.anacron.as_slice())? {
         return Ok(Some((DeclFault::TwiceDeclared, Some(Place::Anacron(i)))));
     }
     Ok(None)

@@ -1,37 +1,65 @@
 //! What is declared twice.
-ghost use Rattle.std.specs.Prelude.{◌≡◌, ℤ, IfOk, Some, map, bytes_eq};
+ghost use Rattle.std.specs.Prelude.{◌≡◌, ◌<◌, ℕ, ℤ, List, IfOk, IfSome, Some, length, map, bytes_eq};
 ghost use Rattle.std.specs.Ordering.{int_eq};
 ghost use Rattle.std.specs.List.{list_any};
 ghost use Rattle.cs_decl.specs.Faults.{same_number, first_again, first_twice};
 
-use crate::entries::{AnacronEntry, CronEntry, GroupEntry};
+use crate::entries::{AnacronEntry, CronEntry, GroupEntry, PartEntry};
 use cs_civil::Sequence;
 use indexmap::IndexSet;
+use json::Value;
 use std::alloc::{AllocError, Global};
 
-/// The index of the first group whose name an earlier one has.
-pub(crate) fn twice_group(alloc: Global, groups: &[GroupEntry]) -> Result<Option<usize>, AllocError>
-    ensures { IfOk result (λ o. o ≡ first_twice bytes_eq (map (λ g. g.name) groups.now)) }
-{
-    let mut seen: IndexSet<&[u8]> = IndexSet::new(alloc);
-    for (i, group) in groups.iter().enumerate() {
-        if !seen.insert(group.name.as_slice())? {
-            return Ok(Some(i));
-        }
-    }
-    Ok(None)
+/// What has a name of its own among others.
+pub(crate) trait Named {
+    /// The bytes of the name.
+    ghost name_of: { Self → List ℕ };
+
+    fn name(&self) -> &[u8]
+        ensures { result.now ≡ name_of self.now };
 }
 
-/// The index of the first anacron entry whose identifier an earlier one has.
-pub(crate) fn twice_identifier(
-    alloc: Global,
-    anacron: &[AnacronEntry],
-) -> Result<Option<usize>, AllocError>
-    ensures { IfOk result (λ o. o ≡ first_twice bytes_eq (map (λ e. e.identifier) anacron.now)) }
+impl Named for GroupEntry {
+    ghost name_of = { λ group. group.name };
+
+    fn name(&self) -> &[u8] {
+        self.name.as_slice()
+    }
+}
+
+impl Named for PartEntry {
+    ghost name_of = { λ part. part.name };
+
+    fn name(&self) -> &[u8] {
+        self.name.as_slice()
+    }
+}
+
+impl Named for AnacronEntry {
+    ghost name_of = { λ entry. entry.identifier };
+
+    fn name(&self) -> &[u8] {
+        self.identifier.as_slice()
+    }
+}
+
+/// A member of a JSON object.
+impl<'a> Named for (&'a str, Value<'a>) {
+    ghost name_of = { λ member. member.0.now };
+
+    fn name(&self) -> &[u8] {
+        self.0.as_bytes()
+    }
+}
+
+/// The index of the first item whose name an earlier one has.
+pub(crate) fn first_twice<T: Named>(alloc: Global, items: &[T]) -> Result<Option<usize>, AllocError>
+    ensures value { IfOk result (λ o. o ≡ first_twice bytes_eq (map T.name_of items.now)) }
+    ensures within { IfOk result (λ o. IfSome o (λ i. i < length items.now)) }
 {
     let mut seen: IndexSet<&[u8]> = IndexSet::new(alloc);
-    for (i, entry) in anacron.iter().enumerate() {
-        if !seen.insert(entry.identifier.as_slice())? {
+    for (i, item) in items.iter().enumerate() {
+        if !seen.insert(item.name())? {
             return Ok(Some(i));
         }
     }

@@ -1,6 +1,0 @@
-use Rattle.std.proofs.Common.{◌≡◌, map, drop, bytes_eq}
-use Rattle.cs_decl.specs.Faults.{first_again, first_twice}
-use Rattle.cs_decl.proofs.twice.twice_identifier.Given as goal
-
-abbrev pub invariant-loop-i : goal.invariant-loop-i
-invariant-loop-i l = first_again bytes_eq (map (λ k. k.now) l.seen.keys) l.i (map (λ x. x.identifier) (drop l.i l.anacron)) ≡ first_twice bytes_eq (map (λ x. x.identifier) l.anacron)

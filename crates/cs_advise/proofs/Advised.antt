@@ -4,6 +4,7 @@ use Rattle.std.specs.Prelude.{IfOk, IfSome}
 use Rattle.std.specs.List.{AllZip, concat}
 use Rattle.std.specs.declared.alloc.AllocError.{AllocError}
 use Rattle.std.proofs.lemmas.List.{append-nil, append_assoc}
+use Rattle.cs_check.specs.Checked.{plan_in}
 use Rattle.cs_check.specs.declared.checked.Checked.{Checked}
 use Rattle.cs_decl.specs.Plan.{Declared}
 use Rattle.cs_judge.specs.Called.{reach_in}
@@ -38,27 +39,26 @@ one_more source plan changes text change line is safe = record {
   told = ap (λ (t : List ℕ). t ++ line) is.told ∙ sym (joined is.lines line);
 }
 
--- the plan that was judged safe with a change is the one that the checker accepted, so a line that
--- tells the change by the reaches of its certificate is a safe one
-pub safe_line : (source : Source) (plan : Declared) (change : Change) (changed : Declared) (checked : Checked) (line : List ℕ)
-    → IsChanged source plan change changed → IsJudgement changed (Safe checked) → line ≡ change_line plan (reach_in checked) change
-    → IsSafeLine source plan change line
-safe_line source plan change changed checked line is known told =
-    let accepted : IsCheckedFor changed checked = known.safe in
-    record {
-      checked = checked;
-      changed = subst (λ (d : Declared). IsChanged source plan change d) (sym accepted.same) is;
-      safe = subst (λ (d : Declared). IsJudgement d (Safe checked)) (sym accepted.same) known;
-      told = told;
-    }
+-- the plan that was judged safe with a change is the one that the checker accepted
+pub if_checked : (source : Source) (plan : Declared) (change : Change) (changed : Declared)
+    → (answer : Result (Option Checked) AllocError) → IsChanged source plan change changed
+    → IfOk answer (λ found. IfSome found (λ checked. IsJudgement changed (Safe checked)))
+    → IfOk answer (λ found. IfSome found (λ checked. IsChanged source plan change (plan_in checked) × IsJudgement (plan_in checked) (Safe checked)))
+if_checked source plan change changed (Err e) is known = tt
+if_checked source plan change changed (Ok None) is known = tt
+if_checked source plan change changed (Ok (Some checked)) is known =
+    let accepted : IsCheckedFor changed checked = known.safe in (
+      subst (λ (d : Declared). IsChanged source plan change d) (sym accepted.same) is,
+      subst (λ (d : Declared). IsJudgement d (Safe checked)) (sym accepted.same) known,
+    )
 
--- and so it is of the answer that there may be
-pub if_safe : (source : Source) (plan : Declared) (change : Change) (changed : Declared) (checked : Checked)
+-- so a line that tells the change by the reaches of its certificate is a safe one
+pub if_safe : (source : Source) (plan : Declared) (change : Change) (checked : Checked)
     → (answer : Result (Option (Vec ℕ Global)) AllocError)
-    → IsChanged source plan change changed → IsJudgement changed (Safe checked)
+    → IsChanged source plan change (plan_in checked) → IsJudgement (plan_in checked) (Safe checked)
     → IfOk answer (λ found. IfSome found (λ line. line.items ≡ change_line plan (reach_in checked) change))
     → IfOk answer (λ found. IfSome found (λ line. IsSafeLine source plan change line.items))
-if_safe source plan change changed checked (Err e) is known told = tt
-if_safe source plan change changed checked (Ok None) is known told = tt
-if_safe source plan change changed checked (Ok (Some line)) is known told =
-    safe_line source plan change changed checked line.items is known told
+if_safe source plan change checked (Err e) is known told = tt
+if_safe source plan change checked (Ok None) is known told = tt
+if_safe source plan change checked (Ok (Some line)) is known told =
+    record { checked = checked; changed = is; safe = known; told = told }

@@ -2,6 +2,8 @@
 ghost use Rattle.std.specs.Prelude.{◌≡◌, IfOk, IfSome};
 ghost use Rattle.cs_check.specs.Checked.{plan_in};
 ghost use Rattle.cs_judge.specs.Called.{reach_in};
+ghost use Rattle.cs_judge.specs.Judged.{IsJudgement};
+ghost use Rattle.cs_judge.specs.declared.judged.Judged.TheVariants.{Safe};
 ghost use Rattle.cs_advise.specs.Advice.{IsAdvice, IsSafeLine};
 ghost use Rattle.cs_advise.specs.Change.{IsChanged};
 ghost use Rattle.cs_advise.specs.Told.{change_line};
@@ -18,7 +20,7 @@ use std::alloc::{AllocError, Global};
 use std::thread::Threads;
 
 /// Changes that make a plan safe, and a line for each of them.
-#[derive(Debug, Drop)]
+#[derive(Drop)]
 pub(crate) struct Advice {
     pub(crate) changes: Vec<Change>,
     pub(crate) text: Vec<u8>,
@@ -49,6 +51,24 @@ fn change_line(
     }
 }
 
+/// The plan with a change and its certificate, if it is called safe.
+fn checked_with<R: Threads + Sync>(
+    rt: &R,
+    alloc: Global,
+    source: &Source,
+    plan: &Plan,
+    change: &Change,
+) -> Result<Option<Checked>, AllocError>
+    ensures { IfOk result (λ found. IfSome found
+        (λ checked. IsChanged source.now plan.now change.now (plan_in checked)
+        × IsJudgement (plan_in checked) (Safe checked))) }
+{
+    let Some(changed) = changed_plan(alloc, source, plan, change)? else {
+        return Ok(None);
+    };
+    called_safe(rt, alloc, &changed)
+}
+
 /// The line that tells a change, if the plan is called safe with it.
 fn safe_line<R: Threads + Sync>(
     rt: &R,
@@ -60,10 +80,7 @@ fn safe_line<R: Threads + Sync>(
     ensures { IfOk result (λ found. IfSome found
         (λ line. IsSafeLine source.now plan.now change.now line.items)) }
 {
-    let Some(changed) = changed_plan(alloc, source, plan, change)? else {
-        return Ok(None);
-    };
-    let Some(checked) = called_safe(rt, alloc, &changed)? else {
+    let Some(checked) = checked_with(rt, alloc, source, plan, change)? else {
         return Ok(None);
     };
     change_line(alloc, plan, &checked, change)

@@ -12,7 +12,7 @@ ghost use Rattle.cs_advise.specs.Answer.{breach_text, head_of, shown_line, unkno
 
 use crate::advice::{Advice, told_changes};
 use crate::breach::jobs_of;
-use crate::places::{changed_jobs, job_places, shown_jobs};
+use crate::places::{changed_places, shown_places};
 use crate::rooms::{push_rooms, rooms_of};
 use crate::search::Search;
 use crate::source::Source;
@@ -27,7 +27,7 @@ use std::alloc::{AllocError, Global};
 use std::thread::Threads;
 
 /// What is asked of a plan.
-#[derive(Clone, Copy, Debug, PartialEq, Eq)]
+#[derive(Clone, Copy)]
 pub enum Question {
     /// How long the runs of each job may take.
     Rooms,
@@ -36,7 +36,7 @@ pub enum Question {
 }
 
 /// What is told of a plan, and the status.
-#[derive(Debug, Drop)]
+#[derive(Drop)]
 struct Reply {
     status: Status,
     text: Vec<u8>,
@@ -80,7 +80,7 @@ fn shown_line(alloc: Global, plan: &Plan, shown: &Shown) -> Result<Vec<u8>, Allo
     requires { IsTellable (as_plan plan.now) shown.now }
     ensures { IfOk result (λ text. text.items ≡ shown_line plan.now shown.now) }
 {
-    let mut text = Vec::from_slice(alloc, shown_text(alloc, plan, shown)?.as_slice())?;
+    let mut text = shown_text(alloc, plan, shown)?.into_vec();
     text.extend_from_slice(b"\n")?;
     Ok(text)
 }
@@ -101,25 +101,27 @@ fn breach_text(
     Ok(text)
 }
 
-/// Changes of an unsafe plan that make it safe.
+/// Changes of an unsafe plan that make it safe: those of the jobs of a breach, and of all jobs.
 fn advice_on<R: Threads + Sync>(
     rt: &R,
     alloc: Global,
     source: &Source,
     plan: &Plan,
-    jobs: &[u16],
+    broken: (&Shown, &Breach),
     within: u64,
 ) -> Result<Advice, AllocError>
     ensures { IfOk result
         (λ advice. IsAdvice source.now plan.now advice.changes.items advice.text.items) }
 {
+    let jobs = jobs_of(alloc, plan, broken.0, broken.1)?;
     let search = Search {
         rt,
         alloc,
         source,
         plan,
     };
-    let changes = search.changes(jobs, within)?;
+    let mut changes = Vec::new(alloc);
+    search.add_changes(&mut changes, jobs.as_slice(), within)?;
     told_changes(rt, alloc, source, plan, changes)
 }
 
@@ -131,18 +133,31 @@ fn told_breach(
     shown: &Shown,
     text: Vec<u8>,
 ) -> Result<Reply, AllocError>
-    ensures status { IfOk result (λ told. status_of told.status ≡ 1) }
-    ensures text { IfOk result (λ told. told.text.items ≡ text.items) }
-    ensures notes { IfOk result
-        (λ told. told.notes.items ≡ job_places plan.now places.now (shown_jobs shown.now)) }
+    ensures { IfOk result (λ told. (status_of told.status ≡ 1) × (told.text.items ≡ text.items)
+        × (told.notes.items ≡ job_places plan.now places.now (shown_jobs shown.now))) }
 {
-    let jobs = shown_jobs(alloc, shown)?;
-    let notes = job_places(alloc, plan, places, jobs.as_slice())?;
+    let notes = shown_places(alloc, plan, places, shown)?;
     Ok(Reply {
         status: Status::Refused,
         text,
         notes,
     })
+}
+
+/// What an unsafe plan breaks first, where rooms are asked for.
+fn told_no_rooms(
+    alloc: Global,
+    plan: &Plan,
+    places: &[Place],
+    shown: &Shown,
+) -> Result<Reply, AllocError>
+    requires { IsTellable (as_plan plan.now) shown.now }
+    ensures { IfOk result (λ told. (status_of told.status ≡ 1)
+        × (told.text.items ≡ shown_line plan.now shown.now)
+        × (told.notes.items ≡ job_places plan.now places.now (shown_jobs shown.now))) }
+{
+    let text = shown_line(alloc, plan, shown)?;
+    told_breach(alloc, plan, places, shown, text)
 }
 
 /// A line for each change that makes an unsafe plan safe; or what it breaks first, where none was
@@ -161,14 +176,12 @@ fn advice_text<R: Threads + Sync>(
         broken.entry.1.now (status_of told.status) told.text.items told.notes.items) }
 {
     let (shown, breach) = broken;
-    let jobs = jobs_of(alloc, plan, shown, breach)?;
-    let advice = advice_on(rt, alloc, source, plan, jobs.as_slice(), within)?;
+    let advice = advice_on(rt, alloc, source, plan, broken, within)?;
     if advice.changes.is_empty() {
         let text = breach_text(alloc, plan, shown, breach)?;
         return told_breach(alloc, plan, places, shown, text);
     }
-    let named = changed_jobs(alloc, advice.changes.as_slice())?;
-    let notes = job_places(alloc, plan, places, named.as_slice())?;
+    let notes = changed_places(alloc, plan, places, advice.changes.as_slice())?;
     Ok(Reply {
         status: Status::Done,
         text: advice.text,
@@ -202,10 +215,7 @@ fn told<R: Threads + Sync>(
         told.notes.items) }
 {
     match question {
-        Question::Rooms => {
-            let text = shown_line(alloc, plan, broken.0)?;
-            told_breach(alloc, plan, places, broken.0, text)
-        }
+        Question::Rooms => told_no_rooms(alloc, plan, places, broken.0),
         Question::Advice(within) => advice_text(rt, alloc, source, plan, places, broken, within),
     }
 }
@@ -261,8 +271,8 @@ pub(crate) fn advised<R: Threads + Sync>(
 ) -> Result<Response, AllocError>
     ensures { IfOk result (IsAdvised question source.now plan.now places.now) }
 {
-    let judged = judge(rt, alloc, plan, Wanted::Verdict);
     let mut notes = plan_notes(alloc, plan)?.into_vec();
+    let judged = judge(rt, alloc, plan, Wanted::Verdict);
     let told = printed(rt, alloc, source, plan, places, question, &judged)?;
     notes.extend_from_slice(told.notes.as_slice())?;
     Ok(Response::told(told.status, told.text, Bytes::from_vec(notes)))

@@ -13,8 +13,7 @@ fn most_jobs(plan: &Plan) -> usize {
 
 /// Adds a job, unless it is there or there are so many.
 fn add(jobs: &mut Vec<u16>, job: u16, most: usize) -> Result<(), AllocError> {
-    let is_there = jobs.iter().any(|other| *other == job);
-    if !is_there && jobs.len() < most {
+    if jobs.len() < most && !jobs.as_slice().contains(&job) {
         jobs.push(job)?;
     }
     Ok(())
@@ -22,10 +21,10 @@ fn add(jobs: &mut Vec<u16>, job: u16, most: usize) -> Result<(), AllocError> {
 
 /// Both jobs, or the one that both are.
 fn both(alloc: Global, one: u16, other: u16) -> Result<Vec<u16>, AllocError> {
-    let mut jobs = Vec::new(alloc);
-    add(&mut jobs, one, 2)?;
-    add(&mut jobs, other, 2)?;
-    Ok(jobs)
+    if one == other {
+        return Vec::from_slice(alloc, &[one]);
+    }
+    Vec::from_slice(alloc, &[one, other])
 }
 
 /// The job that is skipped, and those of its group.
@@ -60,10 +59,10 @@ pub(crate) fn jobs_of(
     breach: &Breach,
 ) -> Result<Vec<u16>, AllocError> {
     let mut jobs = match *shown {
-        Shown::Together(one, other) => both(alloc, one.job, other.job)?,
-        Shown::Skipped(job, _) => group_of(alloc, plan, job)?,
-        Shown::Load(_) => running(alloc, plan, breach)?,
-    };
+        Shown::Together(one, other) => both(alloc, one.job, other.job),
+        Shown::Skipped(job, _) => group_of(alloc, plan, job),
+        Shown::Load(_) => running(alloc, plan, breach),
+    }?;
     jobs.sort()?;
     Ok(jobs)
 }

@@ -2,7 +2,7 @@ use cs_civil::{Bytes, Hours};
 use cs_history::Mode;
 
 /// How many minutes later or earlier a command starts.
-#[derive(Clone, Copy, Debug, PartialEq, Eq)]
+#[derive(Clone, Copy, PartialEq, Eq)]
 pub enum Shift {
     /// So many later.
     Later(u16),
@@ -28,7 +28,7 @@ impl Shift {
 }
 
 /// A cron job's line whose command starts later or earlier.
-#[derive(Debug, Drop)]
+#[derive(Drop)]
 pub struct Start {
     /// The number of the job.
     pub job: u16,
@@ -39,7 +39,7 @@ pub struct Start {
 }
 
 /// A change of a line of a table or of two, or of one member of declarations.
-#[derive(Debug, Drop)]
+#[derive(Drop)]
 pub enum Change {
     /// A cron job starts so.
     Start(Start),

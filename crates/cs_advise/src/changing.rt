@@ -6,10 +6,12 @@ ghost use Rattle.cs_decl.specs.Changed.{with_capacity, with_max, with_mode};
 ghost use Rattle.cs_decl.specs.Join.{joined};
 ghost use Rattle.cs_decl.specs.Meaning.{declared_by};
 ghost use Rattle.cs_decl.specs.Plan.{no_command};
+ghost use Rattle.cs_decl.specs.declared.entries.Entries.{Entries};
 ghost use Rattle.cs_advise.specs.Change.{AreMoved, IsChanged, IsMoved, IsMovedLine, IsShifted};
-ghost use Rattle.cs_advise.specs.Change.{place_of, shift_of, with_start};
+ghost use Rattle.cs_advise.specs.Change.{shift_of, with_start};
 
 use crate::change::{Change, Shift, Start};
+use crate::entry::line_number;
 use crate::later::is_later;
 use crate::source::Source;
 use crate::text::with_line;
@@ -92,14 +94,22 @@ fn plan_of(
     }
 }
 
-/// Whether the starts of a schedule are shifted so.
-fn are_starts_shifted(shift: Shift, old: &Schedule, new: &Schedule) -> bool
-    ensures { IsTrue result → IsShifted shift (At old.now) (At new.now) }
+/// The plan of another table and the declarations in a text, if they make one.
+fn plan_with(
+    alloc: Global,
+    plan: &Plan,
+    table: Crontab,
+    text: &[u8],
+) -> Result<Option<Plan>, AllocError>
+    ensures { IfOk result (λ found. IfSome found (λ made. (entries : Entries)
+        × (declared_by text.now ≡ Ok entries)
+        × (joined table plan.now.anacrontab entries ≡ Ok made))) }
 {
-    match shift {
-        Shift::Later(minutes) => is_later(old, new, minutes),
-        Shift::Earlier(minutes) => is_later(new, old, minutes),
-    }
+    let Some(declarations) = declarations_in(alloc, text)? else {
+        return Ok(None);
+    };
+    let anacrontab = plan.anacrontab().copy(alloc)?;
+    plan_of(alloc, table, anacrontab, declarations)
 }
 
 /// Whether the starts are shifted so.
@@ -112,7 +122,10 @@ fn is_shifted(shift: Shift, old: &When, new: &When) -> bool
     let When::At(new) = new else {
         return false;
     };
-    are_starts_shifted(shift, old, new)
+    match shift {
+        Shift::Later(minutes) => is_later(old, new, minutes),
+        Shift::Earlier(minutes) => is_later(new, old, minutes),
+    }
 }
 
 /// Whether it is the same command, on the same line, and its starts are shifted so.
@@ -165,21 +178,11 @@ fn are_moved(change: &Change, old: &[Line], new: &[Line]) -> bool
     true
 }
 
-/// Where the line of a cron job stands in the text of the table, counted from 0.
-fn place_of(plan: &Plan, job: u16) -> usize
-    ensures { result ≡ place_of plan.now job }
-{
-    match plan.crontab().lines().get(usize::from(job)) {
-        Some(line) => (line.number() as usize).saturating_sub(1),
-        None => 0,
-    }
-}
-
 /// The text of a table with another line of a cron job.
 fn with_start(alloc: Global, plan: &Plan, text: &[u8], start: &Start) -> Result<Vec<u8>, AllocError>
     ensures { IfOk result (λ changed. changed.items ≡ with_start plan.now text.now start.now) }
 {
-    let place = place_of(plan, start.job);
+    let place = (line_number(plan, usize::from(start.job)) as usize).saturating_sub(1);
     with_line(alloc, text, place, start.line.as_slice())
 }
 
@@ -198,11 +201,8 @@ fn moved_plan(
     let Some(table) = table_in(alloc, text)? else {
         return Ok(None);
     };
-    let Some(declarations) = declarations_in(alloc, source.declarations.as_slice())? else {
-        return Ok(None);
-    };
-    let anacrontab = plan.anacrontab().copy(alloc)?;
-    let Some(moved) = plan_of(alloc, table, anacrontab, declarations)? else {
+    let declarations = source.declarations.as_slice();
+    let Some(moved) = plan_with(alloc, plan, table, declarations)? else {
         return Ok(None);
     };
     if are_moved(change, plan.crontab().lines(), moved.crontab().lines()) {

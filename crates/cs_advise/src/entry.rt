@@ -21,7 +21,7 @@ fn quoted(alloc: Global, text: &[u8]) -> Result<Option<Vec<u8>>, AllocError>
 }
 
 /// The number of the line of a cron job.
-fn line_number(plan: &Plan, job: usize) -> u32
+pub(crate) fn line_number(plan: &Plan, job: usize) -> u32
     ensures { result ≡ (command_of plan.now job).number }
 {
     match plan.crontab().lines().get(job) {

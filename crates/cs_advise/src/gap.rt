@@ -12,7 +12,7 @@ use cs_decl::{MAX_MINUTES, Plan};
 use cs_gap::{MAX_DISTANCE, least_distance};
 
 /// How close two windows come.
-#[derive(Clone, Copy, Debug, PartialEq, Eq)]
+#[derive(Clone, Copy)]
 pub enum Gap {
     /// They have a minute in common.
     Meet,

@@ -52,7 +52,7 @@ fn has_all(field: &Field, first: u8, last: u8) -> bool
 
 /// Whether it is due on each day.
 #[tactic(auto, using(crate::proofs::Shifts::each_day))]
-fn is_daily(schedule: &Schedule) -> bool
+pub(crate) fn is_daily(schedule: &Schedule) -> bool
     ensures { IsTrue result → (d : ℕ) → is_day_due schedule.now (kind d) ≡ true }
 {
     has_all(schedule.field(Part::Dom), 1, 31)

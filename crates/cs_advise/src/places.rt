@@ -22,33 +22,9 @@ fn push_change_jobs(jobs: &mut Vec<usize>, change: &Change) -> Result<(), AllocE
     }
 }
 
-/// The jobs that changes name. The only error is want of memory.
-pub(crate) fn changed_jobs(alloc: Global, changes: &[Change]) -> Result<Vec<usize>, AllocError>
-    ensures { IfOk result (λ jobs. jobs.items ≡ flat_map change_jobs changes.now) }
-{
-    let mut jobs = Vec::new(alloc);
-    for change in changes {
-        push_change_jobs(&mut jobs, change)?;
-    }
-    Ok(jobs)
-}
-
-/// The jobs that the line of what is broken names. The only error is want of memory.
-pub(crate) fn shown_jobs(alloc: Global, shown: &Shown) -> Result<Vec<usize>, AllocError>
-    ensures { IfOk result (λ jobs. jobs.items ≡ shown_jobs shown.now) }
-{
-    match shown {
-        Shown::Together(one, other) => {
-            Vec::from_slice(alloc, &[usize::from(one.job), usize::from(other.job)])
-        }
-        Shown::Load(_) => Ok(Vec::new(alloc)),
-        Shown::Skipped(job, _) => Vec::from_slice(alloc, &[usize::from(*job)]),
-    }
-}
-
 /// A note for each line that is one of these jobs and has a place. The only error is want of
 /// memory.
-pub(crate) fn job_places(
+fn job_places(
     alloc: Global,
     plan: &Plan,
     places: &[Place],
@@ -60,4 +36,42 @@ pub(crate) fn job_places(
     let lines = plan.crontab().lines();
     push_places_told(alloc, &mut text, b"note: ".as_slice(), places, jobs, lines)?;
     Ok(text)
+}
+
+/// A note for each line that changes name and that has a place. The only error is want of memory.
+pub(crate) fn changed_places(
+    alloc: Global,
+    plan: &Plan,
+    places: &[Place],
+    changes: &[Change],
+) -> Result<Vec<u8>, AllocError>
+    ensures { IfOk result (λ text. text.items
+        ≡ job_places plan.now places.now (flat_map change_jobs changes.now)) }
+{
+    let mut jobs = Vec::new(alloc);
+    for change in changes {
+        push_change_jobs(&mut jobs, change)?;
+    }
+    job_places(alloc, plan, places, jobs.as_slice())
+}
+
+/// A note for each line that what is broken names and that has a place. The only error is want of
+/// memory.
+pub(crate) fn shown_places(
+    alloc: Global,
+    plan: &Plan,
+    places: &[Place],
+    shown: &Shown,
+) -> Result<Vec<u8>, AllocError>
+    ensures { IfOk result
+        (λ text. text.items ≡ job_places plan.now places.now (shown_jobs shown.now)) }
+{
+    match shown {
+        Shown::Together(one, other) => {
+            let jobs = [usize::from(one.job), usize::from(other.job)];
+            job_places(alloc, plan, places, jobs.as_slice())
+        }
+        Shown::Load(_) => job_places(alloc, plan, places, &[]),
+        Shown::Skipped(job, _) => job_places(alloc, plan, places, &[usize::from(*job)]),
+    }
 }

@@ -19,7 +19,7 @@ const FIRST_STRIDE: u16 = 4;
 const GROWTH: u16 = 8;
 
 /// What a job of a safe plan has to spare, in minutes.
-#[derive(Clone, Copy, Debug, PartialEq, Eq)]
+#[derive(Clone, Copy)]
 pub struct Room {
     /// The number of the job.
     pub job: u16,

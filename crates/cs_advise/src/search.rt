@@ -32,20 +32,16 @@ const FINE: u16 = 5;
 /// The minutes by which both of two starts are shifted.
 const STEPS: [u16; 10] = [5, 10, 15, 20, 30, 40, 50, 60, 90, 120];
 
-/// Whether both shifts are to later, or both to earlier.
-fn are_alike(one: Shift, other: Shift) -> bool {
-    match one {
-        Shift::Later(_) => matches!(other, Shift::Later(_)),
-        Shift::Earlier(_) => matches!(other, Shift::Earlier(_)),
-    }
-}
-
 /// Whether a start of the job is among the changes, later or earlier as this shift.
 fn is_found(changes: &[Change], job: u16, shift: Shift) -> bool {
-    changes.iter().any(|change| match change {
-        Change::Start(start) => start.job == job && are_alike(start.shift, shift),
-        _ => false,
-    })
+    for change in changes {
+        if let Change::Start(start) = change {
+            if start.job == job && start.shift.by(0) == shift.by(0) {
+                return true;
+            }
+        }
+    }
+    false
 }
 
 /// By how many minutes a change shifts one start.
@@ -56,13 +52,26 @@ fn minutes_of(change: &Change) -> u16 {
     }
 }
 
+/// The number halfway between two.
+fn halfway(low: u16, high: u16) -> u16 {
+    low.saturating_add(high.saturating_sub(low) / 2)
+}
+
+/// Adds the catch-up hours between two minutes of the day, if there are some.
+fn push_hours(changes: &mut Vec<Change>, from: u16, to: u16) -> Result<(), AllocError> {
+    if let Some(hours) = Hours::new(u64::from(from), u64::from(to)) {
+        changes.push(Change::Hours(hours))?;
+    }
+    Ok(())
+}
+
 impl<R: Threads + Sync> Search<'_, R> {
     /// Whether the plan is called safe with a change.
     fn is_safe(&self, change: &Change) -> Result<bool, AllocError> {
-        match changed_plan(self.alloc, self.source, self.plan, change)? {
-            Some(changed) => is_called_safe(self.rt, self.alloc, &changed),
-            None => Ok(false),
-        }
+        let Some(changed) = changed_plan(self.alloc, self.source, self.plan, change)? else {
+            return Ok(false);
+        };
+        is_called_safe(self.rt, self.alloc, &changed)
     }
 
     /// The start of a job later or earlier, if fields can say it.
@@ -80,101 +89,135 @@ impl<R: Threads + Sync> Search<'_, R> {
         }
     }
 
-    /// The change, if the plan is called safe with it.
-    fn if_safe(&self, change: Change) -> Result<Option<Change>, AllocError> {
-        if self.is_safe(&change)? {
-            return Ok(Some(change));
-        }
-        Ok(None)
-    }
-
-    /// The start of a job later or earlier, if the plan is safe with it.
-    fn start(&self, job: u16, shift: Shift) -> Result<Option<Change>, AllocError> {
-        match self.shifted(job, shift)? {
-            Some(start) => self.if_safe(Change::Start(start)),
-            None => Ok(None),
-        }
-    }
-
-    /// The starts of two jobs later or earlier, if the plan is safe with them.
+    /// The starts of two jobs later or earlier, if fields can say them.
     fn both(&self, jobs: (u16, u16), shifts: (Shift, Shift)) -> Result<Option<Change>, AllocError> {
         let Some(one) = self.shifted(jobs.0, shifts.0)? else {
             return Ok(None);
         };
         match self.shifted(jobs.1, shifts.1)? {
-            Some(other) => self.if_safe(Change::Both(one, other)),
+            Some(other) => Ok(Some(Change::Both(one, other))),
             None => Ok(None),
         }
     }
 
-    /// The starts of two jobs so many minutes later or earlier, if the plan is safe with them.
-    fn both_by(
+    /// Adds the starts of two jobs if the plan is safe with them, and tells whether it is.
+    fn add_both(
         &self,
+        changes: &mut Vec<Change>,
+        jobs: (u16, u16),
+        shifts: (Shift, Shift),
+    ) -> Result<bool, AllocError> {
+        let Some(change) = self.both(jobs, shifts)? else {
+            return Ok(false);
+        };
+        let is_safe = self.is_safe(&change)?;
+        if is_safe {
+            changes.push(change)?;
+        }
+        Ok(is_safe)
+    }
+
+    /// So it is with starts that many minutes later or earlier.
+    fn add_both_by(
+        &self,
+        changes: &mut Vec<Change>,
         jobs: (u16, u16),
         one: u16,
         other: u16,
-    ) -> Result<Option<Change>, AllocError> {
+    ) -> Result<bool, AllocError> {
         for shifts in [
             (Shift::Later(one), Shift::Later(other)),
             (Shift::Later(one), Shift::Earlier(other)),
             (Shift::Earlier(one), Shift::Later(other)),
             (Shift::Earlier(one), Shift::Earlier(other)),
         ] {
-            if let Some(change) = self.both(jobs, shifts)? {
-                return Ok(Some(change));
+            if self.add_both(changes, jobs, shifts)? {
+                return Ok(true);
             }
         }
-        Ok(None)
+        Ok(false)
     }
 
-    /// The starts of two jobs, shifted by so many minutes together.
-    fn both_within(
+    /// So it is with starts that are shifted by so many minutes together.
+    fn add_both_within(
         &self,
+        changes: &mut Vec<Change>,
         jobs: (u16, u16),
         together: u16,
         within: u16,
-    ) -> Result<Option<Change>, AllocError> {
+    ) -> Result<bool, AllocError> {
         for one in STEPS {
             let other = together.saturating_sub(one);
-            if one <= within && other <= within && STEPS.iter().any(|step| *step == other) {
-                if let Some(change) = self.both_by(jobs, one, other)? {
-                    return Ok(Some(change));
-                }
+            let is_step = one <= within && other <= within && STEPS.as_slice().contains(&other);
+            if is_step && self.add_both_by(changes, jobs, one, other)? {
+                return Ok(true);
             }
         }
-        Ok(None)
+        Ok(false)
     }
 
-    /// The starts of the first two jobs with which the plan is safe, nearest first: at most 400 are
-    /// judged.
-    fn pair(&self, jobs: &[u16], within: u16) -> Result<Option<Change>, AllocError> {
+    /// Adds the starts of the first two jobs with which the plan is safe, nearest first: at most
+    /// 400 are judged.
+    fn add_pair(
+        &self,
+        changes: &mut Vec<Change>,
+        jobs: &[u16],
+        within: u16,
+    ) -> Result<(), AllocError> {
         let [one, other, ..] = jobs else {
-            return Ok(None);
+            return Ok(());
         };
         for together in 10..=240u16 {
-            if let Some(change) = self.both_within((*one, *other), together, within)? {
-                return Ok(Some(change));
+            if self.add_both_within(changes, (*one, *other), together, within)? {
+                return Ok(());
             }
         }
-        Ok(None)
+        Ok(())
     }
 
-    /// The start of a job later or earlier, by up to four minutes less if that does too, if the
-    /// plan is safe with it.
-    fn nearest(&self, job: u16, shift: Shift) -> Result<Option<Change>, AllocError> {
-        let Some(found) = self.start(job, shift)? else {
-            return Ok(None);
+    /// Whether the plan is safe with the start of a job later or earlier.
+    fn is_safe_start(&self, job: u16, shift: Shift) -> Result<bool, AllocError> {
+        let Some(start) = self.shifted(job, shift)? else {
+            return Ok(false);
         };
+        let change = Change::Start(start);
+        self.is_safe(&change)
+    }
+
+    /// The shift if the plan is safe with it, or one by up to four minutes less if that does too.
+    fn nearest(&self, job: u16, shift: Shift) -> Result<Option<Shift>, AllocError> {
+        if !self.is_safe_start(job, shift)? {
+            return Ok(None);
+        }
         let minutes = shift.minutes();
         if minutes <= FINE {
-            return Ok(Some(found));
+            return Ok(Some(shift));
         }
         for fewer in minutes.saturating_sub(FINE - 1)..minutes {
-            if let Some(nearer) = self.start(job, shift.by(fewer))? {
-                return Ok(Some(nearer));
+            if self.is_safe_start(job, shift.by(fewer))? {
+                return Ok(Some(shift.by(fewer)));
             }
         }
-        Ok(Some(found))
+        Ok(Some(shift))
+    }
+
+    /// Adds the start of a job later or earlier, unless it has one.
+    fn add_start(
+        &self,
+        changes: &mut Vec<Change>,
+        job: u16,
+        shift: Shift,
+    ) -> Result<(), AllocError> {
+        if is_found(changes.as_slice(), job, shift) {
+            return Ok(());
+        }
+        let Some(nearest) = self.nearest(job, shift)? else {
+            return Ok(());
+        };
+        if let Some(start) = self.shifted(job, nearest)? {
+            changes.push(Change::Start(start))?;
+        }
+        Ok(())
     }
 
     /// Adds the starts of the jobs so many minutes later and earlier, for those that have none yet.
@@ -185,23 +228,18 @@ impl<R: Threads + Sync> Search<'_, R> {
         minutes: u16,
     ) -> Result<(), AllocError> {
         for job in jobs {
-            for shift in [Shift::Later(minutes), Shift::Earlier(minutes)] {
-                if !is_found(changes.as_slice(), *job, shift) {
-                    if let Some(change) = self.nearest(*job, shift)? {
-                        changes.push(change)?;
-                    }
-                }
-            }
+            self.add_start(changes, *job, Shift::Later(minutes))?;
+            self.add_start(changes, *job, Shift::Earlier(minutes))?;
         }
         Ok(())
     }
 
-    /// The greatest smaller longest time of a job with which the plan is safe.
-    fn max(&self, job: u16) -> Result<Option<Change>, AllocError> {
+    /// Adds the greatest smaller longest time of a job with which the plan is safe.
+    fn add_max(&self, changes: &mut Vec<Change>, job: u16) -> Result<(), AllocError> {
         let mut low = 0u16;
         let mut high = self.plan.job_at(job).max();
         for _ in 0..16 {
-            let middle = low.saturating_add(high.saturating_sub(low) / 2);
+            let middle = halfway(low, high);
             if middle > low {
                 if self.is_safe(&Change::Max(job, middle))? {
                     low = middle;
@@ -210,10 +248,10 @@ impl<R: Threads + Sync> Search<'_, R> {
                 }
             }
         }
-        if low == 0 {
-            return Ok(None);
+        if low > 0 {
+            changes.push(Change::Max(job, low))?;
         }
-        Ok(Some(Change::Max(job, low)))
+        Ok(())
     }
 
     /// Adds the modes of a job with which the plan is safe, but for its own.
@@ -227,13 +265,13 @@ impl<R: Threads + Sync> Search<'_, R> {
         Ok(())
     }
 
-    /// The least greater capacity with which the plan is safe. The greatest one is tried first:
+    /// Adds the least greater capacity with which the plan is safe. The greatest is tried first:
     /// where that doesn't help, none does.
-    fn capacity(&self) -> Result<Option<Change>, AllocError> {
+    fn add_capacity(&self, changes: &mut Vec<Change>) -> Result<(), AllocError> {
         let mut low = self.plan.capacity();
         let mut high = MAX_CAPACITY;
         if !self.is_safe(&Change::Capacity(high))? {
-            return Ok(None);
+            return Ok(());
         }
         for _ in 0..8 {
             let middle = low.saturating_add(high.saturating_sub(low) / 2);
@@ -245,81 +283,58 @@ impl<R: Threads + Sync> Search<'_, R> {
                 }
             }
         }
-        Ok(Some(Change::Capacity(high)))
+        changes.push(Change::Capacity(high))?;
+        Ok(())
     }
 
-    /// The catch-up hours between two minutes of the day, if the plan is safe with them.
-    fn is_safe_in(&self, from: u16, to: u16) -> Result<Option<Hours>, AllocError> {
-        let Some(hours) = Hours::new(u64::from(from), u64::from(to)) else {
-            return Ok(None);
-        };
-        if self.is_safe(&Change::Hours(hours))? {
-            return Ok(Some(hours));
+    /// Whether the plan is safe with the catch-up hours between two minutes of the day.
+    fn is_safe_in(&self, from: u16, to: u16) -> Result<bool, AllocError> {
+        match Hours::new(u64::from(from), u64::from(to)) {
+            Some(hours) => self.is_safe(&Change::Hours(hours)),
+            None => Ok(false),
         }
-        Ok(None)
     }
 
-    /// The most catch-up hours that end earlier and with which the plan is safe.
-    fn shorter_hours(&self) -> Result<Option<Hours>, AllocError> {
+    /// Adds the most catch-up hours that end earlier and with which the plan is safe.
+    fn add_shorter_hours(&self, changes: &mut Vec<Change>) -> Result<(), AllocError> {
         let from = self.plan.hours().from();
-        let mut found = None;
         let mut low = from;
         let mut high = self.plan.hours().to();
         for _ in 0..16 {
-            let middle = low.saturating_add(high.saturating_sub(low) / 2);
+            let middle = halfway(low, high);
             if middle > low {
-                match self.is_safe_in(from, middle)? {
-                    Some(hours) => {
-                        found = Some(hours);
-                        low = middle;
-                    }
-                    None => high = middle,
+                if self.is_safe_in(from, middle)? {
+                    low = middle;
+                } else {
+                    high = middle;
                 }
             }
         }
-        Ok(found)
+        push_hours(changes, from, low)
     }
 
-    /// The most catch-up hours that begin later and with which the plan is safe.
-    fn later_hours(&self) -> Result<Option<Hours>, AllocError> {
+    /// Adds the most catch-up hours that begin later and with which the plan is safe.
+    fn add_later_hours(&self, changes: &mut Vec<Change>) -> Result<(), AllocError> {
         let to = self.plan.hours().to();
-        let mut found = None;
         let mut low = self.plan.hours().from();
         let mut high = to;
         for _ in 0..16 {
-            let middle = low.saturating_add(high.saturating_sub(low).saturating_add(1) / 2);
+            let middle = halfway(low, high.saturating_add(1));
             if middle < high {
-                match self.is_safe_in(middle, to)? {
-                    Some(hours) => {
-                        found = Some(hours);
-                        high = middle;
-                    }
-                    None => low = middle,
+                if self.is_safe_in(middle, to)? {
+                    high = middle;
+                } else {
+                    low = middle;
                 }
             }
         }
-        Ok(found)
-    }
-
-    /// Adds other catch-up hours with which the plan is safe.
-    fn add_hours(&self, changes: &mut Vec<Change>) -> Result<(), AllocError> {
-        if self.plan.anacrontab().lines().is_empty() {
-            return Ok(());
-        }
-        for found in [self.shorter_hours()?, self.later_hours()?] {
-            if let Some(hours) = found {
-                changes.push(Change::Hours(hours))?;
-            }
-        }
-        Ok(())
+        push_hours(changes, high, to)
     }
 
     /// Adds the declarations of jobs with which the plan is safe.
     fn add_declared(&self, changes: &mut Vec<Change>, jobs: &[u16]) -> Result<(), AllocError> {
         for job in jobs {
-            if let Some(change) = self.max(*job)? {
-                changes.push(change)?;
-            }
+            self.add_max(changes, *job)?;
         }
         for job in jobs {
             self.add_modes(changes, *job)?;
@@ -327,27 +342,30 @@ impl<R: Threads + Sync> Search<'_, R> {
         Ok(())
     }
 
-    /// Changes with which the plan is safe, of these jobs and of all together, nearest first; where
-    /// there is none, one of two starts. The only error is want of memory.
-    pub(crate) fn changes(&self, jobs: &[u16], within: u64) -> Result<Vec<Change>, AllocError> {
+    /// Adds changes with which the plan is safe, of these jobs and of all together, nearest first;
+    /// where there is none, one of two starts. The only error is want of memory.
+    pub(crate) fn add_changes(
+        &self,
+        changes: &mut Vec<Change>,
+        jobs: &[u16],
+        within: u64,
+    ) -> Result<(), AllocError> {
         let within = within.min(MOST_MINUTES) as u16;
-        let mut changes = Vec::new(self.alloc);
         for minutes in 1..=within {
             if minutes <= FINE || minutes % FINE == 0 || minutes == within {
-                self.add_starts(&mut changes, jobs, minutes)?;
+                self.add_starts(changes, jobs, minutes)?;
             }
         }
         changes.sort_by_key(|change| minutes_of(change))?;
-        self.add_declared(&mut changes, jobs)?;
-        if let Some(change) = self.capacity()? {
-            changes.push(change)?;
+        self.add_declared(changes, jobs)?;
+        self.add_capacity(changes)?;
+        if !self.plan.anacrontab().lines().is_empty() {
+            self.add_shorter_hours(changes)?;
+            self.add_later_hours(changes)?;
         }
-        self.add_hours(&mut changes)?;
         if changes.is_empty() {
-            if let Some(change) = self.pair(jobs, within)? {
-                changes.push(change)?;
-            }
+            return self.add_pair(changes, jobs, within);
         }
-        Ok(changes)
+        Ok(())
     }
 }

@@ -2,79 +2,44 @@
 //! table is read again and judged.
 
 use crate::change::Shift;
+use crate::later::is_daily;
 use cs_civil::{Bytes, MINUTES_OF_DAY, push_number};
 use cs_crontab::{Part, Schedule};
 use cs_table::text::{first_line, skip_blanks, word};
 use std::alloc::{AllocError, Global};
 
-/// The numbers of a field, with those that the field can have: a `*` where these are all.
-#[derive(Drop)]
-struct Listed {
-    numbers: Vec<u16>,
-    all: usize,
+/// The numbers of a field, a bit each.
+fn numbers_of(schedule: &Schedule, part: Part) -> u64 {
+    let mut numbers = 0u64;
+    for number in 0..64u8 {
+        if schedule.field(part).has(number) {
+            numbers |= 1u64 << number;
+        }
+    }
+    numbers
 }
 
-/// Whether a number is among some.
-fn has(numbers: &[u16], number: u16) -> bool {
-    numbers.iter().any(|other| *other == number)
-}
-
-impl Listed {
-    fn none(alloc: Global, all: usize) -> Listed {
-        Listed {
-            numbers: Vec::new(alloc),
-            all,
-        }
+/// Adds numbers, a bit each, with commas between them; `*` where they are as many as there can be.
+fn push_numbers(
+    alloc: Global,
+    text: &mut Vec<u8>,
+    numbers: u64,
+    most: u32,
+) -> Result<(), AllocError> {
+    if numbers.count_ones() == most {
+        return text.extend_from_slice(b"*");
     }
-
-    fn of(alloc: Global, schedule: &Schedule, part: Part) -> Result<Listed, AllocError> {
-        let last = if part == Part::Dow { 6 } else { part.last() };
-        let mut found = Listed::none(alloc, usize::from(last.saturating_sub(part.first())) + 1);
-        for number in part.first()..=last {
-            if schedule.field(part).has(number) {
-                found.numbers.push(u16::from(number))?;
-            }
-        }
-        Ok(found)
-    }
-
-    fn is_all(&self) -> bool {
-        self.numbers.len() == self.all
-    }
-
-    /// Adds a number, unless it is there.
-    fn add(&mut self, number: u16) -> Result<(), AllocError> {
-        if !has(self.numbers.as_slice(), number) {
-            self.numbers.push(number)?;
-        }
-        Ok(())
-    }
-
-    /// Adds `*`, or the numbers with commas between them.
-    fn push_to(&self, alloc: Global, text: &mut Vec<u8>) -> Result<(), AllocError> {
-        if self.is_all() {
-            return text.extend_from_slice(b"*");
-        }
-        let mut is_first = true;
-        for number in self.numbers.iter() {
+    let mut is_first = true;
+    for number in 0..64u8 {
+        if (numbers >> number) & 1 == 1 {
             if !is_first {
                 text.push(b',')?;
             }
             is_first = false;
-            push_number(alloc, text, u128::from(*number))?;
-        }
-        Ok(())
-    }
-}
-
-/// Whether the command is due on each day.
-fn is_daily(alloc: Global, schedule: &Schedule) -> Result<bool, AllocError> {
-    for part in [Part::Dom, Part::Month, Part::Dow] {
-        if !Listed::of(alloc, schedule, part)?.is_all() {
-            return Ok(false);
+            push_number(alloc, text, u128::from(number))?;
         }
     }
-    Ok(true)
+    Ok(())
 }
 
 /// The minute of the day that another one becomes, and whether that is on another day.
@@ -84,59 +49,52 @@ fn moved(minute: u16, shift: Shift) -> (u16, bool) {
             let at = minute.saturating_add(by);
             (at % MINUTES_OF_DAY, at >= MINUTES_OF_DAY)
         }
-        Shift::Earlier(by) if by > minute => {
-            (
-                (minute.saturating_add(MINUTES_OF_DAY)).saturating_sub(by) % MINUTES_OF_DAY,
-                true,
-            )
+        Shift::Earlier(by) => {
+            let at = minute.saturating_add(MINUTES_OF_DAY).saturating_sub(by);
+            (at % MINUTES_OF_DAY, at < MINUTES_OF_DAY)
         }
-        Shift::Earlier(by) => (minute.saturating_sub(by), false),
     }
 }
 
-/// The minutes and the hours of a shifted schedule; none where no two lists give its times, or
-/// where a day field is restricted and a time comes over a midnight.
-fn shifted_times(
-    alloc: Global,
-    schedule: &Schedule,
-    shift: Shift,
-) -> Result<Option<(Listed, Listed)>, AllocError> {
-    let is_daily = is_daily(alloc, schedule)?;
-    let mut minutes = Listed::none(alloc, 60);
-    let mut hours = Listed::none(alloc, 24);
-    let mut times = 0usize;
+/// The minutes and the hours of a shifted schedule, a bit each; none where no two lists give its
+/// times, or where a day field is restricted and a time comes over a midnight.
+fn shifted_times(schedule: &Schedule, shift: Shift) -> Option<(u64, u64)> {
+    let is_daily = is_daily(schedule);
+    let mut minutes = 0u64;
+    let mut hours = 0u64;
+    let mut times = 0u32;
     for minute in schedule.times().iter() {
         let (at, is_over) = moved(minute, shift);
         if is_over && !is_daily {
-            return Ok(None);
+            return None;
         }
-        minutes.add(at % 60)?;
-        hours.add(at / 60)?;
+        minutes |= 1u64 << (at % 60);
+        hours |= 1u64 << (at / 60 % 24);
         times = times.saturating_add(1);
     }
-    if minutes.numbers.len().saturating_mul(hours.numbers.len()) != times {
-        return Ok(None);
+    if minutes.count_ones().saturating_mul(hours.count_ones()) != times {
+        return None;
     }
-    minutes.numbers.sort()?;
-    hours.numbers.sort()?;
-    Ok(Some((minutes, hours)))
+    Some((minutes, hours))
 }
 
-/// What stands behind the hour of a line: its day fields and its command. Those of `@daily` and its
-/// like are written as fields.
-fn rest_of(alloc: Global, line: &[u8], schedule: &Schedule) -> Result<Vec<u8>, AllocError> {
+/// Adds what stands behind the hour of a line: its day fields and its command. Those of `@daily`
+/// and its like are written as fields.
+fn push_rest(
+    alloc: Global,
+    text: &mut Vec<u8>,
+    line: &[u8],
+    schedule: &Schedule,
+) -> Result<(), AllocError> {
     let (first, behind) = word(skip_blanks(line));
     if first.first() != Some(&b'@') {
-        let (_, behind) = word(skip_blanks(behind));
-        return Vec::from_slice(alloc, behind);
+        return text.extend_from_slice(word(skip_blanks(behind)).1);
     }
-    let mut rest = Vec::new(alloc);
-    for part in [Part::Dom, Part::Month, Part::Dow] {
-        rest.push(b' ')?;
-        Listed::of(alloc, schedule, part)?.push_to(alloc, &mut rest)?;
+    for (part, most) in [(Part::Dom, 31u32), (Part::Month, 12), (Part::Dow, 7)] {
+        text.push(b' ')?;
+        push_numbers(alloc, text, numbers_of(schedule, part), most)?;
     }
-    rest.extend_from_slice(behind)?;
-    Ok(rest)
+    text.extend_from_slice(behind)
 }
 
 /// The line of that number, counted from 1; nothing where there is none.
@@ -164,14 +122,13 @@ pub(crate) fn shifted_line(
     schedule: &Schedule,
     shift: Shift,
 ) -> Result<Option<Bytes>, AllocError> {
-    let Some((minutes, hours)) = shifted_times(alloc, schedule, shift)? else {
+    let Some((minutes, hours)) = shifted_times(schedule, shift) else {
         return Ok(None);
     };
     let mut text = Vec::new(alloc);
-    minutes.push_to(alloc, &mut text)?;
+    push_numbers(alloc, &mut text, minutes, 60)?;
     text.push(b' ')?;
-    hours.push_to(alloc, &mut text)?;
-    let rest = rest_of(alloc, line_at(table, number), schedule)?;
-    text.extend_from_slice(rest.as_slice())?;
+    push_numbers(alloc, &mut text, hours, 24)?;
+    push_rest(alloc, &mut text, line_at(table, number), schedule)?;
     Ok(Some(Bytes::from_vec(text)))
 }

@@ -1,7 +1,7 @@
 use cs_civil::Bytes;
 
 /// The texts that a plan is read from.
-#[derive(Debug, Drop)]
+#[derive(Drop)]
 pub struct Source {
     /// The text of the crontab.
     pub table: Bytes,

@@ -10,10 +10,10 @@ ghost use Rattle.cs_chart.specs.Program.{is_called, is_name_byte, is_option};
 ghost use Rattle.cs_chart.specs.Program.{is_setting, is_sign, is_simple, is_valued, may_begin};
 ghost use Rattle.cs_chart.specs.Program.{passed, program_of};
 
-use cs_table::text::{skip_blanks, word};
+use cs_table::text::{is_among, skip_blanks, word};
 
 /// A program that runs another one, and has options of its own.
-#[derive(Clone, Copy, Debug)]
+#[derive(Clone, Copy)]
 enum Runner {
     /// nice(1) or ionice(1).
     Nice,
@@ -125,10 +125,8 @@ fn is_flock(word: &[u8]) -> bool
 fn begins_guard(word: &[u8]) -> bool
     ensures { result ≡ is_among (codes "cd" ∷ codes "test" ∷ codes "[" ∷ []) word.now }
 {
-    match word {
-        b"cd" | b"test" | b"[" => true,
-        _ => false,
-    }
+    let words: [&[u8]; 3] = [b"cd", b"test", b"["];
+    is_among(&words, word)
 }
 
 /// Whether a program may begin there.
@@ -177,15 +175,17 @@ fn is_option(text: &[u8]) -> bool
 fn is_valued(runner: Runner, word: &[u8]) -> bool
     ensures { result ≡ is_valued runner word.now }
 {
+    let nice: [&[u8]; 5] = [b"-n", b"--adjustment", b"-c", b"--class", b"--classdata"];
+    let flock: [&[u8]; 5] = [
+        b"-w",
+        b"--wait",
+        b"--timeout",
+        b"-E",
+        b"--conflict-exit-code",
+    ];
     match runner {
-        Runner::Nice => match word {
-            b"-n" | b"--adjustment" | b"-c" | b"--class" | b"--classdata" => true,
-            _ => false,
-        },
-        Runner::Flock => match word {
-            b"-w" | b"--wait" | b"--timeout" | b"-E" | b"--conflict-exit-code" => true,
-            _ => false,
-        },
+        Runner::Nice => is_among(&nice, word),
+        Runner::Flock => is_among(&flock, word),
     }
 }
 
@@ -223,9 +223,11 @@ fn behind_options(runner: Runner, text: &[u8]) -> &[u8]
 fn behind_mark(text: &[u8]) -> &[u8]
     ensures { result.now ≡ behind_mark text.now }
 {
-    match first_word(text) {
-        b"-c" | b"--command" => behind_word(text),
-        _ => text,
+    let marks: [&[u8]; 2] = [b"-c", b"--command"];
+    if is_among(&marks, first_word(text)) {
+        behind_word(text)
+    } else {
+        text
     }
 }
 

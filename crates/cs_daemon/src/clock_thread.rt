@@ -66,13 +66,10 @@ impl<'w, J: PlanLedger, T: Ledger, R: Wait, G, O: io::Write> Shared<'w, J, T, R,
             None => Cause::NoMemory,
         };
         self.go_down(&mut seat);
-        self.close();
-        self.audit(&mut seat);
         ClockEnd { cause, seat }
     }
 
     /// Goes on to each minute of the clock, until there is a cause to end.
-    #[tactic(auto, using(crate::proofs::Storing::none_written, crate::proofs::Storing::then_written))]
     fn keep_time<C: Clock, S: StampStore>(
         &self,
         clock: &mut C,

@@ -6,17 +6,15 @@ ghost use Rattle.cs_daemon.specs.Stamps.{AreWritten};
 ghost use Rattle.cs_keep.specs.Closed.{checked_in, keeping_in};
 ghost use Rattle.cs_keep.specs.Keeping.{IsKept};
 
-use crate::dispatch::Dispatch;
 use crate::end::{Cause, DaemonEnd};
-use crate::log::Log;
 use crate::plan_ledger::PlanLedger;
+use crate::shared::Shared;
 use crate::stamps::{Stored, stamps_of};
 use crate::threads::Gathered;
 use arrayvec::ArrayVec;
 use cs_check::Checked;
-use cs_decl::Plan;
 use cs_device::StampStore;
-use cs_keep::{Keep, Kept, Seat};
+use cs_keep::Keep;
 use std::io;
 use std::sync::ledger::Ledger;
 
@@ -56,23 +54,6 @@ pub(crate) fn no_keep(cause: Cause, workers: usize, stamp_faults: u64, log_fault
     }
 }
 
-/// Closes a keep with the seat that has every part.
-fn close<J: PlanLedger>(keep: Keep<J>, seat: Seat<J>, checked: Checked) -> Kept
-    requires plan { plan_in checked ≡ keep.core.plan }
-    requires parts { seat.parts ≡ J.parts }
-    ensures checked { checked_in result ≡ checked }
-    ensures kept { IsKept (keeping_in result) }
-    ensures total { seat.share ≡ (keeping_in result).total }
-    ensures core { (keeping_in result).core ≡ keep.core }
-{
-    let mut keep = keep;
-    let mut seat = seat;
-    keep.audit(&mut seat);
-    let kept = keep.close(checked);
-    let _core = kept.core();
-    kept
-}
-
 /// What the threads leave at their end.
 #[derive(Drop)]
 pub(crate) struct Left<J: PlanLedger> {
@@ -85,23 +66,29 @@ pub(crate) struct Left<J: PlanLedger> {
 
 impl<J: PlanLedger> Left<J> {
     /// Tries once more to write each stamp that the store lacks, and takes the counts.
-    pub(crate) fn behind<T: Ledger, S: StampStore, O: io::Write>(
-        plan: &Plan,
-        dispatch: Dispatch<J, T>,
-        log: Log<'_, O>,
+    pub(crate) fn behind<T: Ledger, R, G, S: StampStore, O: io::Write>(
+        shared: Shared<'_, J, T, R, G, O>,
         store: &mut S,
         stored: Stored,
     ) -> Left<J>
         ensures written { (known : List (Option ℕ))
-            × AreWritten S.writes plan.now.anacrontab.lines result.keep.core.state.stamps
-            stored.stamps.items store.old known store.new }
+            × AreWritten S.writes shared.entry.plan.now.anacrontab.lines
+            result.keep.core.state.stamps stored.stamps.items store.old known store.new }
         ensures faults { result.stamp_faults + S.failures store.old
             ≤ stored.faults + S.failures store.new }
     {
-        let mut log = log;
+        let Shared {
+            rt: _,
+            alloc: _,
+            plan,
+            gate: _,
+            dispatch,
+            bell: _,
+            log,
+        } = shared;
+        let (keep, overruns) = dispatch.into_inner().into_parts();
+        let mut log = log.into_inner();
         let mut stored = stored;
-        let overruns = dispatch.overruns();
-        let keep = dispatch.into_keep();
         let stamps = stamps_of(&keep);
         let failed = stored.write(plan, store, &stamps);
         log.write_unwritten(failed.as_slice());
@@ -133,7 +120,11 @@ impl<J: PlanLedger> Left<J> {
             shares,
             not_started,
         } = gathered;
-        let kept = close(self.keep, seat, checked);
+        let mut keep = self.keep;
+        let mut seat = seat;
+        keep.audit(&mut seat);
+        let kept = keep.close(checked);
+        let _core = kept.core();
         DaemonEnd {
             cause,
             total: kept.total(),

@@ -4,7 +4,7 @@ ghost use Rattle.cs_daemon.specs.Commands.{CarriesOut, IsOfCommand, IsOfJob, Run
 ghost use Rattle.cs_device.specs.Asked.{Asked};
 
 use crate::dispatch::Taken;
-use crate::names::run_name;
+use crate::names::push_run_name;
 use cs_anacrontab::{Anacrontab, Job};
 use cs_civil::Bytes;
 use cs_crontab::{Crontab, Line, command_parts};
@@ -69,7 +69,8 @@ fn run_command<W: Runner>(
         RunsJob W.runs plan.now run runner.old outcome runner.new) }
     ensures err { OnErr result (runner.new ≡ runner.old) }
 {
-    let name = run_name(alloc, plan, run)?;
+    let mut name = Vec::new(alloc);
+    push_run_name(alloc, &mut name, plan, run)?;
     let job = usize::from(run.job);
     let crontab = plan.crontab();
     if let Some(line) = crontab.lines().get(job) {

@@ -4,12 +4,13 @@ ghost use Rattle.arrayvec.specs.ArrayVec.{array_vec_len};
 ghost use Rattle.cs_check.specs.Checked.{plan_in};
 ghost use Rattle.cs_civil.specs.Calendar.{last_minute};
 ghost use Rattle.cs_daemon.specs.Causes.{IsBack, IsBeforeFirst};
-ghost use Rattle.cs_daemon.specs.Stamps.{AreKept, IsOnlyRead};
+ghost use Rattle.cs_daemon.specs.Stamps.{AreKept, AreRead, IsOnlyRead};
 ghost use Rattle.cs_daemon.specs.declared.end.Cause.TheVariants.{Stopped, LastMinute, ClockBack, ClockFailed, HistoryFull};
 ghost use Rattle.cs_device.specs.declared.clock.Tick.TheVariants.{At, Stop};
 ghost use Rattle.cs_history.specs.Plan.{first_start};
 ghost use Rattle.cs_keep.specs.Closed.{checked_in, keeping_in};
 ghost use Rattle.cs_keep.specs.Keeping.{IsKept};
+ghost use Rattle.cs_keep.specs.Seat.{all_parts};
 
 use crate::closing::{Left, no_keep};
 use crate::dispatch::Dispatch;
@@ -21,9 +22,10 @@ use crate::stamps::Stored;
 use crate::threads::run_threads;
 use cs_check::Checked;
 use cs_civil::Minute;
+use cs_decl::Plan;
 use cs_device::{Clock, Gate, Runner, StampStore, Tick};
 use cs_history::Start;
-use cs_keep::Keep;
+use cs_keep::{Keep, Seat};
 use std::alloc::Global;
 use std::io;
 use std::marker::Brand;
@@ -70,6 +72,38 @@ fn opened_at<T: Ledger>(blank: Blank, first: Minute) -> (Book<T>, Share<T>)
     (book, share)
 }
 
+/// Reads the stamps of the store, and opens a keep with them in the first minute, down. There is
+/// none if memory runs out.
+fn open<J: PlanLedger, S: StampStore, O: io::Write>(
+    alloc: Global,
+    blank: Blank,
+    plan: &Plan,
+    checked: &Checked,
+    store: &mut S,
+    log: &mut Log<'_, O>,
+    first: Minute,
+) -> (Stored, Option<(Keep<J>, Seat<J>)>)
+    requires blank { (blank.name ≡ J.name) × (blank.parts ≡ J.parts) }
+    requires parts { blank.parts ≡ plan.now.capacity + 1 }
+    requires start { first_start ≤ first }
+    ensures read { AreRead S.reads plan.now.anacrontab.lines
+        store.old result.0.stamps.items store.new }
+    ensures faults { result.0.faults + S.failures store.old ≤ S.failures store.new }
+    ensures keep { IfSome result.1 (λ both. (both.0.core.plan ≡ plan_in checked.now)
+        × (both.0.core.state.now ≡ first)) }
+    ensures seat { IfSome result.1 (λ both. both.1 ≡ all_parts J.parts) }
+{
+    let (stored, failed) = Stored::read(plan, store);
+    log.write_unread(failed.as_slice());
+    let start = Start::new(first, false, stored.stamps());
+    let parts = u64::from(plan.capacity()) + 1;
+    let Ok((keep, seat)) = Keep::<J>::open(alloc, blank, parts, checked, start) else {
+        return (stored, None);
+    };
+    (stored, Some((keep, seat)))
+}
+
+/// Runs the plan from the clock's first minute on.
 fn run_on<
     J: PlanLedger + Send + Sync,
     T: Ledger + Send + Sync,
@@ -90,6 +124,7 @@ fn run_on<
     gate: &G,
     store: &mut S,
     out: &mut O,
+    first: Minute,
 ) -> DaemonEnd
     requires as_many { vec_len runners ≡ (plan_in checked).capacity }
     requires few { (plan_in checked).capacity ≤ 64 }
@@ -97,6 +132,9 @@ fn run_on<
     requires parts { blank.parts ≡ (plan_in checked).capacity + 1 }
     requires plan { J.plan ≡ plan_in checked }
     requires time { (time.name ≡ T.name) × (time.parts ≡ T.parts) × (0 < T.parts) }
+    requires start { first_start ≤ first }
+    requires top { first ≤ C.top clock.old }
+    requires last { C.last clock.old ≡ Some (At first) }
     ensures shares { array_vec_len result.shares ≡ (plan_in checked).capacity + 1 }
     ensures sum { sum result.shares.items ≡ result.total }
     ensures none { result.keep ≡ None → result.total ≡ 0 }
@@ -109,7 +147,7 @@ fn run_on<
     ensures end_keep { result.cause ≡ LastMinute → result.keep ≢ None }
     ensures full_keep { result.cause ≡ HistoryFull → result.keep ≢ None }
     ensures rises { result.cause ≡ Stopped
-        → C.risen clock.new ≤ C.risen clock.old + slice_index_or result.shares.items 0 0 + 1 }
+        → C.risen clock.new ≤ C.risen clock.old + slice_index_or result.shares.items 0 0 }
     ensures failed { result.cause ≡ ClockFailed → C.failures clock.old < C.failures clock.new }
     ensures stamps { MatchOption result.keep
         (IsOnlyRead S.reads (plan_in checked).anacrontab.lines store.old store.new)
@@ -118,32 +156,24 @@ fn run_on<
     ensures faults { result.stamp_faults + S.failures store.old ≤ S.failures store.new }
 {
     let workers = runners.len();
-    let first = match first_minute(clock) {
-        Ok(minute) => minute,
-        Err(cause) => return no_keep(cause, workers, 0, 0),
-    };
-    let mut log = Log::new(alloc, checked.plan(), out);
-    let (stored, failed) = Stored::read(checked.plan(), store);
-    log.write_unread(failed.as_slice());
-    let start = Start::new(first, false, stored.stamps());
-    let parts = u64::from(checked.plan().capacity()) + 1;
-    let Ok((keep, seat)) = Keep::<J>::open(alloc, blank, parts, &checked, start) else {
+    let plan = checked.plan();
+    let mut log = Log::new(alloc, plan, out);
+    let (stored, opened) = open::<J, S, O>(alloc, blank, plan, &checked, store, &mut log, first);
+    let Some((keep, seat)) = opened else {
         return no_keep(Cause::NoMemory, workers, stored.faults, log.faults());
     };
     let (book, hand) = opened_at::<T>(time, first);
     let shared = Shared {
         rt,
         alloc,
-        plan: checked.plan(),
+        plan,
         gate,
         dispatch: Mutex::new(Dispatch::new(keep, book)),
         bell: Condvar::new(),
         log: Mutex::new(log),
     };
     let (stored, gathered) = run_threads(&shared, runners, clock, store, stored, seat, hand, first);
-    let (dispatch, log) = shared.into_parts();
-    let left = Left::behind(checked.plan(), dispatch, log, store, stored);
-    left.close(checked, gathered)
+    Left::behind(shared, store, stored).close(checked, gathered)
 }
 
 /// Runs a checked plan until the clock stops or the daemon can't go on: each run by one of the
@@ -196,6 +226,10 @@ pub fn run_daemon<
     ensures faults { result.stamp_faults + S.failures store.old ≤ S.failures store.new }
 {
     let parts = u64::from(checked.plan().capacity()) + 1;
+    let first = match first_minute(clock) {
+        Ok(minute) => minute,
+        Err(cause) => return no_keep(cause, runners.len(), 0, 0),
+    };
     run_on::<Brand, Brand, R, C, W, G, S, O>(
         rt,
         alloc,
@@ -207,5 +241,6 @@ pub fn run_daemon<
         gate,
         store,
         out,
+        first,
     )
 }

@@ -132,15 +132,19 @@ impl<J: PlanLedger, T: Ledger> Dispatch<J, T> {
         let _ = self.keep.step(seat, Event::End(returned.into_run()));
     }
 
-    /// Goes down, if that isn't refused.
+    /// Goes down, if that isn't refused, and lets no more starts come; those that there are may be
+    /// taken. The seat's share is a number of 64 bits.
     pub(crate) fn go_down(&mut self, seat: &mut Seat<J>)
         ensures keep { (self.new.keep ≡ with_event self.old.keep GoesDown)
             ⊎ (self.new.keep ≡ self.old.keep) }
         ensures next { self.new.next ≡ self.old.next }
         ensures grows { seat.old.share ≤ seat.new.share }
         ensures parts { seat.new.parts ≡ seat.old.parts }
+        ensures fits { seat.new.share < 2 ^ 64 }
     {
         let _ = self.keep.step(seat, Event::Down);
+        self.over = true;
+        self.keep.audit(seat);
     }
 
     /// Goes on to the minute, notes what to log, and starts a new journal if it may.
@@ -168,10 +172,10 @@ impl<J: PlanLedger, T: Ledger> Dispatch<J, T> {
         let from = self.keep.journal().len();
         let ticked = self.tick(seat, time, last, minute);
         let mut notices = Notices::none(alloc);
-        self.note_replies(&mut notices, from, last);
+        note_replies(self.keep.journal(), &mut notices, from, last);
         let late = note_overruns(self.keep.core(), &mut notices, last, minute);
         self.overruns = self.overruns.saturating_add(late);
-        let has_start = self.has_start(from);
+        let has_start = next_start(self.keep.journal(), from).is_some();
         let stamps = stamps_of(&self.keep);
         self.cut();
         Round {
@@ -210,32 +214,6 @@ impl<J: PlanLedger, T: Ledger> Dispatch<J, T> {
         ticked
     }
 
-    /// Whether a run started, by the entries from an index on.
-    fn has_start(&self, from: usize) -> bool {
-        let mut entries = self.keep.journal().iter().skip(from);
-        entries.any(|entry| matches!(entry.reply(), Reply::Started(_)))
-    }
-
-    /// Notes which runs wait or are skipped, by the entries from an index on, of minute `last`.
-    fn note_replies(&self, notices: &mut Notices, from: usize, last: Minute) {
-        let mut at = last.number();
-        for entry in self.keep.journal().iter().skip(from) {
-            match (entry.event(), entry.reply()) {
-                (Event::Minute(minute), _) => at = minute,
-                (Event::Up(minute), _) => at = minute,
-                (Event::Begin(job), Reply::Waiting) => notices.add(LogLine::Waiting(Run {
-                    job,
-                    at,
-                })),
-                (Event::Begin(job), Reply::Skipped) => notices.add(LogLine::Skipped(Run {
-                    job,
-                    at,
-                })),
-                _ => {}
-            }
-        }
-    }
-
     /// Starts a new journal if it may, so that it doesn't fill up. It may only if each start was taken.
     fn cut(&mut self)
         ensures desk { IsCut
@@ -260,28 +238,18 @@ impl<J: PlanLedger, T: Ledger> Dispatch<J, T> {
         self.keep.audit(seat)
     }
 
-    /// Lets no more starts come; those that there are may be taken.
-    pub(crate) fn close(&mut self) {
-        self.over = true;
-    }
-
-    /// How many runs were found late.
-    pub(crate) fn overruns(&self) -> u64 {
-        self.overruns
-    }
-
-    /// The keep alone.
-    pub(crate) fn into_keep(self) -> Keep<J>
-        ensures { result.core.plan ≡ J.plan }
+    /// The keep, and how many runs were found late.
+    pub(crate) fn into_parts(self) -> (Keep<J>, u64)
+        ensures { result.0.core.plan ≡ J.plan }
     {
         let Dispatch {
             keep,
             time: _,
             next: _,
-            overruns: _,
+            overruns,
             over: _,
         } = self;
-        keep
+        (keep, overruns)
     }
 }
 
@@ -299,6 +267,29 @@ fn next_start(journal: &[Entry], from: usize) -> Option<(usize, Run)>
         }
     }
     None
+}
+
+/// Notes which runs wait or are skipped, by the entries from an index on, of minute `last`.
+fn note_replies(journal: &[Entry], notices: &mut Notices, from: usize, last: Minute) {
+    let mut at = last.number();
+    for place in from..journal.len() {
+        let entry = &journal[place];
+        match entry.event() {
+            Event::Minute(minute) => at = minute,
+            Event::Up(minute) => at = minute,
+            Event::Begin(job) => note_reply(notices, entry.reply(), Run { job, at }),
+            _ => {}
+        }
+    }
+}
+
+/// Notes that a run waits or is skipped, if that is the reply to its begin.
+fn note_reply(notices: &mut Notices, reply: Reply, run: Run) {
+    match reply {
+        Reply::Waiting => notices.add(LogLine::Waiting(run)),
+        Reply::Skipped => notices.add(LogLine::Skipped(run)),
+        _ => {}
+    }
 }
 
 /// Notes which running runs are late at the minute, and were not at the last one. Returns how many.

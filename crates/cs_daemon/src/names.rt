@@ -1,5 +1,5 @@
 //! The names of jobs and of their runs.
-ghost use Rattle.std.specs.Prelude.{◌≡◌, ◌++◌, IfOk, OnOk};
+ghost use Rattle.std.specs.Prelude.{◌≡◌, ◌++◌, OnOk};
 ghost use Rattle.cs_daemon.specs.Names.{job_front, job_name, minute_if_civil, run_name};
 
 use cs_civil::{Minute, date_text};
@@ -59,7 +59,8 @@ fn push_minute(text: &mut Vec<u8>, at: u64) -> Result<(), AllocError>
     }
 }
 
-/// Adds the name of a run: its job, and the minute that it is due or that it began at.
+/// Adds the name of a run, such as `line 3 due 2024-09-13 23:30`: its job, and the minute that it is
+/// due or that it began at. The only error is out of memory.
 #[tactic(auto, unfolding(crate::specs::Names::run_name))]
 pub(crate) fn push_run_name(
     alloc: Global,
@@ -71,13 +72,4 @@ pub(crate) fn push_run_name(
 {
     push_job_front(alloc, text, plan, usize::from(run.job))?;
     push_minute(text, run.at)
-}
-
-/// The name of a run, such as `line 3 due 2024-09-13 23:30`. The only error is out of memory.
-pub(crate) fn run_name(alloc: Global, plan: &Plan, run: Run) -> Result<Vec<u8>, AllocError>
-    ensures { IfOk result (λ name. name.items ≡ run_name plan.now run) }
-{
-    let mut name = Vec::new(alloc);
-    push_run_name(alloc, &mut name, plan, run)?;
-    Ok(name)
 }

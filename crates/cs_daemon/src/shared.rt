@@ -1,7 +1,6 @@
 //! What all threads of a daemon share.
-ghost use Rattle.std.specs.Prelude.{◌≡◌, ◌+◌, ◌<◌, ◌≤◌, ◌^◌};
+ghost use Rattle.std.specs.Prelude.{◌≡◌, ◌<◌, ◌≤◌, ◌^◌};
 
-use crate::commands::Returned;
 use crate::dispatch::{Dispatch, Taken};
 use crate::log::Log;
 use crate::plan_ledger::PlanLedger;
@@ -42,47 +41,14 @@ impl<'w, J: PlanLedger, T: Ledger, R: Wait, G, O: io::Write> Shared<'w, J, T, R,
         None
     }
 
-    /// Makes the end of a run whose command has returned, under the lock.
-    pub(crate) fn end(&self, seat: &mut Seat<J>, returned: Returned)
-        ensures one { seat.new.share ≤ seat.old.share + 1 }
-        ensures parts { seat.new.parts ≡ seat.old.parts }
-    {
-        self.dispatch.lock(self.rt).end(seat, returned);
-    }
-
-    /// Goes down, under the lock.
+    /// Goes down, under the lock, and lets the workers end when no start is left. The share is a
+    /// number of 64 bits.
     pub(crate) fn go_down(&self, seat: &mut Seat<J>)
         ensures grows { seat.old.share ≤ seat.new.share }
         ensures parts { seat.new.parts ≡ seat.old.parts }
+        ensures fits { seat.new.share < 2 ^ 64 }
     {
         self.dispatch.lock(self.rt).go_down(seat);
-    }
-
-    /// Lets the workers end when no start is left.
-    pub(crate) fn close(&self) {
-        self.dispatch.lock(self.rt).close();
         self.bell.notify_all();
-    }
-
-    /// Learns that the share is below the total, so that it is a number of 64 bits.
-    pub(crate) fn audit(&self, seat: &mut Seat<J>)
-        ensures seat { seat.new ≡ seat.old }
-        ensures fits { seat.old.share < 2 ^ 64 }
-    {
-        self.dispatch.lock(self.rt).audit(seat);
-    }
-
-    /// What the locks guarded.
-    pub(crate) fn into_parts(self) -> (Dispatch<J, T>, Log<'w, O>) {
-        let Shared {
-            rt: _,
-            alloc: _,
-            plan: _,
-            gate: _,
-            dispatch,
-            bell: _,
-            log,
-        } = self;
-        (dispatch.into_inner(), log.into_inner())
     }
 }

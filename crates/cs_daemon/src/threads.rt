@@ -123,22 +123,15 @@ fn with_workers<
         let mut runner = runner;
         shared.work(&mut runner, seat)
     };
-    match scope.spawn(job) {
-        Ok(handle) => {
-            let mut gathered = with_workers(
-                scope, shared, rest, clock, store, stored, seat, time, first,
-            );
-            gathered.add(handle.join(shared.rt));
-            gathered
-        }
-        Err(refused) => {
-            let mut gathered = with_workers(
-                scope, shared, rest, clock, store, stored, seat, time, None,
-            );
-            gathered.add((refused.value)());
-            gathered
-        }
-    }
+    let spawned = scope.spawn(job);
+    let first = if spawned.is_ok() { first } else { None };
+    let mut gathered = with_workers(scope, shared, rest, clock, store, stored, seat, time, first);
+    let end = match spawned {
+        Ok(handle) => handle.join(shared.rt),
+        Err(refused) => (refused.value)(),
+    };
+    gathered.add(end);
+    gathered
 }
 
 // This use of a returned reference, which does nothing, ties it to the parameter that lent it.

@@ -42,7 +42,7 @@ impl<'w, J: PlanLedger, T: Ledger, R: Wait, G: Gate, O: io::Write> Shared<'w, J,
                 not_started = not_started.saturating_add(1);
             }
         }
-        self.audit(&mut seat);
+        self.dispatch.lock(self.rt).audit(&mut seat);
         WorkerEnd { seat, not_started }
     }
 
@@ -57,7 +57,7 @@ impl<'w, J: PlanLedger, T: Ledger, R: Wait, G: Gate, O: io::Write> Shared<'w, J,
         self.gate.pass(run, Point::Before);
         let (returned, outcome) = carry_out(self.alloc, self.plan, runner, taken);
         self.gate.pass(run, Point::After);
-        self.end(seat, returned);
+        self.dispatch.lock(self.rt).end(seat, returned);
         self.log.lock(self.rt).write(LogLine::Ended(run, outcome));
         outcome
     }

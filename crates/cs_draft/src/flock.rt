@@ -15,7 +15,7 @@ use crate::fronts::{behind_simple, behind_word, first_word};
 use crate::paths::is_direct;
 use crate::unlocked::Unlocked;
 use cs_history::Mode;
-use cs_table::text::digits;
+use cs_table::text::{digits, is_among};
 
 /// What an option asks for.
 #[derive(Clone, Copy)]
@@ -52,29 +52,23 @@ fn reason_of(option: &[u8]) -> Unlocked {
 fn is_exclusive(option: &[u8]) -> bool
     ensures { result ≡ is_among (codes "-e" ∷ codes "-x" ∷ codes "--exclusive" ∷ []) option.now }
 {
-    match option {
-        b"-e" | b"-x" | b"--exclusive" => true,
-        _ => false,
-    }
+    let words: [&[u8]; 3] = [b"-e", b"-x", b"--exclusive"];
+    is_among(&words, option)
 }
 
 fn is_at_once(option: &[u8]) -> bool
     ensures { result ≡ is_among (codes "-n" ∷ codes "--nb" ∷ codes "--nonblock"
         ∷ codes "--nonblocking" ∷ []) option.now }
 {
-    match option {
-        b"-n" | b"--nb" | b"--nonblock" | b"--nonblocking" => true,
-        _ => false,
-    }
+    let words: [&[u8]; 4] = [b"-n", b"--nb", b"--nonblock", b"--nonblocking"];
+    is_among(&words, option)
 }
 
 fn is_unseen(option: &[u8]) -> bool
     ensures { result ≡ is_among (codes "-o" ∷ codes "--close" ∷ codes "--verbose" ∷ []) option.now }
 {
-    match option {
-        b"-o" | b"--close" | b"--verbose" => true,
-        _ => false,
-    }
+    let words: [&[u8]; 3] = [b"-o", b"--close", b"--verbose"];
+    is_among(&words, option)
 }
 
 /// What the option asks for: a short one with its dash, or a long one.
@@ -243,10 +237,8 @@ const PLAIN: Asked = Asked {
 fn is_no_wait(word: &[u8]) -> bool
     ensures { result ≡ is_no_wait word.now }
 {
-    match word {
-        b"-w0" | b"--wait=0" | b"--timeout=0" => true,
-        _ => false,
-    }
+    let words: [&[u8]; 3] = [b"-w0", b"--wait=0", b"--timeout=0"];
+    is_among(&words, word)
 }
 
 /// Whether the option has the time of a wait in the next word.
@@ -254,10 +246,8 @@ fn is_wait(word: &[u8]) -> bool
     ensures { result
         ≡ is_among (codes "-w" ∷ codes "--wait" ∷ codes "--timeout" ∷ []) word.now }
 {
-    match word {
-        b"-w" | b"--wait" | b"--timeout" => true,
-        _ => false,
-    }
+    let words: [&[u8]; 3] = [b"-w", b"--wait", b"--timeout"];
+    is_among(&words, word)
 }
 
 /// Whether a wait of 0 seconds stands in the first two words.

@@ -16,7 +16,7 @@ ghost use Rattle.cs_draft.specs.Shell.{is_name_byte, is_of};
 
 use crate::named::is_called;
 use crate::shell::{is_name_byte, is_one_program};
-use cs_table::text::{skip_blanks, word};
+use cs_table::text::{is_among, skip_blanks, word};
 
 /// A program that runs another one, and has options of its own.
 #[derive(Clone, Copy, Debug)]
@@ -161,16 +161,20 @@ fn begins_with_dash(word: &[u8]) -> bool
 fn is_valued(runner: Runner, word: &[u8]) -> bool
     ensures { result ≡ is_valued runner word.now }
 {
+    let nice: [&[u8]; 8] = [
+        b"-n",
+        b"--adjustment",
+        b"-c",
+        b"--class",
+        b"--classdata",
+        b"-T",
+        b"-P",
+        b"-D",
+    ];
+    let timeout: [&[u8]; 4] = [b"-k", b"--kill-after", b"-s", b"--signal"];
     match runner {
-        Runner::Nice => match word {
-            b"-n" | b"--adjustment" | b"-c" | b"--class" | b"--classdata" | b"-T" | b"-P" | b"-D" =>
-                true,
-            _ => false,
-        },
-        Runner::Timeout => match word {
-            b"-k" | b"--kill-after" | b"-s" | b"--signal" => true,
-            _ => false,
-        },
+        Runner::Nice => is_among(&nice, word),
+        Runner::Timeout => is_among(&timeout, word),
     }
 }
 
@@ -195,10 +199,8 @@ fn is_silent(word: &[u8]) -> bool
     ensures { result ≡ is_among (codes "-v" ∷ codes "--verbose" ∷ codes "--preserve-status" ∷ [])
         word.now }
 {
-    match word {
-        b"-v" | b"--verbose" | b"--preserve-status" => true,
-        _ => false,
-    }
+    let words: [&[u8]; 3] = [b"-v", b"--verbose", b"--preserve-status"];
+    is_among(&words, word)
 }
 
 /// Whether the word is an option with which the program runs another one to its end.
@@ -258,9 +260,11 @@ fn behind_wait(text: &[u8]) -> Option<&[u8]>
     ensures { option_map (λ rest. rest.now) result
         ≡ behind_this (codes "-w" ∷ codes "--wait" ∷ []) text.now }
 {
-    match first_word(text) {
-        b"-w" | b"--wait" => Some(behind_word(text)),
-        _ => None,
+    let words: [&[u8]; 2] = [b"-w", b"--wait"];
+    if is_among(&words, first_word(text)) {
+        Some(behind_word(text))
+    } else {
+        None
     }
 }
 
@@ -428,10 +432,10 @@ fn behind_guard(text: &[u8]) -> Option<&[u8]>
 fn begins_guard(word: &[u8]) -> bool
     ensures { result ≡ begins_guard word.now }
 {
-    match word {
-        b"[" | b"test" | b"cd" | b"export" | b"umask" | b"exit" | b"true" | b":" => true,
-        _ => false,
-    }
+    let words: [&[u8]; 8] = [
+        b"[", b"test", b"cd", b"export", b"umask", b"exit", b"true", b":",
+    ];
+    is_among(&words, word)
 }
 
 // ---- fronts

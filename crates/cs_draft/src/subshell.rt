@@ -16,7 +16,7 @@ use crate::fronts::{behind_word, first_word};
 use crate::named::{is_called, is_parting};
 use crate::shell::{has_lone_ampersand, has_percent, quote_behind};
 use cs_history::Mode;
-use cs_table::text::{digits, is_blank, skip_blanks};
+use cs_table::text::{digits, is_among, is_blank, skip_blanks};
 
 // ---- what it runs
 
@@ -288,10 +288,8 @@ fn opened(word: &[u8]) -> &[u8]
 fn joins_output(word: &[u8]) -> bool
     ensures { result ≡ is_among ([] ∷ codes "2>&1" ∷ codes "1>&2" ∷ codes ">&2" ∷ []) word.now }
 {
-    match word {
-        b"" | b"2>&1" | b"1>&2" | b">&2" => true,
-        _ => false,
-    }
+    let words: [&[u8]; 4] = [b"", b"2>&1", b"1>&2", b">&2"];
+    is_among(&words, word)
 }
 
 /// Whether the word opens a file whose name stands for itself, or turns output to where other

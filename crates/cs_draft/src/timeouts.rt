@@ -19,6 +19,7 @@ use crate::lock::may_run_on;
 use crate::named::{is_called, is_parting};
 use crate::shell::{has_percent, is_one_program};
 use cs_decl::MAX_MINUTES;
+use cs_table::text::is_among;
 
 // ---- one call of timeout(1)
 
@@ -27,10 +28,8 @@ const KILL_AFTER: &[u8] = b"--kill-after=";
 fn is_kill_option(word: &[u8]) -> bool
     ensures { result ≡ is_among (codes "-k" ∷ codes "--kill-after" ∷ []) word.now }
 {
-    match word {
-        b"-k" | b"--kill-after" => true,
-        _ => false,
-    }
+    let words: [&[u8]; 2] = [b"-k", b"--kill-after"];
+    is_among(&words, word)
 }
 
 /// The seconds to the signal KILL, as the option at the front tells them, or else those so far.

@@ -10,7 +10,7 @@ ghost use Rattle.cs_learn.specs.Maxes.{AreMaxes, HasMaxes};
 use crate::log::Log;
 use crate::max::Factor;
 use crate::maxes::{maxes_of, with_maxes};
-use crate::summary::summary_text;
+use crate::summary::push_summary;
 use cs_anacrontab::Anacrontab;
 use cs_civil::Bytes;
 use cs_crontab::Crontab;
@@ -23,7 +23,7 @@ use std::alloc::{AllocError, Global};
 pub const NEW_MAX: u64 = 60;
 
 /// Declarations whose longest times are learned.
-#[derive(Debug, Drop)]
+#[derive(Drop)]
 pub struct Learned {
     /// The declarations: JSON.
     pub text: Bytes,
@@ -102,9 +102,9 @@ fn with_learned(
     let Some((text, now)) = with_maxes(alloc, lines, maxes, text.as_slice())? else {
         return Ok(None);
     };
-    let summary = summary_text(alloc, lines, places, log, maxes, now.entries())?;
     let mut told = told.into_vec();
-    told.extend_from_slice(summary.as_slice())?;
+    let entries = now.entries().cron.as_slice();
+    push_summary(alloc, &mut told, lines, places, log, maxes, entries)?;
     Ok(Some(Learned {
         text: Bytes::from_vec(text),
         told: Bytes::from_vec(told),

@@ -11,7 +11,7 @@ use std::marker::Model;
 const PLACES: usize = 4_321;
 
 /// A run that has ended.
-#[derive(Clone, Copy, Debug, PartialEq, Eq)]
+#[derive(Clone, Copy)]
 pub struct Ran {
     /// When it began.
     pub began: Moment,
@@ -20,7 +20,7 @@ pub struct Ran {
 }
 
 /// What is known of a job's runs.
-#[derive(Debug, Drop)]
+#[derive(Drop)]
 pub struct Evidence {
     by_minutes: Vec<u64>,
     number: u64,

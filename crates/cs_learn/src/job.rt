@@ -9,7 +9,7 @@ use cs_retrace::words::is_word;
 use std::alloc::{AllocError, Global};
 
 /// A job of a crontab, as logs name it.
-#[derive(Debug, Drop)]
+#[derive(Drop)]
 pub struct Job {
     number: u64,
     user: Option<Bytes>,

@@ -5,7 +5,7 @@ use crate::job::Job;
 use crate::log_line::LogLine;
 
 /// A job, and what is known of its runs.
-#[derive(Debug, Drop)]
+#[derive(Drop)]
 pub struct JobEvidence {
     /// The job.
     pub job: Job,

@@ -13,7 +13,7 @@ use std::alloc::{AllocError, Global};
 use std::marker::Model;
 
 /// Reads the lines of a log one by one, in memory that doesn't grow with their number.
-#[derive(Debug, Drop)]
+#[derive(Drop)]
 pub struct Learning {
     runs: OpenRuns,
     counts: Tally,

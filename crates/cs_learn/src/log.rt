@@ -16,7 +16,7 @@ use std::alloc::{AllocError, Global};
 use std::marker::Model;
 
 /// Reads logs byte by byte, in memory that doesn't grow with their length, for these jobs.
-#[derive(Debug, Drop)]
+#[derive(Drop)]
 pub struct Log {
     learning: Learning,
     open_line: Vec<u8>,

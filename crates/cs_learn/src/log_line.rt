@@ -2,7 +2,7 @@ use cs_civil::Bytes;
 use cs_retrace::Moment;
 
 /// Whether a run begins or ends.
-#[derive(Clone, Copy, Debug, PartialEq, Eq)]
+#[derive(Clone, Copy)]
 pub enum Sign {
     /// It begins.
     Begin,
@@ -13,7 +13,7 @@ pub enum Sign {
 }
 
 /// What a log calls a run.
-#[derive(Clone, Copy, Debug, PartialEq, Eq, Hash)]
+#[derive(Clone, Copy, PartialEq, Eq, Hash)]
 pub struct RunName {
     /// The number of its process, or of its parent's: in this program's log, of its line.
     pub number: u64,
@@ -22,7 +22,7 @@ pub struct RunName {
 }
 
 /// What a line of a log says of a run.
-#[derive(Debug, Drop)]
+#[derive(Drop)]
 pub struct LogLine {
     /// When the line was written.
     pub at: Moment,

@@ -10,7 +10,7 @@ use std::marker::Model;
 pub const LONGEST_MAX: u64 = 4_320;
 
 /// By how much a max is to be longer than the longest run: from 1 to 10, in hundredths.
-#[derive(Clone, Copy, Debug, PartialEq, Eq)]
+#[derive(Clone, Copy)]
 pub struct Factor {
     hundredths: u64,
 }

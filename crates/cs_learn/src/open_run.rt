@@ -3,7 +3,7 @@ use cs_civil::Bytes;
 use cs_retrace::Moment;
 
 /// A run that has begun.
-#[derive(Debug, Drop)]
+#[derive(Drop)]
 pub struct OpenRun {
     /// When it began.
     pub at: Moment,
@@ -14,7 +14,7 @@ pub struct OpenRun {
 }
 
 /// What the end of a run tells.
-#[derive(Clone, Copy, Debug, PartialEq, Eq)]
+#[derive(Clone, Copy)]
 pub enum Ending {
     /// It began then, and took so many seconds.
     Ran(Moment, u64),

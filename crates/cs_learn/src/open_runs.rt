@@ -13,7 +13,7 @@ use std::alloc::{AllocError, Global};
 use std::marker::Model;
 
 /// The runs that have begun and not ended, by name: at most [`MAX_OPEN`](crate::MAX_OPEN).
-#[derive(Debug, Drop)]
+#[derive(Drop)]
 pub struct OpenRuns {
     runs: IndexMap<RunName, OpenRun>,
 }

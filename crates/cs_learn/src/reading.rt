@@ -45,7 +45,7 @@ fn read_log<I: Inputs>(
 }
 
 /// A log that can't be read, or want of memory.
-#[derive(Clone, Copy, Debug, PartialEq, Eq)]
+#[derive(Clone, Copy)]
 pub struct Unread<'a> {
     /// The path of the log.
     pub path: &'a str,

@@ -2,7 +2,7 @@
 use crate::maxes::max_of;
 use cs_civil::push_number;
 use cs_crontab::Line;
-use cs_decl::Entries;
+use cs_decl::{CronEntry, Entries};
 use cs_diagnostics::{Object, Span, parsed, parts, trimmed};
 use serde_json::Value;
 use std::alloc::{AllocError, Global};
@@ -24,24 +24,49 @@ fn entries_in<'v>(
     }
 }
 
-/// Where the longest time of each entry stands, if it is there. The only error is out of memory.
-fn spans_of_maxes(alloc: Global, bytes: &[u8]) -> Result<Vec<Option<Span>>, AllocError> {
+/// Where the longest time of an entry stands, if it is there. The only error is out of memory.
+fn span_of_max(
+    alloc: Global,
+    bytes: &[u8],
+    entry: (&Value, Span),
+) -> Result<Option<Span>, AllocError> {
+    match Object::new(alloc, bytes, entry)?.whole("max") {
+        Some((_, span)) => Ok(Some(span)),
+        None => Ok(None),
+    }
+}
+
+/// Where the longest time of each entry of a list stands. The only error is out of memory.
+fn spans_in(
+    alloc: Global,
+    bytes: &[u8],
+    list: &[Value],
+    span: Span,
+) -> Result<Vec<Option<Span>>, AllocError> {
     let mut spans = Vec::new(alloc);
-    let Ok(value) = parsed(alloc, bytes)? else {
-        return Ok(spans);
-    };
-    let Some((list, span)) = entries_in(alloc, bytes, &value)? else {
-        return Ok(spans);
-    };
-    let places = parts(alloc, bytes, span)?;
-    for (entry, part) in list.iter().zip(places.iter()) {
-        let entry = Object::new(alloc, bytes, (entry, part.value))?;
-        match entry.whole("max") {
-            Some((_, span)) => spans.push(Some(span))?,
-            None => spans.push(None)?,
-        }
+    for (entry, part) in list.iter().zip(parts(alloc, bytes, span)?.iter()) {
+        spans.push(span_of_max(alloc, bytes, (entry, part.value))?)?;
     }
     Ok(spans)
+}
+
+/// Where the longest time of each entry stands, if it is there. The only error is out of memory.
+fn spans_of_maxes(alloc: Global, bytes: &[u8]) -> Result<Vec<Option<Span>>, AllocError> {
+    let Ok(value) = parsed(alloc, bytes)? else {
+        return Ok(Vec::new(alloc));
+    };
+    match entries_in(alloc, bytes, &value)? {
+        Some((list, span)) => spans_in(alloc, bytes, list.as_slice(), span),
+        None => Ok(Vec::new(alloc)),
+    }
+}
+
+/// The longest time that an entry is to have, if it has no parts and its line has one.
+fn learned_max(lines: &[Line], maxes: &[Option<u64>], entry: &CronEntry) -> Option<u64> {
+    if !entry.parts.is_empty() {
+        return None;
+    }
+    max_of(lines, maxes, &entry.name)
 }
 
 /// The text, in which the longest time of each entry without parts is that of its line, where there
@@ -57,10 +82,7 @@ pub(crate) fn spliced(
     let mut copied = 0usize;
     let spans = spans_of_maxes(alloc, bytes)?;
     for (entry, span) in entries.cron.as_slice().iter().zip(spans.iter()) {
-        if let Some(span) = span
-            && let Some(max) = max_of(lines, maxes, &entry.name)
-            && entry.parts.is_empty()
-        {
+        if let (Some(span), Some(max)) = (span, learned_max(lines, maxes, entry)) {
             text.extend_from_slice(Span::between(copied, span.from).bytes(bytes))?;
             push_number(alloc, &mut text, u128::from(max))?;
             copied = span.to;

@@ -6,18 +6,38 @@ use crate::limits::FEW_RUNS;
 use crate::log::Log;
 use crate::maxes::is_named;
 use crate::tally::Tally;
+use cs_civil::push_number;
 use cs_crontab::{Line, When};
-use cs_decl::{CronEntry, Entries};
+use cs_decl::CronEntry;
 use cs_gap::least_gap;
 use cs_gather::{Place, place_of, push_place_text};
 use std::alloc::{AllocError, Global};
 
+const LOST: &[u8] = b"note: ends left out, since no line tells of the start: ";
+
+const UNCLEAR: &[u8] =
+    b"note: ends left out, since the clock went back or the log doesn't tell the year: ";
+
+const TOO_LONG: &[u8] = b"note: lines left out, since they have more than 8192 bytes: ";
+
 type Done = Result<(), AllocError>;
 
+/// Adds a count between two texts.
+fn push_count(alloc: Global, text: &mut Vec<u8>, front: &[u8], count: u64, behind: &[u8]) -> Done {
+    text.extend_from_slice(front)?;
+    push_number(alloc, text, u128::from(count))?;
+    text.extend_from_slice(behind)
+}
+
+/// `1 run`, or `2 runs`.
+fn push_runs(alloc: Global, text: &mut Vec<u8>, count: u64) -> Done {
+    let runs: &[u8] = if count == 1 { b" run" } else { b" runs" };
+    push_count(alloc, text, b"", count, runs)
+}
+
 /// `line 3`, or `line 3, /etc/cron.d/munin:12 (munin)` where it has a place.
-fn push_line(alloc: Global, text: &mut Vec<u8>, places: &[Place], line: &Line) -> Done {
-    let number = line.number();
-    text.extend_from_slice(format!(in alloc; "line {number}")?.as_bytes())?;
+fn push_line(alloc: Global, text: &mut Vec<u8>, places: &[Place], number: u32) -> Done {
+    push_count(alloc, text, b"line ", u64::from(number), b"")?;
     match place_of(places, number) {
         Some(place) => {
             text.extend_from_slice(b", ")?;
@@ -29,32 +49,31 @@ fn push_line(alloc: Global, text: &mut Vec<u8>, places: &[Place], line: &Line) -
 
 /// `2 runs (fewer than 10), median 1 min`
 fn push_counts(alloc: Global, text: &mut Vec<u8>, evidence: &Evidence) -> Done {
-    let (count, few) = (evidence.count(), FEW_RUNS);
-    let runs = if count == 1 { "run" } else { "runs" };
-    text.extend_from_slice(format!(in alloc; "{count} {runs}")?.as_bytes())?;
+    push_runs(alloc, text, evidence.count())?;
     if evidence.is_thin() {
-        text.extend_from_slice(format!(in alloc; " (fewer than {few})")?.as_bytes())?;
+        push_count(alloc, text, b" (fewer than ", FEW_RUNS, b")")?;
     }
     match evidence.median() {
         Some(4_321) => text.extend_from_slice(b", median more than 4320 min"),
-        Some(median) => {
-            text.extend_from_slice(format!(in alloc; ", median {median} min")?.as_bytes())
-        }
+        Some(median) => push_count(alloc, text, b", median ", u64::from(median), b" min"),
         None => Ok(()),
     }
 }
 
 /// `, longest 90 s from Nov  7 09:17:01`
 fn push_longest(alloc: Global, text: &mut Vec<u8>, longest: Ran) -> Done {
-    let seconds = longest.seconds;
-    text.extend_from_slice(format!(in alloc; ", longest {seconds} s from ")?.as_bytes())?;
-    push_moment(alloc, text, longest.began)
+    push_count(alloc, text, b", longest ", longest.seconds, b" s from ")?;
+    push_moment(text, longest.began)
 }
 
 /// The entry that names a line.
-fn entry_of<'e>(entries: &'e Entries, line: &Line) -> Option<&'e CronEntry> {
-    let cron = entries.cron.as_slice();
-    cron.iter().find(|entry| is_named(&entry.name, line))
+fn entry_of<'e>(entries: &'e [CronEntry], line: &Line) -> Option<&'e CronEntry> {
+    for entry in entries {
+        if is_named(&entry.name, line) {
+            return Some(entry);
+        }
+    }
+    None
 }
 
 /// What is declared of it.
@@ -77,9 +96,9 @@ fn push_row(
     places: &[Place],
     line: &Line,
     evidence: &Evidence,
-    entries: &Entries,
+    entries: &[CronEntry],
 ) -> Done {
-    push_line(alloc, text, places, line)?;
+    push_line(alloc, text, places, line.number())?;
     match evidence.longest() {
         Some(longest) => {
             text.extend_from_slice(b": ")?;
@@ -101,6 +120,11 @@ fn longer_than(evidence: &Evidence, minutes: u16) -> u64 {
     count
 }
 
+/// Adds the front of a note on a line.
+fn push_note(alloc: Global, text: &mut Vec<u8>, line: &Line) -> Done {
+    push_count(alloc, text, b"note: line ", u64::from(line.number()), b": ")
+}
+
 /// Tells of runs that took longer than it may be to the next due minute.
 fn push_overrun(alloc: Global, text: &mut Vec<u8>, line: &Line, evidence: &Evidence) -> Done {
     let When::At(schedule) = line.when() else {
@@ -109,14 +133,13 @@ fn push_overrun(alloc: Global, text: &mut Vec<u8>, line: &Line, evidence: &Evide
     let Some(gap) = least_gap(schedule) else {
         return Ok(());
     };
-    let (number, count) = (line.number(), longer_than(evidence, gap));
+    let (count, gap) = (longer_than(evidence, gap), u64::from(gap));
     if count == 0 {
         return Ok(());
     }
-    let runs = if count == 1 { "run" } else { "runs" };
-    text.extend_from_slice(format!(in alloc;
-        "note: line {number}: {count} {runs} took longer than the {gap} min"
-    )?.as_bytes())?;
+    push_note(alloc, text, line)?;
+    push_runs(alloc, text, count)?;
+    push_count(alloc, text, b" took longer than the ", gap, b" min")?;
     text.extend_from_slice(b" that may lie between its due minutes\n")
 }
 
@@ -131,10 +154,15 @@ fn push_too_long(
     if max.is_some() || evidence.count() == 0 {
         return Ok(());
     }
-    let number = line.number();
-    text.extend_from_slice(format!(in alloc;
-        "note: line {number}: its longest run makes more than 4320 min, so its max isn't learned\n"
-    )?.as_bytes())
+    push_note(alloc, text, line)?;
+    text.extend_from_slice(b"its longest run makes more than 4320 min, so its max isn't learned\n")
+}
+
+/// Tells that two lines have one command.
+fn push_one_command(alloc: Global, text: &mut Vec<u8>, first: u32, second: u32) -> Done {
+    push_count(alloc, text, b"note: lines ", u64::from(first), b" and ")?;
+    push_count(alloc, text, b"", u64::from(second), b" have one command: ")?;
+    text.extend_from_slice(b"each run counts for both\n")
 }
 
 /// Tells of the first job before this one whose runs its logs can't tell from its own.
@@ -148,68 +176,76 @@ fn push_alike(
     let (Some(line), Some(job)) = (lines.get(place), jobs.get(place)) else {
         return Ok(());
     };
-    let number = line.number();
     for (other, known) in lines.iter().zip(jobs.iter()).take(place) {
         if job.job.is_like(&known.job) {
-            let other = other.number();
-            return text.extend_from_slice(format!(in alloc;
-                "note: lines {other} and {number} have one command: each run counts for both\n"
-            )?.as_bytes());
+            return push_one_command(alloc, text, other.number(), line.number());
         }
     }
     Ok(())
+}
+
+/// Tells what no line of the logs tells.
+fn push_untold(text: &mut Vec<u8>, tally: Tally) -> Done {
+    if tally.has_no_ends() {
+        text.extend_from_slice(b"note: the logs tell when jobs start, and never when they end. ")?;
+        text.extend_from_slice(b"Debian's cron logs the ends too, with one number for both, ")?;
+        return text.extend_from_slice(b"with EXTRA_OPTS=\"-L 15\" in /etc/default/cron\n");
+    }
+    if tally.begun == 0 {
+        return text.extend_from_slice(b"note: no line of the logs tells that a job starts\n");
+    }
+    Ok(())
+}
+
+/// Tells how many of such there are, where there are any.
+fn push_left_out(alloc: Global, text: &mut Vec<u8>, told: &[u8], count: u64) -> Done {
+    if count == 0 {
+        return Ok(());
+    }
+    push_count(alloc, text, told, count, b"\n")
 }
 
 /// Tells what the lines of the logs don't tell.
 fn push_tally(alloc: Global, text: &mut Vec<u8>, tally: Tally) -> Done {
-    let (lost, unclear, long) = (tally.no_beginning, tally.unclear, tally.too_long);
-    if tally.has_no_ends() {
-        text.extend_from_slice(b"note: the logs tell when jobs start, and never when they end. ")?;
-        text.extend_from_slice(b"Debian's cron logs the ends too, with one number for both, ")?;
-        text.extend_from_slice(b"with EXTRA_OPTS=\"-L 15\" in /etc/default/cron\n")?;
-    } else if tally.begun == 0 {
-        text.extend_from_slice(b"note: no line of the logs tells that a job starts\n")?;
-    }
-    if lost > 0 {
-        text.extend_from_slice(format!(in alloc;
-            "note: ends left out, since no line tells of the start: {lost}\n"
-        )?.as_bytes())?;
-    }
-    if unclear > 0 {
-        text.extend_from_slice(format!(in alloc;
-            "note: ends left out, since the clock went back or the log doesn't tell the year: {unclear}\n"
-        )?.as_bytes())?;
-    }
-    if long > 0 {
-        text.extend_from_slice(format!(in alloc;
-            "note: lines left out, since they have more than 8192 bytes: {long}\n"
-        )?.as_bytes())?;
+    push_untold(text, tally)?;
+    push_left_out(alloc, text, LOST, tally.no_beginning)?;
+    push_left_out(alloc, text, UNCLEAR, tally.unclear)?;
+    push_left_out(alloc, text, TOO_LONG, tally.too_long)
+}
+
+/// Adds the notes on lines.
+fn push_notes(
+    alloc: Global,
+    text: &mut Vec<u8>,
+    lines: &[Line],
+    jobs: &[JobEvidence],
+    maxes: &[Option<u64>],
+) -> Done {
+    for (place, line) in lines.iter().enumerate() {
+        if let (Some(known), Some(max)) = (jobs.get(place), maxes.get(place)) {
+            push_too_long(alloc, text, line, &known.evidence, *max)?;
+            push_overrun(alloc, text, line, &known.evidence)?;
+            push_alike(alloc, text, lines, jobs, place)?;
+        }
     }
     Ok(())
 }
 
-/// Returns what is told of the lines of a crontab, whose logs were read, and of which the entries
+/// Adds what is told of the lines of a crontab, whose logs were read, and of which the entries
 /// declare what they do now: a line each, and then the notes. The only error is out of memory.
-pub fn summary_text(
+pub fn push_summary(
     alloc: Global,
+    text: &mut Vec<u8>,
     lines: &[Line],
     places: &[Place],
     log: &Log,
     maxes: &[Option<u64>],
-    entries: &Entries,
-) -> Result<Vec<u8>, AllocError> {
+    entries: &[CronEntry],
+) -> Done {
     let jobs = log.jobs();
-    let mut text = Vec::new(alloc);
-    let mut notes = Vec::new(alloc);
-    for (place, line) in lines.iter().enumerate() {
-        if let (Some(known), Some(max)) = (jobs.get(place), maxes.get(place)) {
-            push_row(alloc, &mut text, places, line, &known.evidence, entries)?;
-            push_too_long(alloc, &mut notes, line, &known.evidence, *max)?;
-            push_overrun(alloc, &mut notes, line, &known.evidence)?;
-            push_alike(alloc, &mut notes, lines, jobs, place)?;
-        }
+    for (line, known) in lines.iter().zip(jobs.iter()) {
+        push_row(alloc, text, places, line, &known.evidence, entries)?;
     }
-    push_tally(alloc, &mut notes, log.tally())?;
-    text.extend_from_slice(notes.as_slice())?;
-    Ok(text)
+    push_notes(alloc, text, lines, jobs, maxes)?;
+    push_tally(alloc, text, log.tally())
 }

@@ -4,7 +4,7 @@ ghost use Rattle.cs_learn.specs.Learning.{has_no_ends, one_begun, one_ended, one
 use crate::open_run::Ending;
 
 /// How many lines of a log told what. No count goes past `u64::MAX`.
-#[derive(Clone, Copy, Debug, PartialEq, Eq)]
+#[derive(Clone, Copy)]
 pub struct Tally {
     /// That a run began.
     pub begun: u64,

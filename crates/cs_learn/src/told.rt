@@ -59,23 +59,17 @@ fn of_cron(
     ensures { IfOk result
         (λ line. line ≡ of_cron at sign writer user.now text.now (numbered text.now)) }
 {
-    let user = Bytes::from_slice(alloc, user)?;
-    match numbered(text) {
-        None => Ok(LogLine {
-            at,
-            sign,
-            name: process(writer),
-            user,
-            command: Bytes::from_slice(alloc, text)?,
-        }),
-        Some((own, command)) => Ok(LogLine {
-            at,
-            sign: own_sign(sign),
-            name: process(own),
-            user,
-            command: Bytes::from_slice(alloc, command)?,
-        }),
-    }
+    let (sign, number, command) = match numbered(text) {
+        None => (sign, writer, text),
+        Some((own, command)) => (own_sign(sign), own, command),
+    };
+    Ok(LogLine {
+        at,
+        sign,
+        name: process(number),
+        user: Bytes::from_slice(alloc, user)?,
+        command: Bytes::from_slice(alloc, command)?,
+    })
 }
 
 /// The user, whether the run begins or ends, and what stands in the second parentheses.

@@ -235,6 +235,15 @@ fn no_findings(alloc: Global, table: &[u8]) -> Result<Findings, AllocError>
     Ok(findings)
 }
 
+/// What is told of that, with notes on the lines of a gathered table.
+fn text_of(alloc: Global, table: &File<'_>, findings: &Findings) -> Result<Bytes, AllocError> {
+    let places = places_in(alloc, table.bytes)?;
+    let notes = notes_on(alloc, places.as_slice())?;
+    let mut text = Vec::new(alloc);
+    findings.tell(table, notes.as_slice(), &mut text)?;
+    Ok(Bytes::from_vec(text))
+}
+
 fn verdict_of(is_odd: bool) -> Verdict
     ensures { result ≡ (if is_odd then Odd else Clean) }
 {
@@ -262,12 +271,8 @@ pub fn lint_clock(
 {
     let mut findings = no_findings(alloc, table.bytes)?;
     find_in_lines(&mut findings, wanted, &Look::Changes(changes), table.bytes)?;
-    let places = places_in(alloc, table.bytes)?;
-    let notes = notes_on(alloc, places.as_slice())?;
-    let mut text = Vec::new(alloc);
-    findings.tell(table, notes.as_slice(), &mut text)?;
     Ok(Report {
-        text: Bytes::from_vec(text),
+        text: text_of(alloc, table, &findings)?,
         verdict: verdict_of(findings.has_oddities),
     })
 }

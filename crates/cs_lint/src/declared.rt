@@ -89,6 +89,11 @@ impl<'v> Declared<'v> {
         Ok(declared)
     }
 
+    /// What was found in them.
+    pub(crate) fn into_findings(self) -> Findings {
+        self.tell.findings
+    }
+
     /// Whether it's known that a line has no entry.
     pub(crate) fn lacks_line(&self, number: u32) -> bool {
         self.has_all_lines && !self.lines.contains(&i128::from(number))
@@ -162,14 +167,17 @@ impl<'v> Declared<'v> {
         let places = parts(alloc, self.bytes, span)?;
         for (index, (part, value)) in places.iter().zip(items.iter()).enumerate() {
             self.tell.look_at(kind, index);
-            if value.is_object() {
-                let entry = Object::new(alloc, self.bytes, (value, part.value))?;
-                self.look_at_entry(&entry, jobs)?;
-            } else {
-                self.tell.no_object(part.value)?;
-            }
+            self.look_at_item((value, part.value), jobs)?;
         }
         Ok(true)
+    }
+
+    fn look_at_item(&mut self, part: (&'v Value, Span), jobs: Option<&Table<'_>>) -> Done {
+        if !part.0.is_object() {
+            return self.tell.no_object(part.1);
+        }
+        let entry = Object::new(self.tell.findings.alloc, self.bytes, part)?;
+        self.look_at_entry(&entry, jobs)
     }
 
     fn look_at_entry(&mut self, entry: &Object<'v>, jobs: Option<&Table<'_>>) -> Done {

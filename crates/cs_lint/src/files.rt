@@ -59,9 +59,13 @@ fn look_at_declarations(
     let json = parsed(alloc, bytes)?;
     let given: Option<&Table<'_>> = if has_jobs { Some(&*jobs) } else { None };
     let found = Declared::at(alloc, bytes, &json, table, given, wanted)?;
-    table.find_beside(&found)?;
-    jobs.find_beside(&found)?;
-    Ok(found.tell.findings)
+    find_beside(&found, table, jobs)?;
+    Ok(found.into_findings())
+}
+
+fn find_beside(found: &Declared<'_>, table: &mut Table<'_>, jobs: &mut Table<'_>) -> Done {
+    table.find_beside(found)?;
+    jobs.find_beside(found)
 }
 
 impl Found {
@@ -74,8 +78,21 @@ impl Found {
         declarations: Option<&[u8]>,
         wanted: Wanted<'_>,
     ) -> Result<(Found, Vec<(u32, Span)>), AllocError> {
-        let bytes = table;
-        let mut table = Table::at(alloc, bytes, places, Kind::Crontab, wanted)?;
+        let looked = Table::at(alloc, table, places, Kind::Crontab, wanted)?;
+        let commands = looked.places_of_commands(table)?;
+        let found = Found::beside(alloc, looked, jobs, declarations, wanted)?;
+        Ok((found, commands))
+    }
+
+    /// What is found by the way beside a crontab.
+    fn beside(
+        alloc: Global,
+        table: Table<'_>,
+        jobs: Option<&[u8]>,
+        declarations: Option<&[u8]>,
+        wanted: Wanted<'_>,
+    ) -> Result<Found, AllocError> {
+        let mut table = table;
         let mut look = Table::at(alloc, jobs.unwrap_or(&[]), &[], Kind::Anacrontab, wanted)?;
         let declared = match declarations {
             Some(bytes) => {
@@ -83,13 +100,11 @@ impl Found {
             }
             None => Findings::new(alloc, &[])?,
         };
-        let commands = table.places_of_commands(bytes)?;
-        let found = Found {
-            table: table.findings,
-            jobs: look.findings,
+        Ok(Found {
+            table: table.into_findings(),
+            jobs: look.into_findings(),
             declared,
-        };
-        Ok((found, commands))
+        })
     }
 
     /// The same with what is odd in each line of the crontab.
@@ -256,6 +271,34 @@ fn some_file<'a>(file: Option<&File<'a>>) -> File<'a>
     }
 }
 
+/// What is told of files of which their readers answer that, and whether something in it is odd.
+fn told_of(
+    alloc: Global,
+    table: &File<'_>,
+    jobs: Option<&File<'_>>,
+    declarations: Option<&File<'_>>,
+    looked: &Looked<'_>,
+    wanted: &Wanted<'_>,
+) -> Result<(Bytes, bool), AllocError>
+    ensures told { IfOk result (λ told. (bytes : List ℕ) (others terms : Option (List ℕ))
+        → Finds looked.now.refusal bytes others terms → TellsFirst told.0 bytes others terms) }
+    ensures each { IfOk result (λ told. TellsEachLine told.0 table.now
+        (option_map (λ file. file.now) jobs.entry)) }
+    ensures odd { IfOk result (λ told. is_odd_table wanted.now table.now.bytes.now ≡ true
+        → told.1 ≡ true) }
+    ensures planned { IfOk result (λ told.
+        is_odd_some wanted.now table.now.bytes.now looked.now.plan ≡ true → told.1 ≡ true) }
+    ensures faults { IfOk result (λ told. wanted.now.faults_only ≡ true → told.1 ≡ false) }
+{
+    let (job_bytes, terms) = (bytes_of(jobs), bytes_of(declarations));
+    let places = places_in(alloc, table.bytes)?;
+    let places = places.as_slice();
+    let found = Found::of(alloc, table.bytes, places, job_bytes, terms, looked, wanted)?;
+    let (jobs, declarations) = (some_file(jobs), some_file(declarations));
+    let text = found.text(alloc, table, &jobs, &declarations, places)?;
+    Ok((text, found.is_odd(wanted)))
+}
+
 /// Everything that is wrong or odd in a crontab, an anacrontab and declarations, as far as there
 /// are any.
 ///
@@ -299,19 +342,10 @@ pub fn lint(
 {
     let (job_bytes, terms) = (bytes_of(jobs), bytes_of(declarations));
     let looked = look_at(alloc, table.bytes, job_bytes, terms)?;
-    let places = places_in(alloc, table.bytes)?;
-    let places = places.as_slice();
-    let found = Found::of(
-        alloc,
-        table.bytes,
-        places,
-        job_bytes,
-        terms,
-        &looked,
-        wanted,
-    )?;
-    let (jobs, declarations) = (some_file(jobs), some_file(declarations));
-    let text = found.text(alloc, table, &jobs, &declarations, places)?;
-    let verdict = verdict_of(&looked.refusal, found.is_odd(wanted));
-    Ok(Report { text, verdict })
+    let told = told_of(alloc, table, jobs, declarations, &looked, wanted)?;
+    let verdict = verdict_of(&looked.refusal, told.1);
+    Ok(Report {
+        text: told.0,
+        verdict,
+    })
 }

@@ -109,17 +109,21 @@ fn item_words(alloc: Global, field: Field, item: &[u8], fault: LineFault, is_fir
     match fault {
         LineFault::OutOfField => format!(in alloc; "the {name} is from {first} to {last}{names}"),
         LineFault::Reversed => reversed_words(alloc, part, item),
-        LineFault::BadStep => format!(in alloc; "the step after `/` is a number from 1 on"),
+        LineFault::BadStep => String::from_str(alloc, "the step after `/` is a number from 1 on"),
         LineFault::StepOnNumber => lone_step_words(alloc, part, item),
         _ if item.is_empty() => {
             format!(in alloc; "add an item of the {name} here, or remove the comma")
         }
-        _ => {
-            let text = shown(alloc, item)?;
-            let read = other_words(alloc, part, if is_first { item } else { &[] })?;
-            format!(in alloc; "`{text}` is no {name}{read}: write {first} to {last}{names}")
-        }
+        _ => no_item_words(alloc, field, item, is_first),
     }
+}
+
+fn no_item_words(alloc: Global, field: Field, item: &[u8], is_first: bool) -> Words {
+    let (part, name, names) = field;
+    let text = shown(alloc, item)?;
+    let read = other_words(alloc, part, if is_first { item } else { &[] })?;
+    let range = format_args!("{} to {}{names}", part.first(), part.last());
+    format!(in alloc; "`{text}` is no {name}{read}: write {range}")
 }
 
 /// Whether an item may have the byte.
@@ -127,11 +131,20 @@ fn is_part(byte: u8) -> bool {
     byte.is_ascii_alphanumeric() || matches!(byte, b'*' | b'-' | b'/')
 }
 
+/// What stands in front of the first byte that no item may have; nothing where there is none.
+fn front_of(item: &[u8]) -> &[u8] {
+    for (at, byte) in item.iter().enumerate() {
+        if !is_part(*byte) {
+            return Span::of(0, at).bytes(item);
+        }
+    }
+    &[]
+}
+
 /// What Debian's cron takes an item for that is none here: it skips the rest of a field behind the
 /// first byte that is no part of an item.
 fn other_words(alloc: Global, part: Part, item: &[u8]) -> Words {
-    let len = item.iter().position(|byte| !is_part(*byte)).unwrap_or(0);
-    let front = Span::of(0, len).bytes(item);
+    let front = front_of(item);
     match read_item(part, front) {
         Ok(_) => {
             let text = shown(alloc, front)?;

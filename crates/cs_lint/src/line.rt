@@ -18,23 +18,28 @@ pub(crate) fn word_behind(line: &[u8], others: usize) -> Span {
     found
 }
 
-/// The byte behind the next of these, from one byte on.
-fn behind(line: &[u8], from: usize, bytes: &[u8]) -> Option<usize> {
+/// The first of these bytes from one byte on; the end where there is none.
+pub(crate) fn first_of(bytes: &[u8], line: &[u8], from: usize) -> usize {
     let rest = &line[from.min(line.len())..];
-    let at = rest.iter().position(|byte| bytes.contains(byte))?;
-    Some(from.saturating_add(at).saturating_add(1))
+    for (at, byte) in rest.iter().enumerate() {
+        if bytes.contains(byte) {
+            return from.saturating_add(at);
+        }
+    }
+    line.len()
 }
 
 /// The byte behind the quote that closes the one there.
 fn behind_quotes(line: &[u8], from: usize) -> Option<usize> {
     let quote = line.get(from).copied().unwrap_or(b'"');
-    behind(line, from.saturating_add(1), &[quote])
+    let end = first_of(&[quote], line, from.saturating_add(1));
+    (end < line.len()).then_some(end.saturating_add(1))
 }
 
 /// What is at fault in a setting that can't be read, and why.
 pub(crate) fn bad_setting(line: &[u8]) -> (Span, &'static str) {
     let name = word_from(line, 0).from;
-    let mut end = behind(line, name, b" \t=").map_or(line.len(), |end| end.saturating_sub(1));
+    let mut end = first_of(b" \t=", line, name);
     if matches!(line.get(name), Some(b'"' | b'\'')) {
         let Some(closed) = behind_quotes(line, name) else {
             let why = "no quote closes this name: add one at its end";

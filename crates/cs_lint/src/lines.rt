@@ -50,6 +50,14 @@ impl<'v> Name<'v> {
         self.command.is_none_or(|(told, _)| begun.may_be(told))
     }
 
+    /// Whether it names a line without a command, and a command.
+    fn is_lineless(&self, table: &Table<'_>) -> bool {
+        match (self.apart(table), self.number) {
+            (Some(_), Some((number, _))) => table.begun_on(number).is_none(),
+            _ => false,
+        }
+    }
+
     /// Its number and command, where the line of that number has none or another one.
     fn apart(&self, table: &Table<'_>) -> Option<(i128, &'v str)> {
         let ((number, _), (told, _)) = (self.number?, self.command?);
@@ -58,6 +66,62 @@ impl<'v> Name<'v> {
             _ => Some((number, told)),
         }
     }
+}
+
+/// That with the lesser number, if any.
+fn lesser<'v>(
+    one: Option<(i128, &'v str)>,
+    other: Option<(i128, &'v str)>,
+) -> Option<(i128, &'v str)> {
+    let Some((least, _)) = one else {
+        return other;
+    };
+    let Some((number, _)) = other else {
+        return one;
+    };
+    if number < least { other } else { one }
+}
+
+/// The least number of an entry whose line has another command, with the entry's command.
+fn first_apart<'v>(names: &[Name<'v>], table: &Table<'_>) -> Option<(i128, &'v str)> {
+    let mut first = None;
+    for name in names {
+        first = lesser(first, name.apart(table));
+    }
+    first
+}
+
+/// Whether the lines of two or more entries have another command.
+fn are_many_apart(names: &[Name<'_>], table: &Table<'_>) -> bool {
+    let mut count = 0usize;
+    for name in names {
+        if name.apart(table).is_some() {
+            count = count.saturating_add(1);
+        }
+    }
+    count > 1
+}
+
+fn nearer(nearest: Option<i128>, by: i128) -> i128 {
+    let Some(other) = nearest else {
+        return by;
+    };
+    if by.unsigned_abs() < other.unsigned_abs() {
+        by
+    } else {
+        other
+    }
+}
+
+/// How far the nearest line of the command is from that number.
+fn nearest_step(table: &Table<'_>, from: i128, told: &str) -> Option<i128> {
+    let mut nearest = None;
+    for begun in table.begun.iter().rev() {
+        if begun.is(told) {
+            nearest = Some(nearer(nearest, i128::from(begun.number).saturating_sub(from)));
+        }
+    }
+    nearest
 }
 
 /// Lines that have moved: from which on, and how far down the table.
@@ -71,15 +135,20 @@ impl Shift {
     /// What moved the commands of two or more entries away from their lines: as far as the first
     /// of them is from the nearest line that has it, if all moved so.
     fn of(names: &[Name<'_>], table: &Table<'_>) -> Option<Shift> {
-        let apart = names.iter().filter_map(|name| name.apart(table));
-        let (from, told) = apart.min_by_key(|(number, _)| *number)?;
-        let lines = table.begun.iter().rev().filter(|begun| begun.is(told));
-        let steps = lines.map(|begun| i128::from(begun.number).saturating_sub(from));
-        let by = steps.min_by_key(|by| by.unsigned_abs())?;
+        let (from, told) = first_apart(names, table)?;
+        let by = nearest_step(table, from, told)?;
         let shift = Shift { from, by };
-        let fits = names.iter().all(|name| shift.fits(name, table));
-        let are_many = names.iter().filter_map(|name| name.apart(table)).count() > 1;
-        (fits && are_many && table.is_whole).then_some(shift)
+        (shift.fits_all(names, table) && are_many_apart(names, table)).then_some(shift)
+    }
+
+    /// Whether each fits, and the table is whole.
+    fn fits_all(self, names: &[Name<'_>], table: &Table<'_>) -> bool {
+        for name in names {
+            if !self.fits(name, table) {
+                return false;
+            }
+        }
+        table.is_whole
     }
 
     fn moved(self, number: i128) -> i128 {
@@ -108,6 +177,20 @@ impl Shift {
         let advice = "correct each \"line\", as 'cronsafe draft --update' does";
         format!(in alloc; "lines from {from} on are {far} further {way}: {advice}")
     }
+}
+
+/// The first entry whose line has no command, or else the first whose line has another one.
+fn first_to_tell<'v>(names: &[Name<'v>], table: &Table<'_>) -> Option<Name<'v>> {
+    let mut first = None;
+    for name in names {
+        if name.is_lineless(table) {
+            return Some(*name);
+        }
+        if first.is_none() && name.apart(table).is_some() {
+            first = Some(*name);
+        }
+    }
+    first
 }
 
 impl<'v> Declared<'v> {
@@ -220,10 +303,8 @@ impl<'v> Declared<'v> {
     /// Adds once that lines have moved: of the entries that this explains at the one whose fault
     /// the readers answer.
     fn find_shift(&mut self, table: &Table<'_>) -> Done {
-        let apart = self.names.iter().filter(|name| name.apart(table).is_some());
-        let line = |name: &&Name<'_>| name.number.map_or(0, |(line, _)| line);
-        let first = apart.min_by_key(|name| table.begun_on(line(name)).is_some());
-        match (self.shift, first.copied()) {
+        let first = first_to_tell(self.names.as_slice(), table);
+        match (self.shift, first) {
             (Some(shift), Some(name)) => {
                 self.tell.look_at(name.kind, name.index);
                 let advice = shift.words(self.tell.findings.alloc)?;
@@ -251,10 +332,9 @@ impl<'v> Declared<'v> {
 
     /// Adds that entries name their lines by number alone, where others tell commands.
     fn find_unbound(&mut self) -> Done {
-        let unbound = self.names.iter().filter(|name| !name.is_bound);
-        let mut numbers = unbound.filter_map(|name| name.number);
-        let (first, more, alloc) = (numbers.next(), numbers.count(), self.tell.findings.alloc);
-        let Some((_, span)) = first.filter(|_| self.names.iter().any(|name| name.is_bound)) else {
+        let (first, more) = unbound_in(self.names.as_slice());
+        let alloc = self.tell.findings.alloc;
+        let Some(span) = first else {
             return Ok(());
         };
         let more = match more {
@@ -265,6 +345,23 @@ impl<'v> Declared<'v> {
         let words = format_args!("nothing binds this entry{more} to a command: {advice}");
         self.tell.odd(span, "", words)
     }
+}
+
+/// The place of the first entry without a command, and how many more there are, if another entry
+/// tells one.
+fn unbound_in(names: &[Name<'_>]) -> (Option<Span>, usize) {
+    let (mut first, mut more, mut is_any_bound) = (None, 0usize, false);
+    for name in names {
+        is_any_bound = is_any_bound || name.is_bound;
+        if let (false, Some((_, span))) = (name.is_bound, name.number) {
+            if first.is_some() {
+                more = more.saturating_add(1);
+            } else {
+                first = Some(span);
+            }
+        }
+    }
+    (if is_any_bound { first } else { None }, more)
 }
 
 fn lineless_words(alloc: Global, table: &Table<'_>, line: i128, advice: Option<&str>) -> Words {

@@ -31,6 +31,17 @@ fn last_comment(text: &[u8]) -> usize {
     last
 }
 
+/// The byte at which the last `&` stands; 0 where there is none.
+fn last_ampersand(text: &[u8]) -> usize {
+    let mut last = 0usize;
+    for (at, byte) in text.iter().enumerate() {
+        if *byte == b'&' {
+            last = at;
+        }
+    }
+    last
+}
+
 /// Where that is in a line that has it.
 fn place_of(oddity: Oddity, line: &[u8]) -> Span {
     let len = line.len();
@@ -47,8 +58,7 @@ fn place_of(oddity: Oddity, line: &[u8]) -> Span {
         }
         Oddity::Background => {
             let front = Span::of(0, percent).bytes(line);
-            let last = front.iter().rposition(|byte| *byte == b'&');
-            Span::of(last.unwrap_or(0), 1)
+            Span::of(last_ampersand(front), 1)
         }
         Oddity::CommandComment => {
             let front = Span::of(0, percent).bytes(line);

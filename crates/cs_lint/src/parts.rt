@@ -6,7 +6,7 @@ use cs_diagnostics::{Done, Object, Span, parts, quoted, shown};
 use cs_gather::Place;
 use indexmap::{IndexMap, IndexSet};
 use serde_json::Value;
-use std::alloc::AllocError;
+use std::alloc::{AllocError, Global};
 
 /// What to do about a part that came or went.
 const ADVICE: &str = "as 'cronsafe draft --update' does";
@@ -24,6 +24,22 @@ pub(crate) struct Parts<'v> {
     minutes: Option<i128>,
 }
 
+/// The parts that an entry of `cron` lists, if it lists any, and the place of their list.
+fn listed<'v>(kind: Kind, entry: &Object<'v>) -> Option<(&'v [Value], Span)> {
+    let (value, span) = entry.member("parts").filter(|_| kind == Kind::Cron)?;
+    let items = value.as_array()?.as_slice();
+    (!items.is_empty()).then_some((items, span))
+}
+
+/// The names of the parts that the line of a place has.
+fn names_in(alloc: Global, place: &Place) -> Result<IndexSet<&[u8]>, AllocError> {
+    let mut names = IndexSet::new(alloc);
+    for part in place.parts.as_slice() {
+        names.insert(part.as_slice())?;
+    }
+    Ok(names)
+}
+
 impl<'v> Parts<'v> {
     /// Looks at those of the entry that is looked at, which may have none.
     pub(crate) fn at(
@@ -31,32 +47,40 @@ impl<'v> Parts<'v> {
         bytes: &'v [u8],
         entry: &Object<'v>,
     ) -> Result<Parts<'v>, AllocError> {
-        let (alloc, kind, index) = (tell.findings.alloc, tell.kind, tell.index);
+        let Some((items, span)) = listed(tell.kind, entry) else {
+            return Ok(Parts {
+                bracket: entry.bracket,
+                names: IndexMap::new(tell.findings.alloc),
+                has_all: false,
+                minutes: None,
+            });
+        };
         let mut found = Parts {
-            bracket: entry.bracket,
-            names: IndexMap::new(alloc),
-            has_all: false,
-            minutes: None,
+            bracket: Span::of(span.from, 1),
+            names: IndexMap::new(tell.findings.alloc),
+            has_all: true,
+            minutes: Some(0),
         };
-        let part = entry.member("parts").filter(|_| kind == Kind::Cron);
-        let Some((value, span)) = part else {
-            return Ok(found);
-        };
-        let items = value.as_array().map_or(&[][..], |items| items.as_slice());
-        if items.is_empty() {
-            return Ok(found);
-        }
-        found.bracket = Span::of(span.from, 1);
-        found.has_all = true;
-        found.minutes = Some(0);
-        tell.look_at(Kind::Part, index);
-        let places = parts(alloc, bytes, span)?;
-        for (place, value) in places.iter().zip(items.iter()) {
-            found.look_at(tell, bytes, (value, place.value))?;
-        }
-        tell.look_at(kind, index);
+        found.look_at_all(tell, bytes, items, span)?;
         found.find_sum(tell, entry)?;
         Ok(found)
+    }
+
+    fn look_at_all(
+        &mut self,
+        tell: &mut Tell<'_>,
+        bytes: &'v [u8],
+        items: &'v [Value],
+        span: Span,
+    ) -> Done {
+        let (kind, index) = (tell.kind, tell.index);
+        tell.look_at(Kind::Part, index);
+        let places = parts(tell.findings.alloc, bytes, span)?;
+        for (place, value) in places.iter().zip(items.iter()) {
+            self.look_at(tell, bytes, (value, place.value))?;
+        }
+        tell.look_at(kind, index);
+        Ok(())
     }
 
     fn look_at(&mut self, tell: &mut Tell<'_>, bytes: &'v [u8], part: (&'v Value, Span)) -> Done {
@@ -129,8 +153,7 @@ impl<'v> Parts<'v> {
 
     fn find_gone(&self, tell: &mut Tell<'_>, place: &Place) -> Done {
         let (alloc, line) = (tell.findings.alloc, place.line);
-        let has = place.parts.as_slice().iter().map(|part| part.as_slice());
-        let has = has.collect::<IndexSet<&[u8]>>(alloc)?;
+        let has = names_in(alloc, place)?;
         for (name, span) in self.names.iter() {
             if !has.contains(name.as_bytes()) {
                 let name = quoted(alloc, name)?;

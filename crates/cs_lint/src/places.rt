@@ -20,11 +20,19 @@ fn is_mark(line: &[u8]) -> bool {
     }
 }
 
+fn has_mark(bytes: &[u8]) -> bool {
+    for line in bytes.split(|byte| *byte == b'\n') {
+        if is_mark(line) {
+            return true;
+        }
+    }
+    false
+}
+
 /// The places that the comments of a text give, if a line of it sets the mark.
 fn places_by_line(alloc: Global, bytes: &[u8]) -> Result<Sequence<Place>, AllocError> {
     let mut places = Vec::new(alloc);
-    let mut lines = bytes.split(|byte| *byte == b'\n');
-    if bytes.len() <= MAX_TABLE && lines.any(|line| is_mark(line)) {
+    if bytes.len() <= MAX_TABLE && has_mark(bytes) {
         push_places(alloc, &mut places, bytes)?;
     }
     Ok(Sequence::from_vec(places))

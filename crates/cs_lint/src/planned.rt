@@ -252,8 +252,12 @@ fn find_about(
 
 /// The place of the command on the line of that number.
 fn place_of(places: &[(u32, Span)], number: u32) -> Span {
-    let found = places.iter().find(|(line, _)| *line == number);
-    found.map_or(Span::of(0, 0), |(_, place)| *place)
+    for (line, place) in places {
+        if *line == number {
+            return *place;
+        }
+    }
+    Span::of(0, 0)
 }
 
 /// Adds what is odd about each command of a plan, of which those places are known.

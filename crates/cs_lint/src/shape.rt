@@ -89,7 +89,12 @@ const MODE: &str = "one of \"none\", \"skip\", \"try\", \"wait\" and \"shared\""
 const MODES: &str = "none skip try wait shared";
 
 fn is_among(names: &str, name: &str) -> bool {
-    names.split_whitespace().any(|known| known == name)
+    for known in names.split_whitespace() {
+        if known == name {
+            return true;
+        }
+    }
+    false
 }
 
 /// Adds that a name is what is said of it, for none of those that are known.
@@ -145,21 +150,37 @@ fn find_lacking(tell: &mut Tell<'_>, object: &Object<'_>) -> Done {
 
 /// Adds what is wrong with the members of an object, each by itself.
 pub(crate) fn find_in_object(tell: &mut Tell<'_>, object: &Object<'_>) -> Done {
-    let (known, mut counted) = (names_of(tell.kind), IndexSet::new(tell.findings.alloc));
+    let mut counted = IndexSet::new(tell.findings.alloc);
     for (name, part) in object.members.iter().rev() {
-        let (name, span) = (name.as_str(), part.name);
-        if !counted.insert(name)? {
-            let text = quoted(tell.findings.alloc, name)?;
-            let why = "is given again later, and only the last one counts: remove one";
-            tell.odd(span, "", format_args!("{text} {why}"))?;
-        } else if tell.kind == Kind::Anacron && name == "mode" {
-            let why = "remove \"mode\": anacron jobs take no lock";
-            tell.fault(span, DeclFault::ModeOnAnacron, why)?;
-        } else if !is_among(known, name) {
-            find_none(tell, span, name, ("unknown", known, "known are"))?;
-        } else if let Some((value, place)) = object.member(name) {
-            find_in_value(tell, name, value, place)?;
-        }
+        let name = name.as_str();
+        let is_last = counted.insert(name)?;
+        find_in_member(tell, object, (name, part.name), is_last)?;
     }
     find_lacking(tell, object)
+}
+
+/// Adds what is wrong with a member, which may be given again later.
+fn find_in_member(
+    tell: &mut Tell<'_>,
+    object: &Object<'_>,
+    (name, span): (&str, Span),
+    is_last: bool,
+) -> Done {
+    let known = names_of(tell.kind);
+    if !is_last {
+        let text = quoted(tell.findings.alloc, name)?;
+        let why = "is given again later, and only the last one counts: remove one";
+        return tell.odd(span, "", format_args!("{text} {why}"));
+    }
+    if tell.kind == Kind::Anacron && name == "mode" {
+        let why = "remove \"mode\": anacron jobs take no lock";
+        return tell.fault(span, DeclFault::ModeOnAnacron, why);
+    }
+    if !is_among(known, name) {
+        return find_none(tell, span, name, ("unknown", known, "known are"));
+    }
+    match object.member(name) {
+        Some((value, place)) => find_in_value(tell, name, value, place),
+        None => Ok(()),
+    }
 }

@@ -1,7 +1,7 @@
 //! A crontab or an anacrontab that is looked at line by line.
 use crate::declared::Declared;
 use crate::front::Front;
-use crate::line::{bad_setting, word_behind, word_from};
+use crate::line::{bad_setting, first_of, word_behind, word_from};
 use crate::wanted::Wanted;
 use cs_anacrontab::{Entry as JobEntry, JobFault, MAX_JOBS, read_line as read_job_line};
 use cs_civil::all_kinds;
@@ -50,32 +50,35 @@ impl<'a> Begun<'a> {
 
     /// The place of the first word of its command, in the bytes of the table.
     fn word_of_command(&self, bytes: &[u8]) -> Span {
-        let rest = &bytes[self.place.from.min(bytes.len())..];
-        let len = rest
-            .iter()
-            .position(|byte| *byte == b'\n')
-            .unwrap_or(rest.len());
-        let command = self.name.map_or(0, |command| command.len());
-        word_from(&rest[..len], len.saturating_sub(command)).behind(self.place.from)
+        let end = first_of(b"\n", bytes, self.place.from);
+        let command = self.name.unwrap_or(&[]).len();
+        word_from(Span::of(0, end).bytes(bytes), end.saturating_sub(command))
     }
 
     fn find_misfit(&self, findings: &mut Findings, declared: &Declared<'_>) -> Done {
-        let (number, place) = (self.number, self.place);
-        match (&self.when, self.name) {
-            (Some(When::Reboot), _) if declared.keeps_line(number) => {
+        let number = self.number;
+        let (fault, why) = match &self.when {
+            None => return self.find_undeclared_job(findings, declared),
+            Some(When::Reboot) if declared.keeps_line(number) => {
                 let why = "put it into \"left_out\": outages would start it without bound";
-                let fault = format_args!("{} at line {number}", DeclFault::RebootLine);
-                findings.fault(place, format_args!("{fault}: {why}"))
+                (DeclFault::RebootLine, why)
             }
-            (Some(When::At(_)), _) if declared.lacks_line(number) => {
-                let fault = DeclFault::Undeclared;
+            Some(When::At(_)) if declared.lacks_line(number) => {
                 let why = "\"cron\" has no entry for this line: add one";
-                findings.fault(place, format_args!("{fault} at line {number}: {why}"))
+                (DeclFault::Undeclared, why)
             }
-            (None, Some(name)) if declared.lacks_job(name) => {
+            _ => return Ok(()),
+        };
+        let words = format_args!("{fault} at line {number}: {why}");
+        findings.fault(self.place, words)
+    }
+
+    fn find_undeclared_job(&self, findings: &mut Findings, declared: &Declared<'_>) -> Done {
+        match self.name {
+            Some(name) if declared.lacks_job(name) => {
                 let (fault, name) = (DeclFault::Undeclared, shown(findings.alloc, name)?);
                 let why = "\"anacron\" has no entry for this job: add one";
-                findings.fault(place, format_args!("{fault} at job {name}: {why}"))
+                findings.fault(self.place, format_args!("{fault} at job {name}: {why}"))
             }
             _ => Ok(()),
         }
@@ -118,8 +121,23 @@ impl<'a> Table<'a> {
         kind: Kind,
         wanted: Wanted<'a>,
     ) -> Result<Self, AllocError> {
-        let mut table = Table {
-            findings: Findings::new(alloc, bytes)?,
+        let findings = Findings::new(alloc, bytes)?;
+        let mut table = Table::with(findings, bytes, places, kind, wanted);
+        table.look_at_all(bytes)?;
+        Ok(table)
+    }
+
+    /// A table in which nothing is looked at yet.
+    fn with(
+        findings: Findings,
+        bytes: &'a [u8],
+        places: &'a [Place],
+        kind: Kind,
+        wanted: Wanted<'a>,
+    ) -> Self {
+        let alloc = findings.alloc;
+        Table {
+            findings,
             wanted,
             kind,
             line: bytes,
@@ -132,27 +150,39 @@ impl<'a> Table<'a> {
             is_whole: bytes.len() <= MAX_TABLE,
             is_read: true,
             places,
-        };
-        if !table.is_whole {
+        }
+    }
+
+    /// What was found in it.
+    pub(crate) fn into_findings(self) -> Findings {
+        self.findings
+    }
+
+    fn look_at_all(&mut self, bytes: &'a [u8]) -> Done {
+        if !self.is_whole {
             let why = "a table has at most 1,048,576 bytes: remove what begins here";
-            table.fault(Span::of(MAX_TABLE, 1), LineFault::TooLong.text(), why)?;
-            return Ok(table);
+            return self.fault(Span::of(MAX_TABLE, 1), LineFault::TooLong.text(), why);
         }
         for line in bytes.split(|byte| *byte == b'\n') {
-            table.line = line;
-            table.number = table.number.saturating_add(1);
-            match kind {
-                Kind::Crontab => table.look_at_line()?,
-                Kind::Anacrontab => table.look_at_job_line()?,
-            }
-            table.find_too_many()?;
-            table.start = table.start.saturating_add(line.len()).saturating_add(1);
+            self.look_at_next(line)?;
         }
-        if kind == Kind::Crontab {
-            table.find_user(bytes)?;
-            table.find_no_newline(bytes)?;
+        if self.kind == Kind::Crontab {
+            self.find_user(bytes)?;
+            self.find_no_newline(bytes)?;
         }
-        Ok(table)
+        Ok(())
+    }
+
+    fn look_at_next(&mut self, line: &'a [u8]) -> Done {
+        self.line = line;
+        self.number = self.number.saturating_add(1);
+        match self.kind {
+            Kind::Crontab => self.look_at_line()?,
+            Kind::Anacrontab => self.look_at_job_line()?,
+        }
+        self.find_too_many()?;
+        self.start = self.start.saturating_add(line.len()).saturating_add(1);
+        Ok(())
     }
 
     /// Adds that a table ends without a newline.
@@ -302,7 +332,8 @@ impl<'a> Table<'a> {
         }
         self.find_same()?;
         let number = self.number;
-        let first = self.names.get(&command).map_or(number, |(first, _)| *first);
+        let lines = self.names.get(&command).copied();
+        let (first, _) = lines.unwrap_or((number, number));
         self.names.insert(command, (first, number))?;
         self.begin(word_from(self.line, 0), Some(when), Some(command))
     }
@@ -326,20 +357,17 @@ impl<'a> Table<'a> {
     }
 
     fn find_never_due(&mut self, schedule: &Schedule) -> Done {
-        if !self.is_whole || all_kinds().any(|kind| schedule.is_day_due(kind)) {
+        if !self.is_whole {
             return Ok(());
         }
-        let months = all_kinds().filter(|kind| schedule.field(Part::Month).has(kind.month()));
-        let longest = months.map(|kind| kind.dom()).max().unwrap_or(0);
-        let first = (1..32).find(|dom| schedule.field(Part::Dom).has(*dom));
-        let (first, place) = (first.unwrap_or(0), word_behind(self.line, 2));
-        let place = Span::between(place.from, word_behind(self.line, 3).to);
+        let Some(longest) = longest_if_never_due(schedule) else {
+            return Ok(());
+        };
+        let first = first_day(schedule);
+        let place = Span::between(word_behind(self.line, 2).from, word_behind(self.line, 3).to);
         let longest = format_args!("its longest month has {longest} days: change either");
-        self.odd(
-            place,
-            "",
-            format_args!("never due: its first day is {first}, but {longest}"),
-        )
+        let words = format_args!("never due: its first day is {first}, but {longest}");
+        self.odd(place, "", words)
     }
 
     /// Adds the first command that seems to stand behind a user, if the table can be read.
@@ -366,10 +394,10 @@ impl<'a> Table<'a> {
     /// Adds that a setting of that name has no effect, if it's one that other daemons heed
     /// (`crontab(5)`, `anacrontab(5)`).
     fn find_unheeded(&mut self, name: &[u8]) -> Done {
-        let why = match name {
-            b"CRON_TZ" => "remove it, and set \"offset\" in the declarations",
-            b"RANDOM_DELAY" => "remove it, since no start is delayed at random",
-            b"START_HOURS_RANGE" => "set \"hours\" in the declarations instead",
+        let why = match str::from_utf8(name).unwrap_or("") {
+            "CRON_TZ" => "remove it, and set \"offset\" in the declarations",
+            "RANDOM_DELAY" => "remove it, since no start is delayed at random",
+            "START_HOURS_RANGE" => "set \"hours\" in the declarations instead",
             _ => return Ok(()),
         };
         let name = shown(self.findings.alloc, name)?;
@@ -378,21 +406,26 @@ impl<'a> Table<'a> {
     }
 
     fn look_at_job_line(&mut self) -> Done {
-        if let Err(wrong) = read_job_line(self.line) {
-            if wrong.fault == JobFault::Continued {
-                let last = Span::of(self.line.len().saturating_sub(wrong.left), 1);
-                let why = "continued lines aren't read: write it all on one line";
-                self.fault(last, wrong.fault.text(), why)?;
-                let kept = self.line.iter().rposition(|byte| *byte != b'\\');
-                let front = Span::of(0, kept.map_or(0, |at| at.saturating_add(1)));
-                self.line = front.bytes(self.line);
-            }
-        }
+        self.find_continued()?;
         match read_job_line(self.line) {
             Ok(JobEntry::Nothing) => Ok(()),
             Ok(JobEntry::Setting(name, _)) => self.find_unheeded(name),
             Ok(JobEntry::Job(_, _, name, _)) => self.look_at_identifier(name),
             Err(wrong) => self.look_at_bad(wrong.fault.text(), wrong.left),
+        }
+    }
+
+    /// Adds that a line is continued, of which the rest is then looked at.
+    fn find_continued(&mut self) -> Done {
+        let line = self.line;
+        match read_job_line(line) {
+            Err(wrong) if wrong.fault == JobFault::Continued => {
+                let last = Span::of(line.len().saturating_sub(wrong.left), 1);
+                let why = "continued lines aren't read: write it all on one line";
+                self.line = without_backslashes(line);
+                self.fault(last, wrong.fault.text(), why)
+            }
+            _ => Ok(()),
         }
     }
 
@@ -410,10 +443,11 @@ impl<'a> Table<'a> {
     /// The lines of its commands or jobs by their numbers, each with the place of the first word of
     /// its command.
     pub(crate) fn places_of_commands(&self, bytes: &[u8]) -> Result<Vec<(u32, Span)>, AllocError> {
-        let begun = self.begun.iter();
-        begun
-            .map(|begun| (begun.number, begun.word_of_command(bytes)))
-            .collect(self.findings.alloc)
+        let mut places = Vec::new(self.findings.alloc);
+        for begun in self.begun.iter() {
+            places.push((begun.number, begun.word_of_command(bytes)))?;
+        }
+        Ok(places)
     }
 
     /// Adds what doesn't fit the declarations.
@@ -423,6 +457,41 @@ impl<'a> Table<'a> {
         }
         Ok(())
     }
+}
+
+/// How many days the longest month of a schedule has that is due on no day.
+fn longest_if_never_due(schedule: &Schedule) -> Option<u8> {
+    let mut longest = 0u8;
+    for kind in all_kinds() {
+        if schedule.is_day_due(kind) {
+            return None;
+        }
+        if schedule.field(Part::Month).has(kind.month()) {
+            longest = longest.max(kind.dom());
+        }
+    }
+    Some(longest)
+}
+
+/// The first day of the month of a schedule.
+fn first_day(schedule: &Schedule) -> u8 {
+    for day in 1..32u8 {
+        if schedule.field(Part::Dom).has(day) {
+            return day;
+        }
+    }
+    0
+}
+
+/// A line without the backslashes at its end.
+fn without_backslashes(line: &[u8]) -> &[u8] {
+    let mut end = 0usize;
+    for (at, byte) in line.iter().enumerate() {
+        if *byte != b'\\' {
+            end = at.saturating_add(1);
+        }
+    }
+    Span::of(0, end).bytes(line)
 }
 
 /// What is called the command of a line.

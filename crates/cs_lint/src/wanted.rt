@@ -20,7 +20,7 @@ pub struct Wanted<'a> {
 fn has_name(names: &[&str], name: &str) -> bool
     ensures { result ≡ has_name names.now name.now }
 {
-    names.iter().any(|own| own.as_bytes() == name.as_bytes())
+    names.contains(&name)
 }
 
 impl Wanted<'_> {

@@ -1,5 +1,5 @@
 //! How often each kind of event was told in a log.
-ghost use Rattle.std.specs.Prelude.{◌≡◌, codes};
+ghost use Rattle.std.specs.Prelude.{◌≡◌};
 ghost use Rattle.cs_machine.specs.State.{counted, counted_in};
 
 /// How many lines of a log tell each of these; the last count of 64 bits stays.

@@ -6,10 +6,10 @@ ghost use Rattle.cs_machine.specs.Home.{fields_of, home_of, home_on, is_entry_of
 ghost use Rattle.cs_machine.specs.Home.{lines_of};
 
 use crate::pieces::piece;
+use crate::replacing::read_first;
 use cs_civil::{Bytes, push_number};
 use std::alloc::{AllocError, Global};
 use std::fs;
-use std::io::Read;
 use std::os::unix::fs::MetadataExt;
 use std::rt::Files;
 
@@ -46,12 +46,7 @@ impl Home {
     /// looked at, or if memory runs out.
     pub fn of_process<R: Files>(rt: &R, alloc: Global) -> Option<Home> {
         let user = fs::metadata(rt, "/proc/self").ok()?.uid();
-        let mut text = Vec::new(alloc);
-        fs::open(rt, "/etc/passwd")
-            .ok()?
-            .take(MOST)
-            .read_to_end(&mut text)
-            .ok()?;
+        let text = read_first(rt, alloc, "/etc/passwd", MOST).ok()?;
         home_of(alloc, user, text.as_slice()).ok()?
     }
 

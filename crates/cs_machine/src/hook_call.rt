@@ -1,10 +1,13 @@
 //! What happened to a run, for which a command of the operator's is started.
-ghost use Rattle.std.specs.Prelude.{◌≡◌, ◌≢◌, ◌++◌, ◌==◌, ℕ, List, false, codes, IfOk, IfSome, IsNone, OnErr, OnOk};
+ghost use Rattle.std.specs.Prelude.{◌≡◌, ◌++◌, ◌==◌, ℕ, List, false, codes, IfOk, IfSome};
+ghost use Rattle.std.specs.Prelude.{IsNone, OnErr, OnOk};
 ghost use Rattle.std.specs.List.{list_any};
+ghost use Rattle.std.specs.Result.{is_ok};
 ghost use Rattle.cs_machine.specs.HookCall.{EndsBy, Keeps, Tells, TellsEnd, TellsFailure, TellsSignal};
+ghost use Rattle.cs_machine.specs.RunLog.{IsCalled};
 ghost use Rattle.cs_machine.specs.declared.hook_call.HookCall.{HookCall as TheCall};
 
-use crate::setup::{JobNote, peers_of};
+use crate::setup::{JobNote, Setup, peers_of};
 use cs_civil::Bytes;
 use memchr::memrchr;
 use std::alloc::{AllocError, Global};
@@ -88,6 +91,15 @@ fn failed_run(words: &[u8]) -> Option<(&[u8], &[u8])>
     Some((run, status))
 }
 
+/// Two texts of their own. The only error is out of memory.
+fn copied(alloc: Global, one: &[u8], other: &[u8]) -> Result<(Bytes, Bytes), AllocError>
+    ensures { IfOk result (λ both. (both.0 ≡ one.now) × (both.1 ≡ other.now)) }
+{
+    let one = Bytes::from_slice(alloc, one)?;
+    let other = Bytes::from_slice(alloc, other)?;
+    Ok((one, other))
+}
+
 /// What a line tells that is called for. The only error is out of memory.
 fn call_of(alloc: Global, words: &[u8], jobs: &[JobNote]) -> Result<Option<HookCall>, AllocError>
     ensures some { IfOk result (λ call. IfSome call (Tells words.now jobs.now)) }
@@ -95,21 +107,19 @@ fn call_of(alloc: Global, words: &[u8], jobs: &[JobNote]) -> Result<Option<HookC
         (λ call. IsNone call → (it : TheCall) → ¬ (Tells words.now jobs.now it)) }
 {
     if let Some(run) = words.strip_prefix(b"overrun ") {
-        let peers = Bytes::from_slice(alloc, peers_of(jobs, run))?;
-        let run = Bytes::from_slice(alloc, run)?;
+        let (run, peers) = copied(alloc, run, peers_of(jobs, run))?;
         return Ok(Some(HookCall::Overrun { run, peers }));
     }
     let Some((run, status)) = failed_run(words) else {
         return Ok(None);
     };
-    let run = Bytes::from_slice(alloc, run)?;
-    let status = Bytes::from_slice(alloc, status)?;
+    let (run, status) = copied(alloc, run, status)?;
     Ok(Some(HookCall::Failure { run, status }))
 }
 
 /// Keeps what a line tells that is called for, unless 256 calls are kept. The only error is out of
 /// memory, and then it isn't kept.
-pub(crate) fn keep_call(
+fn keep_call(
     alloc: Global,
     calls: &mut Vec<HookCall>,
     words: &[u8],
@@ -125,4 +135,21 @@ pub(crate) fn keep_call(
         calls.push(call)?;
     }
     Ok(())
+}
+
+/// Keeps what a line tells that is called for, for a daemon with hooks. The only error is out of
+/// memory, and then it isn't kept.
+pub(crate) fn note_call(
+    alloc: Global,
+    calls: &mut Vec<HookCall>,
+    words: &[u8],
+    setup: &Setup<'_>,
+) -> Result<(), AllocError>
+    ensures { IsCalled setup.now words.now (is_ok result) calls.old.items calls.new.items }
+{
+    if setup.has_hooks {
+        keep_call(alloc, calls, words, setup.jobs)
+    } else {
+        Ok(())
+    }
 }

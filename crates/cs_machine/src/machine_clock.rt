@@ -1,6 +1,6 @@
 //! The machine's clock, in whole minutes.
 ghost use Rattle.std.specs.Prelude.{◌≡◌, ◌↔◌, ◌<◌, ◌≤◌, ◌+◌, ◌-◌, pos, IsTrue, IfSome, Some};
-ghost use Rattle.std.specs.Prelude.{None, ℕ, []};
+ghost use Rattle.std.specs.Prelude.{None, ℕ};
 ghost use Rattle.std.specs.Prelude.{◌+ℤ◌, unwrap_or, is_some, true, false};
 ghost use Rattle.cs_civil.specs.Calendar.{first_minute, last_minute};
 ghost use Rattle.cs_device.specs.Rise.{risen_by, top_by};

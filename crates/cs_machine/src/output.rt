@@ -1,5 +1,5 @@
 //! A folder in which the output of each run has a file of its own.
-ghost use Rattle.std.specs.Prelude.{◌≡◌, ◌++◌, Some, drop, string_bytes};
+ghost use Rattle.std.specs.Prelude.{◌≡◌, ◌++◌, Some, codes, drop, string_bytes};
 ghost use Rattle.std.specs.Prelude.{IfOk, OnOk, length, take, true, ◌+◌};
 ghost use Rattle.cs_machine.specs.Output.{AreFirst, AreOld, AreOthers, is_moment, is_of_job};
 ghost use Rattle.cs_machine.specs.Output.{is_other_of, output_name, output_text, zeroed};
@@ -9,7 +9,7 @@ use crate::pieces::piece;
 use crate::start_text::push_place;
 use cs_civil::Bytes;
 use std::alloc::{AllocError, Global};
-use std::fs::{OpenFile, OpenOptions};
+use std::fs::{DirEntry, OpenFile, OpenOptions};
 use std::io::ErrorKind;
 use std::rt::Files;
 use std::{fs, io};
@@ -26,6 +26,19 @@ pub struct OutputFolder {
 /// The shape of the moment in front of a file's name, with `0` for each digit.
 const SHAPE: &[u8] = b"0000-00-00T00:00";
 
+/// Adds the time of a file's name, and what it says of the job. The only error is out of memory.
+fn push_named(name: &mut Vec<u8>, time: &[u8], kind: &[u8], job: &[u8]) -> Result<(), AllocError>
+    ensures { OnOk result (name.new.items ≡ name.old.items
+        ++ (codes "T" ++ time.now ++ codes "-" ++ kind.now ++ codes "-" ++ job.now)) }
+{
+    name.push(b'T')?;
+    name.extend_from_slice(time)?;
+    name.push(b'-')?;
+    name.extend_from_slice(kind)?;
+    name.push(b'-')?;
+    name.extend_from_slice(job)
+}
+
 /// The name of a run's file. None if the run's name isn't like `line 3 due 2024-09-13 23:30`. The
 /// only error is out of memory.
 fn output_name(alloc: Global, run: &[u8]) -> Result<Option<Bytes>, AllocError>
@@ -38,12 +51,7 @@ fn output_name(alloc: Global, run: &[u8]) -> Result<Option<Bytes>, AllocError>
         return Ok(None);
     };
     let mut name = Vec::from_slice(alloc, day)?;
-    name.push(b'T')?;
-    name.extend_from_slice(time)?;
-    name.push(b'-')?;
-    name.extend_from_slice(kind)?;
-    name.push(b'-')?;
-    name.extend_from_slice(job)?;
+    push_named(&mut name, time, kind, job)?;
     Ok(Some(Bytes::from_vec(name)))
 }
 
@@ -115,18 +123,36 @@ fn add_other(
     Ok(())
 }
 
-/// The names of a folder's other files of the job of this file. One that isn't UTF-8 isn't among
-/// them.
-fn others<R: Files>(rt: &R, alloc: Global, folder: &str, file: &[u8]) -> io::Result<Vec<String>>
-    ensures { IfOk result (λ names. AreOthers file.now names.items) }
+/// Adds the name of an entry of a folder, if it is that of another file of the same job. One that
+/// can't be read or isn't UTF-8 isn't. The only error is out of memory.
+fn add_entry<R: Files>(
+    alloc: Global,
+    names: &mut Vec<String>,
+    file: &[u8],
+    entry: io::Result<DirEntry<(&R, Global)>>,
+) -> Result<(), AllocError>
+    ensures { AreOthers file.now names.old.items → AreOthers file.now names.new.items }
 {
-    let mut names = Vec::new(alloc);
-    for entry in fs::read_dir(&(rt, alloc), folder)? {
-        if let Ok(entry) = entry {
-            add_other(alloc, &mut names, file, entry.file_name())?;
-        }
+    match entry {
+        Ok(entry) => add_other(alloc, names, file, entry.file_name()),
+        Err(_) => Ok(()),
     }
-    Ok(names)
+}
+
+/// Adds the names of a folder's other files of the job of this file.
+fn add_others<R: Files>(
+    rt: &R,
+    alloc: Global,
+    names: &mut Vec<String>,
+    folder: &str,
+    file: &[u8],
+) -> io::Result<()>
+    ensures { AreOthers file.now names.old.items → AreOthers file.now names.new.items }
+{
+    for entry in fs::read_dir(&(rt, alloc), folder)? {
+        add_entry(alloc, names, file, entry)?;
+    }
+    Ok(())
 }
 
 /// Puts names in order, and leaves out the last ones, so many. The only error is out of memory.
@@ -148,6 +174,13 @@ fn open_file<R: Files>(rt: &R, path: &str) -> io::Result<R::File> {
         Err(error) => return Err(error),
     }
     OpenOptions::new().append(true).create(true).open(rt, path)
+}
+
+/// The same, with a second handle of the file.
+fn open_twice<R: Files>(rt: &R, path: &str) -> io::Result<(R::File, R::File)> {
+    let file = open_file(rt, path)?;
+    let other = file.try_clone()?;
+    Ok((file, other))
 }
 
 impl OutputFolder {
@@ -172,15 +205,21 @@ impl OutputFolder {
     fn old<R: Files>(&self, rt: &R, alloc: Global, file: &[u8]) -> io::Result<Vec<String>>
         ensures { IfOk result (λ names. AreOld file.now self.now.keep names.items) }
     {
-        let mut names = others(rt, alloc, self.path.as_str(), file)?;
+        let mut names = Vec::new(alloc);
+        add_others(rt, alloc, &mut names, self.path.as_str(), file)?;
         keep_first(&mut names, self.keep.saturating_sub(1))?;
         Ok(names)
+    }
+
+    /// The path of a file in the folder. An error too if that can't be a file's name.
+    fn path_of(&self, alloc: Global, name: &[u8]) -> io::Result<String> {
+        Ok(path_in(alloc, self.path.as_str(), file_name(name)?)?)
     }
 
     /// Removes the oldest files of this file's job. What can't be removed stays.
     fn make_room<R: Files>(&self, rt: &R, alloc: Global, file: &[u8]) -> io::Result<()> {
         for name in &self.old(rt, alloc, file)? {
-            let path = path_in(alloc, self.path.as_str(), file_name(name.as_bytes())?)?;
+            let path = self.path_of(alloc, name.as_bytes())?;
             let _ = fs::remove_file(rt, path.as_str());
         }
         Ok(())
@@ -205,11 +244,9 @@ impl OutputFolder {
         run: &[u8],
     ) -> io::Result<(R::File, R::File)> {
         let name = OutputFolder::name_of(alloc, run)?;
-        let path = path_in(alloc, self.path.as_str(), file_name(name.as_slice())?)?;
+        let path = self.path_of(alloc, name.as_slice())?;
         let _ = self.make_room(rt, alloc, name.as_slice());
-        let file = open_file(rt, path.as_str())?;
-        let other = file.try_clone()?;
-        Ok((file, other))
+        open_twice(rt, path.as_str())
     }
 }
 

@@ -1,6 +1,7 @@
-//! Files that are written whole, or removed.
+//! Files that are read up to a length, written whole, or removed.
+use std::alloc::Global;
 use std::fs::{OpenFile, OpenOptions};
-use std::io::{ErrorKind, Write};
+use std::io::{ErrorKind, Read, Write};
 use std::rt::Files;
 use std::{fs, io};
 
@@ -12,13 +13,28 @@ pub(crate) fn remove_file<R: Files>(rt: &R, path: &str) -> io::Result<()> {
     }
 }
 
-/// Makes a file, in place of what is there.
-fn create_anew<R: Files>(rt: &R, path: &str) -> io::Result<R::File> {
+/// Reads the first bytes of a file, at most so many.
+pub(crate) fn read_first<R: Files>(
+    rt: &R,
+    alloc: Global,
+    path: &str,
+    most: u64,
+) -> io::Result<Vec<u8>> {
+    let mut start = fs::open(rt, path)?.take(most);
+    let mut text = Vec::new(alloc);
+    start.read_to_end(&mut text)?;
+    Ok(text)
+}
+
+/// Writes a text to a new file, in place of what is there, and flushes it to the disk.
+fn write_anew<R: Files>(rt: &R, path: &str, text: &[u8]) -> io::Result<()> {
     remove_file(rt, path)?;
-    OpenOptions::new()
+    let mut file = OpenOptions::new()
         .write(true)
         .create_new(true)
-        .open(rt, path)
+        .open(rt, path)?;
+    file.write_all(text)?;
+    file.sync_all()
 }
 
 /// Writes a text to a new file, flushes it to the disk, renames it to another path in the same
@@ -31,9 +47,7 @@ pub(crate) fn replace_file<R: Files>(
     path: &str,
     text: &[u8],
 ) -> io::Result<()> {
-    let mut file = create_anew(rt, new_path)?;
-    file.write_all(text)?;
-    file.sync_all()?;
+    write_anew(rt, new_path, text)?;
     fs::rename(rt, new_path, path)?;
     fs::open(rt, folder)?.sync_all()
 }

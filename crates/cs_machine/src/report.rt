@@ -11,27 +11,9 @@ use serde_json::Value;
 use std::alloc::{AllocError, Global};
 
 /// A run that runs, as a daemon tells it.
-#[derive(Drop)]
-struct ToldRun {
-    name: String,
-    since: String,
-    /// By when it is to end, if that is told.
-    until: Option<String>,
-    is_late: bool,
-    /// The names of the jobs whose runs it may meet, since it's late; empty where there are none.
-    may_meet: String,
-}
-
-/// How often something went wrong, as a daemon tells it.
 #[derive(Clone, Copy)]
-struct ToldCounts {
-    skipped: u64,
-    overruns: u64,
-    outages: u64,
-    /// Runs that the outages left out.
-    left_out: u64,
-    not_started: u64,
-    stamps_not_written: u64,
+struct ToldRun {
+    is_late: bool,
 }
 
 /// What a daemon told of itself at a moment.
@@ -39,20 +21,11 @@ struct ToldCounts {
 pub struct Report {
     /// When it was told, in seconds since 1970-01-01 00:00 UTC.
     at: u64,
-    told_at: String,
-    since: String,
-    table: String,
-    declarations: String,
-    certificate: String,
-    anacrontab: Option<String>,
-    capacity: u64,
     is_stopping: bool,
     running: Vec<ToldRun>,
-    waiting: Vec<String>,
-    /// The name of the run that is due next, if one is told.
-    next_due: Option<String>,
-    counts: ToldCounts,
     stamp_fault_at: Option<u64>,
+    /// What is told of it for people.
+    lines: Vec<u8>,
 }
 
 /// The seconds for which what was told, or a stamp that couldn't be written, counts: two minutes.
@@ -83,29 +56,28 @@ fn read_moment(text: &[u8]) -> Option<u64>
 
 /// Whether a terminal shows these bytes as they are.
 fn is_plain(bytes: &[u8]) -> bool {
-    bytes.iter().all(|byte| *byte >= 32 && *byte != 127)
+    for byte in bytes {
+        if *byte < 32 || *byte == 127 {
+            return false;
+        }
+    }
+    true
 }
 
-/// A text in a JSON value, in which there is no control character.
-fn plain_text(alloc: Global, value: &Value) -> Result<String, Misread> {
+/// A text in which there is no control character.
+fn plain_text(value: &Value) -> Result<&str, Misread> {
     match value.as_str() {
-        Some(text) if is_plain(text.as_bytes()) => Ok(String::from_str(alloc, text)?),
+        Some(text) if is_plain(text.as_bytes()) => Ok(text),
         _ => Err(BAD_SHAPE),
     }
 }
 
-/// A member that is such a text.
-fn text_at(alloc: Global, value: &Value, name: &str) -> Result<String, Misread> {
-    plain_text(alloc, value_at(value, name)?)
-}
-
-/// A member that is such a text or null.
-fn text_or_null(alloc: Global, value: &Value, name: &str) -> Result<Option<String>, Misread> {
-    let value = value_at(value, name)?;
+/// Such a text, or null.
+fn text_or_null(value: &Value) -> Result<Option<&str>, Misread> {
     if value.is_null() {
         return Ok(None);
     }
-    Ok(Some(plain_text(alloc, value)?))
+    Ok(Some(plain_text(value)?))
 }
 
 /// A member that is a number below 2^64.
@@ -122,58 +94,59 @@ fn left_out_of(value: &Value) -> Result<u64, Misread> {
     }
 }
 
-/// A member that is a moment, as text.
-fn moment_at(alloc: Global, value: &Value, name: &str) -> Result<String, Misread> {
-    let text = text_at(alloc, value, name)?;
-    match read_moment(text.as_bytes()) {
-        Some(_) => Ok(text),
+/// The seconds of a moment.
+fn seconds_of(value: &Value) -> Result<u64, Misread> {
+    match value.as_str() {
+        Some(text) => read_moment(text.as_bytes()).ok_or(BAD_SHAPE),
         None => Err(BAD_SHAPE),
     }
 }
 
-/// A member that is a moment or null.
-fn moment_or_null(value: &Value, name: &str) -> Result<Option<u64>, Misread> {
-    let value = value_at(value, name)?;
+/// The seconds of a moment, or null.
+fn seconds_or_null(value: &Value) -> Result<Option<u64>, Misread> {
     if value.is_null() {
         return Ok(None);
     }
-    let Some(text) = value.as_str() else {
-        return Err(BAD_SHAPE);
-    };
-    match read_moment(text.as_bytes()) {
-        Some(at) => Ok(Some(at)),
-        None => Err(BAD_SHAPE),
-    }
+    Ok(Some(seconds_of(value)?))
 }
 
 /// When a run is to end: a moment, null, or no member, as a daemon of an earlier version tells it.
-fn until_of(alloc: Global, value: &Value) -> Result<Option<String>, Misread> {
-    match value.get("until") {
-        Some(until) if !until.is_null() => Ok(Some(moment_at(alloc, value, "until")?)),
-        _ => Ok(None),
+fn until_of(run: &Value) -> Result<Option<&str>, Misread> {
+    match run.get("until") {
+        Some(until) => {
+            seconds_or_null(until)?;
+            text_or_null(until)
+        }
+        None => Ok(None),
     }
 }
 
-/// What a late run may meet: a text, or no member, as a daemon of an earlier version tells it.
-fn may_meet_of(alloc: Global, value: &Value) -> Result<String, Misread> {
-    match value.get("may_meet") {
-        Some(peers) => plain_text(alloc, peers),
-        None => Ok(String::new(alloc)),
-    }
+/// What a late run may meet: a text, or no member, as a daemon of an earlier version tells it. None
+/// where the text is empty.
+fn may_meet_of(run: &Value) -> Result<Option<&str>, Misread> {
+    let Some(peers) = run.get("may_meet") else {
+        return Ok(None);
+    };
+    let peers = plain_text(peers)?;
+    Ok(if peers.is_empty() { None } else { Some(peers) })
 }
 
 /// What is due next: a text, null, or no member, as a daemon of an earlier version tells it.
-fn next_due_of(alloc: Global, value: &Value) -> Result<Option<String>, Misread> {
+fn next_due_of(value: &Value) -> Result<Option<&str>, Misread> {
     match value.get("next_due") {
-        Some(next) if !next.is_null() => Ok(Some(plain_text(alloc, next)?)),
-        _ => Ok(None),
+        Some(next) => text_or_null(next),
+        None => Ok(None),
     }
 }
 
 /// Whether a text is that of a SHA-256: 64 hexadecimal digits, in lower case.
 fn is_checksum(text: &[u8]) -> bool {
-    let is_digit = |byte: &u8| matches!(*byte, b'0'..=b'9' | b'a'..=b'f');
-    text.len() == 64 && text.iter().all(is_digit)
+    for byte in text {
+        if !matches!(*byte, b'0'..=b'9' | b'a'..=b'f') {
+            return false;
+        }
+    }
+    text.len() == 64
 }
 
 /// Refuses a checksum of the certificate that is none. A daemon of an earlier version tells none.
@@ -187,16 +160,6 @@ fn see_checksum(value: &Value) -> Result<(), Misread> {
     }
 }
 
-fn read_run(alloc: Global, value: &Value) -> Result<ToldRun, Misread> {
-    Ok(ToldRun {
-        name: text_at(alloc, value, "run")?,
-        since: moment_at(alloc, value, "since")?,
-        until: until_of(alloc, value)?,
-        is_late: member(alloc, value, "late")?,
-        may_meet: may_meet_of(alloc, value)?,
-    })
-}
-
 /// The items of a member that is a list.
 fn items_at<'v>(value: &'v Value, name: &str) -> Result<&'v [Value], Misread> {
     match value_at(value, name)?.as_array() {
@@ -208,56 +171,10 @@ fn items_at<'v>(value: &'v Value, name: &str) -> Result<&'v [Value], Misread> {
 fn read_running(alloc: Global, value: &Value) -> Result<Vec<ToldRun>, Misread> {
     let mut runs = Vec::new(alloc);
     for run in items_at(value, "running")? {
-        runs.push(read_run(alloc, run)?)?;
+        let is_late = member(alloc, run, "late")?;
+        runs.push(ToldRun { is_late })?;
     }
     Ok(runs)
-}
-
-fn read_waiting(alloc: Global, value: &Value) -> Result<Vec<String>, Misread> {
-    let mut names = Vec::new(alloc);
-    for name in items_at(value, "waiting")? {
-        names.push(plain_text(alloc, name)?)?;
-    }
-    Ok(names)
-}
-
-fn read_counts(value: &Value) -> Result<ToldCounts, Misread> {
-    Ok(ToldCounts {
-        skipped: count_at(value, "skipped")?,
-        overruns: count_at(value, "overruns")?,
-        outages: count_at(value, "outages")?,
-        left_out: left_out_of(value)?,
-        not_started: count_at(value, "not_started")?,
-        stamps_not_written: count_at(value, "stamps_not_written")?,
-    })
-}
-
-/// Reads the text of a daemon's state. A fault if it is no JSON, a member is absent or has another
-/// type, or a text in it holds a control character; other members are passed over. `next_due`,
-/// `left_out` and `certificate_sha256` may be absent, and so may a run's `until` and `may_meet`.
-pub fn read_report(alloc: Global, state: &[u8]) -> Result<Report, Misread> {
-    let value = parse(alloc, state)?;
-    let told_at = text_at(alloc, &value, "at")?;
-    let Some(at) = read_moment(told_at.as_bytes()) else {
-        return Err(BAD_SHAPE);
-    };
-    see_checksum(&value)?;
-    Ok(Report {
-        at,
-        told_at,
-        since: moment_at(alloc, &value, "since")?,
-        table: text_at(alloc, &value, "table")?,
-        declarations: text_at(alloc, &value, "declarations")?,
-        certificate: text_at(alloc, &value, "certificate")?,
-        anacrontab: text_or_null(alloc, &value, "anacrontab")?,
-        capacity: count_at(&value, "capacity")?,
-        is_stopping: member(alloc, &value, "stopping")?,
-        running: read_running(alloc, &value)?,
-        waiting: read_waiting(alloc, &value)?,
-        next_due: next_due_of(alloc, &value)?,
-        counts: read_counts(&value)?,
-        stamp_fault_at: moment_or_null(&value, "stamp_fault_at")?,
-    })
 }
 
 /// Adds texts one behind the other.
@@ -277,85 +194,129 @@ fn push_count(alloc: Global, text: &mut Vec<u8>, word: &str, count: u64) -> Resu
     push_number(alloc, text, u128::from(count))
 }
 
-impl ToldRun {
-    /// Adds its line.
-    fn push(&self, text: &mut Vec<u8>) -> Result<(), AllocError> {
-        push_texts(
-            text,
-            &[self.name.as_str(), " runs since ", self.since.as_str()],
-        )?;
-        if let Some(until) = &self.until {
-            push_texts(text, &[" until ", until.as_str()])?;
-        }
-        if self.is_late {
-            text.extend_from_slice(b", late")?;
-        }
-        if !self.may_meet.is_empty() {
-            push_texts(text, &[", may meet ", self.may_meet.as_str()])?;
-        }
-        text.extend_from_slice(b"\n")
+/// Adds a text behind another one, if it is told.
+fn push_told(text: &mut Vec<u8>, front: &str, told: Option<&str>) -> Result<(), AllocError> {
+    match told {
+        Some(told) => push_texts(text, &[front, told]),
+        None => Ok(()),
     }
 }
 
-impl ToldCounts {
-    /// Adds their line.
-    fn push(self, alloc: Global, text: &mut Vec<u8>) -> Result<(), AllocError> {
-        push_count(alloc, text, "skipped ", self.skipped)?;
-        push_count(alloc, text, ", overruns ", self.overruns)?;
-        push_count(alloc, text, ", not started ", self.not_started)?;
-        push_count(alloc, text, ", outages ", self.outages)?;
-        push_count(
-            alloc,
-            text,
-            ", stamps not written ",
-            self.stamps_not_written,
-        )?;
-        push_count(alloc, text, ", left out ", self.left_out)?;
-        text.extend_from_slice(b"\n")
+/// Adds texts that are members, each behind what stands in front of it.
+fn push_members(
+    text: &mut Vec<u8>,
+    value: &Value,
+    members: &[(&str, &str)],
+) -> Result<(), Misread> {
+    for (front, name) in members {
+        push_texts(text, &[*front, plain_text(value_at(value, name)?)?])?;
     }
+    Ok(())
+}
+
+/// Adds when the daemon began, when it was seen, and its files.
+fn push_head(alloc: Global, text: &mut Vec<u8>, value: &Value) -> Result<(), Misread> {
+    seconds_of(value_at(value, "since")?)?;
+    push_members(
+        text,
+        value,
+        &[
+            ("running since ", "since"),
+            (", seen at ", "at"),
+            ("\n", "table"),
+            (" with ", "declarations"),
+            (" and ", "certificate"),
+        ],
+    )?;
+    push_told(text, " and ", text_or_null(value_at(value, "anacrontab")?)?)?;
+    push_count(alloc, text, ", capacity ", count_at(value, "capacity")?)?;
+    text.extend_from_slice(b"\n")?;
+    Ok(())
+}
+
+/// Adds the line of a run that runs.
+fn push_run(alloc: Global, text: &mut Vec<u8>, run: &Value) -> Result<(), Misread> {
+    seconds_of(value_at(run, "since")?)?;
+    push_members(text, run, &[("", "run"), (" runs since ", "since")])?;
+    push_told(text, " until ", until_of(run)?)?;
+    if member(alloc, run, "late")? {
+        text.extend_from_slice(b", late")?;
+    }
+    push_told(text, ", may meet ", may_meet_of(run)?)?;
+    text.extend_from_slice(b"\n")?;
+    Ok(())
+}
+
+/// Adds a line for each run that waits, and one for what is due next.
+fn push_waiting(text: &mut Vec<u8>, value: &Value) -> Result<(), Misread> {
+    for name in items_at(value, "waiting")? {
+        push_texts(text, &[plain_text(name)?, " waits\n"])?;
+    }
+    if let Some(next) = next_due_of(value)? {
+        push_texts(text, &["next is ", next, "\n"])?;
+    }
+    Ok(())
+}
+
+/// Adds a line of how often something went wrong.
+fn push_counts(alloc: Global, text: &mut Vec<u8>, value: &Value) -> Result<(), Misread> {
+    let counts = [
+        ("skipped ", "skipped"),
+        (", overruns ", "overruns"),
+        (", not started ", "not_started"),
+        (", outages ", "outages"),
+        (", stamps not written ", "stamps_not_written"),
+    ];
+    for (front, name) in &counts {
+        push_count(alloc, text, front, count_at(value, name)?)?;
+    }
+    push_count(alloc, text, ", left out ", left_out_of(value)?)?;
+    text.extend_from_slice(b"\n")?;
+    Ok(())
+}
+
+/// Adds what is told for people: lines.
+fn push_lines(alloc: Global, text: &mut Vec<u8>, value: &Value) -> Result<(), Misread> {
+    push_head(alloc, text, value)?;
+    if member(alloc, value, "stopping")? {
+        text.extend_from_slice(b"nothing more is started\n")?;
+    }
+    for run in items_at(value, "running")? {
+        push_run(alloc, text, run)?;
+    }
+    push_waiting(text, value)?;
+    push_counts(alloc, text, value)
+}
+
+/// The report of a state.
+fn report_of(alloc: Global, value: &Value) -> Result<Report, Misread> {
+    let at = seconds_of(value_at(value, "at")?)?;
+    see_checksum(value)?;
+    let is_stopping = member(alloc, value, "stopping")?;
+    let stamp_fault_at = seconds_or_null(value_at(value, "stamp_fault_at")?)?;
+    let mut lines = Vec::new(alloc);
+    push_lines(alloc, &mut lines, value)?;
+    Ok(Report {
+        at,
+        is_stopping,
+        running: read_running(alloc, value)?,
+        stamp_fault_at,
+        lines,
+    })
+}
+
+/// Reads the text of a daemon's state. A fault if it is no JSON, a member is absent or has another
+/// type, or a text in it holds a control character; other members are passed over. `next_due`,
+/// `left_out` and `certificate_sha256` may be absent, and so may a run's `until` and `may_meet`.
+pub fn read_report(alloc: Global, state: &[u8]) -> Result<Report, Misread> {
+    let value = parse(alloc, state)?;
+    report_of(alloc, &value)
 }
 
 impl Report {
-    /// Adds when the daemon began, when it was seen, and its files.
-    fn push_head(&self, alloc: Global, text: &mut Vec<u8>) -> Result<(), AllocError> {
-        push_texts(text, &["running since ", self.since.as_str(), ", seen at "])?;
-        push_texts(
-            text,
-            &[self.told_at.as_str(), "\n", self.table.as_str(), " with "],
-        )?;
-        push_texts(
-            text,
-            &[
-                self.declarations.as_str(),
-                " and ",
-                self.certificate.as_str(),
-            ],
-        )?;
-        if let Some(path) = &self.anacrontab {
-            push_texts(text, &[" and ", path.as_str()])?;
-        }
-        push_count(alloc, text, ", capacity ", self.capacity)?;
-        text.extend_from_slice(b"\n")
-    }
-
     /// What is told of it for people: lines. The only error is out of memory.
     pub fn text(&self, alloc: Global) -> Result<Vec<u8>, AllocError> {
-        let mut text = Vec::new(alloc);
-        self.push_head(alloc, &mut text)?;
-        if self.is_stopping {
-            text.extend_from_slice(b"nothing more is started\n")?;
-        }
-        for run in self.running.iter() {
-            run.push(&mut text)?;
-        }
-        for name in self.waiting.iter() {
-            push_texts(&mut text, &[name.as_str(), " waits\n"])?;
-        }
-        if let Some(next) = &self.next_due {
-            push_texts(&mut text, &["next is ", next.as_str(), "\n"])?;
-        }
-        self.counts.push(alloc, &mut text)?;
-        Ok(text)
+        Vec::from_slice(alloc, self.lines.as_slice())
     }
 
     /// Whether a run that runs is late, or a stamp couldn't be written in the last two minutes before

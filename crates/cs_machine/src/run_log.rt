@@ -2,7 +2,6 @@
 ghost use Rattle.std.specs.Prelude.{◌≡◌, ◌++◌, ◌||◌, ℕ, List, Option, None, OnOk, IfSome};
 ghost use Rattle.std.specs.Prelude.{[], true, false};
 ghost use Rattle.std.specs.Io.KnownBytes.{Appends};
-ghost use Rattle.std.specs.Result.{is_ok};
 ghost use Rattle.cs_machine.specs.RunLog.{Follows, IsCalled, NotesLine, line_text};
 ghost use Rattle.cs_machine.specs.Starts.{span_of};
 ghost use Rattle.cs_machine.specs.NextDue.{IsQuiet};
@@ -10,7 +9,7 @@ ghost use Rattle.cs_machine.specs.State.{Begins, Stops, Takes, is_past};
 ghost use Rattle.cs_machine.specs.StateText.{TellsNext, state_text};
 ghost use Rattle.cs_machine.specs.declared.next_due.NextDue.{NextDue};
 
-use crate::hook_call::{HookCall, keep_call};
+use crate::hook_call::{HookCall, note_call};
 use crate::line_text::{push_line, push_meeting};
 use crate::machine_clock::minute_after;
 use crate::next_due::{NextDue, QuietTime, next_due};
@@ -19,7 +18,7 @@ use crate::setup::Setup;
 use crate::starts::Noted;
 use crate::state::State;
 use crate::state_text::state_text;
-use std::alloc::{AllocError, Global};
+use std::alloc::Global;
 use std::io::Write;
 use std::{io, mem, time};
 
@@ -86,11 +85,18 @@ impl<'r, R: time::Clock, W: Write> RunLog<'r, R, W> {
         ensures left { (self.new.state ≡ self.old.state) × (self.new.calls ≡ self.old.calls)
             × (self.new.setup ≡ self.old.setup) × (self.new.is_timed ≡ self.old.is_timed) }
     {
-        if self.is_timed {
-            let at = unix_seconds(self.rt);
-            self.write_line(at, text)?;
+        if !self.is_timed {
+            return Ok(());
         }
-        Ok(())
+        self.line.clear();
+        push_line(
+            self.alloc,
+            &mut self.line,
+            unix_seconds(self.rt),
+            text,
+            None,
+        )?;
+        self.out.write_all(self.line.as_slice())
     }
 
     /// Takes a line of the daemon, given without its newline, and writes it with its time, and with
@@ -138,34 +144,8 @@ impl<'r, R: time::Clock, W: Write> RunLog<'r, R, W> {
         ensures left { (self.new.out ≡ self.old.out) × (self.new.setup ≡ self.old.setup)
             × (self.new.is_timed ≡ self.old.is_timed) }
     {
-        let called = self.note_call(words);
+        let called = note_call(self.alloc, &mut self.calls, words, &self.setup);
         self.state.take(words, at, self.setup.jobs).and(called)
-    }
-
-    /// Keeps what a line tells that is called for, for a daemon with hooks. The only error is out of
-    /// memory, and then it isn't kept.
-    fn note_call(&mut self, words: &[u8]) -> Result<(), AllocError>
-        ensures calls { IsCalled self.old.setup words.now (is_ok result)
-            self.old.calls.items self.new.calls.items }
-        ensures left { (self.new.out ≡ self.old.out) × (self.new.setup ≡ self.old.setup)
-            × (self.new.state ≡ self.old.state) × (self.new.is_timed ≡ self.old.is_timed) }
-    {
-        if !self.setup.has_hooks {
-            return Ok(());
-        }
-        keep_call(self.alloc, &mut self.calls, words, self.setup.jobs)
-    }
-
-    /// Makes a line, and writes it by one call.
-    fn write_line(&mut self, at: Option<u64>, words: &[u8]) -> io::Result<()>
-        ensures line { OnOk result (Appends (W.contents self.old.out) (W.contents self.new.out)
-            (line_text at words.now None)) }
-        ensures left { (self.new.state ≡ self.old.state) × (self.new.calls ≡ self.old.calls)
-            × (self.new.setup ≡ self.old.setup) × (self.new.is_timed ≡ self.old.is_timed) }
-    {
-        self.line.clear();
-        push_line(self.alloc, &mut self.line, at, words, None)?;
-        self.out.write_all(self.line.as_slice())
     }
 
     /// Takes what happened to runs since it was taken last, in the order of the log's lines: at most

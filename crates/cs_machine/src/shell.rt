@@ -1,6 +1,6 @@
 //! The command line of a job.
 ghost use Rattle.std.specs.Prelude.{◌≡◌, ◌↔◌, ℕ, List, Some, None, IfSome, IsSome, option_map};
-ghost use Rattle.std.specs.Prelude.{true, false, IfOk, IfErr, OnOk, [], ◌∷◌, codes};
+ghost use Rattle.std.specs.Prelude.{true, false, IfOk, IfErr, OnOk};
 ghost use Rattle.std.specs.Prelude.{if◌then◌else◌, Option};
 ghost use Rattle.std.specs.Option.{option_copied};
 ghost use Rattle.std.specs.List.{fold, list_all};

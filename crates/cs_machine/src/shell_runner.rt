@@ -44,8 +44,10 @@ pub struct ShellRunner<'r, P> {
 /// Why the machine can't start a process.
 fn start_fault(alloc: Global, shell: &Command, error: &io::Error) -> Result<Vec<u8>, AllocError> {
     let why = format!(in alloc; "{error}")?;
-    let folder = shell.get_current_dir();
-    let folder = folder.map(|path| path.as_os_str().as_bytes());
+    let folder = match shell.get_current_dir() {
+        Some(path) => Some(path.as_os_str().as_bytes()),
+        None => None,
+    };
     let mut text = Vec::new(alloc);
     push_start(
         &mut text,

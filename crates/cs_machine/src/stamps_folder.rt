@@ -4,12 +4,12 @@ ghost use Rattle.cs_anacrontab.specs.Stamp.{IsStampText};
 ghost use Rattle.cs_civil.specs.Calendar.{last_day};
 
 use crate::paths::{file_name, new_path_in, path_in};
-use crate::replacing::replace_file;
+use crate::replacing::{read_first, replace_file};
 use cs_anacrontab::{read_stamp, stamp_text};
 use cs_civil::Day;
 use cs_device::{Failures, Stamp, StampStore};
 use std::alloc::Global;
-use std::io::{ErrorKind, Read};
+use std::io::ErrorKind;
 use std::rt::Files;
 use std::{fs, io};
 
@@ -89,10 +89,7 @@ impl<'r, 'f, R: Files> StampsFolder<'r, 'f, R> {
             Err(error) if error.kind() == ErrorKind::NotFound => return Ok(None),
             Err(error) => return Err(error),
         }
-        let mut text = Vec::new(self.alloc);
-        fs::open(self.rt, path)?
-            .take(ENOUGH)
-            .read_to_end(&mut text)?;
+        let text = read_first(self.rt, self.alloc, path.as_str(), ENOUGH)?;
         day_in(text.as_slice())
     }
 

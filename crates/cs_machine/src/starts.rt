@@ -147,19 +147,18 @@ impl Starts {
         ensures left { self.new.runs.items
             ≡ remove_entry (is_last_of words.now) self.old.runs.items }
     {
-        let place = self.place(words)?;
+        let place = place_of(self.runs.as_slice(), words)?;
         let (_, at) = self.runs.remove(place);
         Some(at)
     }
+}
 
-    /// Which run the words tell the end of, or that it couldn't be started.
-    fn place(&self, words: &[u8]) -> Option<usize>
-        ensures { result ≡ position (λ run. is_last_of words.now run.0) self.now.runs.items }
-    {
-        self.runs
-            .iter()
-            .position(|(name, _)| is_last_of(words, name.as_slice()))
-    }
+/// Which run the words tell the end of, or that it couldn't be started.
+fn place_of(runs: &[(Bytes, u64)], words: &[u8]) -> Option<usize>
+    ensures { result ≡ position (λ run. is_last_of words.now run.0) runs.now }
+{
+    runs.iter()
+        .position(|(name, _)| is_last_of(words, name.as_slice()))
 }
 
 /// Whether the words tell the end of the run of this name, or that it couldn't be started.

@@ -3,9 +3,9 @@ ghost use Rattle.std.specs.Prelude.{◌≡◌, ◌++◌, IfOk, codes, string_byt
 ghost use Rattle.cs_machine.specs.Files.{answer_file_of, file_of, new_file_of, state_file_of};
 
 use crate::paths::{new_path_in, path_in};
-use crate::replacing::{remove_file, replace_file};
+use crate::replacing::{read_first, remove_file, replace_file};
 use std::alloc::{AllocError, Global};
-use std::io::{ErrorKind, Read};
+use std::io::ErrorKind;
 use std::rt::Files;
 use std::{fs, io};
 
@@ -78,10 +78,7 @@ impl<'f> ToldFile<'f> {
         if !fs::symlink_metadata(rt, self.path.as_str())?.is_file() {
             return Err(io::Error::from(ErrorKind::InvalidInput));
         }
-        let mut text = Vec::new(alloc);
-        fs::open(rt, self.path.as_str())?
-            .take(MOST + 1)
-            .read_to_end(&mut text)?;
+        let text = read_first(rt, alloc, self.path.as_str(), MOST + 1)?;
         if text.len() as u64 > MOST {
             return Err(io::Error::from(ErrorKind::InvalidData));
         }

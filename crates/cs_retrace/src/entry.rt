@@ -5,7 +5,7 @@ ghost use Rattle.cs_retrace.specs.Trace.{place_of, turn_number};
 use cs_civil::Bytes;
 
 /// Where in its minute an event stands.
-#[derive(Clone, Copy, Debug, PartialEq, Eq)]
+#[derive(Clone, Copy)]
 pub(crate) enum Turn {
     /// First, the daemon comes up.
     Comes,
@@ -31,7 +31,7 @@ impl Turn {
 }
 
 /// An event of a script.
-#[derive(Debug, Drop)]
+#[derive(Drop)]
 pub(crate) struct Entry {
     /// The minute.
     pub(crate) at: u64,

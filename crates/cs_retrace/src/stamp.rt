@@ -64,18 +64,18 @@ fn month(text: &[u8]) -> Option<u64>
     ensures { result ≡ month_in text.now }
 {
     match text {
-        b"Jan" => Some(1),
-        b"Feb" => Some(2),
-        b"Mar" => Some(3),
-        b"Apr" => Some(4),
-        b"May" => Some(5),
-        b"Jun" => Some(6),
-        b"Jul" => Some(7),
-        b"Aug" => Some(8),
-        b"Sep" => Some(9),
-        b"Oct" => Some(10),
-        b"Nov" => Some(11),
-        b"Dec" => Some(12),
+        _ if is_word(text, b"Jan") => Some(1),
+        _ if is_word(text, b"Feb") => Some(2),
+        _ if is_word(text, b"Mar") => Some(3),
+        _ if is_word(text, b"Apr") => Some(4),
+        _ if is_word(text, b"May") => Some(5),
+        _ if is_word(text, b"Jun") => Some(6),
+        _ if is_word(text, b"Jul") => Some(7),
+        _ if is_word(text, b"Aug") => Some(8),
+        _ if is_word(text, b"Sep") => Some(9),
+        _ if is_word(text, b"Oct") => Some(10),
+        _ if is_word(text, b"Nov") => Some(11),
+        _ if is_word(text, b"Dec") => Some(12),
         _ => None,
     }
 }

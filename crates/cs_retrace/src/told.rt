@@ -6,7 +6,7 @@ use crate::run::{due, run};
 use crate::words::{behind, is_word, split};
 
 /// What a line tells of a run.
-#[derive(Clone, Copy, Debug, PartialEq, Eq)]
+#[derive(Clone, Copy)]
 pub(crate) enum Verb {
     /// A worker has taken it.
     Started,

@@ -19,7 +19,7 @@ use std::alloc::{AllocError, Global};
 use std::marker::Model;
 
 /// What is known behind some lines of a log.
-#[derive(Debug, Drop)]
+#[derive(Drop)]
 pub(crate) struct Trace {
     /// Where the script starts, and whether the log tells that its daemon began there.
     pub(crate) opening: Option<(u64, bool)>,

@@ -10,7 +10,7 @@ use std::alloc::{AllocError, Global};
 use std::marker::Model;
 
 /// A script as far as it is written: its text, its minute, and whether the daemon is up.
-#[derive(Debug, Drop)]
+#[derive(Drop)]
 pub(crate) struct Writing {
     text: Vec<u8>,
     now: u64,

@@ -60,25 +60,6 @@ fn add_lines(
     Ok(())
 }
 
-/// Adds what is printed of an anacron job.
-fn add_anacron(
-    alloc: Global,
-    text: &mut Vec<u8>,
-    job: &Job,
-    question: Question,
-) -> Result<(), AllocError>
-    ensures { OnOk result (text.new.items ≡ text.old.items ++ anacron_text question job.now) }
-{
-    add_catch_up(
-        alloc,
-        text,
-        job.identifier(),
-        question.hours(),
-        question.day(),
-        question.max(),
-    )
-}
-
 /// Adds what is printed of anacron jobs.
 fn add_jobs(
     alloc: Global,
@@ -89,8 +70,9 @@ fn add_jobs(
     ensures { OnOk result
         (text.new.items ≡ text.old.items ++ flat_map (anacron_text question) jobs.now) }
 {
+    let (hours, day, max) = (question.hours(), question.day(), question.max());
     for job in jobs {
-        add_anacron(alloc, text, job, question)?;
+        add_catch_up(alloc, text, job.identifier(), hours, day, max)?;
     }
     Ok(())
 }
@@ -106,7 +88,7 @@ fn tables_text(
     ensures { IfOk result (λ text. text.items ≡ tables_text question lines.now jobs.now) }
 {
     let mut text = Vec::new(alloc);
-    add_date(alloc, &mut text, question.day())?;
+    add_date(&mut text, question.day())?;
     add_lines(alloc, &mut text, lines, question)?;
     add_jobs(alloc, &mut text, jobs, question)?;
     Ok(text)

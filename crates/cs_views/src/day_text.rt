@@ -156,19 +156,20 @@ pub fn add_catch_up(
 
 /// Adds the weekday and the end of the line.
 #[tactic(auto, unfolding(crate::specs::DayText::weekday_part))]
-fn add_weekday(alloc: Global, text: &mut Vec<u8>, dow: u8) -> Result<(), AllocError>
+fn add_weekday(text: &mut Vec<u8>, dow: u8) -> Result<(), AllocError>
     ensures { OnOk result (text.new.items ≡ text.old.items ++ weekday_part dow) }
 {
-    let weekday = weekday_name(dow);
-    text.extend_from_slice(format!(in alloc; " {weekday}\n")?.as_bytes())?;
+    text.push(b' ')?;
+    text.extend_from_slice(weekday_name(dow).as_bytes())?;
+    text.push(b'\n')?;
     Ok(())
 }
 
 /// Adds the line of the date.
 #[tactic(auto, using(crate::proofs::TextLemmas::two_parts), unfolding(crate::specs::DayText::date_line))]
-pub fn add_date(alloc: Global, text: &mut Vec<u8>, day: Day) -> Result<(), AllocError>
+pub fn add_date(text: &mut Vec<u8>, day: Day) -> Result<(), AllocError>
     ensures { OnOk result (text.new.items ≡ text.old.items ++ date_line day) }
 {
     text.extend_from_slice(day_text(day).as_slice())?;
-    add_weekday(alloc, text, kind_of(day).dow())
+    add_weekday(text, kind_of(day).dow())
 }

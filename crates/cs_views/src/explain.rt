@@ -14,12 +14,11 @@ pub(crate) fn no_such_name(
     name: &str,
     nearest: Option<&str>,
 ) -> Result<Vec<u8>, AllocError> {
-    let told = match nearest {
-        Some(near) => format!(in alloc; "cronsafe: unknown name {name}: did you mean {near}?\n")?,
-        None => format!(in alloc;
-            "cronsafe: unknown name {name}: 'cronsafe explain' lists all names\n"
-        )?,
+    let (hint, near, end) = match nearest {
+        Some(near) => ("did you mean ", near, "?"),
+        None => ("'cronsafe explain' lists all names", "", ""),
     };
+    let told = format!(in alloc; "cronsafe: unknown name {name}: {hint}{near}{end}\n")?;
     Ok(told.into_bytes())
 }
 

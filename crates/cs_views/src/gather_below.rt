@@ -41,6 +41,16 @@ impl<T: Drop> From<AllocFailed<T>> for Unlisted {
     }
 }
 
+/// A name as text, or why it is none.
+fn text_of(name: &[u8]) -> Result<&str, &'static str>
+    ensures { IfOk result (λ text. text.now ≡ name.now) }
+{
+    match str::from_utf8(name) {
+        Ok(text) => Ok(text),
+        Err(_) => Err("its name isn't UTF-8"),
+    }
+}
+
 /// The name of a table in a folder of system tables, or of a part, or why it is none.
 pub(crate) fn table_name(name: &[u8]) -> Result<&str, &'static str>
     ensures name { IfOk result (λ text. text.now ≡ name.now) }
@@ -49,17 +59,17 @@ pub(crate) fn table_name(name: &[u8]) -> Result<&str, &'static str>
     if !is_part_name(name) {
         return Err("its name holds other signs than letters, digits, _ and -");
     }
-    str::from_utf8(name).map_err(|_| "its name isn't UTF-8")
+    text_of(name)
 }
 
 /// The name of a user's table, or why it is none.
 fn user_name(name: &[u8]) -> Result<&str, &'static str>
     ensures { IfOk result (λ text. text.now ≡ name.now) }
 {
-    if name.first() == Some(&b'.') {
+    if name.starts_with(b".".as_slice()) {
         return Err("its name begins with a dot");
     }
-    str::from_utf8(name).map_err(|_| "its name isn't UTF-8")
+    text_of(name)
 }
 
 /// A folder of tables below a root folder.
@@ -113,20 +123,23 @@ pub(crate) fn joined(alloc: Global, front: &str, rest: &str) -> Result<String, A
     Ok(path)
 }
 
-/// What a path leads to.
-pub(crate) fn kind_at<I: Folders>(
+/// The path of a name behind a front, and what it leads to.
+pub(crate) fn found_at<I: Folders>(
     alloc: Global,
     inputs: &mut I,
-    path: &str,
-) -> Result<Option<FileKind>, Unlisted>
+    front: &str,
+    name: &str,
+) -> Result<(String, Option<FileKind>), Unlisted>
+    ensures path { IfOk result (λ found. string_bytes found.0 ≡ front.now ++ name.now) }
     ensures stays { (I.whole inputs.new ≡ I.whole inputs.old)
         × (I.left inputs.new ≡ I.left inputs.old) × (I.reads inputs.new ≡ I.reads inputs.old) }
     ensures works { OnOk result (I.failed inputs.new ≡ I.failed inputs.old) }
     ensures fails { IfErr result (IsUnlisted (I.failed inputs.new) (I.reads inputs.new)) }
 {
-    match inputs.kind_of(path) {
-        Ok(kind) => Ok(kind),
-        Err(error) => Err(Unlisted::CannotRead(String::from_str(alloc, path)?, error.reason)),
+    let path = joined(alloc, front, name)?;
+    match inputs.kind_of(path.as_str()) {
+        Ok(kind) => Ok((path, kind)),
+        Err(error) => Err(Unlisted::CannotRead(path, error.reason)),
     }
 }
 
@@ -182,8 +195,7 @@ pub(crate) fn push_crontab<I: Folders>(
     ensures works { OnOk result (I.failed inputs.new ≡ I.failed inputs.old) }
     ensures fails { IfErr result (IsUnlisted (I.failed inputs.new) (I.reads inputs.new)) }
 {
-    let path = joined(alloc, front, "/etc/crontab")?;
-    let kind = kind_at(alloc, inputs, path.as_str())?;
+    let (path, kind) = found_at(alloc, inputs, front, "/etc/crontab")?;
     if kind.is_some() {
         push_found(kind, Given::system(path), found, notes)?;
     }
@@ -211,8 +223,7 @@ fn push_named<I: Folders>(
         Ok(name) => name,
         Err(why) => return Ok(push_passed_over(notes, folder, name, why)?),
     };
-    let path = joined(alloc, folder, name)?;
-    let kind = kind_at(alloc, inputs, path.as_str())?;
+    let (path, kind) = found_at(alloc, inputs, folder, name)?;
     let given = shelf.given(alloc, path, name)?;
     Ok(push_found(kind, given, found, notes)?)
 }

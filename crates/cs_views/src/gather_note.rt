@@ -1,13 +1,21 @@
 //! What is told of tables beside what is gathered of them.
 use crate::gather_given::Given;
-use cs_civil::push_number;
-use cs_crontab::{Crontab, Line, read_crontab};
+use crate::gather_table::{Table, read_table};
+use cs_crontab::Line;
 use cs_gather::push_shown;
 use cs_report::{first_behind_user, is_no_user, is_unheeded};
-use cs_system::{SystemLine, SystemTable, read_system_crontab};
+use cs_system::SystemLine;
+use cs_table::Setting;
 use cs_table::text::word;
-use cs_table::{Setting, TableFault};
 use std::alloc::{AllocError, Global};
+
+/// Writes a line behind the text: these parts, each so that it stays one line.
+fn push_line(text: &mut Vec<u8>, parts: &[&[u8]]) -> Result<(), AllocError> {
+    for part in parts {
+        push_shown(text, *part)?;
+    }
+    text.extend_from_slice(b"\n")
+}
 
 /// Writes behind the text that something is passed over, and why.
 pub(crate) fn push_passed_over(
@@ -16,32 +24,21 @@ pub(crate) fn push_passed_over(
     name: &[u8],
     why: &str,
 ) -> Result<(), AllocError> {
-    text.extend_from_slice(b"note: ")?;
-    push_shown(text, folder.as_bytes())?;
-    push_shown(text, name)?;
-    text.extend_from_slice(b" is passed over: ")?;
-    text.extend_from_slice(why.as_bytes())?;
-    text.extend_from_slice(b"\n")
+    let (folder, why) = (folder.as_bytes(), why.as_bytes());
+    push_line(text, &[b"note: ", folder, name, b" is passed over: ", why])
 }
 
 /// Writes behind the text that there are no tables below a root folder.
 pub(crate) fn push_no_tables(text: &mut Vec<u8>, root: &str) -> Result<(), AllocError> {
-    text.extend_from_slice(b"note: there are no tables below ")?;
-    push_shown(text, root.as_bytes())?;
-    text.extend_from_slice(b"\n")
+    push_line(
+        text,
+        &[b"note: there are no tables below ", root.as_bytes()],
+    )
 }
 
-/// Writes the place of a command behind the text.
-fn push_command_place(
-    alloc: Global,
-    text: &mut Vec<u8>,
-    line: u32,
-    path: &str,
-) -> Result<(), AllocError> {
-    text.extend_from_slice(b"the command on line ")?;
-    push_number(alloc, text, u128::from(line))?;
-    text.extend_from_slice(b" of ")?;
-    push_shown(text, path.as_bytes())
+/// The place of something on a line of a table.
+fn place_text(alloc: Global, line: u32, path: &str) -> Result<String, AllocError> {
+    format!(in alloc; " on line {line} of {path}")
 }
 
 /// Writes behind the text that there is no folder with the parts of a command.
@@ -52,11 +49,17 @@ pub(crate) fn push_no_parts(
     path: &str,
     folder: &str,
 ) -> Result<(), AllocError> {
-    text.extend_from_slice(b"note: there are no parts of ")?;
-    push_command_place(alloc, text, line, path)?;
-    text.extend_from_slice(b": there is no folder ")?;
-    push_shown(text, folder.as_bytes())?;
-    text.extend_from_slice(b"\n")
+    let place = place_text(alloc, line, path)?;
+    let start = b"note: there are no parts of the command".as_slice();
+    push_line(
+        text,
+        &[
+            start,
+            place.as_bytes(),
+            b": there is no folder ",
+            folder.as_bytes(),
+        ],
+    )
 }
 
 /// Writes behind the text why the parts of a command aren't known.
@@ -67,27 +70,12 @@ pub(crate) fn push_unknown_parts(
     path: &str,
     why: &str,
 ) -> Result<(), AllocError> {
-    text.extend_from_slice(b"warning: the parts of ")?;
-    push_command_place(alloc, text, line, path)?;
-    text.extend_from_slice(b" aren't known: ")?;
-    text.extend_from_slice(why.as_bytes())?;
-    text.extend_from_slice(b"\n")
-}
-
-/// Writes the warning of a setting behind the text.
-fn push_unheeded(
-    alloc: Global,
-    text: &mut Vec<u8>,
-    path: &str,
-    setting: &Setting,
-) -> Result<(), AllocError> {
-    text.extend_from_slice(b"warning: ")?;
-    text.extend_from_slice(setting.name())?;
-    text.extend_from_slice(b" on line ")?;
-    push_number(alloc, text, u128::from(setting.number()))?;
-    text.extend_from_slice(b" of ")?;
-    push_shown(text, path.as_bytes())?;
-    text.extend_from_slice(b" has no effect\n")
+    let place = place_text(alloc, line, path)?;
+    let start = b"warning: the parts of the command".as_slice();
+    push_line(
+        text,
+        &[start, place.as_bytes(), b" aren't known: ", why.as_bytes()],
+    )
 }
 
 /// Writes behind the text the warning of each setting that other daemons heed.
@@ -99,7 +87,16 @@ fn push_all_unheeded(
 ) -> Result<(), AllocError> {
     for setting in settings {
         if is_unheeded(setting) {
-            push_unheeded(alloc, text, path, setting)?;
+            let place = place_text(alloc, setting.number(), path)?;
+            push_line(
+                text,
+                &[
+                    b"warning: ",
+                    setting.name(),
+                    place.as_bytes(),
+                    b" has no effect",
+                ],
+            )?;
         }
     }
     Ok(())
@@ -116,11 +113,13 @@ fn push_behind_user(
         return Ok(());
     };
     let (name, _) = word(line.command());
-    text.extend_from_slice(b"warning: ")?;
-    push_command_place(alloc, text, line.number(), path)?;
-    text.extend_from_slice(b" begins with ")?;
-    push_shown(text, name)?;
-    text.extend_from_slice(b", as in a system table: see --system\n")
+    let place = place_text(alloc, line.number(), path)?;
+    let start = b"warning: the command".as_slice();
+    let end = b", as in a system table: see --system".as_slice();
+    push_line(
+        text,
+        &[start, place.as_bytes(), b" begins with ", name, end],
+    )
 }
 
 /// Writes behind the text the warning of the first user that is probably a command.
@@ -130,38 +129,15 @@ fn push_no_user(
     path: &str,
     lines: &[SystemLine],
 ) -> Result<(), AllocError> {
-    let Some(line) = lines.iter().find(|line| is_no_user(line.user())) else {
-        return Ok(());
-    };
-    text.extend_from_slice(b"warning: the user on line ")?;
-    push_number(alloc, text, u128::from(line.number()))?;
-    text.extend_from_slice(b" of ")?;
-    push_shown(text, path.as_bytes())?;
-    text.extend_from_slice(b" is ")?;
-    push_shown(text, line.user())?;
-    text.extend_from_slice(b", as a command in a user's table: see --user\n")
-}
-
-/// Writes behind the text what is to be warned of in a system table.
-fn push_system_warnings(
-    alloc: Global,
-    text: &mut Vec<u8>,
-    path: &str,
-    table: &SystemTable,
-) -> Result<(), AllocError> {
-    push_all_unheeded(alloc, text, path, table.settings())?;
-    push_no_user(alloc, text, path, table.lines())
-}
-
-/// Writes behind the text what is to be warned of in a user's table.
-fn push_user_warnings(
-    alloc: Global,
-    text: &mut Vec<u8>,
-    path: &str,
-    table: &Crontab,
-) -> Result<(), AllocError> {
-    push_all_unheeded(alloc, text, path, table.settings())?;
-    push_behind_user(alloc, text, path, table.lines())
+    for line in lines {
+        if is_no_user(line.user()) {
+            let place = place_text(alloc, line.number(), path)?;
+            let start = b"warning: the user".as_slice();
+            let end = b", as a command in a user's table: see --user".as_slice();
+            return push_line(text, &[start, place.as_bytes(), b" is ", line.user(), end]);
+        }
+    }
+    Ok(())
 }
 
 /// Writes behind the text what is to be warned of in a table without a fault.
@@ -171,17 +147,13 @@ pub(crate) fn push_warnings(
     given: &Given,
     bytes: &[u8],
 ) -> Result<(), AllocError> {
+    let Some(table) = read_table(alloc, given, bytes)? else {
+        return Ok(());
+    };
     let path = given.path();
-    if given.owner().is_none() {
-        return match read_system_crontab(alloc, bytes) {
-            Ok(table) => push_system_warnings(alloc, text, path, &table),
-            Err(TableFault::OutOfMemory) => Err(AllocError),
-            Err(TableFault::At { .. }) => Ok(()),
-        };
-    }
-    match read_crontab(alloc, bytes) {
-        Ok(table) => push_user_warnings(alloc, text, path, &table),
-        Err(TableFault::OutOfMemory) => Err(AllocError),
-        Err(TableFault::At { .. }) => Ok(()),
+    push_all_unheeded(alloc, text, path, table.settings())?;
+    match &table {
+        Table::System(table) => push_no_user(alloc, text, path, table.lines()),
+        Table::User(table) => push_behind_user(alloc, text, path, table.lines()),
     }
 }

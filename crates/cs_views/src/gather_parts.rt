@@ -1,17 +1,15 @@
 //! The parts that the commands of tables run by run-parts(8).
-ghost use Rattle.std.specs.Prelude.{◌≡◌, ◌⊎◌, ◌++◌, [], ◌∷◌, All, IfErr, IfOk, IfSome, OnErr, OnOk, is_some, string_bytes, true};
+ghost use Rattle.std.specs.Prelude.{◌≡◌, ◌⊎◌, ◌++◌, [], ◌∷◌, All, IfErr, IfOk, IfSome, OnErr, OnOk, is_some, true};
 ghost use Rattle.cs_views.specs.GatherAnswer.{AreParts, HavePartNames, IsPart};
 ghost use Rattle.cs_views.specs.Listing.{IsUnlisted};
 
-use crate::gather_below::{Unlisted, joined, kind_at, names_at, table_name};
+use crate::gather_below::{Unlisted, found_at, joined, names_at, table_name};
 use crate::gather_given::Given;
 use crate::gather_note::{push_no_parts, push_passed_over, push_unknown_parts};
+use crate::gather_table::read_table;
 use cs_civil::{Bytes, Sequence};
-use cs_crontab::{Line, read_crontab};
 use cs_gather::{Parts, RunParts, run_parts};
 use cs_io::{FileKind, Folders};
-use cs_system::{SystemLine, read_system_crontab};
-use cs_table::TableFault;
 use std::alloc::{AllocError, Global};
 
 /// A command of a table, and how paths below the root folder begin.
@@ -65,30 +63,8 @@ fn push_part<I: Folders>(
         Ok(name) => name,
         Err(why) => return Ok(push_passed_over(notes, folder, name, why)?),
     };
-    let path = joined(alloc, folder, name)?;
-    let kind = kind_at(alloc, inputs, path.as_str())?;
+    let (path, kind) = found_at(alloc, inputs, folder, name)?;
     Ok(push_found(alloc, kind, path.as_str(), name, names, notes)?)
-}
-
-/// The names of the parts in a folder, with a slash at its end, of these names, in their order.
-fn names_of<I: Folders>(
-    alloc: Global,
-    inputs: &mut I,
-    folder: &str,
-    found: &[Bytes],
-    notes: &mut Vec<u8>,
-) -> Result<Vec<Bytes>, Unlisted>
-    ensures names { IfOk result (λ names. All IsPart names.items) }
-    ensures stays { (I.whole inputs.new ≡ I.whole inputs.old)
-        × (I.left inputs.new ≡ I.left inputs.old) × (I.reads inputs.new ≡ I.reads inputs.old) }
-    ensures works { OnOk result (I.failed inputs.new ≡ I.failed inputs.old) }
-    ensures fails { IfErr result (IsUnlisted (I.failed inputs.new) (I.reads inputs.new)) }
-{
-    let mut names = Vec::new(alloc);
-    for name in found {
-        push_part(alloc, inputs, folder, name.as_slice(), &mut names, notes)?;
-    }
-    Ok(names)
 }
 
 /// The slash that a path lacks at its end.
@@ -115,40 +91,21 @@ fn names_in<I: Folders>(
         return Ok(None);
     };
     let folder = joined(alloc, path, slash_behind(path))?;
-    let mut names = names_of(alloc, inputs, folder.as_str(), found.as_slice(), notes)?;
+    let mut names = Vec::new(alloc);
+    for name in found.as_slice() {
+        push_part(
+            alloc,
+            inputs,
+            folder.as_str(),
+            name.as_slice(),
+            &mut names,
+            notes,
+        )?;
+    }
     if is_reversed {
         names.reverse();
     }
     Ok(Some(names))
-}
-
-/// The names of a command's parts, if they are known.
-fn parts_of<I: Folders>(
-    alloc: Global,
-    inputs: &mut I,
-    at: &Placed,
-    notes: &mut Vec<u8>,
-) -> Result<Option<Vec<Bytes>>, Unlisted>
-    ensures names { IfOk result (λ found. IfSome found (λ names. All IsPart names.items)) }
-    ensures stays { (I.whole inputs.new ≡ I.whole inputs.old)
-        × (I.left inputs.new ≡ I.left inputs.old) × (I.reads inputs.new ≡ I.reads inputs.old) }
-    ensures works { OnOk result (I.failed inputs.new ≡ I.failed inputs.old) }
-    ensures fails { IfErr result (IsUnlisted (I.failed inputs.new) (I.reads inputs.new)) }
-{
-    let (path, is_reversed) = match run_parts(at.command) {
-        RunParts::Absent => return Ok(None),
-        RunParts::Folder { path, is_reversed } => (path, is_reversed),
-        RunParts::Unread(why) => {
-            push_unknown_parts(alloc, notes, at.line, at.table, why)?;
-            return Ok(None);
-        }
-    };
-    let path = joined(alloc, at.front, path)?;
-    let names = names_in(alloc, inputs, path.as_str(), is_reversed, notes)?;
-    if names.is_none() {
-        push_no_parts(alloc, notes, at.line, at.table, path.as_str())?;
-    }
-    Ok(names)
 }
 
 /// Adds the parts of a command, if they are known.
@@ -166,35 +123,22 @@ fn push_parts<I: Folders>(
     ensures works { OnOk result (I.failed inputs.new ≡ I.failed inputs.old) }
     ensures fails { IfErr result (IsUnlisted (I.failed inputs.new) (I.reads inputs.new)) }
 {
-    let Some(names) = parts_of(alloc, inputs, at, notes)? else {
-        return Ok(());
+    let (path, is_reversed) = match run_parts(at.command) {
+        RunParts::Absent => return Ok(()),
+        RunParts::Folder { path, is_reversed } => (path, is_reversed),
+        RunParts::Unread(why) => {
+            return Ok(push_unknown_parts(alloc, notes, at.line, at.table, why)?);
+        }
+    };
+    let path = joined(alloc, at.front, path)?;
+    let Some(names) = names_in(alloc, inputs, path.as_str(), is_reversed, notes)? else {
+        return Ok(push_no_parts(alloc, notes, at.line, at.table, path.as_str())?);
     };
     parts.push(Parts {
         line: at.line,
         names: Sequence::from_vec(names),
     })?;
     Ok(())
-}
-
-/// The commands of a system table, each with its line.
-fn system_commands<'t>(
-    alloc: Global,
-    lines: &'t [SystemLine],
-) -> Result<Vec<(u32, &'t [u8])>, AllocError> {
-    let mut commands = Vec::new(alloc);
-    for line in lines {
-        commands.push((line.number(), line.command()))?;
-    }
-    Ok(commands)
-}
-
-/// The commands of a user's table, each with its line.
-fn user_commands<'t>(alloc: Global, lines: &'t [Line]) -> Result<Vec<(u32, &'t [u8])>, AllocError> {
-    let mut commands = Vec::new(alloc);
-    for line in lines {
-        commands.push((line.number(), line.command()))?;
-    }
-    Ok(commands)
 }
 
 /// The parts of these commands of a table.
@@ -225,43 +169,8 @@ fn parts_of_commands<I: Folders>(
     Ok(parts)
 }
 
-/// The parts of the commands of a table that its bytes say. A table with a fault has none.
-fn parts_below<I: Folders>(
-    alloc: Global,
-    inputs: &mut I,
-    front: &str,
-    given: &Given,
-    bytes: &[u8],
-    notes: &mut Vec<u8>,
-) -> Result<Vec<Parts>, Unlisted>
-    ensures parts { IfOk result (λ parts. All HavePartNames parts.items) }
-    ensures stays { (I.whole inputs.new ≡ I.whole inputs.old)
-        × (I.left inputs.new ≡ I.left inputs.old) × (I.reads inputs.new ≡ I.reads inputs.old) }
-    ensures works { OnOk result (I.failed inputs.new ≡ I.failed inputs.old) }
-    ensures fails { IfErr result (IsUnlisted (I.failed inputs.new) (I.reads inputs.new)) }
-{
-    let path = given.path();
-    if given.owner().is_none() {
-        return match read_system_crontab(alloc, bytes) {
-            Ok(table) => {
-                let commands = system_commands(alloc, table.lines())?;
-                parts_of_commands(alloc, inputs, front, path, commands.as_slice(), notes)
-            }
-            Err(TableFault::OutOfMemory) => Err(Unlisted::OutOfMemory),
-            Err(TableFault::At { .. }) => Ok(Vec::new(alloc)),
-        };
-    }
-    match read_crontab(alloc, bytes) {
-        Ok(table) => {
-            let commands = user_commands(alloc, table.lines())?;
-            parts_of_commands(alloc, inputs, front, path, commands.as_slice(), notes)
-        }
-        Err(TableFault::OutOfMemory) => Err(Unlisted::OutOfMemory),
-        Err(TableFault::At { .. }) => Ok(Vec::new(alloc)),
-    }
-}
-
-/// The same, if a root folder is asked, where paths begin so.
+/// The parts of the commands of a table that its bytes say, if a root folder is asked, where paths
+/// begin so. A table with a fault has none.
 pub(crate) fn parts_asked<I: Folders>(
     alloc: Global,
     inputs: &mut I,
@@ -277,8 +186,19 @@ pub(crate) fn parts_asked<I: Folders>(
     ensures works { OnOk result (I.failed inputs.new ≡ I.failed inputs.old) }
     ensures fails { IfErr result (IsUnlisted (I.failed inputs.new) (I.reads inputs.new)) }
 {
-    match front {
-        Some(front) => parts_below(alloc, inputs, front, given, bytes, notes),
-        None => Ok(Vec::new(alloc)),
-    }
+    let Some(front) = front else {
+        return Ok(Vec::new(alloc));
+    };
+    let Some(table) = read_table(alloc, given, bytes)? else {
+        return Ok(Vec::new(alloc));
+    };
+    let commands = table.commands(alloc)?;
+    parts_of_commands(
+        alloc,
+        inputs,
+        front,
+        given.path(),
+        commands.as_slice(),
+        notes,
+    )
 }

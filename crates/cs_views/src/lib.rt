@@ -13,6 +13,7 @@ mod gather_note;
 mod gather_parts;
 mod gather_root;
 mod gather_stop;
+mod gather_table;
 mod learn;
 mod lint;
 mod replay;

@@ -1,12 +1,12 @@
 //! What `replay --judge` says of a script: what it breaks.
-ghost use Rattle.std.specs.Prelude.{◌≡◌, ◌⊎◌, ◌≤◌, ◌-◌, ◌++◌, ◌∷◌, [], IfOk, map, take};
+ghost use Rattle.std.specs.Prelude.{◌≡◌, ◌⊎◌, ◌≤◌, ◌-◌, IfOk, map, take};
 ghost use Rattle.cs_decl.specs.Plan.{as_plan};
 ghost use Rattle.cs_history.specs.Plan.{first_start};
 ghost use Rattle.cs_counterexample.specs.Shown.{IsTellable};
 ghost use Rattle.cs_views.specs.Verdict.{IsVerdict, TellsBreak, TellsLine, as_script, beginning};
 ghost use Rattle.cs_views.specs.Verdict.{broken_line, late_line, line_of};
 
-use cs_civil::{Sequence, push_number};
+use cs_civil::Sequence;
 use cs_counterexample::{NotShown, Shown, prove_unsafe, shown_text};
 use cs_decl::Plan;
 use cs_history::{Event, Script, Start};
@@ -61,10 +61,10 @@ fn broken_line(alloc: Global, plan: &Plan, shown: &Shown) -> Result<Vec<u8>, All
 fn late_line(alloc: Global, number: u32) -> Result<Vec<u8>, AllocError>
     ensures { IfOk result (λ text. text.items ≡ late_line number) }
 {
-    let mut text = Vec::from_slice(alloc, b"late: script line ".as_slice())?;
-    push_number(alloc, &mut text, u128::from(number))?;
-    text.extend_from_slice(b" comes when a run has passed its declared time\n")?;
-    Ok(text)
+    let text = format!(in alloc;
+        "late: script line {number} comes when a run has passed its declared time\n"
+    )?;
+    Ok(text.into_bytes())
 }
 
 /// The first events, so many of them.

@@ -8,6 +8,6 @@ returns-clause-back g c = λ is. c.run_threads-stored.ensures.back (sym c.close.
 
 pub returns-clause-stamps : goal.returns-clause-stamps
 returns-clause-stamps g c =
-    all_kept g.S.StampStore.reads g.S.StampStore.writes (plan_in c.args.checked) c.plan-2.result.now g.J.PlanLedger.plan c.plan-5.result.now c.behind-left.result.keep.core
-    c.read-stored.result.0.stamps.items c.run_threads-stored.result.0.stamps.items c.args.store.now c.read-stored.new.store c.run_threads-stored.new.store c.behind-left.new.store c.close.result.keep
-    c.plan-2.ensures c.requires.plan c.plan-5.ensures c.close.ensures.some c.close.ensures.core c.read-stored.ensures.read c.run_threads-stored.ensures.written c.behind-left.ensures.written
+    all_kept g.S.StampStore.reads g.S.StampStore.writes (plan_in c.args.checked) c.plan-plan.result.now g.J.PlanLedger.plan c.plan-plan.result.now c.behind.result.keep.core
+    c.open-stored.result.0.stamps.items c.run_threads-stored.result.0.stamps.items c.args.store.now c.open-stored.new.store c.run_threads-stored.new.store c.behind.new.store c.close.result.keep
+    c.plan-plan.ensures c.requires.plan c.plan-plan.ensures c.close.ensures.some c.close.ensures.core c.open-stored.ensures.read c.run_threads-stored.ensures.written c.behind.ensures.written

@@ -1,32 +1,13 @@
-use Rattle.std.proofs.Common.{Bor}
-use Rattle.cs_diagnostics.specs.Told.{is_told}
-use Rattle.cs_diagnostics.specs.declared.render.File.{File}
-use Rattle.cs_lint.specs.declared.table.Kind.TheVariants.{Crontab}
-use Rattle.cs_lint.specs.Startup.{is_odd_some}
-use Rattle.cs_lint.specs.Odd.{is_odd_table}
-use Rattle.cs_lint.proofs.EachLemmas.{tells_each, tells_lines}
-use Rattle.cs_lint.proofs.FirstLemmas.{judges_of, or_left, or_right, plan_of_same, tells_first, tells_of}
-use Rattle.cs_lint.proofs.WantedLemmas.{no_odd_plan, no_odd_table, not_only}
+use Rattle.cs_lint.proofs.FirstLemmas.{judges_of, plan_of_same, tells_of}
 use Rattle.cs_lint.proofs.files.lint.Goals as goal
 
 pub returns-clause-told : goal.returns-clause-told
 returns-clause-told c =
-    let table = c.args.table.now.bytes.now in
-    let refusal = c.in_ok-looked.looked.refusal in
-    tells_of c.in_ok-text.text table _ _ _ _ c.bytes_of-job_bytes.ensures c.bytes_of-terms.ensures
-    (tells_first refusal c.in_ok-found.found c.in_ok-text.text table _ _ c.in_ok-looked.ensures.refusal
-    c.in_ok-found.ensures.kept c.in_ok-text.ensures.told)
+    tells_of c.in_ok-told.told.0 c.args.table.now.bytes.now _ _ _ _ c.bytes_of-job_bytes.ensures c.bytes_of-terms.ensures
+    (c.in_ok-told.ensures.told c.args.table.now.bytes.now _ _ c.in_ok-looked.ensures.refusal)
 
 pub returns-clause-each : goal.returns-clause-each
-returns-clause-each c =
-    let found = c.in_ok-found.found in
-    let text = c.in_ok-text.text in
-    tells_each (λ (f : Bor File). f.now) c.args.jobs _ c.some_file-jobs.result text c.args.table.now found.jobs
-    (tells_lines Crontab text c.args.table.now found.table c.in_ok-found.ensures.table
-    (λ first is. c.in_ok-text.ensures.told first (or_left (is_told first found.table) _ is)) c.in_ok-text.ensures.table)
-    c.bytes_of-job_bytes.ensures c.some_file-jobs.ensures c.in_ok-found.ensures.jobs
-    (λ first is. c.in_ok-text.ensures.told first (or_right (is_told first found.table) _ (or_left (is_told first found.jobs) _ is)))
-    c.in_ok-text.ensures.jobs
+returns-clause-each c = c.in_ok-told.ensures.each
 
 pub returns-clause-verdict : goal.returns-clause-verdict
 returns-clause-verdict c =
@@ -34,23 +15,15 @@ returns-clause-verdict c =
     judges_of c.verdict_of-verdict.result table _ _ _ _ c.bytes_of-job_bytes.ensures c.bytes_of-terms.ensures (c.verdict_of-verdict.ensures.value table _ _ (c.in_ok-looked.ensures.refusal))
 
 pub returns-clause-odd : goal.returns-clause-odd
-returns-clause-odd c = λ is.
-    let wanted = c.args.wanted.now in
-    let table = c.args.table.now.bytes.now in
-    let more = not_only wanted.faults_only (is_odd_table wanted table) (no_odd_table wanted table) is in
-    c.verdict_of-verdict.ensures.odd (c.is_odd.ensures.odd more (c.in_ok-found.ensures.odd is))
+returns-clause-odd c = λ is. c.verdict_of-verdict.ensures.odd (c.in_ok-told.ensures.odd is)
 
 pub returns-clause-planned : goal.returns-clause-planned
 returns-clause-planned c =
-    let wanted = c.args.wanted.now in
     let plan = c.in_ok-looked.looked.plan in (
       plan,
       plan_of_same plan c.args.table.now.bytes.now _ _ _ _ c.bytes_of-job_bytes.ensures c.bytes_of-terms.ensures c.in_ok-looked.ensures.plan,
-      λ is.
-          let table = c.args.table.now.bytes.now in
-          let more = not_only wanted.faults_only (is_odd_some wanted table plan) (no_odd_plan wanted table plan) is in
-          c.verdict_of-verdict.ensures.odd (c.is_odd.ensures.odd more (c.in_ok-found.ensures.planned is)),
+      λ is. c.verdict_of-verdict.ensures.odd (c.in_ok-told.ensures.planned is),
     )
 
 pub returns-clause-faults : goal.returns-clause-faults
-returns-clause-faults c = λ only. c.verdict_of-verdict.ensures.only (c.is_odd.ensures.faults only)
+returns-clause-faults c = λ only. c.verdict_of-verdict.ensures.only (c.in_ok-told.ensures.faults only)

@@ -8,5 +8,5 @@ pub returns-clause-found : goal.returns-clause-found
 returns-clause-found g c = λ front at all.
     let name = c.in-Ok.name.now in
     let signs = subst (HasName c.args.shelf) (sym c.in-Ok.ensures.name) c.in-Ok.ensures.signs in
-    let is = is_below c.args.shelf front c.args.folder.now name (string_bytes c.in_ok-path.path) c.in_ok-given.given signs at c.in_ok-path.ensures c.in_ok-given.ensures in
+    let is = is_below c.args.shelf front c.args.folder.now name (string_bytes c.in_ok-path.path) c.in_ok-given.given signs at c.in_ok-path.ensures.path c.in_ok-given.ensures in
     maybe_more (IsBelow front) c.args.found.now.items c.push_found.new.found.items c.in_ok-given.given is c.in_ok-push_found.ensures all

@@ -1,6 +1,6 @@
 use Rattle.std.proofs.Common.{◌≡◌, All}
 use Rattle.cs_views.specs.GatherAnswer.{IsPart}
-use Rattle.cs_views.proofs.gather_parts.names_of.Given as goal
+use Rattle.cs_views.proofs.gather_parts.names_in.Given as goal
 
 pub record Finding (g : goal.Over) (l : goal.Live-loop-name g) : Type 0 where
   pub names : All IsPart l.names.items

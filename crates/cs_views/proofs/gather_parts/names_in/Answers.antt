@@ -1,7 +1,7 @@
 use Rattle.std.proofs.Common.{◌∙◌, All, List, ℕ, refl, subst, sym}
 use Rattle.std.proofs.lemmas.List.Elements.{All-nil}
 use Rattle.cs_views.specs.GatherAnswer.{IsPart}
-use Rattle.cs_views.proofs.gather_parts.names_of.Goals as goal
+use Rattle.cs_views.proofs.gather_parts.names_in.Goals as goal
 
 pub loop-name-init : goal.loop-name-init
 loop-name-init g c =

@@ -1,5 +1,0 @@
-use Rattle.cs_machine.specs.Output.{AreOthers}
-use Rattle.cs_machine.proofs.output.others.Given as goal
-
-abbrev pub invariant-loop-entry : goal.invariant-loop-entry
-invariant-loop-entry g l = AreOthers l.file l.names.items

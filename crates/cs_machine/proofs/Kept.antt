@@ -1,7 +1,6 @@
 -- What was noted of a line, where more of it may be lost.
-use Rattle.std.proofs.Common.{◌≡◌, ◌∙◌, ℕ, Bool, true, false, ◌&&◌, ◌⊎◌, inl, inr, List, Option, codes, ap}
+use Rattle.std.proofs.Common.{◌≡◌, ◌∙◌, ℕ, Bool, true, false, ◌&&◌, inl, inr, List, Option, codes, ap}
 use Rattle.std.proofs.Math.Bool.{and-false}
-use Rattle.cs_machine.specs.HookCall.{Keeps}
 use Rattle.cs_machine.specs.RunLog.{IsCalled}
 use Rattle.cs_machine.specs.Starts.{Notes, Start, is_last_of}
 use Rattle.cs_machine.specs.State.{IsNoted, Takes, ends_wait}

@@ -1,10 +1,9 @@
 //! Commands that are called when something has happened.
-ghost use Rattle.std.specs.Prelude.{◌≡◌, ℕ, List, None, Some, IfOk, OnOk, string_bytes, option_map};
-ghost use Rattle.std.specs.Prelude.{codes};
-ghost use Rattle.std.specs.Prelude.{if◌then◌else◌, false};
+ghost use Rattle.std.specs.Prelude.{◌≡◌, ℕ, List, [], None, Some, IfOk, OnOk, string_bytes};
+ghost use Rattle.std.specs.Prelude.{codes, option_map, if◌then◌else◌, false};
 ghost use Rattle.std.specs.Str.{bytes_eq};
 ghost use Rattle.std.specs.Process.{command_program, command_args, command_var, command_dir};
-ghost use Rattle.std.specs.Process.{clears_env, SameProgramAndArgs, SameDir};
+ghost use Rattle.std.specs.Process.{clears_env, SameProgramAndArgs, SameDir, SameEnv};
 ghost use Rattle.cs_machine.specs.Hook.{hook_value, hook_words, readable};
 
 use std::alloc::{AllocError, Global};
@@ -31,6 +30,16 @@ pub fn call_hook<P: Processes>(
     err: Stderr,
 ) -> io::Result<()> {
     let mut shell = hook_command(alloc, command, variables)?;
+    run_shell(processes, &mut shell, out, err)
+}
+
+/// Runs a shell without input, with these streams, and waits for its end.
+fn run_shell<P: Processes>(
+    processes: &P,
+    shell: &mut Command,
+    out: Stdout,
+    err: Stderr,
+) -> io::Result<()> {
     shell.stdin(Stdio::null());
     shell.stdout(Stdio::from(out));
     shell.stderr(Stdio::from(err));
@@ -52,14 +61,44 @@ fn hook_command(
     ensures folder { IfOk result (λ c. command_dir c ≡ None) }
 {
     let mut shell = Command::new(alloc, "/bin/sh")?;
+    add_words(&mut shell, command)?;
+    set_all(alloc, &mut shell, variables)?;
+    Ok(shell)
+}
+
+/// Adds the words of a shell that starts a command in the background. The only error is out of
+/// memory.
+fn add_words(shell: &mut Command, command: &str) -> Result<(), AllocError>
+    requires { command_args shell.old ≡ [] }
+    ensures words { OnOk result (command_args shell.new ≡ hook_words command.now) }
+    ensures program { OnOk result (command_program shell.new ≡ command_program shell.old) }
+    ensures variables { OnOk result (SameEnv shell.old shell.new) }
+    ensures folder { OnOk result (SameDir shell.old shell.new) }
+{
     shell.arg("-c")?;
     shell.arg(CALL)?;
     shell.arg("sh")?;
     shell.arg(command)?;
+    Ok(())
+}
+
+/// Sets variables, one after the other. The only error is out of memory.
+fn set_all(
+    alloc: Global,
+    shell: &mut Command,
+    variables: &[(&str, &[u8])],
+) -> Result<(), AllocError>
+    requires { (name : List ℕ) → command_var shell.old name ≡ None }
+    ensures variables { OnOk result ((name : List ℕ)
+        → command_var shell.new name ≡ option_map Some (hook_value variables.now name)) }
+    ensures words { OnOk result (SameProgramAndArgs shell.old shell.new) }
+    ensures clears { OnOk result (clears_env shell.new ≡ clears_env shell.old) }
+    ensures folder { OnOk result (SameDir shell.old shell.new) }
+{
     for (name, value) in variables {
-        set_readable(alloc, &mut shell, name, value)?;
+        set_readable(alloc, shell, name, value)?;
     }
-    Ok(shell)
+    Ok(())
 }
 
 /// A text, with U+FFFD for what isn't UTF-8. The only error is out of memory.

@@ -1,5 +1,5 @@
 //! A folder in which the output of each run has a file of its own.
-ghost use Rattle.std.specs.Prelude.{◌≡◌, ◌++◌, Some, codes, drop, string_bytes};
+ghost use Rattle.std.specs.Prelude.{◌≡◌, ◌++◌, Some, drop, string_bytes};
 ghost use Rattle.std.specs.Prelude.{IfOk, OnOk, length, take, true, ◌+◌};
 ghost use Rattle.cs_machine.specs.Output.{AreFirst, AreOld, AreOthers, is_moment, is_of_job};
 ghost use Rattle.cs_machine.specs.Output.{is_other_of, output_name, output_text, zeroed};
@@ -26,19 +26,6 @@ pub struct OutputFolder {
 /// The shape of the moment in front of a file's name, with `0` for each digit.
 const SHAPE: &[u8] = b"0000-00-00T00:00";
 
-/// Adds the time of a file's name, and what it says of the job. The only error is out of memory.
-fn push_named(name: &mut Vec<u8>, time: &[u8], kind: &[u8], job: &[u8]) -> Result<(), AllocError>
-    ensures { OnOk result (name.new.items ≡ name.old.items
-        ++ (codes "T" ++ time.now ++ codes "-" ++ kind.now ++ codes "-" ++ job.now)) }
-{
-    name.push(b'T')?;
-    name.extend_from_slice(time)?;
-    name.push(b'-')?;
-    name.extend_from_slice(kind)?;
-    name.push(b'-')?;
-    name.extend_from_slice(job)
-}
-
 /// The name of a run's file. None if the run's name isn't like `line 3 due 2024-09-13 23:30`. The
 /// only error is out of memory.
 fn output_name(alloc: Global, run: &[u8]) -> Result<Option<Bytes>, AllocError>
@@ -51,7 +38,12 @@ fn output_name(alloc: Global, run: &[u8]) -> Result<Option<Bytes>, AllocError>
         return Ok(None);
     };
     let mut name = Vec::from_slice(alloc, day)?;
-    push_named(&mut name, time, kind, job)?;
+    name.push(b'T')?;
+    name.extend_from_slice(time)?;
+    name.push(b'-')?;
+    name.extend_from_slice(kind)?;
+    name.push(b'-')?;
+    name.extend_from_slice(job)?;
     Ok(Some(Bytes::from_vec(name)))
 }
 

@@ -1,6 +1,6 @@
 //! Runners for a daemon.
 ghost use Rattle.std.specs.Prelude.{◌≡◌, All, IfOk, vec_len};
-ghost use Rattle.cs_machine.specs.Runners.{IsMadeBy, IsMadeWith, IsOutputOf};
+ghost use Rattle.cs_machine.specs.Runners.{IsMadeBy, IsOutputOf};
 
 use crate::output::OutputFolder;
 use std::alloc::{AllocError, Global};
@@ -40,17 +40,6 @@ fn output_of(alloc: Global, words: RunnerWords<'_>) -> Result<Option<OutputFolde
     }
 }
 
-/// What one runner is made with by these words. The only error is out of memory.
-fn setup_of(alloc: Global, words: RunnerWords<'_>) -> Result<RunnerSetup, AllocError>
-    ensures { IfOk result (IsMadeWith words.entry) }
-{
-    Ok(RunnerSetup {
-        has_home: words.has_home,
-        tells_signals: words.tells_signals,
-        output: output_of(alloc, words)?,
-    })
-}
-
 /// Makes a runner by these words. The only error is out of memory.
 fn runner_by<W: Drop, F: Fn(RunnerSetup) -> W + Drop>(
     alloc: Global,
@@ -60,8 +49,11 @@ fn runner_by<W: Drop, F: Fn(RunnerSetup) -> W + Drop>(
     requires { F.IsAlwaysCallable new_runner.now }
     ensures { IfOk result (IsMadeBy (F.post new_runner.now) words.entry) }
 {
-    let setup = setup_of(alloc, words)?;
-    Ok(new_runner(setup))
+    Ok(new_runner(RunnerSetup {
+        has_home: words.has_home,
+        tells_signals: words.tells_signals,
+        output: output_of(alloc, words)?,
+    }))
 }
 
 /// Makes this number of runners, each by a call of `new_runner` with what these words say. The only

@@ -1,6 +1,6 @@
 //! The command line of a job.
 ghost use Rattle.std.specs.Prelude.{◌≡◌, ◌↔◌, ℕ, List, Some, None, IfSome, IsSome, option_map};
-ghost use Rattle.std.specs.Prelude.{true, false, IfOk, IfErr, OnOk};
+ghost use Rattle.std.specs.Prelude.{[], true, false, IfOk, IfErr, OnOk};
 ghost use Rattle.std.specs.Prelude.{if◌then◌else◌, Option};
 ghost use Rattle.std.specs.Option.{option_copied};
 ghost use Rattle.std.specs.List.{fold, list_all};
@@ -135,13 +135,27 @@ fn usual_command(
     ensures inherits { IfSome result (λ c. clears_env c ≡ false) }
     ensures folder { IfSome result (λ c. command_dir c ≡ None) }
 {
-    let command = str::from_utf8(command).ok()?;
     let mut shell = Command::new(alloc, program).ok()?;
+    set_usual(&mut shell, command, home)?;
+    Some(shell)
+}
+
+/// Sets the words of a command's shell, and what is set above all settings.
+fn set_usual(shell: &mut Command, command: &[u8], home: Option<&Home>) -> Option<()>
+    requires words { command_args shell.old ≡ [] }
+    requires variables { (name : List ℕ) → command_var shell.old name ≡ None }
+    ensures words { IsSome result → command_args shell.new ≡ shell_words command.now }
+    ensures program { IsSome result → command_program shell.new ≡ command_program shell.old }
+    ensures variables { IsSome result → (name : List ℕ) → command_var shell.new name
+        ≡ option_map Some (value_of (usual_settings (option_copied home.entry)) name) }
+    ensures clears { IsSome result → clears_env shell.new ≡ clears_env shell.old }
+    ensures folder { IsSome result → SameDir shell.old shell.new }
+{
+    let command = str::from_utf8(command).ok()?;
     shell.arg("-c").ok()?;
     shell.arg(command).ok()?;
-    set(&mut shell, SHELL.as_bytes(), USUAL_SHELL.as_bytes())?;
-    set_user(&mut shell, home)?;
-    Some(shell)
+    set(shell, SHELL.as_bytes(), USUAL_SHELL.as_bytes())?;
+    set_user(shell, home)
 }
 
 /// Sets a user's variables, where the user is known, and name and folder are UTF-8.

@@ -152,12 +152,20 @@ impl<'r, P: Processes + Files<File = File> + Wait> ShellRunner<'r, P> {
         }
     }
 
-    /// What a run has as its standard output and its standard error.
-    fn streams(&self, run: &[u8]) -> (Stdio, Stdio) {
-        match self.open_output(run) {
+    /// Sets what a run has as its standard streams. Its input is a pipe, or the null device if it has
+    /// none.
+    fn set_streams(&self, shell: &mut Command, run: &[u8], has_input: bool) {
+        shell.stdin(if has_input {
+            Stdio::piped()
+        } else {
+            Stdio::null()
+        });
+        let (out, err) = match self.open_output(run) {
             Some((out, err)) => (Stdio::from(out), Stdio::from(err)),
             None => (Stdio::from(self.out), Stdio::from(self.err)),
-        }
+        };
+        shell.stdout(out);
+        shell.stderr(err);
     }
 
     /// Starts a command, whose input is a pipe, or the null device if it has none. If it can't,
@@ -176,14 +184,7 @@ impl<'r, P: Processes + Files<File = File> + Wait> ShellRunner<'r, P> {
                 return None;
             }
         };
-        shell.stdin(if has_input {
-            Stdio::piped()
-        } else {
-            Stdio::null()
-        });
-        let (out, err) = self.streams(run);
-        shell.stdout(out);
-        shell.stderr(err);
+        self.set_streams(&mut shell, run, has_input);
         match shell.spawn(self.processes) {
             Ok(child) => Some(child),
             Err(error) => {

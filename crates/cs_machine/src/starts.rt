@@ -1,5 +1,6 @@
 //! The runs that a log has told to have started, and not yet to have ended.
-ghost use Rattle.std.specs.Prelude.{◌≡◌, ◌++◌, ◌&&◌, [], None, OnErr, OnOk, if◌then◌else◌, nat_eq};
+ghost use Rattle.std.specs.Prelude.{◌≡◌, ◌++◌, ◌&&◌, [], None, OnErr, OnOk, bytes_eq};
+ghost use Rattle.std.specs.Prelude.{if◌then◌else◌, nat_eq};
 ghost use Rattle.std.specs.List.{position, starts_with};
 ghost use Rattle.std.specs.Result.{is_ok};
 ghost use Rattle.std.specs.Map.{lookup, remove_entry};
@@ -42,8 +43,6 @@ impl Noted {
 
 const ENDED: &[u8] = b"ended ";
 
-const NOT_STARTED: &[u8] = b"not started ";
-
 /// Whether a text begins with one text and then another.
 #[tactic(auto, using(crate::proofs::Parts::starts_in_two))]
 fn begins_with(text: &[u8], first: &[u8], second: &[u8]) -> bool
@@ -67,12 +66,18 @@ fn is_end_of(words: &[u8], name: &[u8]) -> bool
     is_end_with(words, name, b" status ") || is_end_with(words, name, b" signal ")
 }
 
+/// Whether the words are a text and behind it the name of a run.
+pub(crate) fn tells(words: &[u8], what: &[u8], name: &[u8]) -> bool
+    ensures { result ≡ bytes_eq (what.now ++ name.now) words.now }
+{
+    words.starts_with(what) && name == &words[what.len()..]
+}
+
 /// Whether the words tell that the run of this name couldn't be started.
-#[tactic(auto, using(crate::proofs::Parts::is_in_two))]
 fn is_no_start_of(words: &[u8], name: &[u8]) -> bool
     ensures { result ≡ is_no_start_of words.now name.now }
 {
-    words.starts_with(NOT_STARTED) && name == &words[NOT_STARTED.len()..]
+    tells(words, b"not started ", name)
 }
 
 /// For how many seconds a run took whose end the words tell in this second, and that started in that

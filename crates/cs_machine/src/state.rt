@@ -8,7 +8,7 @@ ghost use Rattle.cs_machine.specs.State.{Begins, IsNoted, Stops, Takes, ends_wai
 use crate::counts::Counts;
 use crate::left_out::left_out_by;
 use crate::setup::JobNote;
-use crate::starts::{Noted, Starts, is_last_of};
+use crate::starts::{Noted, Starts, is_last_of, tells};
 use cs_civil::Bytes;
 use std::alloc::{AllocError, Global};
 
@@ -41,31 +41,13 @@ pub(crate) struct State {
 /// After how many seconds the state is written even if nothing has changed.
 const SECONDS: u64 = 60;
 
-const STARTED: &[u8] = b"started ";
-
-const SKIPPED: &[u8] = b"skipped ";
-
-/// Whether the words tell the start of the run of this name.
-#[tactic(auto, using(crate::proofs::Parts::is_in_two))]
-fn is_start_of(words: &[u8], name: &[u8]) -> bool
-    ensures { result ≡ bytes_eq (codes "started " ++ name.now) words.now }
-{
-    words.starts_with(STARTED) && name == &words[STARTED.len()..]
-}
-
-/// Whether the words tell that the run of this name is skipped.
-#[tactic(auto, using(crate::proofs::Parts::is_in_two))]
-fn is_skip_of(words: &[u8], name: &[u8]) -> bool
-    ensures { result ≡ bytes_eq (codes "skipped " ++ name.now) words.now }
-{
-    words.starts_with(SKIPPED) && name == &words[SKIPPED.len()..]
-}
-
 /// Whether the words tell that the run of this name waits no longer.
 fn ends_wait(words: &[u8], name: &[u8]) -> bool
     ensures { result ≡ ends_wait words.now name.now }
 {
-    is_start_of(words, name) || is_skip_of(words, name) || words.starts_with(b"outage ")
+    tells(words, b"started ", name)
+        || tells(words, b"skipped ", name)
+        || words.starts_with(b"outage ")
 }
 
 /// Adds a name. The only error is out of memory, and then it isn't added.

@@ -1,7 +1,7 @@
 //! The text of a daemon's state: one JSON object in one line.
 ghost use Rattle.std.specs.Prelude.{◌≡◌, ◌++◌, [], if◌then◌else◌, codes, flat_map, option_map, IfOk, OnOk};
 ghost use Rattle.cs_machine.specs.Setup.{peers_of};
-ghost use Rattle.cs_machine.specs.StateText.{json_byte, json_text, json_moment, json_path};
+ghost use Rattle.cs_machine.specs.StateText.{json_byte, json_text, json_moment};
 ghost use Rattle.cs_machine.specs.StateText.{text_member, moment_member, count_member, path_member};
 ghost use Rattle.cs_machine.specs.StateText.{digest_member, flag_member, next_member, run_text};
 ghost use Rattle.cs_machine.specs.StateText.{counts_text, faults_text, files_text, head_text};
@@ -73,17 +73,6 @@ fn push_json_moment(text: &mut Vec<u8>, at: Option<u64>) -> Result<(), AllocErro
     }
 }
 
-/// Adds a path as a JSON text, or `null` where there is none.
-fn push_json_path(alloc: Global, text: &mut Vec<u8>, path: Option<&str>) -> Result<(), AllocError>
-    ensures { OnOk result (text.new.items
-        ≡ text.old.items ++ json_path (option_map (λ p. p.now) path.entry)) }
-{
-    match path {
-        Some(path) => push_json_text(alloc, text, path.as_bytes()),
-        None => text.extend_from_slice(b"null"),
-    }
-}
-
 /// Adds a member that is a text, behind what stands in front of it.
 #[tactic(auto, unfolding(crate::specs::StateText::text_member))]
 fn push_text_member(
@@ -119,7 +108,10 @@ fn push_path_member(
         ≡ text.old.items ++ path_member front.now (option_map (λ p. p.now) path.entry)) }
 {
     text.extend_from_slice(front)?;
-    push_json_path(alloc, text, path)
+    match path {
+        Some(path) => push_json_text(alloc, text, path.as_bytes()),
+        None => text.extend_from_slice(b"null"),
+    }
 }
 
 /// Adds a member that is a number.

@@ -1,4 +1,4 @@
-use Rattle.std.proofs.Common.{rules, ◌≡◌, ◌&&◌, ◌∙◌, false, codes}
+use Rattle.std.proofs.Common.{rules, ◌≡◌, ◌∙◌, false, codes}
 use Rattle.std.specs.Result.{is_ok}
 use Rattle.cs_machine.specs.Starts.{is_last_of}
 use Rattle.cs_machine.specs.State.{ends_wait}

@@ -1,9 +1,0 @@
-use Rattle.std.proofs.Common.{◌∙◌, ◌&&◌, bytes_eq, codes, drop, sym, ap}
-use Rattle.cs_machine.proofs.Parts.{is_in_two}
-use Rattle.cs_machine.proofs.state.is_skip_of.Goals as goal
-
-pub returns-else-starts_with : goal.returns-else-starts_with
-returns-else-starts_with c =
-    c.if-starts_with.false
-    ∙ ap (λ t. t && bytes_eq c.args.name.now (drop 8 c.args.words.now)) (sym c.if-starts_with.false ∙ c.starts_with.ensures.value)
-    ∙ sym (is_in_two c.args.words.now (codes "skipped ") c.args.name.now)

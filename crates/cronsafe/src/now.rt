@@ -1,8 +1,10 @@
 //! What time it is.
+use cs_table::MAX_TABLE;
 use jiff_core::Timestamp;
-use jiff_tz::{SystemTimeZone, TimeZoneDatabase};
+use jiff_tz::{TimeZone, Tzif, posix};
 use std::rt::{Clock, Env, Files};
 use std::time::SystemTime;
+use std::{env, fs};
 
 /// What time it is.
 #[derive(Clone, Copy, Debug)]
@@ -20,11 +22,65 @@ pub(crate) fn read_clock<R: Clock>(rt: &R) -> Option<Timestamp> {
     Timestamp::from_nanosecond(i128::from(since.as_secs()) * 1_000_000_000).ok()
 }
 
-/// The minutes by which local time is ahead of UTC at an instant, if the machine has a time zone: that
-/// of `TZ`, or else of `/etc/localtime`.
+/// The minutes by which local time is ahead of UTC at an instant: by `TZ`, which the C library reads
+/// so too (`tzset(3)`), or else by `/etc/localtime`, or else 0. None where `TZ` is set and names no
+/// time zone.
 pub(crate) fn local_offset<R: Env + Files + AllocGlobal>(rt: &R, at: Timestamp) -> Option<i16> {
-    let zone = SystemTimeZone::read(rt).ok()?;
-    let names = TimeZoneDatabase::new(rt.alloc());
-    let zone = zone.time_zone(&names).ok()?;
+    match env::var(rt, "TZ") {
+        Ok(value) => named_offset(rt, value.as_str(), at),
+        Err(env::VarError::NotPresent) => {
+            Some(file_offset(rt, "/etc/localtime", at).unwrap_or(0))
+        }
+        Err(_) => None,
+    }
+}
+
+/// The offset of the time zone that a value of `TZ` names, with or without a colon in front: of a
+/// file of the machine, or else of a POSIX rule. An empty name is UTC too.
+fn named_offset<R: Env + Files + AllocGlobal>(rt: &R, value: &str, at: Timestamp) -> Option<i16> {
+    let name = value.strip_prefix(':').unwrap_or(value);
+    if name.is_empty() || name == "UTC" {
+        return Some(0);
+    }
+    if let Some(path) = zone_path(rt, name) {
+        if let Some(offset) = file_offset(rt, path.as_str(), at) {
+            return Some(offset);
+        }
+    }
+    let rule = posix::TimeZone::parse(name.as_bytes()).ok()?;
+    offset_minutes(TimeZone::Posix(rule), at)
+}
+
+/// The path of the file of a time zone: its name if that is a path from the root, or else the name
+/// below the folder that `TZDIR` names, or `/usr/share/zoneinfo`. A name with `..` has none.
+fn zone_path<R: Env + AllocGlobal>(rt: &R, name: &str) -> Option<String> {
+    if name.starts_with('/') {
+        return String::from_str(rt.alloc(), name).ok();
+    }
+    if name.contains("..") {
+        return None;
+    }
+    let mut path = match env::var(rt, "TZDIR") {
+        Ok(folder) if !folder.is_empty() => folder,
+        _ => String::from_str(rt.alloc(), "/usr/share/zoneinfo").ok()?,
+    };
+    path.push('/').ok()?;
+    path.push_str(name).ok()?;
+    Some(path)
+}
+
+/// The offset of the time zone of a file (TZif, RFC 9636), if there is such a file.
+fn file_offset<R: Files + AllocGlobal>(rt: &R, path: &str, at: Timestamp) -> Option<i16> {
+    let found = fs::metadata(rt, path).ok()?;
+    if !found.is_file() || found.len() > MAX_TABLE as u64 {
+        return None;
+    }
+    let bytes = fs::read(rt, path).ok()?;
+    let zone = Tzif::parse(rt.alloc(), None, bytes.as_slice()).ok()?;
+    offset_minutes(TimeZone::Tzif(&zone), at)
+}
+
+/// The minutes by which a time zone is ahead of UTC at an instant.
+fn offset_minutes(zone: TimeZone<'_>, at: Timestamp) -> Option<i16> {
     i16::try_from(zone.to_offset(at).seconds / 60).ok()
 }

@@ -1,6 +1,8 @@
 //! What the windows of a stretch break, and the civil minute of that.
+use crate::held::{first_clash, first_skip};
+use crate::search::Search;
 use cs_civil::MINUTES_OF_DAY;
-use cs_overlap::{Quiet, Roles};
+use cs_overlap::Quiet;
 use cs_profile::{Calendar, DAYS_BEFORE};
 use cs_story::{Breach, Rule, Span};
 use cs_windows::{Window, touches};
@@ -18,25 +20,24 @@ pub(crate) struct Found {
 /// ones, finds that it is kept. The only error is out of memory.
 pub(crate) fn broken_by(
     alloc: Global,
-    roles: &Roles,
+    search: &Search<'_>,
     quiet: Quiet,
     windows: &[Window],
 ) -> Result<Option<Found>, AllocError> {
     if !quiet.is_apart {
-        if let Some((minute, _, _)) = roles.collision(alloc, windows)? {
+        if let Some(minute) = first_clash(alloc, search, windows)? {
             let rule = Rule::Collision;
             return Ok(Some(Found { rule, minute }));
         }
     }
     if !quiet.is_within {
-        if let Some((minute, _)) = roles.overload(alloc, windows)? {
+        if let Some((minute, _)) = search.roles.overload(alloc, windows)? {
             let rule = Rule::OverCapacity;
             return Ok(Some(Found { rule, minute }));
         }
     }
     if !quiet.is_free {
-        if let Some((minute, skip, _)) = roles.blocked(alloc, windows)? {
-            let skip = skip.job;
+        if let Some((minute, skip)) = first_skip(alloc, search, windows)? {
             let rule = Rule::SkipBlocked { skip };
             return Ok(Some(Found { rule, minute }));
         }

@@ -2,8 +2,9 @@
 ghost use Rattle.std.specs.Prelude.{◌≤◌, length};
 
 use crate::breaches::{breach_on, broken_by};
-use crate::search::Search;
+use crate::search::{Budget, Search};
 use crate::stretches::days_of;
+use crate::sweep::steps_held;
 use cs_bound::ExactWaits;
 use cs_civil::{Day, MINUTES_OF_DAY, kind_of};
 use cs_classes::{Chain, occupied};
@@ -18,13 +19,6 @@ const GREATEST_REACH: u16 = 4_320;
 
 /// The search ends after this many breaches without a counterexample.
 const MOST_BREACHES: u8 = 16;
-
-/// The search also ends after this many looks: at a window, for each other that is open with it or
-/// each few minutes of a day.
-const MOST_LOOKS: u64 = 100_000_000;
-
-/// Comparing a window with this many minutes of a day is one look.
-const MINUTES_OF_LOOK: u64 = 8;
 
 /// Reaches for the jobs that wait, longer than any of a certificate.
 pub(crate) fn greatest_reaches(alloc: Global, facts: &Facts) -> Result<Vec<JobReach>, AllocError> {
@@ -51,20 +45,9 @@ fn kinds_until(last_day: u64, days: u8) -> Chain {
     kinds
 }
 
-/// How many looks the quick test of these windows takes: at each, for each other open with it.
-fn looks_at_open(windows: &[Window]) -> u64 {
-    let mut held = 0u64;
-    for window in windows {
-        held = held.saturating_add(u64::from(window.reach));
-    }
-    let open = held / u64::from(MINUTES_OF_DAY);
-    (windows.len() as u64).saturating_mul(open.saturating_add(1))
-}
-
-/// How many looks it takes to compare these windows with each minute of a day.
-fn looks_by_minute(windows: &[Window]) -> u64 {
-    let looks = u64::from(MINUTES_OF_DAY) / MINUTES_OF_LOOK;
-    (windows.len() as u64).saturating_mul(looks)
+/// How many steps it takes to compare these windows with each minute of a day.
+fn steps_by_minute(windows: &[Window]) -> u64 {
+    (windows.len() as u64).saturating_mul(u64::from(MINUTES_OF_DAY))
 }
 
 /// Windows no shorter than the exact ones, and the days of their stretches.
@@ -74,7 +57,7 @@ struct Bounded<'a> {
     days: u8,
 }
 
-/// What the exact windows of the stretch that ends on this day break. `looks` are those left,
+/// What the exact windows of the stretch that ends on this day break. `steps` are those left,
 /// before and after.
 fn breach_until(
     alloc: Global,
@@ -82,47 +65,57 @@ fn breach_until(
     waits: &ExactWaits<'_>,
     bounded: &Bounded<'_>,
     last_day: u64,
-    looks: &mut u64,
+    steps: &mut u64,
 ) -> Result<Option<Breach>, AllocError>
     requires { length bounded.now.occupied.items ≤ 320 }
 {
     let kinds = kinds_until(last_day, bounded.days);
     let windows = windows_on(alloc, bounded.occupied.as_slice(), kinds.as_slice())?;
-    *looks = looks.saturating_sub(looks_at_open(windows.as_slice()));
+    *steps = steps.saturating_sub(steps_held(windows.as_slice()));
+    if *steps == 0 {
+        return Ok(None);
+    }
     let quiet = search.roles.quiet(alloc, windows.as_slice())?;
     if quiet.by_all() {
         return Ok(None);
     }
-    *looks = looks.saturating_sub(looks_by_minute(windows.as_slice()));
+    *steps = steps.saturating_sub(steps_by_minute(windows.as_slice()));
     let exact = waits.cut(alloc, last_day, bounded.days, windows.as_slice())?;
-    match broken_by(alloc, &search.roles, quiet, exact.as_slice())? {
+    match broken_by(alloc, search, quiet, exact.as_slice())? {
         Some(found) => Ok(Some(breach_on(alloc, last_day, exact.as_slice(), found)?)),
         None => Ok(None),
     }
 }
 
 /// The first counterexample for what exact windows break on one of these days. None if there is
-/// none, many breaches have none, or the search took too many looks.
+/// none, many breaches have none, or the budget is used up.
 fn story_on(
     alloc: Global,
     search: &Search<'_>,
     waits: &ExactWaits<'_>,
     bounded: &Bounded<'_>,
     last_days: &[u64],
+    budget: &mut Budget,
 ) -> Result<Option<Script>, AllocError>
     requires { length bounded.now.occupied.items ≤ 320 }
 {
     let mut untold: u8 = 0;
-    let mut looks = MOST_LOOKS;
     for last_day in last_days {
-        if looks == 0 {
+        if budget.steps == 0 || budget.looks == 0 {
             return Ok(None);
         }
-        let found = breach_until(alloc, search, waits, bounded, *last_day, &mut looks)?;
+        let found = breach_until(alloc, search, waits, bounded, *last_day, &mut budget.steps)?;
         let Some(breach) = found else {
             continue;
         };
-        let told = tell(alloc, search.plan, search.facts, &search.calendar, &breach)?;
+        let told = tell(
+            alloc,
+            search.plan,
+            search.facts,
+            &search.calendar,
+            &breach,
+            &mut budget.looks,
+        )?;
         untold = untold.saturating_add(1);
         if told.is_some() || untold == MOST_BREACHES {
             return Ok(told);
@@ -137,11 +130,19 @@ pub(crate) fn exact_story(
     alloc: Global,
     search: &Search<'_>,
     reaches: &[JobReach],
+    budget: &mut Budget,
 ) -> Result<Option<Script>, AllocError> {
     let waits = ExactWaits::of(alloc, search.facts, &search.calendar)?;
     let occupied = occupied(alloc, search.plan, reaches)?;
     let days = days_of(occupied.as_slice());
     let bounded = Bounded { occupied, days };
     let last_days = waits.last_days(alloc, days)?;
-    story_on(alloc, search, &waits, &bounded, last_days.as_slice())
+    story_on(
+        alloc,
+        search,
+        &waits,
+        &bounded,
+        last_days.as_slice(),
+        budget,
+    )
 }

@@ -4,6 +4,7 @@
 
 mod breaches;
 mod exact;
+mod held;
 mod listed;
 mod maker;
 mod reason;

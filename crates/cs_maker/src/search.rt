@@ -11,6 +11,34 @@ use cs_profile::{Calendar, Facts};
 use cs_story::{Breach, tell};
 use std::alloc::{AllocError, Global};
 
+/// How many steps a search takes at most for each job of the plan.
+const STEPS_OF_JOB: u64 = 4_000_000;
+
+/// How many looks its stories take at most, and how many more for each job.
+const MOST_LOOKS: u64 = 400_000;
+
+const LOOKS_OF_JOB: u64 = 50_000;
+
+/// What a search may still do.
+#[derive(Drop)]
+pub(crate) struct Budget {
+    /// How often it may compare a window with a minute.
+    pub(crate) steps: u64,
+    /// How often its stories may look at an event or a run.
+    pub(crate) looks: u64,
+}
+
+impl Budget {
+    /// For a search that begins.
+    fn of(plan: &Plan) -> Budget {
+        let jobs = plan.jobs().len() as u64;
+        Budget {
+            steps: jobs.saturating_mul(STEPS_OF_JOB),
+            looks: jobs.saturating_mul(LOOKS_OF_JOB).saturating_add(MOST_LOOKS),
+        }
+    }
+}
+
 /// What a search for a counterexample reads: only a plan that is refused has one.
 #[derive(Drop)]
 pub(crate) struct Search<'a> {
@@ -25,9 +53,10 @@ fn unbounded(
     alloc: Global,
     search: &Search<'_>,
     reason: Reason,
+    budget: &mut Budget,
 ) -> Result<Result<Script, Reason>, AllocError> {
     let reaches = greatest_reaches(alloc, search.facts)?;
-    Ok(exact_story(alloc, search, reaches.as_slice())?.ok_or(reason))
+    Ok(exact_story(alloc, search, reaches.as_slice(), budget)?.ok_or(reason))
 }
 
 /// A counterexample with jobs that wait as long as they can within these bounds. `NotChecked` if
@@ -36,12 +65,13 @@ fn bounded(
     alloc: Global,
     search: &Search<'_>,
     bounds: &Bounds,
+    budget: &mut Budget,
 ) -> Result<Result<Script, Reason>, AllocError> {
     let reaches = bounds.reaches.as_slice();
-    if first_breach(alloc, search, reaches)?.is_none() {
+    if first_breach(alloc, search, reaches, &mut u64::MAX)?.is_none() {
         return Ok(Err(Reason::NotChecked));
     }
-    Ok(exact_story(alloc, search, reaches)?.ok_or(Reason::NoScript))
+    Ok(exact_story(alloc, search, reaches, budget)?.ok_or(Reason::NoScript))
 }
 
 /// A counterexample for a breach of windows in which no job waits.
@@ -49,10 +79,19 @@ fn plain(
     alloc: Global,
     search: &Search<'_>,
     breach: &Breach,
+    budget: &mut Budget,
 ) -> Result<Result<Script, Reason>, AllocError> {
-    match tell(alloc, search.plan, search.facts, &search.calendar, breach)? {
+    let told = tell(
+        alloc,
+        search.plan,
+        search.facts,
+        &search.calendar,
+        breach,
+        &mut budget.looks,
+    )?;
+    match told {
         Some(script) => Ok(Ok(script)),
-        None => unbounded(alloc, search, Reason::NoScript),
+        None => unbounded(alloc, search, Reason::NoScript, budget),
     }
 }
 
@@ -67,12 +106,18 @@ impl Maker<'_> {
             calendar: Calendar::of(alloc, &self.facts)?,
             roles: Roles::of(alloc, self.plan)?,
         };
-        if let Some(breach) = first_breach(alloc, &search, &[])? {
-            return plain(alloc, &search, &breach);
+        let mut budget = Budget::of(self.plan);
+        let mut steps = match &self.bounds {
+            Some(_) => u64::MAX,
+            None => budget.steps,
+        };
+        if let Some(breach) = first_breach(alloc, &search, &[], &mut steps)? {
+            return plain(alloc, &search, &breach, &mut budget);
         }
+        budget.steps = budget.steps.min(steps);
         match &self.bounds {
-            Some(bounds) => bounded(alloc, &search, bounds),
-            None => unbounded(alloc, &search, Reason::NoReach),
+            Some(bounds) => bounded(alloc, &search, bounds, &mut budget),
+            None => unbounded(alloc, &search, Reason::NoReach, &mut budget),
         }
     }
 }

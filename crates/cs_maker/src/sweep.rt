@@ -5,27 +5,41 @@ ghost use Rattle.cs_windows.specs.Window.{IsRising};
 use crate::breaches::{Found, breach_on, broken_by, last_day};
 use crate::search::Search;
 use crate::stretches::{days_of, stretches_by};
+use cs_civil::MINUTES_OF_DAY;
 use cs_classes::occupied;
-use cs_overlap::Roles;
 use cs_story::Breach;
 use cs_windows::{JobReach, Window, windows_on};
 use std::alloc::{AllocError, Global};
 
 /// What these windows of a stretch break. The quick test shows for most that they break nothing.
-fn found_in(alloc: Global, roles: &Roles, windows: &[Window]) -> Result<Option<Found>, AllocError>
+fn found_in(
+    alloc: Global,
+    search: &Search<'_>,
+    windows: &[Window],
+) -> Result<Option<Found>, AllocError>
     requires { IsRising windows.now }
 {
-    let quiet = roles.quiet(alloc, windows)?;
-    broken_by(alloc, roles, quiet, windows)
+    let quiet = search.roles.quiet(alloc, windows)?;
+    broken_by(alloc, search, quiet, windows)
+}
+
+/// How many steps it takes to compare these windows with the minutes that they hold.
+pub(crate) fn steps_held(windows: &[Window]) -> u64 {
+    let mut held = 0u64;
+    for window in windows {
+        held = held.saturating_add(u64::from(window.reach.min(MINUTES_OF_DAY)));
+    }
+    held
 }
 
 /// The first breach in the windows of a plan, where waiting jobs have these reaches, and others
-/// their declared times. If there is none, no history breaks a declaration while runs end within
-/// the reaches. The only error is out of memory.
+/// their declared times. If there is none and steps are left, no history breaks a declaration while
+/// runs end within the reaches. The only error is out of memory.
 pub(crate) fn first_breach(
     alloc: Global,
     search: &Search<'_>,
     reaches: &[JobReach],
+    steps: &mut u64,
 ) -> Result<Option<Breach>, AllocError> {
     let occupied = occupied(alloc, search.plan, reaches)?;
     let days = days_of(occupied.as_slice());
@@ -33,7 +47,11 @@ pub(crate) fn first_breach(
     for (profiles, kinds) in &stretches {
         let windows = windows_on(alloc, occupied.as_slice(), kinds.as_slice())?;
         let windows = windows.as_slice();
-        if let Some(found) = found_in(alloc, &search.roles, windows)? {
+        *steps = steps.saturating_sub(steps_held(windows));
+        if *steps == 0 {
+            return Ok(None);
+        }
+        if let Some(found) = found_in(alloc, search, windows)? {
             let day = last_day(&search.calendar, profiles.as_slice());
             return Ok(Some(breach_on(alloc, day, windows, found)?));
         }

@@ -28,6 +28,7 @@ pub(crate) struct Tried {
 #[derive(Drop)]
 pub(crate) struct Chains {
     pub list: Vec<Chain>,
+    /// By the minute at which they are due.
     pub tried: Vec<Tried>,
 }
 
@@ -312,5 +313,6 @@ pub(crate) fn chains_for(
             None => return Ok(None),
         }
     }
+    tried.sort_by_key(|it| it.due)?;
     Ok(Some(Chains { list, tried }))
 }

@@ -27,11 +27,12 @@ fn end_if_started(play: &mut Play, run: Run) -> Result<(), Ending> {
 fn begin_unwanted(play: &mut Play, plot: &Plot<'_>) -> Result<(), Ending> {
     let at = play.now();
     for _ in 0..play.core().pending().len() {
-        if let Some(job) = unwanted_job(play, plot) {
-            play.take(Event::Begin(job))?;
-            if !plot.links(job, at) {
-                end_if_started(play, Run { job, at })?;
-            }
+        let Some(job) = unwanted_job(play, plot) else {
+            return Ok(());
+        };
+        play.take(Event::Begin(job))?;
+        if !plot.links(job, at) {
+            end_if_started(play, Run { job, at })?;
         }
     }
     Ok(())
@@ -62,9 +63,10 @@ fn held_out(play: &Play, plot: &Plot<'_>, chain: Chain) -> Option<Run> {
 /// Ends the runs of a chain that have to.
 fn end_links(play: &mut Play, plot: &Plot<'_>, chain: Chain) -> Result<(), Ending> {
     for _ in 0..play.core().running().len() {
-        if let Some(run) = held_out(play, plot, chain) {
-            play.take(Event::End(run))?;
-        }
+        let Some(run) = held_out(play, plot, chain) else {
+            return Ok(());
+        };
+        play.take(Event::End(run))?;
     }
     Ok(())
 }
@@ -93,10 +95,15 @@ fn begin_tried(play: &mut Play, plot: &Plot<'_>, tried: Tried) -> Result<(), End
 /// Begins the runs of mode try of chains that are due.
 fn begin_all_tried(play: &mut Play, plot: &Plot<'_>) -> Result<(), Ending> {
     let now = play.now();
-    for tried in plot.tried.as_slice() {
-        if tried.due == now {
-            begin_tried(play, plot, *tried)?;
+    let first = plot.tried.as_slice().partition_point(|it| it.due < now);
+    let Some(rest) = plot.tried.as_slice().get(first..) else {
+        return Ok(());
+    };
+    for tried in rest {
+        if tried.due != now {
+            return Ok(());
         }
+        begin_tried(play, plot, *tried)?;
     }
     Ok(())
 }
@@ -109,7 +116,7 @@ fn next_link(play: &Play, plot: &Plot<'_>, chain: Chain, mode: Mode) -> Option<R
             Some(task) => task.mode == mode && task.group == Some(chain.group),
             None => false,
         };
-        if is_mode && !plot.wants(run.job, run.at) && play.can(Event::Got(run.job, run.at)) {
+        if is_mode && play.can(Event::Got(run.job, run.at)) && !plot.wants(run.job, run.at) {
             return Some(run);
         }
     }
@@ -124,10 +131,11 @@ fn hand_on(play: &mut Play, plot: &Plot<'_>, chain: Chain) -> Result<(), Ending>
             Some(run) => Some(run),
             None => next_link(play, plot, chain, Mode::Shared),
         };
-        if let Some(run) = next {
-            play.take(Event::Got(run.job, run.at))?;
-            end_links(play, plot, chain)?;
-        }
+        let Some(run) = next else {
+            return Ok(());
+        };
+        play.take(Event::Got(run.job, run.at))?;
+        end_links(play, plot, chain)?;
     }
     Ok(())
 }
@@ -183,7 +191,7 @@ fn catch_up(play: &mut Play, plot: &Plot<'_>) -> Result<(), Ending> {
 fn unwanted_waiter(play: &Play, plot: &Plot<'_>) -> Option<Run> {
     for going in play.core().waiting().iter() {
         let run = going.run;
-        if !plot.wants(run.job, run.at) && play.can(Event::Got(run.job, run.at)) {
+        if play.can(Event::Got(run.job, run.at)) && !plot.wants(run.job, run.at) {
             return Some(run);
         }
     }
@@ -193,10 +201,11 @@ fn unwanted_waiter(play: &Play, plot: &Plot<'_>) -> Option<Run> {
 /// Starts and ends the runs that are in no one's way and wait for a lock that is free, since no minute goes by before.
 fn settle(play: &mut Play, plot: &Plot<'_>) -> Result<(), Ending> {
     for _ in 0..play.core().waiting().len() {
-        if let Some(run) = unwanted_waiter(play, plot) {
-            play.take(Event::Got(run.job, run.at))?;
-            play.take(Event::End(run))?;
-        }
+        let Some(run) = unwanted_waiter(play, plot) else {
+            return Ok(());
+        };
+        play.take(Event::Got(run.job, run.at))?;
+        play.take(Event::End(run))?;
     }
     Ok(())
 }

@@ -16,7 +16,7 @@ const MAX_EVENTS: usize = 400_000;
 pub(crate) enum Ending {
     /// Something is broken.
     Broken,
-    /// Its next event is refused, or comes when a run is over its declared time, or it would be too long.
+    /// Its next event is refused, or comes when a run is over its declared time, or it would be too long, or take too many looks.
     Stuck,
     /// Memory ran out.
     OutOfMemory,
@@ -44,17 +44,34 @@ impl From<NotShown> for Ending {
 pub(crate) struct Play {
     trial: Trial,
     events: Sequence<Event>,
+    /// How many looks are left.
+    looks: u64,
+    /// How often an event has all runs looked at.
+    rounds: u64,
 }
 
 impl Play {
     /// No events yet.
-    pub(crate) fn open(alloc: Global, plan: &Plan, start: &Start) -> Result<Play, AllocError>
+    pub(crate) fn open(
+        alloc: Global,
+        plan: &Plan,
+        start: &Start,
+        looks: u64,
+        rounds: u64,
+    ) -> Result<Play, AllocError>
         requires { first_start ≤ start.now.now }
     {
         Ok(Play {
             trial: Trial::open(alloc, plan, start)?,
             events: Sequence::new(alloc),
+            looks,
+            rounds,
         })
+    }
+
+    /// How many looks are left.
+    pub(crate) fn looks(&self) -> u64 {
+        self.looks
     }
 
     /// What the events have left.
@@ -72,10 +89,15 @@ impl Play {
         self.core().test(&event).is_ok()
     }
 
-    /// Takes an event, unless the story ends before it; it ends with it if something is broken.
+    /// Takes an event, unless the story ends before it; it ends with it if something is broken. That takes a look at the event,
+    /// and at each run.
     pub(crate) fn take(&mut self, event: Event) -> Result<(), Ending> {
         let number = self.events.len();
-        if number >= MAX_EVENTS {
+        let runs = self.core().running().len() as u64 + self.core().waiting().len() as u64;
+        self.looks = self
+            .looks
+            .saturating_sub((runs + 1).saturating_mul(self.rounds));
+        if number >= MAX_EVENTS || self.looks == 0 {
             return Err(Ending::Stuck);
         }
         self.trial.take(event, number + 1)?;
@@ -88,7 +110,12 @@ impl Play {
 
     /// The events.
     pub(crate) fn into_events(self) -> Sequence<Event> {
-        let Play { trial: _, events } = self;
+        let Play {
+            trial: _,
+            events,
+            looks: _,
+            rounds: _,
+        } = self;
         events
     }
 }

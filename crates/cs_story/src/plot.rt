@@ -14,7 +14,7 @@ pub(crate) struct Plot<'a> {
     pub runs: Vec<Wanted>,
     /// By which of them start late.
     pub chains: Vec<Chain>,
-    /// Their runs of mode try.
+    /// Their runs of mode try, by the minute at which they are due.
     pub tried: Vec<Tried>,
     /// When the daemon is up.
     pub stays: Vec<Stay>,

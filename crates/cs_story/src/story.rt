@@ -8,7 +8,8 @@ use crate::play::{Ending, Play};
 use crate::plot::Plot;
 use crate::start::start_at;
 use crate::stay::Stay;
-use cs_civil::Minute;
+use crate::wanted::MINUTES_OF_DAY;
+use cs_civil::{Minute, Sequence};
 use cs_decl::Plan;
 use cs_history::{Event, Script};
 use cs_profile::{Calendar, Facts};
@@ -47,12 +48,29 @@ fn perform(play: &mut Play, plot: &Plot<'_>) -> Result<(), Ending> {
     Ok(())
 }
 
+/// The events of all stays, if they break the plan. Hands back the looks that are left.
+fn breaking_events(
+    mut play: Play,
+    plot: &Plot<'_>,
+    looks: &mut u64,
+) -> Result<Option<Sequence<Event>>, AllocError> {
+    let ended = perform(&mut play, plot);
+    *looks = play.looks();
+    let events = play.into_events();
+    match ended {
+        Err(Ending::Broken) => Ok(Some(events)),
+        Err(Ending::OutOfMemory) => Err(AllocError),
+        Ok(()) | Err(Ending::Stuck) => Ok(None),
+    }
+}
+
 /// The script of a plot, from this minute on, if it breaks the plan.
 fn script_from(
     alloc: Global,
     plan: &Plan,
     plot: &Plot<'_>,
     minute: Minute,
+    looks: &mut u64,
 ) -> Result<Option<Script>, AllocError>
     ensures { IfOk result (λ found. IfSome found (λ script. first_start ≤ script.start.now)) }
 {
@@ -60,28 +78,29 @@ fn script_from(
         return Ok(None);
     }
     let start = start_at(plan, plot, minute);
-    let mut play = Play::open(alloc, plan, &start)?;
-    match perform(&mut play, plot) {
-        Ok(()) => Ok(None),
-        Err(Ending::Stuck) => Ok(None),
-        Err(Ending::OutOfMemory) => Err(AllocError),
-        Err(Ending::Broken) => Ok(Some(Script {
-            start,
-            events: play.into_events(),
-        })),
+    let rounds = plot.chains.len() as u64 + 1;
+    let play = Play::open(alloc, plan, &start, *looks, rounds)?;
+    match breaking_events(play, plot, looks)? {
+        Some(events) => Ok(Some(Script { start, events })),
+        None => Ok(None),
     }
 }
 
-/// The script of an aim, if one was found.
+/// The script of an aim, if one was found. Who puts off a run that waits is seen by a look at each minute of a day.
 fn script_of(
     alloc: Global,
     plan: &Plan,
     facts: &Facts,
     calendar: &Calendar,
     aim: &Aim,
+    looks: &mut u64,
 ) -> Result<Option<Script>, AllocError>
     ensures { IfOk result (λ found. IfSome found (λ script. first_start ≤ script.start.now)) }
 {
+    *looks = looks.saturating_sub((aim.queueing() as u64).saturating_mul(MINUTES_OF_DAY));
+    if *looks == 0 {
+        return Ok(None);
+    }
     let Some(plot) = Plot::of(alloc, facts, calendar, aim)? else {
         return Ok(None);
     };
@@ -89,20 +108,21 @@ fn script_of(
         return Ok(None);
     };
     match Minute::new(stay.up) {
-        Some(minute) => script_from(alloc, plan, &plot, minute),
+        Some(minute) => script_from(alloc, plan, &plot, minute, looks),
         None => Ok(None),
     }
 }
 
 /// A script in which the plan is broken although each run ends within its declared time, where these windows break a rule. What
 /// it breaks first may be something else. It starts at 1970-01-04 00:00 or later. `None` if none of at most 400,000 events was
-/// found. The only error is want of memory.
+/// found by so many looks, of which those that are left are handed back. The only error is want of memory.
 pub fn tell(
     alloc: Global,
     plan: &Plan,
     facts: &Facts,
     calendar: &Calendar,
     breach: &Breach,
+    looks: &mut u64,
 ) -> Result<Option<Script>, AllocError>
     ensures { IfOk result (λ found. IfSome found (λ script. first_start ≤ script.start.now)) }
 {
@@ -111,7 +131,7 @@ pub fn tell(
         .iter()
         .take(MAX_AIMS)
     {
-        if let Some(script) = script_of(alloc, plan, facts, calendar, aim)? {
+        if let Some(script) = script_of(alloc, plan, facts, calendar, aim, looks)? {
             return Ok(Some(script));
         }
     }

@@ -18,7 +18,8 @@ PART = re.compile(rb"#@ part ([A-Za-z0-9_-]+)")
 
 # What may be the name of a program or a path to it, and the programs that lock files.
 PATH = re.compile(rb"[A-Za-z0-9/._+-]+")
-LOCKERS = {b"flock", b"setlock", b"lckdo", b"lockfile", b"dotlockfile", b"with-lock-ex"}
+LOCKERS = {b"flock", b"lockfile", b"lockfile-create", b"dotlockfile", b"setlock", b"s6-setlock"}
+LOCKERS |= {b"chpst", b"run-one", b"solo", b"lckdo", b"with-lock-ex", b"sem", b"lockrun"}
 
 # A longest time is three days at most, so that only due minutes of so many days matter.
 DAYS_LOOKED_AT = 4
@@ -128,7 +129,8 @@ def unlocked_lines(text, files):
 
 
 def names_locker(command):
-    return any(it.rpartition(b"/")[2] in LOCKERS for it in PATH.findall(command))
+    words = PATH.findall(command)
+    return any(it.rpartition(b"/")[2] in LOCKERS or it.endswith(b".flock") for it in words)
 
 
 def names_of(job, told):

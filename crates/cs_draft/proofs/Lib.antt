@@ -1,11 +1,8 @@
 pub mod Apart
 pub mod Counts
-pub mod Flags
 pub mod Found
 pub mod Joins
 pub mod Loops
 pub mod Parted
 pub mod Longer
-pub mod Options
 pub mod Passed
-pub mod Words

@@ -1,7 +1,7 @@
 -- What is passed over, one after another.
 use Rattle.std.proofs.Common.{◌≡◌, ℕ, suc, ◌+◌, ◌-◌, ◌<◌, List, refl, arith}
 use Rattle.std.specs.Prelude.{Option, Some}
-use Rattle.cs_draft.specs.Fronts.{passed}
+use Rattle.cs_draft.specs.Words.{passed}
 
 one_more : (behind : List ℕ → Option (List ℕ)) (most : ℕ) (text rest : List ℕ) → behind text ≡ Some rest
     → passed behind (suc most) text ≡ passed behind most rest

@@ -1,7 +1,8 @@
 -- What is drawn up: declarations that join with the tables, and that keep what older ones declare.
-use Rattle.std.specs.Prelude.{◌≡◌, ◌≢◌, ◌⊎◌, ◌+◌, ◌*◌, ◌/◌, ◌<◌, ◌≤◌, min, max as nat_max, ℕ, ℤ, pos, unsigned_abs, List, [], ◌∷◌, All, length, map, take, drop, Bool, true, false, not, ◌==◌, ◌&&◌, nat_le, bytes_eq, if◌then◌else◌, Option, None, Some, IfNone, IfSome, IsSomeAnd, Ok}
+use Rattle.std.specs.Prelude.{◌≡◌, ◌≢◌, ◌⊎◌, ◌+◌, ◌*◌, ◌/◌, ◌<◌, ◌≤◌, min, max as nat_max, ℕ, ℤ, pos, List, [], ◌∷◌, All, length, map, take, drop, Bool, true, false, not, ◌==◌, ◌&&◌, nat_le, bytes_eq, if◌then◌else◌, Option, None, Some, IfNone, IfSome, IsSomeAnd, Ok}
 use Rattle.std.specs.List.{count_by, find, list_all, list_any}
 use Rattle.std.specs.Str.{IsUtf8}
+use Rattle.cs_civil.specs.declared.minute.TheConstants.{MINUTES_OF_DAY}
 use Rattle.cs_crontab.specs.Crontab.{Table as Crontab, CommandLine}
 use Rattle.cs_crontab.specs.declared.table.When.{When}
 use Rattle.cs_crontab.specs.declared.table.When.TheVariants.{At, Reboot}
@@ -25,7 +26,6 @@ use Rattle.cs_decl.specs.Meaning.{declared_by}
 use Rattle.cs_decl.specs.Join.{is_left_out, is_named, is_of_job, is_reboot, join_faults}
 use Rattle.cs_decl.specs.Lines.{names_of}
 use Rattle.cs_draft.specs.Locks.{lock_of}
-use Rattle.cs_draft.specs.CatchUp.{hours_of}
 use Rattle.cs_draft.specs.Timeouts.{asked_for}
 
 -- ---- entries and lines
@@ -169,12 +169,12 @@ abbrev pub IsDraftedJob : ℕ → Entries → JobLine → Type 0
 IsDraftedJob max d line = IsSomeAnd (find (is_of_job line.identifier) d.anacron)
     (λ e. (e.max ≡ pos (asked_for max line.command)) × (e.weight ≡ pos 1) × (e.group ≡ None))
 
--- The capacity is the greatest, clocks are ahead of UTC by so many minutes, catch-up is between
--- those minutes of the day and has no pass minute, and no job has a default.
-pub record AreFresh (between : ℕ × ℕ) (east : ℤ) (d : Entries) : Type 0 where
+-- The capacity is the greatest, clocks are ahead of UTC by so many minutes, catch-up is at all hours
+-- and has no pass minute, and no job has a default.
+pub record AreFresh (east : ℤ) (d : Entries) : Type 0 where
   pub capacity : d.capacity ≡ pos MAX_CAPACITY
   pub offset : d.offset ≡ east
-  pub hours : d.hours ≡ (pos between.0, pos between.1)
+  pub hours : d.hours ≡ (pos 0, pos MINUTES_OF_DAY)
   pub pass : d.pass ≡ None
   pub default : d.default ≡ None
 
@@ -184,7 +184,7 @@ pub record IsDraft (crontab : Crontab) (anacrontab : Anacrontab) (places : List 
     (east : ℤ) (bytes : List ℕ) : Type 0 where
   pub entries : Entries
   pub sound : IsSound crontab anacrontab bytes entries
-  pub terms : AreFresh (hours_of anacrontab.settings) east entries
+  pub terms : AreFresh east entries
   pub lines : All (IsDrafted max places entries) crontab.lines
   pub locks : All (HasLock entries) crontab.lines
   pub groups : All (IsDraftedGroup entries) entries.groups

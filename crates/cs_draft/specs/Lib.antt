@@ -1,13 +1,11 @@
 pub mod Texts
-pub mod Shell
 pub mod Named
+pub mod Words
 pub mod Fronts
 pub mod Paths
-pub mod Subshell
 pub mod Locks
 pub mod Durations
 pub mod Timeouts
-pub mod CatchUp
 pub mod Locking
 pub mod Notices
 pub mod Draft

@@ -4,7 +4,6 @@ use Rattle.std.specs.Fmt.{decimal}
 use Rattle.std.specs.List.{filter, filter_map, find, flat_map, list_any}
 use Rattle.cs_crontab.specs.Crontab.{Table as Crontab, CommandLine}
 use Rattle.cs_anacrontab.specs.Anacrontab.{Table as Anacrontab, JobLine}
-use Rattle.cs_decl.specs.declared.entries.AnacronEntry.{AnacronEntry}
 use Rattle.cs_decl.specs.declared.entries.CronEntry.{CronEntry}
 use Rattle.cs_decl.specs.declared.entries.Entries.{Entries}
 use Rattle.cs_decl.specs.Join.{is_named, is_of_job}
@@ -32,8 +31,7 @@ notice_text (Unlocked line reason) =
 notice_text (UnlockedJob line) =
     command_warning line (codes " of the anacrontab is declared without a lock: ")
     (codes "anacron jobs have no mode")
-notice_text (Undeclared line reason) =
-    command_warning line (codes " of the crontab has ") reason.now
+notice_text (Undeclared line behind what) = command_warning line behind.now what.now
 notice_text (Note text) = codes "note: " ++ (text ++ codes "\n")
 
 abbrev pub notices_text : List Notice → List ℕ
@@ -46,7 +44,7 @@ abbrev pub unlocked_line : Notice → Option ℕ
 unlocked_line (Reboot line) = None
 unlocked_line (Unlocked line reason) = Some line
 unlocked_line (UnlockedJob line) = None
-unlocked_line (Undeclared line reason) = None
+unlocked_line (Undeclared line behind what) = None
 unlocked_line (Note text) = None
 
 -- .. and that of the anacrontab
@@ -54,7 +52,7 @@ abbrev pub unlocked_job_line : Notice → Option ℕ
 unlocked_job_line (Reboot line) = None
 unlocked_job_line (Unlocked line reason) = None
 unlocked_job_line (UnlockedJob line) = Some line
-unlocked_job_line (Undeclared line reason) = None
+unlocked_job_line (Undeclared line behind what) = None
 unlocked_job_line (Note text) = None
 
 -- the entry is in no group

@@ -1,42 +1,41 @@
--- Which file the path of a lock file is.
-use Rattle.std.specs.Prelude.{ℕ, List, [], ◌∷◌, ◌++◌, ◌==◌, ◌&&◌, drop, codes, bytes_eq, Bool, not, if◌then◌else◌}
-use Rattle.std.specs.List.{count_by, filter, flat_map, slice_split, starts_with}
+-- Which file the path of a lock file is, and how often it stands in a text.
+use Rattle.std.specs.Prelude.{ℕ, List, [], ◌∷◌, ◌++◌, drop, codes, Option, None, Some, is_none, Bool, not, ◌&&◌, ◌||◌, ◌==◌, if◌then◌else◌}
+use Rattle.std.specs.List.{count_by, slice_split, starts_with}
+use Rattle.cs_table.specs.SettingReading.{◌>>=◌}
 use Rattle.cs_json.specs.Shape.{is_among}
-
--- what stands between the slashes of a path
-abbrev pub parts_of : List ℕ → List (List ℕ)
-parts_of path = slice_split (λ b. b == 47) path
-
--- the part of a path leads on: an empty one and `.` stay in a folder
-unfoldable pub leads_on : List ℕ → Bool
-leads_on part = not (is_among ([] ∷ codes "." ∷ []) part)
-
--- by `..` it leads back, and behind a symbolic link to another folder than the one before it
-abbrev pub leads_back : List ℕ → Bool
-leads_back part = bytes_eq part (codes "..")
-
--- parts of a path lead on, and none leads back
-abbrev pub is_direct : List ℕ → Bool
-is_direct path =
-    count_by leads_back (parts_of path) == 0 && not (count_by leads_on (parts_of path) == 0)
-
--- the path from the root by those parts that lead on, each behind one slash
-abbrev pub path_by : List (List ℕ) → List ℕ
-path_by parts = flat_map (λ part. 47 ∷ part) parts
-
-abbrev pub straight_path : List ℕ → List ℕ
-straight_path path = path_by (filter leads_on (parts_of path))
 
 abbrev pub is_below : List ℕ → List ℕ → Bool
 is_below folder path = starts_with (λ a b. a == b) path folder
 
--- the path of the same file, where /var/run is /run and /var/lock is /run/lock, as Debian has them
-unfoldable pub run_path : List ℕ → List ℕ
-run_path path =
-    if is_below (codes "/var/run/") path then drop 4 path
-    else if is_below (codes "/var/lock/") path then codes "/run" ++ drop 4 path
-    else path
+-- a part of a path that has no name, or doesn't lead on
+abbrev pub is_off : List ℕ → Bool
+is_off part = is_among ([] ∷ codes "." ∷ codes ".." ∷ []) part
 
--- the one path of the file among those
-abbrev pub real_path : List ℕ → List ℕ
-real_path path = run_path (straight_path path)
+-- Only before its first slash a part of the path has no name, and it isn't below /proc or /dev,
+-- where it may be another file for each process.
+unfoldable pub is_file : List ℕ → Bool
+is_file path = is_below (codes "/") path && (count_by is_off (slice_split (λ b. b == 47) path) == 1
+    && (not (is_below (codes "/proc/") path) && not (is_below (codes "/dev/") path)))
+
+-- /var/run is /run, and /var/lock is /run/lock
+unfoldable pub behind_var : List ℕ → List ℕ
+behind_var path = if is_below (codes "/var/run/") path || is_below (codes "/var/lock/") path
+    then drop 4 path else path
+
+unfoldable pub real_path : List ℕ → List ℕ
+real_path path = if is_below (codes "/var/lock/") path then codes "/run" ++ behind_var path
+    else behind_var path
+
+-- what all spellings of a path have
+unfoldable pub common_path : List ℕ → List ℕ
+common_path path = if is_below (codes "/run/lock/") (behind_var path) then drop 4 (behind_var path)
+    else behind_var path
+
+-- behind the first byte of the first place of a text in another one
+unfoldable pub behind_place : List ℕ → List ℕ → Option (List ℕ)
+behind_place part [] = None
+behind_place part (byte ∷ bytes) =
+    if is_below part (byte ∷ bytes) then Some bytes else behind_place part bytes
+
+abbrev pub has_one_place : List ℕ → List ℕ → Bool
+has_one_place part text = is_none (behind_place part text >>= behind_place part)

@@ -2,14 +2,12 @@
 ghost use Rattle.std.specs.Prelude.{◌≡◌, All, IfOk, IsTrue, None, drop, length, true};
 ghost use Rattle.cs_decl.specs.Faults.{first_fault};
 ghost use Rattle.cs_decl.specs.Join.{join_faults};
-ghost use Rattle.cs_draft.specs.CatchUp.{hours_of};
 ghost use Rattle.cs_draft.specs.Draft.{AreFresh, AreTerms, IsBound, IsDraft, IsDrafted, IsDraftedGroup, IsDraftedJob, IsKeptJob, IsKeptLine, IsNewJob, IsUpdate, is_lone};
 ghost use Rattle.cs_draft.specs.Notices.{AreTold, AreToldNew};
 
 use crate::added::{are_new_jobs, are_new_lines};
 use crate::bound::are_bound;
 use crate::brief::are_drafted;
-use crate::catch_up::hours_of;
 use crate::kept::{are_kept_jobs, are_kept_lines, are_terms};
 use crate::locked::{are_drafted_groups, have_locks};
 use crate::notice::Notice;
@@ -54,21 +52,20 @@ fn are_drafts(
     places: &[Place],
     entries: &Entries,
     lines: &[Line],
-    jobs: &Anacrontab,
+    jobs: &[Job],
 ) -> bool
     ensures once { IsTrue result → entries.now.doubled ≡ None }
     ensures bound { IsTrue result → All (IsBound entries.now) lines.now }
-    ensures terms { IsTrue result
-        → AreFresh (hours_of jobs.now.settings) offset entries.now }
+    ensures terms { IsTrue result → AreFresh offset entries.now }
     ensures lines { IsTrue result → All (IsDrafted max places.now entries.now) lines.now }
     ensures groups { IsTrue result → All (IsDraftedGroup entries.now) entries.now.groups }
-    ensures jobs { IsTrue result → All (IsDraftedJob max entries.now) jobs.now.lines }
+    ensures jobs { IsTrue result → All (IsDraftedJob max entries.now) jobs.now }
 {
     are_sound(entries, lines)
-        && are_fresh(hours_of(jobs.settings()), offset, entries)
+        && are_fresh(offset, entries)
         && are_drafted(max, places, entries, lines)
         && are_drafted_groups(entries, entries.groups.as_slice())
-        && are_drafted_jobs(max, entries, jobs.lines())
+        && are_drafted_jobs(max, entries, jobs)
 }
 
 /// Whether the entries keep what the old ones declare.
@@ -122,7 +119,7 @@ pub(crate) fn is_draft(
         Err(DeclError::At { .. }) => return Ok(false),
     };
     let entries = declarations.entries();
-    if !are_drafts(max, offset, places, entries, table.lines(), jobs) {
+    if !are_drafts(max, offset, places, entries, table.lines(), jobs.lines()) {
         return Ok(false);
     }
     if !have_locks(alloc, entries, table.lines())? {

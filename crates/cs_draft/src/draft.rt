@@ -79,13 +79,12 @@ fn is_possible_max(max: u64) -> bool
 ///
 /// Each job has that longest time, or that of timeout(1) where it limits the whole command; a
 /// command has the time to its own next due minute if that is shorter. The capacity is the
-/// greatest, and the catch-up hours are those that the anacrontab sets by `START_HOURS_RANGE`, or
-/// all. A command that has parts, as the places tell, has them in its entry: each has an equal
+/// greatest, and the catch-up hours are all. A command that has parts, as the places tell, has them in its entry: each has an equal
 /// share of the time to the next due minute, but at most `max` minutes and at least one, and the
-/// longest time is their sum. A command that is run under flock(1) as a whole, behind guards and
-/// programs that wait for it, has the group of the lock file, which is exclusive and has the file's
-/// name, and the mode that the options ask for: `try` for `-n`, `shared` for `-s`, else `wait`.
-/// Each other command that names a program that locks files has no lock, and a warning tells why.
+/// longest time is their sum. A command that is a plain call of flock(1), behind settings, guards
+/// and nice(1), has the group of the lock file, which is exclusive and has the file's name, and the
+/// mode that the options ask for: `try` for `-n`, `shared` for `-s`, else `wait`. Each other command
+/// that names a program that locks files has no lock, and a warning says how to declare one.
 /// `@reboot` lines are left out, each with a warning. What is drawn up was read back, compared with
 /// the commands and joined with the tables. The only error is want of memory.
 pub fn draw_up(

@@ -1,11 +1,9 @@
 //! The draft of tables of which nothing is declared yet.
 
-use crate::catch_up::hours_of;
 use crate::layout::Front;
 use crate::notice::Notice;
 use crate::sheet::Sheet;
 use cs_anacrontab::Anacrontab;
-use cs_civil::MINUTES_OF_DAY;
 use cs_crontab::{Crontab, Line, When};
 use cs_decl::MAX_CAPACITY;
 use cs_gather::Place;
@@ -22,20 +20,21 @@ fn add_line<'a>(alloc: Global, sheet: &mut Sheet<'a>, line: &'a Line) -> Result<
     }
 }
 
-/// What stands before the lists: the offset unless it is 0, and the catch-up hours unless they are
-/// all. The only error is want of memory.
-fn front(alloc: Global, jobs: &Anacrontab, offset: i16) -> Result<Front, AllocError> {
+/// Whether the anacrontab sets the hours at which its jobs may start.
+fn set_hours(jobs: &Anacrontab) -> bool {
+    let mut settings = jobs.settings().iter();
+    settings.any(|setting| setting.name() == b"START_HOURS_RANGE".as_slice())
+}
+
+/// What stands before the lists: the capacity, and the offset unless it is 0. The only error is want
+/// of memory.
+fn front(alloc: Global, offset: i16) -> Result<Front, AllocError> {
     let mut front = Front::new(alloc);
     let capacity = format!(in alloc; "{MAX_CAPACITY}")?;
     front.add("capacity", capacity.as_str())?;
     if offset != 0 {
         let offset = format!(in alloc; "{offset}")?;
         front.add("offset", offset.as_str())?;
-    }
-    let (from, to) = hours_of(jobs.settings());
-    if from != 0 || to != u32::from(MINUTES_OF_DAY) {
-        let hours = format!(in alloc; "[{from}, {to}]")?;
-        front.add("hours", hours.as_str())?;
     }
     Ok(front)
 }
@@ -51,6 +50,9 @@ pub(crate) fn fresh_text(
     offset: i16,
 ) -> Result<(Vec<u8>, Vec<Notice>), AllocError> {
     let mut sheet = Sheet::new(alloc, places, max);
+    if set_hours(jobs) {
+        sheet.told.start_hours(alloc)?;
+    }
     for line in table.lines() {
         add_line(alloc, &mut sheet, line)?;
     }
@@ -60,5 +62,5 @@ pub(crate) fn fresh_text(
             sheet.add_job(alloc, job, identifier, None)?;
         }
     }
-    sheet.into_text(alloc, &front(alloc, jobs, offset)?)
+    sheet.into_text(alloc, &front(alloc, offset)?)
 }

@@ -5,7 +5,6 @@
 mod added;
 mod bound;
 mod brief;
-mod catch_up;
 mod confirm;
 mod draft;
 mod durations;
@@ -23,15 +22,13 @@ mod old;
 mod parts;
 mod paths;
 mod sheet;
-mod shell;
-mod subshell;
 mod terms;
 mod timeouts;
 mod times;
 mod told;
-mod unlocked;
 mod updated;
 mod warned;
+mod words;
 
 pub use draft::{Draft, Drawing, draw_up, update};
 pub use lock::{Lock, lock_of};

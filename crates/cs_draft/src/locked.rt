@@ -63,7 +63,7 @@ fn is_locked(
 {
     match lock_of(alloc, command)? {
         Lock::Of(file, mode) => Ok(takes_lock_if_any(groups, file.as_slice(), mode, entry)),
-        Lock::Absent | Lock::Unlike(_) => Ok(takes_none(entry)),
+        Lock::Absent | Lock::Unlike => Ok(takes_none(entry)),
     }
 }
 

@@ -17,8 +17,9 @@ pub(crate) enum Notice {
     Unlocked(u32, &'static str),
     /// The same of the anacron job on the line of that number.
     UnlockedJob(u32),
-    /// The parts of the command on the line of that number aren't declared, or not all of them.
-    Undeclared(u32, &'static str),
+    /// What the command on the line of that number has that isn't declared: the text behind the
+    /// number, and what it is.
+    Undeclared(u32, &'static str, &'static str),
     /// What came, went or is kept.
     Note(Bytes),
 }
@@ -135,25 +136,6 @@ fn push_unlocked_job(alloc: Global, text: &mut Vec<u8>, line: u32) -> Result<(),
     push_command_warning(alloc, text, line, behind, b"anacron jobs have no mode")
 }
 
-/// Writes the warning of parts that aren't declared behind the text.
-fn push_undeclared(
-    alloc: Global,
-    text: &mut Vec<u8>,
-    line: u32,
-    reason: &str,
-) -> Result<(), AllocError>
-    ensures { OnOk result (text.new.items ≡ text.old.items
-        ++ command_warning line (codes " of the crontab has ") reason.now) }
-{
-    push_command_warning(
-        alloc,
-        text,
-        line,
-        b" of the crontab has ",
-        reason.as_bytes(),
-    )
-}
-
 /// Writes a note behind the text.
 fn push_note(text: &mut Vec<u8>, note: &[u8]) -> Result<(), AllocError>
     ensures { OnOk result (text.new.items
@@ -173,7 +155,9 @@ fn push_notice(alloc: Global, text: &mut Vec<u8>, notice: &Notice) -> Result<(),
         Notice::Reboot(line) => push_reboot(alloc, text, *line),
         Notice::Unlocked(line, reason) => push_unlocked(alloc, text, *line, *reason),
         Notice::UnlockedJob(line) => push_unlocked_job(alloc, text, *line),
-        Notice::Undeclared(line, reason) => push_undeclared(alloc, text, *line, *reason),
+        Notice::Undeclared(line, behind, what) => {
+            push_command_warning(alloc, text, *line, behind.as_bytes(), what.as_bytes())
+        }
         Notice::Note(note) => push_note(text, note.as_slice()),
     }
 }

@@ -1,127 +1,91 @@
-//! Which file the path of a lock file is.
-ghost use Rattle.std.specs.Prelude.{◌≡◌, ◌==◌, ◌++◌, ◌∷◌, IfOk, OnOk, codes};
-ghost use Rattle.std.specs.List.{count_by, filter, flat_map};
-ghost use Rattle.cs_draft.specs.Locking.{texts_of};
-ghost use Rattle.cs_draft.specs.Paths.{is_below, is_direct, leads_back, leads_on, parts_of};
-ghost use Rattle.cs_draft.specs.Paths.{path_by, real_path, run_path, straight_path};
+//! Which file the path of a lock file is, and how often it stands in a text.
+ghost use Rattle.std.specs.Prelude.{◌≡◌, ◌==◌, option_map};
+ghost use Rattle.std.specs.List.{count_by, slice_split};
+ghost use Rattle.cs_draft.specs.Paths.{behind_place, behind_var, common_path, has_one_place, is_below};
+ghost use Rattle.cs_draft.specs.Paths.{is_file, is_off};
 
-use std::alloc::{AllocError, Global};
+use cs_table::text::is_among;
 
-/// Whether the part of a path leads on: an empty one and `.` stay in a folder.
-#[tactic(auto, unfolding(crate::specs::Paths::leads_on))]
-fn leads_on(part: &[u8]) -> bool
-    ensures { result ≡ leads_on part.now }
+/// Whether the part of a path has no name or leads off.
+fn is_off(part: &[u8]) -> bool
+    ensures { result ≡ is_off part.now }
 {
-    match part {
-        b"" | b"." => false,
-        _ => true,
-    }
+    let words: [&[u8]; 3] = [b"", b".", b".."];
+    is_among(&words, part)
 }
 
-fn leads_back(part: &[u8]) -> bool
-    ensures { result ≡ leads_back part.now }
-{
-    part == b"..".as_slice()
-}
-
-fn parts_on(path: &[u8]) -> usize
-    ensures { result ≡ count_by leads_on (parts_of path.now) }
+fn parts_off(path: &[u8]) -> usize
+    ensures { result ≡ count_by is_off (slice_split (λ b. b == 47) path.now) }
 {
     path.split(|byte| *byte == b'/')
-        .filter(|part| leads_on(part))
+        .filter(|part| is_off(part))
         .count()
 }
 
-fn parts_back(path: &[u8]) -> usize
-    ensures { result ≡ count_by leads_back (parts_of path.now) }
+pub(crate) fn is_below(folder: &[u8], path: &[u8]) -> bool
+    ensures { result ≡ is_below folder.now path.now }
 {
-    path.split(|byte| *byte == b'/')
-        .filter(|part| leads_back(part))
-        .count()
+    path.starts_with(folder)
 }
 
-/// Whether parts of the path lead on, and none leads back.
-pub(crate) fn is_direct(path: &[u8]) -> bool
-    ensures { result ≡ is_direct path.now }
+/// Whether the path is that of one file, whichever folder and process it is of.
+#[tactic(auto, unfolding(crate::specs::Paths::is_file))]
+pub(crate) fn is_file(path: &[u8]) -> bool
+    ensures { result ≡ is_file path.now }
 {
-    parts_back(path) == 0 && parts_on(path) != 0
+    is_below(b"/", path)
+        && parts_off(path) == 1
+        && !is_below(b"/proc/", path)
+        && !is_below(b"/dev/", path)
 }
 
-/// The parts of a path that lead on. The only error is want of memory.
-fn leading_parts(alloc: Global, path: &[u8]) -> Result<Vec<&[u8]>, AllocError>
-    ensures { IfOk result (λ parts. texts_of parts.items
-        ≡ filter leads_on (parts_of path.now)) }
+/// The path without its `/var`, where it is below `/var/run` or `/var/lock`.
+#[tactic(auto, unfolding(crate::specs::Paths::behind_var), using(crate::proofs::Longer::is_longer))]
+pub(crate) fn behind_var(path: &[u8]) -> &[u8]
+    ensures { result.now ≡ behind_var path.now }
 {
-    path.split(|byte| *byte == b'/')
-        .filter(|part| leads_on(part))
-        .collect(alloc)
-}
-
-/// Writes a slash and a part behind the path. The only error is want of memory.
-fn push_part(path: &mut Vec<u8>, part: &[u8]) -> Result<(), AllocError>
-    ensures { OnOk result (path.new.items ≡ path.old.items ++ 47 ∷ part.now) }
-{
-    path.push(b'/')?;
-    path.extend_from_slice(part)
-}
-
-/// Writes all of the parts so. The only error is want of memory.
-fn push_parts(path: &mut Vec<u8>, parts: &[&[u8]]) -> Result<(), AllocError>
-    ensures { OnOk result (path.new.items
-        ≡ path.old.items ++ path_by (texts_of parts.now)) }
-{
-    for part in parts {
-        push_part(path, *part)?;
+    if is_below(b"/var/run/", path) {
+        return &path[4..];
     }
-    Ok(())
-}
-
-/// The path of the same file from the root, by parts that lead on. The only error is want of
-/// memory.
-fn straight_path(alloc: Global, path: &[u8]) -> Result<Vec<u8>, AllocError>
-    ensures { IfOk result (λ file. file.items ≡ straight_path path.now) }
-{
-    let parts = leading_parts(alloc, path)?;
-    let mut file = Vec::new(alloc);
-    push_parts(&mut file, parts.as_slice())?;
-    Ok(file)
-}
-
-/// Whether the path begins with `/var/run/`.
-fn is_below_run(path: &[u8]) -> bool
-    ensures { result ≡ is_below (codes "/var/run/") path.now }
-{
-    path.starts_with(b"/var/run/".as_slice())
-}
-
-/// Whether the path begins with `/var/lock/`.
-fn is_below_lock(path: &[u8]) -> bool
-    ensures { result ≡ is_below (codes "/var/lock/") path.now }
-{
-    path.starts_with(b"/var/lock/".as_slice())
-}
-
-/// The path of the same file below `/run`, where it is below `/var/run` or `/var/lock`. The only
-/// error is want of memory.
-#[tactic(auto, unfolding(crate::specs::Paths::run_path), using(crate::proofs::Longer::is_longer))]
-fn run_path(alloc: Global, path: &[u8]) -> Result<Vec<u8>, AllocError>
-    ensures { IfOk result (λ file. file.items ≡ run_path path.now) }
-{
-    if is_below_run(path) {
-        return Vec::from_slice(alloc, &path[4..]);
+    if is_below(b"/var/lock/", path) {
+        return &path[4..];
     }
-    if is_below_lock(path) {
-        let mut file = Vec::from_slice(alloc, b"/run".as_slice())?;
-        file.extend_from_slice(&path[4..])?;
-        return Ok(file);
-    }
-    Vec::from_slice(alloc, path)
+    path
 }
 
-/// The one path of the file among those. The only error is want of memory.
-pub(crate) fn real_path(alloc: Global, path: &[u8]) -> Result<Vec<u8>, AllocError>
-    ensures { IfOk result (λ file. file.items ≡ real_path path.now) }
+/// What all spellings of a path have.
+#[tactic(auto, unfolding(crate::specs::Paths::common_path), using(crate::proofs::Longer::is_longer))]
+pub(crate) fn common_path(path: &[u8]) -> &[u8]
+    ensures { result.now ≡ common_path path.now }
 {
-    let straight = straight_path(alloc, path)?;
-    run_path(alloc, straight.as_slice())
+    let path = behind_var(path);
+    if is_below(b"/run/lock/", path) {
+        return &path[4..];
+    }
+    path
+}
+
+/// What stands behind the first byte of the first place of a text in another one.
+#[tactic(auto, unfolding(crate::specs::Paths::behind_place))]
+pub(crate) fn behind_place<'t>(part: &[u8], text: &'t [u8]) -> Option<&'t [u8]>
+    ensures { option_map (λ rest. rest.now) result ≡ behind_place part.now text.now }
+{
+    let mut rest = text;
+    while let [_, others @ ..] = rest {
+        if is_below(part, rest) {
+            return Some(others);
+        }
+        rest = others;
+    }
+    None
+}
+
+/// Whether it has no second place there.
+pub(crate) fn has_one_place(part: &[u8], text: &[u8]) -> bool
+    ensures { result ≡ has_one_place part.now text.now }
+{
+    match behind_place(part, text) {
+        Some(rest) => behind_place(part, rest).is_none(),
+        None => true,
+    }
 }

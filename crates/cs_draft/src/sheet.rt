@@ -6,10 +6,10 @@ use crate::named::names_lock;
 use crate::notice::Notice;
 use crate::old::Bound;
 use crate::parts::{declarable, has_name, has_part, have_changed, is_placed, names_at};
-use crate::timeouts::asked_for;
+use crate::paths::behind_place;
+use crate::timeouts::{asked_for, is_killed, limit_in};
 use crate::times::{add_new_times, add_old_times, add_renewed_times, room_for};
-use crate::told::Told;
-use crate::unlocked::Unlocked;
+use crate::told::{IN_ANACRONTAB, IN_CRONTAB, Told};
 use cs_anacrontab::Job;
 use cs_civil::Bytes;
 use cs_crontab::Line;
@@ -31,6 +31,19 @@ pub(crate) struct Sheet<'a> {
     anacron: Listing,
     left_out: Listing,
     pub(crate) told: Told,
+}
+
+/// Why a command that names a program that locks files is declared without a lock.
+const UNREAD: &str =
+    "if it holds the lock of /run/x as long as it runs, add \"group\": \"/run/x\", \
+    \"mode\": \"try\" to its entry, and {\"name\": \"/run/x\", \"exclusive\": true} to \"groups\"";
+
+/// Whether the command sleeps for a time that it draws at random.
+fn sleeps_at_random(command: &[u8]) -> bool {
+    behind_place(b"sleep", command).is_some()
+        && (behind_place(b"rand", command).is_some()
+            || behind_place(b"RANDOM", command).is_some()
+            || behind_place(b"shuf", command).is_some())
 }
 
 /// How declarations write a mode.
@@ -115,15 +128,14 @@ impl<'a> Sheet<'a> {
         let reason = match lock_of(alloc, line.command())? {
             Lock::Absent => return Ok(()),
             Lock::Of(file, mode) => {
-                let Ok(file) = str::from_utf8(file.as_slice()) else {
-                    return self.told.unlocked(line.number(), Unlocked::NotUtf8);
-                };
+                // plain words are ASCII
+                let file = str::from_utf8(file.as_slice()).unwrap_or("");
                 if self.takes(alloc, file)? {
                     return add_lock(alloc, entry, file, mode);
                 }
-                Unlocked::TooManyGroups
+                "its lock file would be group 65 of at most 64"
             }
-            Lock::Unlike(reason) => reason,
+            Lock::Unlike => UNREAD,
         };
         self.told.unlocked(line.number(), reason)
     }
@@ -141,8 +153,30 @@ impl<'a> Sheet<'a> {
         } else {
             "two parts of one name: they aren't declared"
         };
-        self.told.undeclared(line.number(), reason)?;
+        self.told.undeclared(line.number(), IN_CRONTAB, reason)?;
         Ok(parts)
+    }
+
+    /// Tells what the longest time of a new command may not hold. The only error is want of memory.
+    fn tell_times(
+        &mut self,
+        alloc: Global,
+        number: u32,
+        behind: &'static str,
+        command: &[u8],
+    ) -> Result<(), AllocError> {
+        if sleeps_at_random(command) {
+            let what = "a random sleep, which its longest time has to include";
+            self.told.undeclared(number, behind, what)?;
+        }
+        match limit_in(command) {
+            Some(limit) if limit > u64::from(MAX_MINUTES) => {
+                let what = "a timeout of more than 4320 minutes, which no longest time can be";
+                self.told.undeclared(number, behind, what)
+            }
+            Some(_) if !is_killed(command) => self.told.unkilled(alloc, number, behind),
+            _ => Ok(()),
+        }
     }
 
     /// Adds the entry of a new command. The only error is want of memory.
@@ -157,6 +191,7 @@ impl<'a> Sheet<'a> {
         let names = self.parts_of(alloc, line)?;
         let max = asked_for(self.max, line.command());
         add_new_times(alloc, &mut entry, schedule, max, names)?;
+        self.tell_times(alloc, line.number(), IN_CRONTAB, line.command())?;
         self.add_lock_of(alloc, &mut entry, line)?;
         add_command(alloc, &mut entry, line)?;
         self.cron.add(alloc, &entry)
@@ -210,7 +245,7 @@ impl<'a> Sheet<'a> {
         }
         let Some(share) = room_for(self.max, old.parts, names) else {
             let reason = "more parts than a job may have minutes: its entry is kept";
-            self.told.undeclared(number, reason)?;
+            self.told.undeclared(number, IN_CRONTAB, reason)?;
             return add_old_times(alloc, entry, old.entry);
         };
         self.tell_parts(alloc, number, old.parts, names)?;
@@ -278,6 +313,7 @@ impl<'a> Sheet<'a> {
             }
             None => {
                 entry.add_number(alloc, "max", asked_for(self.max, job.command()))?;
+                self.tell_times(alloc, job.number(), IN_ANACRONTAB, job.command())?;
                 if names_lock(job.command()) {
                     self.told.unlocked_job(job.number())?;
                 }

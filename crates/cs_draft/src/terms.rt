@@ -1,24 +1,23 @@
 //! Whether all but the locks is declared as a draft has it.
 ghost use Rattle.std.specs.Prelude.{◌≡◌, All, IsTrue, option_map, pos};
 ghost use Rattle.std.specs.List.{find};
+ghost use Rattle.cs_civil.specs.declared.minute.TheConstants.{MINUTES_OF_DAY};
 ghost use Rattle.cs_decl.specs.Join.{is_of_job};
 ghost use Rattle.cs_draft.specs.Draft.{AreFresh, IsDraftedJob};
 
 use crate::names::job_entry;
 use crate::timeouts::asked_for;
 use cs_anacrontab::Job;
+use cs_civil::MINUTES_OF_DAY;
 use cs_decl::{AnacronEntry, Entries, MAX_CAPACITY};
 
-/// Whether catch-up is between those minutes of the day, and has no pass minute.
-fn has_hours(hours: (u32, u32), entries: &Entries) -> bool
-    ensures hours { IsTrue result → entries.now.hours ≡ (pos hours.0, pos hours.1) }
+/// Whether catch-up is at all hours, and has no pass minute.
+fn has_all_hours(entries: &Entries) -> bool
+    ensures hours { IsTrue result → entries.now.hours ≡ (pos 0, pos MINUTES_OF_DAY) }
     ensures pass { IsTrue result → entries.now.pass ≡ None }
 {
     let (from, to) = entries.hours;
-    if from != i128::from(hours.0) || to != i128::from(hours.1) {
-        return false;
-    }
-    entries.pass.is_none()
+    from == 0 && to == i128::from(MINUTES_OF_DAY) && entries.pass.is_none()
 }
 
 /// Whether the capacity is the greatest, and clocks are ahead by the offset.
@@ -29,11 +28,11 @@ fn is_at_offset(offset: i16, entries: &Entries) -> bool
     entries.capacity == i128::from(MAX_CAPACITY) && entries.offset == i128::from(offset)
 }
 
-/// Whether what is declared of all jobs together is what a draft declares, with those hours.
-pub(crate) fn are_fresh(hours: (u32, u32), offset: i16, entries: &Entries) -> bool
-    ensures { IsTrue result → AreFresh hours offset entries.now }
+/// Whether what is declared of all jobs together is what a draft declares.
+pub(crate) fn are_fresh(offset: i16, entries: &Entries) -> bool
+    ensures { IsTrue result → AreFresh offset entries.now }
 {
-    is_at_offset(offset, entries) && has_hours(hours, entries) && entries.default.is_none()
+    is_at_offset(offset, entries) && has_all_hours(entries) && entries.default.is_none()
 }
 
 /// Whether the entry of an anacron job has the asked time, the least weight and no group.

@@ -1,179 +1,159 @@
 //! How long a command may run at most, as timeout(1) ends it.
-ghost use Rattle.std.specs.Prelude.{◌≡◌, ◌∷◌, [], None, Some, codes, length, option_map};
+ghost use Rattle.std.specs.Prelude.{◌≡◌, ◌∷◌, [], ◌==◌, codes, option_map};
+ghost use Rattle.std.specs.List.{list_any};
 ghost use Rattle.cs_json.specs.Shape.{is_among};
-ghost use Rattle.std.specs.List.{count_by, slice_split};
-ghost use Rattle.cs_draft.specs.Named.{is_called, is_parting};
-ghost use Rattle.cs_draft.specs.Fronts.{behind_option};
-ghost use Rattle.cs_draft.specs.Timeouts.{asked_for, behind_carrier, declarable, found_in};
-ghost use Rattle.cs_draft.specs.Timeouts.{is_held, kill_by, kill_of, lesser, limit_by, limit_for};
-ghost use Rattle.cs_draft.specs.Timeouts.{limit_in, limit_of, names_setsid, time_limit};
-ghost use Rattle.cs_draft.specs.declared.fronts.Runner.TheVariants.{Timeout};
+ghost use Rattle.cs_draft.specs.Timeouts.{asked_for, behind_kill, behind_options, behind_signal};
+ghost use Rattle.cs_draft.specs.Timeouts.{declarable, is_kill, is_timeout, kill_at, limit_at, limit_for};
+ghost use Rattle.cs_draft.specs.Timeouts.{limit_in, limit_of, run_in, time_limit};
 
 use crate::durations::seconds_of;
-use crate::flock::{behind_flock, is_flock};
-use crate::fronts::{
-    Runner, begins_as, behind_guards, behind_option, behind_options, behind_runner, behind_word,
-    first_word, is_setting, is_simple,
-};
-use crate::lock::may_run_on;
-use crate::named::{is_called, is_parting};
-use crate::shell::{has_percent, is_one_program};
+use crate::flock::{call_in, is_program};
+use crate::fronts::behind_fronts;
+use crate::named::{Kind, count_of, names_lock};
+use crate::words::{behind_word, first_word};
 use cs_decl::MAX_MINUTES;
 use cs_table::text::is_among;
 
 // ---- one call of timeout(1)
 
-const KILL_AFTER: &[u8] = b"--kill-after=";
-
-fn is_kill_option(word: &[u8]) -> bool
-    ensures { result ≡ is_among (codes "-k" ∷ codes "--kill-after" ∷ []) word.now }
+/// Whether the signal ends a program.
+fn is_ending(signal: &[u8]) -> bool
+    ensures { result
+        ≡ is_among (codes "TERM" ∷ codes "INT" ∷ codes "KILL" ∷ []) signal.now }
 {
-    let words: [&[u8]; 2] = [b"-k", b"--kill-after"];
-    is_among(&words, word)
+    let signals: [&[u8]; 3] = [b"TERM", b"INT", b"KILL"];
+    is_among(&signals, signal)
 }
 
-/// The seconds to the signal KILL, as the option at the front tells them, or else those so far.
-#[tactic(auto, unfolding(crate::specs::Timeouts::kill_by), using(crate::proofs::Longer::is_longer))]
-fn kill_by(kill: Option<u32>, text: &[u8]) -> Option<u32>
-    ensures { result ≡ kill_by kill text.now }
+/// What stands behind `-s` and such a signal, if they are there.
+#[tactic(auto, unfolding(crate::specs::Timeouts::behind_signal))]
+fn behind_signal(text: &[u8]) -> &[u8]
+    ensures { result.now ≡ behind_signal text.now }
 {
-    let word = first_word(text);
-    if is_kill_option(word) {
-        return seconds_of(first_word(behind_word(text)));
+    let behind = behind_word(text);
+    if first_word(text) == b"-s".as_slice() && is_ending(first_word(behind)) {
+        return behind_word(behind);
     }
-    if word.starts_with(KILL_AFTER) {
-        return seconds_of(&word[KILL_AFTER.len()..]);
-    }
-    if begins_as(b"-k", word) {
-        return seconds_of(&word[2..]);
-    }
-    kill
+    text
 }
 
-/// The seconds to the signal KILL that the options of timeout(1) tell: 0 where none does.
-#[tactic(auto, unfolding(crate::specs::Timeouts::found_in))]
-fn kill_of(rest: &[u8]) -> Option<u32>
-    ensures { result ≡ kill_of rest.now }
+fn is_kill(word: &[u8]) -> bool
+    ensures { result ≡ is_kill word.now }
 {
-    let mut kill = Some(0);
-    let mut text = rest;
-    for _ in 0..rest.len() {
-        match behind_option(Runner::Timeout, text) {
-            Some(behind) => {
-                kill = kill_by(kill, text);
-                text = behind;
-            }
-            None => return kill,
-        }
-    }
-    kill
+    word == b"-k".as_slice()
 }
 
-/// The minutes of both, rounded up, and one more; none where there is no limit.
+/// The seconds to the signal KILL, which are 0 where none are told.
+fn kill_at(text: &[u8]) -> Option<u32>
+    ensures { result ≡ kill_at text.now }
+{
+    if is_kill(first_word(text)) {
+        seconds_of(first_word(behind_word(text)))
+    } else {
+        Some(0)
+    }
+}
+
+/// What stands behind `-k` and its time, if they are there.
+fn behind_kill(text: &[u8]) -> &[u8]
+    ensures { result.now ≡ behind_kill text.now }
+{
+    if is_kill(first_word(text)) {
+        behind_word(behind_word(text))
+    } else {
+        text
+    }
+}
+
+fn behind_options(text: &[u8]) -> &[u8]
+    ensures { result.now ≡ behind_options text.now }
+{
+    behind_signal(behind_kill(behind_signal(text)))
+}
+
+/// The minutes of both, rounded up, and one more, or two for a run that waits; none where there is
+/// no limit.
 #[tactic(auto, unfolding(crate::specs::Timeouts::limit_for))]
-fn limit_for(seconds: Option<u32>, kill: Option<u32>) -> Option<u64>
-    ensures { result ≡ limit_for seconds kill }
+fn limit_for(waits: bool, seconds: Option<u32>, kill: Option<u32>) -> Option<u64>
+    ensures { result ≡ limit_for waits seconds kill }
 {
+    let more = if waits { 2 } else { 1 };
     match (seconds, kill) {
         (Some(seconds), Some(kill)) if seconds != 0 => Some(
-            (u64::from(seconds) + u64::from(kill)).div_ceil(60) + 1,
+            (u64::from(seconds) + u64::from(kill)).div_ceil(60) + more,
         ),
         _ => None,
     }
 }
 
 /// The limit that the words behind `timeout` tell.
-fn limit_of(rest: &[u8]) -> Option<u64>
-    ensures { result ≡ limit_of rest.now }
+#[tactic(auto, unfolding(crate::specs::Timeouts::limit_of))]
+fn limit_of(waits: bool, rest: &[u8]) -> Option<u64>
+    ensures { result ≡ limit_of waits rest.now }
 {
-    let duration = first_word(behind_options(Runner::Timeout, rest));
-    limit_for(seconds_of(duration), kill_of(rest))
-}
-
-// ---- the programs around the last one
-
-/// What stands behind a call of flock(1), a setting, or a program that runs what is behind it.
-#[tactic(auto, unfolding(crate::specs::Timeouts::behind_carrier))]
-fn behind_carrier(text: &[u8]) -> Option<&[u8]>
-    ensures { option_map (λ rest. rest.now) result ≡ behind_carrier text.now }
-{
-    let word = first_word(text);
-    if !is_simple(word) {
+    let duration = behind_options(rest);
+    if !is_program(behind_word(duration)) || count_of(Kind::Leaves, rest) != 0 {
         return None;
     }
-    if is_setting(word) {
-        return Some(behind_word(text));
-    }
-    if is_flock(word) {
-        return behind_flock(behind_word(text));
-    }
-    behind_runner(word, behind_word(text))
-}
-
-fn lesser(one: Option<u64>, other: Option<u64>) -> Option<u64>
-    ensures { result ≡ lesser one other }
-{
-    match (one, other) {
-        (Some(one), Some(other)) => Some(one.min(other)),
-        (Some(one), None) => Some(one),
-        (None, other) => other,
-    }
-}
-
-/// The lesser of a limit and that of a call of timeout(1) at the front.
-#[tactic(auto, unfolding(crate::specs::Timeouts::limit_by))]
-fn limit_by(limit: Option<u64>, text: &[u8]) -> Option<u64>
-    ensures { result ≡ limit_by limit text.now }
-{
-    if is_called(b"timeout", b"/timeout", first_word(text)) {
-        lesser(limit, limit_of(behind_word(text)))
-    } else {
-        limit
-    }
-}
-
-/// The least limit of the programs around the last one.
-#[tactic(auto, unfolding(crate::specs::Timeouts::found_in))]
-fn least_limit(text: &[u8]) -> Option<u64>
-    ensures { result ≡ found_in behind_carrier limit_by (length text.now) None text.now }
-{
-    let mut limit = None;
-    let mut rest = text;
-    for _ in 0..text.len() {
-        match behind_carrier(rest) {
-            Some(behind) => {
-                limit = limit_by(limit, rest);
-                rest = behind;
-            }
-            None => return limit,
-        }
-    }
-    limit
+    limit_for(
+        waits,
+        seconds_of(first_word(duration)),
+        kill_at(behind_signal(rest)),
+    )
 }
 
 // ---- the command
 
-fn setsids_in(text: &[u8]) -> usize
-    ensures { result ≡ count_by (is_called (codes "setsid")) (slice_split is_parting text.now) }
+fn is_timeout(word: &[u8]) -> bool
+    ensures { result ≡ is_timeout word.now }
 {
-    text.split(|byte| is_parting(*byte))
-        .filter(|word| is_called(b"setsid", b"/setsid", word))
-        .count()
+    let words: [&[u8]; 3] = [b"timeout", b"/bin/timeout", b"/usr/bin/timeout"];
+    is_among(&words, word)
 }
 
-/// Whether setsid(1) is named: its program leaves the ones that timeout(1) ends.
-fn names_setsid(text: &[u8]) -> bool
-    ensures { result ≡ names_setsid text.now }
+fn limit_at(waits: bool, text: &[u8]) -> Option<u64>
+    ensures { result ≡ limit_at (waits, text.now) }
 {
-    setsids_in(text) != 0
+    if is_timeout(first_word(text)) {
+        limit_of(waits, behind_word(text))
+    } else {
+        None
+    }
 }
 
-/// Whether the shell runs one program for the text, and waits for the end of all that this runs.
-#[tactic(auto, unfolding(crate::specs::Timeouts::is_held))]
-fn is_held(text: &[u8]) -> bool
-    ensures { result ≡ is_held text.now }
+/// Whether the run waits for its lock, and what stands behind the lock's file; or what stands behind
+/// settings, guards and nice(1).
+#[tactic(auto, unfolding(crate::specs::Timeouts::run_in))]
+fn run_in(text: &[u8]) -> Option<(bool, &[u8])>
+    ensures { option_map (λ run. (run.0, run.1.now)) result ≡ run_in text.now }
 {
-    !has_percent(text) && is_one_program(text) && !may_run_on(text) && !names_setsid(text)
+    if !names_lock(text) {
+        return Some((false, behind_fronts(text)));
+    }
+    match call_in(text) {
+        Some(((_, mode), behind)) => Some((mode.waits(), behind)),
+        None => None,
+    }
+}
+
+fn has_percent(text: &[u8]) -> bool
+    ensures { result ≡ list_any (λ b. b == 37) text.now }
+{
+    text.contains(&b'%')
+}
+
+/// The limit in minutes that the one timeout(1) of the text sets.
+#[tactic(auto, unfolding(crate::specs::Timeouts::limit_in))]
+pub(crate) fn limit_in(text: &[u8]) -> Option<u64>
+    ensures { result ≡ limit_in text.now }
+{
+    if has_percent(text) || count_of(Kind::Limits, text) != 1 {
+        return None;
+    }
+    match run_in(text) {
+        Some((waits, behind)) => limit_at(waits, behind),
+        None => None,
+    }
 }
 
 /// The limit, if it may be declared.
@@ -186,24 +166,12 @@ fn declarable(limit: Option<u64>) -> Option<u64>
     }
 }
 
-/// The limit in minutes that timeout(1) sets to all of the text, if that may be declared.
-#[tactic(auto, unfolding(crate::specs::Timeouts::limit_in))]
-fn limit_in(text: &[u8]) -> Option<u64>
-    ensures { result ≡ limit_in text.now }
-{
-    if is_held(text) {
-        declarable(least_limit(text))
-    } else {
-        None
-    }
-}
-
-/// Returns the limit in minutes, at most 4,320, that timeout(1) sets to all of the command that
-/// stands behind guards: the least one of several. `None` where it sets none that can be declared.
+/// Returns the limit in minutes, at most 4,320, that timeout(1) sets to a command as its last runner.
+/// `None` where it sets none that can be declared.
 pub fn time_limit(command: &[u8]) -> Option<u64>
     ensures { result ≡ time_limit command.now }
 {
-    limit_in(behind_guards(command))
+    declarable(limit_in(command))
 }
 
 /// The longest time of a run in minutes: the asked one, unless timeout(1) sets a limit.
@@ -211,4 +179,15 @@ pub fn asked_for(asked: u64, command: &[u8]) -> u64
     ensures { result ≡ asked_for asked command.now }
 {
     time_limit(command).unwrap_or(asked)
+}
+
+/// Whether a program that the command runs under such a limit is ended by KILL.
+pub(crate) fn is_killed(command: &[u8]) -> bool {
+    let Some((_, behind)) = run_in(command) else {
+        return false;
+    };
+    let options = behind_word(behind);
+    let signal = first_word(behind_word(options));
+    is_kill(first_word(behind_signal(options)))
+        || first_word(options) == b"-s".as_slice() && signal == b"KILL".as_slice()
 }

@@ -1,10 +1,14 @@
 //! What an operator has to know of a draft, as it is gathered.
 
 use crate::notice::Notice;
-use crate::unlocked::Unlocked;
 use cs_civil::Bytes;
 use cs_diagnostics::shown;
 use std::alloc::{AllocError, Global};
+
+/// What stands behind the number of a line in a warning of what its command has.
+pub(crate) const IN_CRONTAB: &str = " of the crontab has ";
+
+pub(crate) const IN_ANACRONTAB: &str = " of the anacrontab has ";
 
 /// Notices, in the order in which they are told.
 #[derive(Drop)]
@@ -33,8 +37,8 @@ impl Told {
     }
 
     /// The command of that line takes a lock that isn't declared. The only error is want of memory.
-    pub(crate) fn unlocked(&mut self, number: u32, reason: Unlocked) -> Result<(), AllocError> {
-        self.notices.push(Notice::Unlocked(number, reason.text()))?;
+    pub(crate) fn unlocked(&mut self, number: u32, reason: &'static str) -> Result<(), AllocError> {
+        self.notices.push(Notice::Unlocked(number, reason))?;
         Ok(())
     }
 
@@ -44,14 +48,36 @@ impl Told {
         Ok(())
     }
 
-    /// The parts of that line's command aren't declared. The only error is want of memory.
+    /// What that line's command has isn't declared. The only error is want of memory.
     pub(crate) fn undeclared(
         &mut self,
         number: u32,
-        reason: &'static str,
+        behind: &'static str,
+        what: &'static str,
     ) -> Result<(), AllocError> {
-        self.notices.push(Notice::Undeclared(number, reason))?;
+        self.notices.push(Notice::Undeclared(number, behind, what))?;
         Ok(())
+    }
+
+    /// A program may go on behind the limit of that line's command. The only error is want of
+    /// memory.
+    pub(crate) fn unkilled(
+        &mut self,
+        alloc: Global,
+        number: u32,
+        behind: &str,
+    ) -> Result<(), AllocError> {
+        self.note(format!(in alloc;
+            "the command on line {number}{behind}a timeout without -k: a program that ignores its \
+             signal goes on"
+        )?)
+    }
+
+    /// The anacrontab sets hours. The only error is want of memory.
+    pub(crate) fn start_hours(&mut self, alloc: Global) -> Result<(), AllocError> {
+        self.note(format!(in alloc;
+            "START_HOURS_RANGE is not declared, since Debian's anacron doesn't know it: all hours are"
+        )?)
     }
 
     /// That line's command has no parts in the table, and its entry has some. The only error is

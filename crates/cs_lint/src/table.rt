@@ -397,7 +397,9 @@ impl<'a> Table<'a> {
         let why = match str::from_utf8(name).unwrap_or("") {
             "CRON_TZ" => "remove it, and set \"offset\" in the declarations",
             "RANDOM_DELAY" => "remove it, since no start is delayed at random",
-            "START_HOURS_RANGE" => "set \"hours\" in the declarations instead",
+            "START_HOURS_RANGE" => {
+                "set \"hours\" in the declarations if anacron keeps to it: Debian's doesn't know it"
+            }
             _ => return Ok(()),
         };
         let name = shown(self.findings.alloc, name)?;

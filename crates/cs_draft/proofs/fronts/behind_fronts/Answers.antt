@@ -6,4 +6,4 @@ use Rattle.cs_draft.proofs.fronts.behind_fronts.Goals as goal
 pub loop-preserved : goal.loop-preserved
 loop-preserved c =
     let is = sym c.behind_front.ensures ∙ ap (option_map (λ (rest : Bor (List ℕ)). rest.now)) c.in-Some.is in
-    next_passed (behind_front) _ c.loop.counter c.loop.rest.now c.in-Some.behind.now _ c.loop-test.true is c.loop.invariant
+    next_passed behind_front _ c.loop.counter c.loop.rest.now c.in-Some.behind.now _ c.loop-test.true is c.loop.invariant

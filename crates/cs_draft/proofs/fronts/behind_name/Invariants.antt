@@ -1,6 +1,6 @@
 use Rattle.std.proofs.Common.{◌≡◌, length}
 use Rattle.cs_table.specs.Text.{after}
-use Rattle.cs_draft.specs.Shell.{is_name_byte}
+use Rattle.cs_draft.specs.Words.{is_name_byte}
 use Rattle.cs_draft.proofs.fronts.behind_name.Given as goal
 
 abbrev pub invariant-loop-rest : goal.invariant-loop-rest

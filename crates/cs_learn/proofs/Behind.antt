@@ -3,7 +3,7 @@ use Rattle.std.proofs.Common.{◌≡◌, ℕ, List, [], ◌∷◌, ◌++◌, Opt
 use Rattle.std.proofs.lemmas.List.Sums.{fold-append}
 use Rattle.cs_learn.specs.Learning.{State, learned, listed, nothing, one_line, told_by}
 use Rattle.cs_learn.specs.declared.log_line.LogLine.{LogLine}
-use Rattle.cs_learn.specs.declared.open_run.Ending.{Ending}
+use Rattle.cs_learn.specs.declared.open_runs.Ending.{Ending}
 
 behind_more : (lines : List (List ℕ)) (text : List ℕ) → told_by (lines ++ text ∷ []) ≡ one_line (told_by lines) text
 unfolding told_by

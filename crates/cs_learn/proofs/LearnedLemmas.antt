@@ -13,7 +13,7 @@ use Rattle.cs_learn.specs.Maxes.{AreMaxes, HasMaxes}
 use Rattle.cs_learn.specs.declared.drawn.Learned.{Learned}
 
 pub they_are : {E : Type 0} (table : Crontab) (jobs : Anacrontab) (places : List Place) (offset : ℤ) (old : Option Entries) (factor : ℕ) (drawn : List ℕ) (log : LogState) (maxes : List (Option ℕ)) (r : Result (Option Learned) E)
-    → IsDrawn table jobs places offset old drawn → AreMaxes factor log.jobs maxes → IfOk r (λ found. IfSome found (λ l. HasMaxes table.lines maxes drawn l.text))
+    → IsDrawn table jobs places offset old drawn → AreMaxes factor log.jobs maxes → IfOk r (λ found. IfSome found (λ l. HasMaxes table.lines maxes old drawn l.text))
     → (told : Told) → IsReading (map (job_on places) table.lines) (at_front told) log → IfOk r (λ found. IfSome found (λ l. IsLearned table jobs places offset old factor told l.text))
 they_are table jobs places offset old factor drawn log maxes (Err e) is are has told reads = tt
 they_are table jobs places offset old factor drawn log maxes (Ok None) is are has told reads = tt

@@ -1,29 +1,33 @@
 -- What is known of the runs of jobs behind one more line of a log.
-use Rattle.std.proofs.Common.{◌≡◌, ◌≢◌, ℕ, suc, ◌+◌, ◌<◌, ◌≤◌, ◌^◌, Bool, true, false, cond, nat_eq, List, [], ◌∷◌, ◌++◌, length, map, take, get_or, fold, Option, None, Some, IfSome, refl, sym, ap, subst, ◌∙◌, arith}
+use Rattle.std.proofs.Common.{◌≡◌, ◌≢◌, ℕ, suc, ◌+◌, ◌<◌, ◌≤◌, ◌^◌, Bool, true, false, cond, ltb, nat_eq, List, [], ◌∷◌, ◌++◌, append_assoc, length, map, option_map, take, unwrap_or, get_or, fold, Option, None, Some, IfSome, inl, inr, refl, sym, ap, subst, ◌∙◌, arith}
 use Rattle.std.proofs.Common.{Bor, Result, Ok, Err, OnOk}
 use Rattle.std.specs.Prelude.{All, Contains, IfErr}
 use Rattle.std.proofs.lemmas.List.Elements.{Contains-append_right}
 use Rattle.cs_io.specs.Files.{AreReadInTurn, IsReadAlone, Reads}
 use Rattle.cs_io.proofs.ReadLemmas.{not_read}
 use Rattle.cs_learn.specs.declared.reading.Unread.{Unread}
-use Rattle.std.proofs.lemmas.List.{append-nil, length-append, length-take, take_all}
-use Rattle.std.proofs.lemmas.Bool.{eqb-true, ne_eqb}
+use Rattle.std.proofs.lemmas.List.{append-nil, length-append, length-take, map-append, take_all, take_more}
+use Rattle.std.proofs.lemmas.Option.{none-some, slice_get_cases}
+use Rattle.std.specs.List.{slice_get}
+use Rattle.std.proofs.lemmas.Bool.{eqb-true, le-ltb, lt-ltb, ne_eqb}
 use Rattle.std.proofs.Math.Seq.{take-append_seam}
 use Rattle.std.proofs.lemmas.List.Sums.{fold-append, fold_more}
 use Rattle.cs_table.specs.Text.{is_nothing}
 use Rattle.cs_learn.specs.Evidence.{IsOf}
 use Rattle.cs_learn.specs.Job.{is_of}
 use Rattle.cs_learn.specs.JobEvidence.{AllTake, Takes, own_runs}
-use Rattle.cs_learn.specs.Learning.{State, Told, learned, listed, nothing, told_by}
-use Rattle.cs_learn.specs.Log.{AreLogs, HaveRuns, IsReading, IsTaken, LogState, Reading, at_end, at_front, behind_byte, behind_bytes, behind_line_end, runs_in, with_end, with_log}
-use Rattle.cs_learn.specs.declared.limits.TheConstants.{MAX_LINE}
+use Rattle.cs_learn.specs.Learning.{State, Told, learned, listed, nothing, one_line, some_unended, told_by}
+use Rattle.cs_learn.specs.Log.{AreLogs, HaveRuns, IsReading, IsTaken, LogState, Reading, at_end, at_front, behind_byte, behind_bytes, behind_line_end, closed, runs_in, with_end, with_log, with_room, without_ends}
+use Rattle.cs_learn.specs.declared.limits.TheConstants.{MAX_LINE, MAX_OPEN}
 use Rattle.cs_learn.specs.declared.evidence.Ran.{Ran}
 use Rattle.cs_learn.specs.declared.job.Job.{Job}
 use Rattle.cs_learn.specs.declared.job_evidence.JobEvidence.{JobEvidence}
 use Rattle.cs_learn.specs.declared.log_line.LogLine.{LogLine}
+use Rattle.cs_learn.specs.declared.log_line.RunName.{RunName}
 use Rattle.cs_retrace.specs.declared.moment.Moment.{Moment}
-use Rattle.cs_learn.specs.declared.open_run.Ending.{Ending}
-use Rattle.cs_learn.specs.declared.open_run.Ending.TheVariants as ending
+use Rattle.cs_learn.specs.Runs.{Opens, without_end}
+use Rattle.cs_learn.specs.declared.open_runs.Ending.{Ending}
+use Rattle.cs_learn.specs.declared.open_runs.Ending.TheVariants as ending
 
 own_few : (job : Job) (line : LogLine) (runs : List Ran) (ran : Ran) → length (own_runs job line runs ran) ≤ length runs + 1
 own_few job line runs ran = by (is_of job line)
@@ -33,7 +37,7 @@ own_few job line runs ran = by (is_of job line)
     by false = omega arith
 
 end_few : (job : Job) (runs : List Ran) (end : LogLine × Ending) → length (with_end job runs end) ≤ length runs + 1
-end_few job runs (line, ending.Ran began seconds) = own_few job line runs (record { began = began; seconds = seconds })
+end_few job runs (line, ending.Run run) = own_few job line runs run
 end_few job runs (line, ending.NoBeginning) = omega arith
 end_few job runs (line, ending.Unclear) = omega arith
 
@@ -67,16 +71,16 @@ module _ (ends : List (LogLine × Ending)) (old new : List JobEvidence) where
   fewer : (end : LogLine × Ending) → length (ends ++ end ∷ []) < 2 ^ 63 → length ends < 2 ^ 63
   fewer end below = let e = length-append ends (end ∷ []) in omega (arith, e, below)
 
-  ran : (line : LogLine) (began : Moment) (seconds : ℕ) → AllTake line (record { began = began; seconds = seconds }) old new → HaveRuns ends old → HaveRuns (ends ++ (line, ending.Ran began seconds) ∷ []) new
-  ran line began seconds all have below k d within =
-      let end : LogLine × Ending = (line, ending.Ran began seconds) in
+  ran : (line : LogLine) (run : Ran) → AllTake line run old new → HaveRuns ends old → HaveRuns (ends ++ (line, ending.Run run) ∷ []) new
+  ran line run all have below k d within =
+      let end : LogLine × Ending = (line, ending.Run run) in
       let few_ends : length ends < 2 ^ 63 = fewer end below in
       let inside : k < length old = subst (λ (n : ℕ). k < n) all.same within in
       let o : JobEvidence = get_or old k d in
       let n : JobEvidence = get_or new k d in
-      let takes : Takes line (record { began = began; seconds = seconds }) o n = all.each k d inside in
+      let takes : Takes line run o n = all.each k d inside in
       let short : length (runs_in ends o.job) < 2 ^ 63 = (let f = few o.job ends in omega (arith, f, few_ends)) in
-      let is : IsOf n.evidence (own_runs o.job line (runs_in ends o.job) (record { began = began; seconds = seconds })) = takes.evidence (runs_in ends o.job) short (have few_ends k d inside) in
+      let is : IsOf n.evidence (own_runs o.job line (runs_in ends o.job) run) = takes.evidence (runs_in ends o.job) short (have few_ends k d inside) in
       subst (λ (j : Job). IsOf n.evidence (runs_in (ends ++ end ∷ []) j)) (sym takes.job)
       (subst (λ (runs : List Ran). IsOf n.evidence runs) (sym (runs_more o.job ends end)) is)
 
@@ -87,7 +91,7 @@ module _ (ends : List (LogLine × Ending)) (old new : List JobEvidence) where
 
   pub taken : (told : Option (LogLine × Ending)) → IsTaken told old new → HaveRuns ends old → HaveRuns (ends ++ listed told) new
   taken None same have = subst (λ (js : List JobEvidence). HaveRuns (ends ++ []) js) (sym same) (subst (λ (es : List (LogLine × Ending)). HaveRuns es old) (sym (append-nil ends)) have)
-  taken (Some (line, ending.Ran began seconds)) all have = ran line began seconds all have
+  taken (Some (line, ending.Run run)) all have = ran line run all have
   taken (Some (line, ending.NoBeginning)) same have = subst (λ (js : List JobEvidence). HaveRuns (ends ++ (line, ending.NoBeginning) ∷ []) js) (sym same) (other (line, ending.NoBeginning) (λ job runs. refl) have)
   taken (Some (line, ending.Unclear)) same have = subst (λ (js : List JobEvidence). HaveRuns (ends ++ (line, ending.Unclear) ∷ []) js) (sym same) (other (line, ending.Unclear) (λ job runs. refl) have)
 
@@ -96,14 +100,14 @@ module _ (ends : List (LogLine × Ending)) (old new : List JobEvidence) where
 
   pub jobs_stay : (jobs : List Job) (told : Option (LogLine × Ending)) → IsTaken told old new → map (λ j. j.job) old ≡ jobs → map (λ j. j.job) new ≡ jobs
   jobs_stay jobs None same are = ap (λ (js : List JobEvidence). map (λ j. j.job) js) same ∙ are
-  jobs_stay jobs (Some (line, ending.Ran began seconds)) all are = stay line (record { began = began; seconds = seconds }) all ∙ are
+  jobs_stay jobs (Some (line, ending.Run run)) all are = stay line run all ∙ are
   jobs_stay jobs (Some (line, ending.NoBeginning)) same are = ap (λ (js : List JobEvidence). map (λ j. j.job) js) same ∙ are
   jobs_stay jobs (Some (line, ending.Unclear)) same are = ap (λ (js : List JobEvidence). map (λ j. j.job) js) same ∙ are
 
 -- ---- what is known behind a byte
 
 line_ended : (jobs : List Job) (reading : Reading) (old new : LogState) (told : Option (LogLine × Ending)) → IsReading jobs reading old
-    → new.state ≡ (learned old.state old.line).0 → told ≡ (learned old.state old.line).1 → new.line ≡ [] → IsTaken told old.jobs new.jobs → IsReading jobs (behind_line_end reading) new
+    → new.state ≡ (learned old.state old.line).0 → told ≡ (learned old.state old.line).1 → new.line ≡ [] → IsTaken told old.jobs new.jobs → IsReading jobs (at_front (one_line reading.told reading.line)) new
 line_ended jobs reading old new told is state tells empty takes =
     let same : learned old.state old.line ≡ learned reading.told.0 reading.line = ap (λ (s : State). learned s old.line) is.state ∙ ap (λ (l : List ℕ). learned reading.told.0 l) is.line in
     let none : ◌≡◌ {A = ℕ} (length {A = ℕ} []) 0 = refl in
@@ -115,10 +119,71 @@ line_ended jobs reading old new told is state tells empty takes =
       runs = subst (λ (t : Option (LogLine × Ending)). HaveRuns (reading.told.1 ++ listed t) new.jobs) (tells ∙ ap (λ p. p.1) same) (taken reading.told.1 old.jobs new.jobs told takes is.runs);
     }
 
--- a line ends
+-- a line is taken
 pub at_line_end : (old new : LogState) (told : Option (LogLine × Ending)) → new.state ≡ (learned old.state old.line).0 → told ≡ (learned old.state old.line).1 → new.line ≡ [] → IsTaken told old.jobs new.jobs
-    → (jobs : List Job) (reading : Reading) → IsReading jobs reading old → IsReading jobs (behind_line_end reading) new
+    → (jobs : List Job) (reading : Reading) → IsReading jobs reading old → IsReading jobs (at_front (one_line reading.told reading.line)) new
 at_line_end old new told state tells empty takes jobs reading is = line_ended jobs reading old new told is state tells empty takes
+
+-- ---- starts without an end
+
+-- nothing is open any more
+pub at_close : (old new : LogState) → new.state ≡ record old.state { opens = []; tally = some_unended (length old.state.opens) old.state.tally } → new.line ≡ old.line → map (λ j. j.job) new.jobs ≡ map (λ j. j.job) old.jobs
+    → ((ends : List (LogLine × Ending)) → HaveRuns ends old.jobs → HaveRuns (ends ++ without_ends old.state.last old.state.opens) new.jobs)
+    → (jobs : List Job) (told : Told) → IsReading jobs (at_front told) old → IsReading jobs (at_front (closed told)) new
+at_close old new state line same runs jobs told is =
+    record {
+      state = state ∙ ap (λ (s : State). record s { opens = []; tally = some_unended (length s.opens) s.tally }) is.state;
+      line = line ∙ is.line;
+      short = rw line is.short;
+      known = same ∙ is.known;
+      runs = subst (λ (s : State). HaveRuns (told.1 ++ without_ends s.last s.opens) new.jobs) is.state (runs told.1 is.runs);
+    }
+
+-- as many are open as may be
+pub no_room : (jobs : List Job) (told : Told) (old new : LogState) → MAX_OPEN ≤ length old.state.opens → IsReading jobs (at_front told) old → IsReading jobs (at_front (closed told)) new → IsReading jobs (at_front (with_room told)) new
+no_room jobs told old new full is shut =
+    let e : ltb (length told.0.opens) MAX_OPEN ≡ false = le-ltb (length told.0.opens) MAX_OPEN (subst (λ (s : State). MAX_OPEN ≤ length s.opens) is.state full) in
+    rw e shut
+
+-- or fewer
+pub has_room : (jobs : List Job) (told : Told) (log : LogState) → length log.state.opens < MAX_OPEN → IsReading jobs (at_front told) log → IsReading jobs (at_front (with_room told)) log
+has_room jobs told log few is =
+    let e : ltb (length told.0.opens) MAX_OPEN ≡ true = lt-ltb (length told.0.opens) MAX_OPEN (subst (λ (s : State). length s.opens < MAX_OPEN) is.state few) in
+    rw e is
+
+-- none of the open runs
+pub none_open : (later : Moment) (opens : Opens) (jobs : List JobEvidence) (ends : List (LogLine × Ending)) → HaveRuns ends jobs → HaveRuns (ends ++ without_ends later (take 0 opens)) jobs
+none_open later opens jobs ends have = subst (λ (es : List (LogLine × Ending)). HaveRuns es jobs) (sym (append-nil ends)) have
+
+-- one more of the open runs
+open_at : (opens : Opens) (i : ℕ) (line : LogLine) → Some line ≡ option_map (λ (o : RunName × LogLine). o.1) (slice_get opens i) → (run : RunName × LogLine) × (i < length opens) × (line ≡ run.1) × (get_or opens i run ≡ run)
+open_at opens i line is = elim ((slice_get_cases opens i).1) [
+  | inl (run, below, got, at) ↦ (run, below, ap (λ (o : Option LogLine). unwrap_or o line) (is ∙ ap (λ (o : Option (RunName × LogLine)). option_map (λ (o : RunName × LogLine). o.1) o) got), at)
+  | inr (past, none) ↦ absurd (none-some line (sym (is ∙ ap (λ (o : Option (RunName × LogLine)). option_map (λ (o : RunName × LogLine). o.1) o) none)))
+]
+
+pub one_open_more : (later : Moment) (opens : Opens) (i : ℕ) (line : LogLine) (end : Ending) (old mid new : List JobEvidence) → Some line ≡ option_map (λ (o : RunName × LogLine). o.1) (slice_get opens i) → end ≡ (without_end later line).1 → IsTaken (Some (line, end)) mid new
+    → ((ends : List (LogLine × Ending)) → HaveRuns ends old → HaveRuns (ends ++ without_ends later (take i opens)) mid)
+    → (ends : List (LogLine × Ending)) → HaveRuns ends old → HaveRuns (ends ++ without_ends later (take (i + 1) opens)) new
+one_open_more later opens i line end old mid new found told takes so_far ends have =
+    let (run, below, is, at) = open_at opens i line found in
+    let t : take (i + 1) opens ≡ take i opens ++ run ∷ [] = take_more opens i run below ∙ ap (λ (x : RunName × LogLine). take i opens ++ x ∷ []) at in
+    let one : without_end later run.1 ≡ (line, end) = rw (sym is, told) refl in
+    let m : without_ends later (take (i + 1) opens) ≡ without_ends later (take i opens) ++ (line, end) ∷ [] = ap (λ (os : Opens). without_ends later os) t ∙ map-append (λ (o : RunName × LogLine). without_end later o.1) (take i opens) (run ∷ []) ∙ ap (λ (e : LogLine × Ending). without_ends later (take i opens) ++ e ∷ []) one in
+    let more = taken (ends ++ without_ends later (take i opens)) mid new (Some (line, end)) takes (so_far ends have) in
+    subst (λ (es : List (LogLine × Ending)). HaveRuns es new) (append_assoc ends (without_ends later (take i opens)) ((line, end) ∷ []) ∙ ap (λ (es : List (LogLine × Ending)). ends ++ es) (sym m)) more
+
+-- there is one where fewer were taken
+pub some_open : (opens : Opens) (i : ℕ) → i < length opens → None ≡ option_map (λ (o : RunName × LogLine). o.1) (slice_get opens i) → ⊥
+some_open opens i below none = elim ((slice_get_cases opens i).1) [
+  | inl (run, within, got, at) ↦ none-some run.1 (none ∙ ap (λ (o : Option (RunName × LogLine)). option_map (λ (o : RunName × LogLine). o.1) o) got)
+  | inr (past, gone) ↦ omega arith
+]
+
+pub none_open_more : (later : Moment) (opens : Opens) (i : ℕ) (old mid : List JobEvidence) → length opens ≤ i
+    → ((ends : List (LogLine × Ending)) → HaveRuns ends old → HaveRuns (ends ++ without_ends later (take i opens)) mid)
+    → (ends : List (LogLine × Ending)) → HaveRuns ends old → HaveRuns (ends ++ without_ends later opens) mid
+none_open_more later opens i old mid past so_far ends have = subst (λ (os : Opens). HaveRuns (ends ++ without_ends later os) mid) (take_all i opens past) (so_far ends have)
 
 -- a newline
 pub at_newline : (jobs : List Job) (reading : Reading) (new : LogState) (byte : ℕ) → byte ≡ 10 → IsReading jobs (behind_line_end reading) new → IsReading jobs (behind_byte reading byte) new
@@ -242,6 +307,11 @@ none_read (path ∷ paths) r = (r, (0, not_read path r), none_read paths r)
 
 abbrev texts : List (Bor (List ℕ)) → List (List ℕ)
 texts paths = map (λ (path : Bor (List ℕ)). path.now) paths
+
+-- no path is left
+pub no_log : (files : List ℕ → Option (List ℕ)) (paths : List (Bor (List ℕ))) (told : Told) → length paths ≡ 0 → AreLogs files (texts paths) told (closed told)
+no_log files [] told none = refl
+no_log files (p ∷ ps) told none = absurd (omega (arith, none))
 
 pub first_turn : (paths rest : List (Bor (List ℕ))) (p : Bor (List ℕ)) (old new : Reads) → paths ≡ p ∷ rest → IsReadAlone p.now old new → AreReadInTurn (texts paths) old new
 first_turn paths rest p old new is alone = subst (λ (ps : List (Bor (List ℕ))). AreReadInTurn (texts ps) old new) (sym is) (new, alone, none_read (texts rest) new)

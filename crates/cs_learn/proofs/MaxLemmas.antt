@@ -9,9 +9,10 @@ use Rattle.cs_decl.specs.Meaning.{declared_by}
 use Rattle.cs_decl.specs.declared.entries.Entries.{Entries}
 use Rattle.cs_learn.specs.Evidence.{Known}
 use Rattle.cs_learn.specs.Max.{IsEnough, IsMax}
-use Rattle.cs_learn.specs.Maxes.{AreMaxes, HasMaxes, HaveMaxes, IsMaxOf}
+use Rattle.cs_learn.specs.Maxes.{AreMaxes, HasMaxes, HaveMaxes, IsMaxOf, seconds_since}
 use Rattle.cs_learn.specs.declared.evidence.Ran.{Ran}
 use Rattle.cs_learn.specs.declared.job_evidence.JobEvidence.{JobEvidence}
+use Rattle.cs_learn.specs.declared.max.TheConstants.{LONGEST_MAX}
 
 module _ (factor : ℕ) (jobs : List JobEvidence) (maxes : List (Option ℕ)) where
   at_end : (j : JobEvidence) (m : Option ℕ) (k : ℕ) (a : JobEvidence) (d : Option ℕ) → length maxes ≡ length jobs → k ≡ length jobs → IsMaxOf factor j.evidence m
@@ -48,13 +49,17 @@ pub all_maxes : (factor : ℕ) (jobs : List JobEvidence) (maxes : List (Option �
 all_maxes factor jobs maxes i past are = subst (λ (js : List JobEvidence). AreMaxes factor js maxes) (take_all i jobs past) are
 
 -- the longest time of a job with a run, and without one
-pub max_is : (factor : ℕ) (known : Known) (ran : Ran) (result : Option ℕ) → Some ran ≡ known.longest → IfSome result (IsMax ran.seconds factor) → (IsNone result → (minutes : ℕ) → IsEnough ran.seconds factor minutes → 4_320 < minutes) → IsMaxOf factor known result
-max_is factor known ran (Some max) is value none = subst (λ (o : Option Ran). IsSomeAnd o (λ r. IsMax r.seconds factor max)) is value
-max_is factor known ran None is value none = subst (λ (o : Option Ran). IfSome o (λ r. (minutes : ℕ) → IsEnough r.seconds factor minutes → 4_320 < minutes)) is (none refl)
+pub max_is : (factor unended : ℕ) (known : Known) (ran : Ran) (result : Option ℕ) → Some ran ≡ known.longest → unended ≡ seconds_since known.longest_open → IfSome result (IsMax ran.seconds unended factor) → (IsNone result → (minutes : ℕ) → IsEnough ran.seconds unended factor minutes → LONGEST_MAX < minutes)
+    → IsMaxOf factor known result
+max_is factor unended known ran (Some max) is since value none =
+    subst (λ (o : Option Ran). IsSomeAnd o (λ r. IsMax r.seconds (seconds_since known.longest_open) factor max)) is (subst (λ (s : ℕ). IsMax ran.seconds s factor max) since value)
+max_is factor unended known ran None is since value none =
+    subst (λ (o : Option Ran). IfSome o (λ r. (minutes : ℕ) → IsEnough r.seconds (seconds_since known.longest_open) factor minutes → LONGEST_MAX < minutes)) is
+    (subst (λ (s : ℕ). (minutes : ℕ) → IsEnough ran.seconds s factor minutes → LONGEST_MAX < minutes) since (none refl))
 
 pub no_run : (factor : ℕ) (known : Known) → None ≡ known.longest → IsMaxOf factor known None
-no_run factor known is = subst (λ (o : Option Ran). IfSome o (λ r. (minutes : ℕ) → IsEnough r.seconds factor minutes → 4_320 < minutes)) is tt
+no_run factor known is = subst (λ (o : Option Ran). IfSome o (λ r. (minutes : ℕ) → IsEnough r.seconds (seconds_since known.longest_open) factor minutes → LONGEST_MAX < minutes)) is tt
 
 -- what was read back
-pub they_have : (lines : List CommandLine) (maxes : List (Option ℕ)) (old new : List ℕ) (d e : Entries) → declared_by old ≡ Ok d → declared_by new ≡ Ok e → HaveMaxes lines maxes d e → HasMaxes lines maxes old new
-they_have lines maxes old new d e before after have = (d, e, before, after, have)
+pub they_have : (lines : List CommandLine) (maxes : List (Option ℕ)) (kept : Option Entries) (old new : List ℕ) (d e : Entries) → declared_by old ≡ Ok d → declared_by new ≡ Ok e → HaveMaxes lines maxes kept d e → HasMaxes lines maxes kept old new
+they_have lines maxes kept old new d e before after have = (d, e, before, after, have)

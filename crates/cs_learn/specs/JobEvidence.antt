@@ -7,7 +7,7 @@ use Rattle.cs_learn.specs.declared.evidence.Ran.{Ran}
 use Rattle.cs_learn.specs.declared.job_evidence.JobEvidence.{JobEvidence}
 use Rattle.cs_learn.specs.declared.log_line.LogLine.{LogLine}
 
--- the runs of a job, and a run that ended by this line, if it is of the job
+-- the runs of a job, and a run of this line, if that is of the job
 abbrev pub own_runs : Job → LogLine → List Ran → Ran → List Ran
 own_runs job line runs ran = if is_of job line then runs ++ ran ∷ [] else runs
 

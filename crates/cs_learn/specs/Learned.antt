@@ -19,7 +19,7 @@ IsDrawn table jobs places offset (Some old) = IsUpdate table jobs places old NEW
 
 -- The bytes are what is drawn up, but each entry without parts has the longest time that the runs of
 -- its line give by a factor in hundredths, or that timeout(1) allows if that is more, where the runs
--- give one.
+-- give one; and an update keeps the entries of anacron jobs.
 pub record IsLearned (table : Crontab) (anacrontab : Anacrontab) (places : List Place) (offset : ℤ)
     (old : Option Entries) (factor : ℕ) (told : Told) (bytes : List ℕ) : Type 0 where
   pub drawn : List ℕ
@@ -29,4 +29,4 @@ pub record IsLearned (table : Crontab) (anacrontab : Anacrontab) (places : List 
   pub runs : HaveRuns told.1 known
   pub maxes : List (Option ℕ)
   pub are_maxes : AreMaxes factor known maxes
-  pub learned : HasMaxes table.lines maxes drawn bytes
+  pub learned : HasMaxes table.lines maxes old drawn bytes

@@ -1,5 +1,5 @@
 -- The max that evidence gives: the longest run times a factor, in whole minutes.
-use Rattle.std.specs.Prelude.{ℕ, ◌+◌, ◌*◌, ◌≤◌, ◌&&◌, ◌==◌, nat_le, if◌then◌else◌, List, length, Option, Some, None}
+use Rattle.std.specs.Prelude.{ℕ, ◌+◌, ◌*◌, ◌≤◌, ◌&&◌, ◌==◌, nat_le, ◌/◌, if◌then◌else◌, List, length, Option, Some, None}
 use Rattle.cs_table.specs.SettingReading.{◌>>=◌, quoted_at}
 use Rattle.cs_retrace.specs.Words.{number_of, if_so}
 
@@ -25,12 +25,20 @@ factor_in text = do
   factor ← in_hundredths text (quoted_at 46 text)
   if_so (nat_le 100 factor && nat_le factor 1_000) factor
 
--- So many minutes are enough for a run of so many seconds, times a factor in hundredths.
-abbrev pub IsEnough : ℕ → ℕ → ℕ → Type 0
-IsEnough seconds factor minutes = seconds * factor ≤ 6_000 * minutes
+-- the whole minutes of so many seconds, and one more
+abbrev pub least : ℕ → ℕ
+least seconds = seconds / 60 + 1
 
--- the fewest minutes that are enough, at least 1
-pub record IsMax (seconds factor minutes : ℕ) : Type 0 where
-  pub in_range : (1 ≤ minutes) × (minutes ≤ 4_320)
-  pub enough : IsEnough seconds factor minutes
-  pub fewest : (others : ℕ) → 1 ≤ others → IsEnough seconds factor others → minutes ≤ others
+-- So many minutes are enough for the longest run, by a factor in hundredths, if they aren't less
+-- than its time times the factor, nor than its whole minutes and one more; nor than the whole
+-- minutes since a start without an end, and one more.
+pub record IsEnough (longest since factor minutes : ℕ) : Type 0 where
+  pub by_factor : longest * factor ≤ 6_000 * minutes
+  pub whole : least longest ≤ minutes
+  pub unended : least since ≤ minutes
+
+-- the fewest minutes that are enough
+pub record IsMax (longest since factor minutes : ℕ) : Type 0 where
+  pub in_range : minutes ≤ 4_320
+  pub enough : IsEnough longest since factor minutes
+  pub fewest : (others : ℕ) → IsEnough longest since factor others → minutes ≤ others

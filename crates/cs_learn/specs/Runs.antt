@@ -1,5 +1,5 @@
 -- Which runs the lines of a log hold.
-use Rattle.std.specs.Prelude.{ℕ, zero, suc, ◌+◌, ◌-◌, ◌^◌, min, Bool, false, ◌&&◌, ◌==◌, nat_eq, nat_lt, nat_le, bytes_eq, if◌then◌else◌, List, [], length, Option, Some, None}
+use Rattle.std.specs.Prelude.{ℕ, zero, suc, ◌+◌, ◌-◌, ◌^◌, min, Bool, false, true, ◌&&◌, ◌==◌, nat_eq, nat_lt, nat_le, bytes_eq, if◌then◌else◌, List, Option, Some, None, unwrap_or}
 use Rattle.std.specs.Map.{lookup, remove_entry}
 use Rattle.std.specs.Option.{option_eq}
 use Rattle.indexmap.specs.IndexMap.{insert_entry}
@@ -9,9 +9,8 @@ use Rattle.cs_learn.specs.declared.log_line.Sign.{Sign}
 use Rattle.cs_learn.specs.declared.log_line.Sign.TheVariants.{Begin, End, EndByParent}
 use Rattle.cs_learn.specs.declared.log_line.RunName.{RunName}
 use Rattle.cs_learn.specs.declared.log_line.LogLine.{LogLine}
-use Rattle.cs_learn.specs.declared.open_run.OpenRun.{OpenRun}
-use Rattle.cs_learn.specs.declared.open_run.Ending.{Ending}
-use Rattle.cs_learn.specs.declared.open_run.Ending.TheVariants.{Ran, NoBeginning, Unclear}
+use Rattle.cs_learn.specs.declared.open_runs.Ending.{Ending}
+use Rattle.cs_learn.specs.declared.open_runs.Ending.TheVariants.{Run, NoBeginning, Unclear}
 
 -- ---- how long a run took
 
@@ -48,21 +47,32 @@ passed (Universal begin) (Universal end) = if nat_le begin end then Some (end - 
 abbrev pub same_name : RunName → RunName → Bool
 same_name r q = (r.number == q.number) && option_eq nat_eq r.due q.due
 
+-- by their names, each with the line of its beginning
 abbrev pub Opens : Type 0
-Opens = List (RunName × OpenRun)
+Opens = List (RunName × LogLine)
 
-abbrev pub opened : LogLine → OpenRun
-opened line = record { at = line.at; user = line.user; command = line.command }
+-- A run that begins takes the place of one of its name, since numbers are used again.
+abbrev pub begun : Opens → LogLine → Opens
+begun opens line = insert_entry same_name opens line.name line
 
--- A run that begins takes the place of one of its name, since numbers are used again. Where as many
--- are open as may be, all are forgotten.
-unfoldable pub begun : ℕ → Opens → LogLine → Opens
-begun most opens line =
-    insert_entry same_name (if nat_lt (length opens) most then opens else []) line.name
-    (opened line)
+-- the beginning of the run whose place it takes
+abbrev pub replaced : Opens → LogLine → Option LogLine
+replaced opens line = lookup (same_name line.name) opens
+
+-- A run without an end took all the time up to a later moment, as far as anyone knows: more than
+-- any job may have where the clock doesn't tell.
+abbrev pub without_end : Moment → LogLine → LogLine × Ending
+without_end later line = (
+  line,
+  Run (record {
+    began = line.at;
+    seconds = unwrap_or (passed line.at later) (2 ^ 64 - 1);
+    has_ended = false;
+  }),
+)
 
 -- the open run is of the user and the command of the line
-abbrev pub is_same_job : LogLine → Option OpenRun → Bool
+abbrev pub is_same_job : LogLine → Option LogLine → Bool
 is_same_job line None = false
 is_same_job line (Some run) = bytes_eq run.user line.user && bytes_eq run.command line.command
 
@@ -85,9 +95,10 @@ steps EndByParent = 1_000
 
 abbrev pub of_time : Moment → Option ℕ → Ending
 of_time began None = Unclear
-of_time began (Some seconds) = Ran began seconds
+of_time began (Some seconds) =
+    Run (record { began = began; seconds = seconds; has_ended = true })
 
-abbrev pub told : Option OpenRun → Moment → Ending
+abbrev pub told : Option LogLine → Moment → Ending
 told None at = NoBeginning
 told (Some run) at = of_time run.at (passed run.at at)
 

@@ -7,6 +7,7 @@ ghost use Rattle.cs_learn.specs.Learning.{Told};
 ghost use Rattle.cs_learn.specs.Log.{IsReading, at_front};
 ghost use Rattle.cs_learn.specs.Maxes.{AreMaxes, HasMaxes};
 
+use crate::anacron::without_jobs;
 use crate::log::Log;
 use crate::max::Factor;
 use crate::maxes::{maxes_of, with_maxes};
@@ -61,7 +62,8 @@ fn updated(
     ensures { IfOk result (λ found. IfSome found
         (λ draft. IsUpdate table.now jobs.now places.now old.now NEW_MAX draft.text)) }
 {
-    match update(alloc, table, jobs, places, old, bytes, NEW_MAX)? {
+    let bytes = without_jobs(alloc, bytes)?;
+    match update(alloc, table, jobs, places, old, bytes.as_slice(), NEW_MAX)? {
         Drawing::Drawn(draft) => Ok(Some(draft)),
         _ => Ok(None),
     }
@@ -90,31 +92,34 @@ fn with_learned(
     alloc: Global,
     table: &Crontab,
     places: &[Place],
+    old: Option<&Declarations>,
+    bytes: &[u8],
     draft: Draft,
     log: &Log,
     maxes: &[Option<u64>],
 ) -> Result<Option<Learned>, AllocError>
-    ensures { IfOk result (λ found. IfSome found
-        (λ l. HasMaxes table.now.lines maxes.now draft.text l.text)) }
+    ensures { IfOk result (λ found. IfSome found (λ l. HasMaxes table.now.lines maxes.now
+        (option_map (λ d. d.now) old.entry) draft.text l.text)) }
 {
     let lines = table.lines();
     let (text, told) = draft.into_parts();
-    let Some((text, now)) = with_maxes(alloc, lines, maxes, text.as_slice())? else {
+    let Some(found) = with_maxes(alloc, lines, maxes, old, bytes, text.as_slice())? else {
         return Ok(None);
     };
     let mut told = told.into_vec();
-    let entries = now.entries().cron.as_slice();
-    push_summary(alloc, &mut told, lines, places, log, maxes, entries)?;
+    let is_new = old.is_none();
+    push_summary(alloc, &mut told, lines, places, log, maxes, &found, is_new)?;
     Ok(Some(Learned {
-        text: Bytes::from_vec(text),
+        text: Bytes::from_vec(found.text),
         told: Bytes::from_vec(told),
     }))
 }
 
-/// Returns a draft for the jobs of both tables, or an update of old declarations, which were read from
-/// the bytes, in which each entry without parts has the longest time that its line's runs
-/// give by the factor, where they give one, but not less than timeout(1) allows the command. The logs
-/// are those of the crontab's jobs.
+/// Returns a draft for the jobs of both tables, or an update of old declarations, which were read
+/// from the bytes, in which each entry without parts has the longest time that its line's runs give
+/// by the factor, where they give one, but not less than timeout(1) allows the command, and one
+/// minute more where its runs wait for a lock. An update keeps the entries of anacron jobs as they
+/// are. The logs are those of the crontab's jobs.
 ///
 /// `None` is returned where what was drawn up doesn't pass the test, which isn't meant to come for
 /// tables and declarations that were read. The only error is out of memory.
@@ -136,7 +141,7 @@ pub fn learn(
 {
     let maxes = maxes_of(alloc, log.jobs(), factor)?;
     match drawn(alloc, table, jobs, places, offset, old, bytes)? {
-        Some(draft) => with_learned(alloc, table, places, draft, log, maxes.as_slice()),
+        Some(draft) => with_learned(alloc, table, places, old, bytes, draft, log, &maxes),
         None => Ok(None),
     }
 }

@@ -10,13 +10,15 @@ use std::marker::Model;
 /// How many counts there are: of runs of 1 to 4,320 minutes, and of longer ones.
 const PLACES: usize = 4_321;
 
-/// A run that has ended.
+/// A run that has ended, or of which no line of the logs tells the end.
 #[derive(Clone, Copy)]
 pub struct Ran {
     /// When it began.
     pub began: Moment,
-    /// How many seconds it took.
+    /// How many seconds it took, or may have taken where no line tells its end.
     pub seconds: u64,
+    /// Whether a line tells its end.
+    pub has_ended: bool,
 }
 
 /// What is known of a job's runs.
@@ -25,6 +27,8 @@ pub struct Evidence {
     by_minutes: Vec<u64>,
     number: u64,
     one_longest: Option<Ran>,
+    unended: u64,
+    longest_open: Option<Ran>,
 }
 
 impl Model for Evidence {
@@ -37,6 +41,8 @@ impl Model for Evidence {
       counts = e.by_minutes.items;
       runs = e.number;
       longest = e.one_longest;
+      unended = e.unended;
+      longest_open = e.longest_open;
     } };
 
     ghost invariant = { λ e. length e.by_minutes.items ≡ 4_321 };
@@ -67,6 +73,8 @@ impl Evidence {
             by_minutes: zeros(alloc, PLACES)?,
             number: 0,
             one_longest: None,
+            unended: 0,
+            longest_open: None,
         })
     }
 
@@ -75,13 +83,33 @@ impl Evidence {
         ensures { (runs : List Ran) → length runs < 2 ^ 63 → IsOf self.old runs
             → IsOf self.new (runs ++ run ∷ []) }
     {
+        if !run.has_ended {
+            self.unended = self.unended.saturating_add(1);
+            self.longest_open = longer(self.longest_open, run);
+            return;
+        }
         let place = place(run.seconds);
         self.by_minutes[place] = self.by_minutes[place].saturating_add(1);
         self.number = self.number.saturating_add(1);
         self.one_longest = longer(self.one_longest, run);
     }
 
-    /// Returns how many runs there were.
+    /// Returns how many starts there were without an end.
+    pub fn unended(&self) -> u64
+        ensures { result ≡ self.now.unended }
+    {
+        self.unended
+    }
+
+    /// Returns one of the starts without an end since which the longest time has passed, or `None`
+    /// if there was none.
+    pub fn longest_open(&self) -> Option<Ran>
+        ensures { result ≡ self.now.longest_open }
+    {
+        self.longest_open
+    }
+
+    /// Returns how many runs there were that have ended.
     pub fn count(&self) -> u64
         ensures { result ≡ self.now.runs }
     {
@@ -95,7 +123,7 @@ impl Evidence {
         self.number < FEW_RUNS
     }
 
-    /// Returns one of the longest runs, or `None` if there was no run.
+    /// Returns one of the longest runs that have ended, or `None` if there was none.
     pub fn longest(&self) -> Option<Ran>
         ensures { result ≡ self.now.longest }
     {

@@ -14,7 +14,7 @@ pub struct JobEvidence {
 }
 
 impl JobEvidence {
-    /// Takes a run that ended by this line, if it is of the job.
+    /// Takes a run of this line, if that is of the job.
     pub fn take(&mut self, line: &LogLine, ran: Ran)
         ensures { Takes line.now ran self.old self.new }
     {
@@ -24,7 +24,7 @@ impl JobEvidence {
     }
 }
 
-/// Has each job take a run that ended by this line.
+/// Has each job take a run of this line.
 pub fn take_run(jobs: &mut Vec<JobEvidence>, line: &LogLine, ran: Ran)
     ensures { AllTake line.now ran jobs.old.items jobs.new.items }
 {

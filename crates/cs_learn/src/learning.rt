@@ -1,21 +1,22 @@
 //! What is known behind the lines of a log.
-ghost use Rattle.std.specs.Prelude.{◌≡◌, [], ◌∷◌, ◌++◌, ℕ, List, IfOk, OnOk};
+ghost use Rattle.std.specs.Prelude.{◌≡◌, [], ◌∷◌, ◌++◌, ℕ, List, IfOk, OnOk, length};
 ghost use Rattle.cs_learn.specs.Runs.{ended};
-ghost use Rattle.cs_learn.specs.Learning.{behind_end, behind_sign, learned, listed, told_by};
+ghost use Rattle.cs_learn.specs.Learning.{behind_begin, behind_end, behind_sign, learned, listed, some_unended, told_by};
 
 use crate::limits::MAX_LINE;
 use crate::line::read_line;
 use crate::log_line::{LogLine, Sign};
-use crate::open_run::Ending;
-use crate::open_runs::OpenRuns;
+use crate::open_runs::{Ending, OpenRuns, without_end};
 use crate::tally::Tally;
+use cs_retrace::Moment;
 use std::alloc::{AllocError, Global};
 use std::marker::Model;
 
-/// Reads the lines of a log one by one, in memory that doesn't grow with their number.
+/// Reads the lines of a log one by one, in memory that grows with the number of open runs alone.
 #[derive(Drop)]
 pub struct Learning {
     runs: OpenRuns,
+    last: Moment,
     counts: Tally,
 }
 
@@ -24,7 +25,7 @@ impl Model for Learning {
 
     ghost Value = { State };
 
-    ghost view = { λ l. record { opens = l.runs; tally = l.counts } };
+    ghost view = { λ l. record { opens = l.runs; last = l.last; tally = l.counts } };
 }
 
 impl Learning {
@@ -35,9 +36,11 @@ impl Learning {
     {
         Learning {
             runs: OpenRuns::new(alloc),
+            last: Moment::Universal(0),
             counts: Tally {
                 begun: 0,
                 runs: 0,
+                unended: 0,
                 no_beginning: 0,
                 unclear: 0,
                 others: 0,
@@ -53,10 +56,51 @@ impl Learning {
         self.counts
     }
 
+    /// Returns the runs that are open.
+    pub fn opens(&self) -> &OpenRuns
+        ensures { result.now ≡ self.now.opens }
+    {
+        &self.runs
+    }
+
+    /// Returns when the last line of a run was written.
+    pub fn last(&self) -> Moment
+        ensures { result ≡ self.now.last }
+    {
+        self.last
+    }
+
+    /// Counts the runs that are open as starts without an end, and forgets them.
+    pub fn close(&mut self)
+        ensures { self.new ≡ record self.old {
+          opens = [];
+          tally
+              = some_unended (length self.old.opens) self.old.tally;
+        } }
+    {
+        self.counts.count_unended(self.runs.count() as u64);
+        self.runs.clear();
+    }
+
+    fn begin(&mut self, line: LogLine) -> Result<Option<(LogLine, Ending)>, AllocError>
+        ensures state { OnOk result (self.new ≡ (behind_begin self.old line).0) }
+        ensures told { IfOk result (λ told. told ≡ (behind_begin self.old line).1) }
+    {
+        self.last = line.at;
+        self.counts.count_begun();
+        let Some(run) = self.runs.begin(line)? else {
+            return Ok(None);
+        };
+        let ending = without_end(self.last, &run);
+        self.counts.count_ended(ending);
+        Ok(Some((run, ending)))
+    }
+
     fn end(&mut self, line: LogLine) -> (LogLine, Ending)
         ensures state { self.new ≡ (behind_end self.old line).0 }
         ensures told { result ≡ (line, (ended self.old.opens line).1) }
     {
+        self.last = line.at;
         let ending = self.runs.end(&line);
         self.counts.count_ended(ending);
         (line, ending)
@@ -67,11 +111,7 @@ impl Learning {
         ensures told { IfOk result (λ told. told ≡ (behind_sign self.old line line.sign).1) }
     {
         match line.sign {
-            Sign::Begin => {
-                self.runs.begin(line)?;
-                self.counts.count_begun();
-                Ok(None)
-            }
+            Sign::Begin => self.begin(line),
             Sign::End => Ok(Some(self.end(line))),
             Sign::EndByParent => Ok(Some(self.end(line))),
         }
@@ -96,8 +136,9 @@ impl Learning {
     }
 
     /// Takes the next line of the log, without its newline. Where it tells that a run ended,
-    /// returns what it says and how long the run took. The only error is out of memory, after which
-    /// nothing is known.
+    /// returns what it says and how long the run took; where it tells of a beginning that takes the
+    /// place of another, the line of that, and that it has no end. The only error is out of memory,
+    /// after which nothing is known.
     pub fn line(
         &mut self,
         alloc: Global,

@@ -1,6 +1,7 @@
 //! How long the runs of jobs took, from the logs of cron and of this program.
 #![tactic(auto)]
 
+mod anacron;
 mod clock;
 mod drawn;
 mod duration;
@@ -17,7 +18,6 @@ mod log_line;
 mod logged_text;
 mod max;
 mod maxes;
-mod open_run;
 mod open_runs;
 mod own;
 mod reading;
@@ -41,7 +41,6 @@ pub use log::Log;
 pub use log_line::{LogLine, RunName, Sign};
 pub use logged_text::logged;
 pub use max::{Factor, LONGEST_MAX, max_for};
-pub use open_run::{Ending, OpenRun};
-pub use open_runs::OpenRuns;
+pub use open_runs::{Ending, OpenRuns};
 pub use reading::{Unread, read_logs};
 pub use tally::Tally;

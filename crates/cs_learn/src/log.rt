@@ -1,17 +1,19 @@
 //! Logs, read byte by byte.
-ghost use Rattle.std.specs.Prelude.{◌≡◌, [], List, OnOk, Some};
-ghost use Rattle.cs_learn.specs.Learning.{nothing};
+ghost use Rattle.std.specs.Prelude.{◌≡◌, ◌++◌, [], List, OnOk, Some, map};
+ghost use Rattle.cs_learn.specs.Learning.{Told, nothing, one_line};
 ghost use Rattle.cs_learn.specs.Log.{AreUnknown, IsReading, Reading, at_end, at_front, behind_byte, behind_bytes};
-ghost use Rattle.cs_learn.specs.Log.{IsTaken, behind_line_end};
+ghost use Rattle.cs_learn.specs.Log.{HaveRuns, IsTaken, behind_line_end, closed, without_ends};
 ghost use Rattle.cs_learn.specs.declared.job.Job.{Job as TheJob};
+ghost use Rattle.cs_learn.specs.declared.open_runs.Ending.{Ending as TheEnding};
+ghost use Rattle.cs_learn.specs.declared.log_line.LogLine.{LogLine as TheLine};
 
-use crate::evidence::Ran;
 use crate::job_evidence::{JobEvidence, take_run};
 use crate::learning::Learning;
-use crate::limits::MAX_LINE;
+use crate::limits::{MAX_LINE, MAX_OPEN};
 use crate::log_line::LogLine;
-use crate::open_run::Ending;
+use crate::open_runs::{Ending, OpenRuns, without_end};
 use crate::tally::Tally;
+use cs_retrace::Moment;
 use std::alloc::{AllocError, Global};
 use std::marker::Model;
 
@@ -58,14 +60,35 @@ impl Log {
         self.learning.tally()
     }
 
-    fn end_line(&mut self, alloc: Global) -> Result<(), AllocError>
+    fn take_line(&mut self, alloc: Global) -> Result<(), AllocError>
         ensures { (jobs : List TheJob) (reading : Reading) → IsReading jobs reading self.old
-            → OnOk result (IsReading jobs (behind_line_end reading) self.new) }
+            → OnOk result
+            (IsReading jobs (at_front (one_line reading.told reading.line)) self.new) }
     {
         let told = self.learning.line(alloc, self.open_line.as_slice())?;
         self.open_line.clear();
         take_told(&mut self.known, told);
         Ok(())
+    }
+
+    fn end_line(&mut self, alloc: Global) -> Result<(), AllocError>
+        ensures { (jobs : List TheJob) (reading : Reading) → IsReading jobs reading self.old
+            → OnOk result (IsReading jobs (behind_line_end reading) self.new) }
+    {
+        self.take_line(alloc)?;
+        if self.learning.opens().count() >= MAX_OPEN {
+            self.close();
+        }
+        Ok(())
+    }
+
+    /// Takes the end of all logs, which tell no end of what is open.
+    pub fn close(&mut self)
+        ensures { (jobs : List TheJob) (told : Told) → IsReading jobs (at_front told) self.old
+            → IsReading jobs (at_front (closed told)) self.new }
+    {
+        take_open(&mut self.known, self.learning.opens(), self.learning.last());
+        self.learning.close();
     }
 
     fn byte(&mut self, alloc: Global, byte: u8) -> Result<(), AllocError>
@@ -108,8 +131,21 @@ impl Log {
 fn take_ending(known: &mut Vec<JobEvidence>, line: &LogLine, ending: Ending)
     ensures { IsTaken (Some (line.now, ending)) known.old.items known.new.items }
 {
-    if let Ending::Ran(began, seconds) = ending {
-        take_run(known, line, Ran { began, seconds });
+    if let Ending::Run(run) = ending {
+        take_run(known, line, run);
+    }
+}
+
+/// Has each job take the runs that are open at a later moment.
+fn take_open(known: &mut Vec<JobEvidence>, opens: &OpenRuns, later: Moment)
+    ensures jobs { map (λ j. j.job) known.new.items ≡ map (λ j. j.job) known.old.items }
+    ensures runs { (ends : List (TheLine × TheEnding)) → HaveRuns ends known.old.items
+        → HaveRuns (ends ++ without_ends later opens.now) known.new.items }
+{
+    for place in 0..opens.count() {
+        if let Some(line) = opens.at(place) {
+            take_ending(known, line, without_end(later, line));
+        }
     }
 }
 

@@ -72,17 +72,18 @@ impl Factor {
     }
 }
 
-/// Returns the max, in minutes, for a job whose longest run took so many seconds: `None` where that
-/// is longer than [`LONGEST_MAX`].
-pub fn max_for(greatest: u64, factor: Factor) -> Option<u64>
-    ensures value { IfSome result (IsMax greatest factor) }
-    ensures none { IsNone result → (minutes : ℕ) → IsEnough greatest factor minutes
-        → 4_320 < minutes }
+/// Returns the max, in minutes, for a job whose longest run took so many seconds, with so many
+/// seconds since a start without an end: `None` where that is longer than [`LONGEST_MAX`].
+pub fn max_for(longest: u64, since: u64, factor: Factor) -> Option<u64>
+    ensures value { IfSome result (IsMax longest since factor) }
+    ensures none { IsNone result → (minutes : ℕ) → IsEnough longest since factor minutes
+        → LONGEST_MAX < minutes }
 {
-    if greatest > LONGEST_MAX * 60 {
+    let least = longest.max(since) / 60 + 1;
+    if least > LONGEST_MAX {
         return None;
     }
-    let minutes = (greatest * factor.hundredths()).div_ceil(6_000).max(1);
+    let minutes = (longest * factor.hundredths()).div_ceil(6_000).max(least);
     if minutes > LONGEST_MAX {
         return None;
     }

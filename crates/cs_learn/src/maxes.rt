@@ -1,32 +1,44 @@
 //! Declarations with the longest times that logs give.
-ghost use Rattle.std.specs.Prelude.{◌≡◌, IfOk, IfSome, IsTrue, Ok, map, option_map, position};
+ghost use Rattle.std.specs.Prelude.{◌≡◌, ◌≤◌, IfOk, IfSome, IsTrue, Ok, map, option_map, position};
 ghost use Rattle.std.specs.List.{find};
 ghost use Rattle.cs_decl.specs.Meaning.{declared_by};
 ghost use Rattle.cs_decl.specs.Join.{is_named};
 ghost use Rattle.cs_learn.specs.Maxes.{AreMaxes, HasMaxes, HaveMaxes, IsMaxOf, IsSameRest};
-ghost use Rattle.cs_learn.specs.Maxes.{allowed, greater, max_at, max_of, with_max};
+ghost use Rattle.cs_learn.specs.Maxes.{allowed, greater, jobs_of, max_at, max_of, minute_more, seconds_since, with_max};
 
-use crate::evidence::Evidence;
+use crate::anacron::with_jobs;
+use crate::evidence::{Evidence, Ran};
 use crate::job_evidence::JobEvidence;
-use crate::max::{Factor, max_for};
+use crate::max::{Factor, LONGEST_MAX, max_for};
 use crate::same::{
     are_same_groups, are_same_jobs, are_same_names, are_same_parts, is_same_default, is_same_name,
     is_same_text,
 };
 use crate::spliced::spliced;
 use cs_crontab::Line;
-use cs_decl::{CronEntry, DeclError, Declarations, Entries, LineName, read_declarations};
+use cs_decl::{
+    AnacronEntry, CronEntry, DeclError, Declarations, Entries, LineName, read_declarations,
+};
 use cs_draft::time_limit;
+use cs_history::Mode;
 use std::alloc::{AllocError, Global};
+
+/// The seconds since a start without an end, 0 where there is none.
+fn seconds_since(run: Option<Ran>) -> u64
+    ensures { result ≡ seconds_since run }
+{
+    match run {
+        Some(run) => run.seconds,
+        None => 0,
+    }
+}
 
 #[tactic(auto, using(crate::proofs::MaxLemmas::max_is, crate::proofs::MaxLemmas::no_run))]
 fn max_of_job(evidence: &Evidence, factor: Factor) -> Option<u64>
     ensures { IsMaxOf factor evidence.now result }
 {
-    match evidence.longest() {
-        Some(longest) => max_for(longest.seconds, factor),
-        None => None,
-    }
+    let since = seconds_since(evidence.longest_open());
+    max_for(evidence.longest()?.seconds, since, factor)
 }
 
 /// Returns the max of each job, in their order, in minutes: `None` where it had no run, or where
@@ -75,13 +87,7 @@ fn line_of<'l>(lines: &'l [Line], name: &LineName) -> Option<&'l Line>
 fn max_at(maxes: &[Option<u64>], place: Option<usize>) -> Option<u64>
     ensures { result ≡ max_at maxes.now place }
 {
-    match place {
-        Some(place) => match maxes.get(place) {
-            Some(max) => *max,
-            None => None,
-        },
-        None => None,
-    }
+    *maxes.get(place?)?
 }
 
 fn greater(limit: Option<u64>, max: u64) -> u64
@@ -104,22 +110,36 @@ fn allowed(lines: &[Line], name: &LineName, max: u64) -> u64
     }
 }
 
-/// The longest time of the line that an entry names: what is learned of it, but not less than
-/// timeout(1) allows.
-pub(crate) fn max_of(lines: &[Line], maxes: &[Option<u64>], name: &LineName) -> Option<u64>
-    ensures { result ≡ max_of lines.now maxes.now name.now }
+/// A minute more where a run may begin inside a minute.
+fn minute_more(mode: Mode) -> u64
+    ensures { result ≡ minute_more mode }
+{
+    if mode.waits() { 1 } else { 0 }
+}
+
+/// The longest time of the line that an entry of this mode names: what is learned of it, but not less
+/// than timeout(1) allows.
+pub(crate) fn max_of(
+    lines: &[Line],
+    maxes: &[Option<u64>],
+    mode: Mode,
+    name: &LineName,
+) -> Option<u64>
+    ensures { result ≡ max_of lines.now maxes.now mode name.now }
 {
     match max_at(maxes, place_of(lines, name)) {
-        Some(max) => Some(allowed(lines, name, max)),
+        Some(max) => Some(allowed(lines, name, max.saturating_add(minute_more(mode)))),
         None => None,
     }
 }
 
-fn new_max(old: &CronEntry, max: Option<u64>) -> i128
+/// The longest time of an entry: what is learned of its line, where it has no parts and may have
+/// that.
+pub(crate) fn new_max(old: &CronEntry, max: Option<u64>) -> i128
     ensures { result ≡ (with_max old.now max).max }
 {
     match max {
-        Some(max) if old.parts.is_empty() => i128::from(max),
+        Some(max) if old.parts.is_empty() && max <= LONGEST_MAX => i128::from(max),
         _ => old.max,
     }
 }
@@ -138,13 +158,17 @@ fn has_max(old: &CronEntry, new: &CronEntry, max: Option<u64>) -> bool
 
 fn have_maxes(lines: &[Line], maxes: &[Option<u64>], old: &[CronEntry], new: &[CronEntry]) -> bool
     ensures { IsTrue result
-        → new.now ≡ map (λ e. with_max e (max_of lines.now maxes.now e.name)) old.now }
+        → new.now ≡ map (λ e. with_max e (max_of lines.now maxes.now e.mode e.name)) old.now }
 {
     if new.len() != old.len() {
         return false;
     }
     for i in 0..old.len() {
-        if !has_max(&old[i], &new[i], max_of(lines, maxes, &old[i].name)) {
+        if !has_max(
+            &old[i],
+            &new[i],
+            max_of(lines, maxes, old[i].mode, &old[i].name),
+        ) {
             return false;
         }
     }
@@ -165,21 +189,39 @@ fn are_same_terms(old: &Entries, new: &Entries) -> bool
         && is_same_default(&old.default, &new.default)
 }
 
-/// Whether all but the entries of cron jobs is the same.
+/// Whether all but the entries of jobs is the same.
 fn is_same_rest(old: &Entries, new: &Entries) -> bool
     ensures { IsTrue result → IsSameRest old.now new.now }
 {
     are_same_terms(old, new)
         && are_same_groups(old.groups.as_slice(), new.groups.as_slice())
-        && are_same_jobs(old.anacron.as_slice(), new.anacron.as_slice())
         && are_same_names(old.left_out.as_slice(), new.left_out.as_slice())
         && is_same_text(&old.doubled, &new.doubled)
 }
 
-fn has_maxes(lines: &[Line], maxes: &[Option<u64>], old: &Entries, new: &Entries) -> bool
-    ensures { IsTrue result → HaveMaxes lines.now maxes.now old.now new.now }
+/// The entries of anacron jobs of an update, which keeps the old ones, or of a draft.
+fn jobs_of<'e>(kept: Option<&'e Declarations>, drawn: &'e Entries) -> &'e [AnacronEntry]
+    ensures { result.now ≡ jobs_of (option_map (λ d. d.now) kept.entry) drawn.now }
 {
-    have_maxes(lines, maxes, old.cron.as_slice(), new.cron.as_slice()) && is_same_rest(old, new)
+    match kept {
+        Some(old) => old.entries().anacron.as_slice(),
+        None => drawn.anacron.as_slice(),
+    }
+}
+
+fn has_maxes(
+    lines: &[Line],
+    maxes: &[Option<u64>],
+    kept: Option<&Declarations>,
+    old: &Entries,
+    new: &Entries,
+) -> bool
+    ensures { IsTrue result
+        → HaveMaxes lines.now maxes.now (option_map (λ d. d.now) kept.entry) old.now new.now }
+{
+    have_maxes(lines, maxes, old.cron.as_slice(), new.cron.as_slice())
+        && are_same_jobs(jobs_of(kept, old), new.anacron.as_slice())
+        && is_same_rest(old, new)
 }
 
 /// What bytes declare, if they do. The only error is out of memory.
@@ -193,10 +235,22 @@ fn declared(alloc: Global, bytes: &[u8]) -> Result<Option<Declarations>, AllocEr
     }
 }
 
-/// Returns the text of the declarations in the bytes with the max of its line in each entry without
-/// parts, where there is one, or the limit that timeout(1) sets its command if that is more, and what
-/// it declares. All else stays byte for byte. What was written was
-/// read back and compared.
+/// Declarations that were drawn up, and what they are once longest times are learned.
+#[derive(Drop)]
+pub struct Remaxed {
+    /// Their text.
+    pub text: Vec<u8>,
+    /// What was drawn up.
+    pub drawn: Declarations,
+    /// What the text declares.
+    pub now: Declarations,
+}
+
+/// Returns the declarations in the bytes with the max of its line in each entry without parts,
+/// where there is one, and one minute more where its runs wait for a lock; or with the limit that
+/// timeout(1) sets its command if that is more. All else stays byte for byte, but that the entries
+/// of anacron jobs are those of old declarations, which were read from their bytes, if there are
+/// some. What was written was read back and compared.
 ///
 /// The maxes are those of the lines in their order. `None` is returned where the bytes are no
 /// declarations, or what was written doesn't pass. The only error is out of memory.
@@ -205,20 +259,23 @@ pub fn with_maxes(
     alloc: Global,
     lines: &[Line],
     maxes: &[Option<u64>],
+    old: Option<&Declarations>,
+    old_bytes: &[u8],
     bytes: &[u8],
-) -> Result<Option<(Vec<u8>, Declarations)>, AllocError>
-    ensures { IfOk result
-        (λ found. IfSome found (λ p. HasMaxes lines.now maxes.now bytes.now p.0.items)) }
+) -> Result<Option<Remaxed>, AllocError>
+    ensures { IfOk result (λ found. IfSome found (λ r. HasMaxes lines.now maxes.now
+        (option_map (λ d. d.now) old.entry) bytes.now r.text.items)) }
 {
-    let Some(old) = declared(alloc, bytes)? else {
+    let Some(drawn) = declared(alloc, bytes)? else {
         return Ok(None);
     };
-    let text = spliced(alloc, lines, maxes, old.entries(), bytes)?;
-    let Some(new) = declared(alloc, text.as_slice())? else {
+    let text = spliced(alloc, lines, maxes, drawn.entries(), bytes)?;
+    let text = with_jobs(alloc, text, old_bytes)?;
+    let Some(now) = declared(alloc, text.as_slice())? else {
         return Ok(None);
     };
-    if has_maxes(lines, maxes, old.entries(), new.entries()) {
-        return Ok(Some((text, new)));
+    if has_maxes(lines, maxes, old, drawn.entries(), now.entries()) {
+        return Ok(Some(Remaxed { text, drawn, now }));
     }
     Ok(None)
 }

@@ -1,21 +1,31 @@
 //! The runs that have begun and not ended.
-ghost use Rattle.std.specs.Prelude.{◌≡◌, [], OnOk};
+ghost use Rattle.std.specs.Prelude.{◌≡◌, [], IfOk, OnOk, length, option_map, slice_get};
 ghost use Rattle.std.specs.Map.{lookup};
-ghost use Rattle.cs_learn.specs.Runs.{begun, ended, is_same_job, nearest, next_name, of_time, passed, same_name, steps, told};
+ghost use Rattle.cs_learn.specs.Runs.{begun, ended, is_same_job, nearest, next_name, of_time, passed, replaced, same_name, steps, told, without_end};
 
 use crate::duration::passed;
-use crate::limits::MAX_OPEN;
+use crate::evidence::Ran;
 use crate::log_line::{LogLine, RunName, Sign};
-use crate::open_run::{Ending, OpenRun};
 use cs_retrace::Moment;
 use indexmap::IndexMap;
 use std::alloc::{AllocError, Global};
 use std::marker::Model;
 
-/// The runs that have begun and not ended, by name: at most [`MAX_OPEN`](crate::MAX_OPEN).
+/// What the logs tell of the end of a run.
+#[derive(Clone, Copy)]
+pub enum Ending {
+    /// It was this run, which has ended, or of which no line tells the end.
+    Run(Ran),
+    /// No line tells of its beginning.
+    NoBeginning,
+    /// The clock went back, or doesn't tell how long it took.
+    Unclear,
+}
+
+/// The runs that have begun and not ended, by name, each with the line of its beginning.
 #[derive(Drop)]
 pub struct OpenRuns {
-    runs: IndexMap<RunName, OpenRun>,
+    runs: IndexMap<RunName, LogLine>,
 }
 
 impl Model for OpenRuns {
@@ -46,29 +56,44 @@ fn steps(sign: Sign) -> u64
     }
 }
 
-fn is_same_job(line: &LogLine, run: &OpenRun) -> bool
+fn is_same_job(line: &LogLine, run: &LogLine) -> bool
     ensures { result ≡ is_same_job line.now (Some run.now) }
 {
     run.user.as_slice() == line.user.as_slice() && run.command.as_slice() == line.command.as_slice()
 }
 
-fn ending(began: Moment, ended: Moment) -> Ending
+fn ending_of(began: Moment, ended: Moment) -> Ending
     ensures { result ≡ of_time began (passed began ended) }
 {
     match passed(began, ended) {
-        Some(seconds) => Ending::Ran(began, seconds),
+        Some(seconds) => Ending::Run(Ran {
+            began,
+            seconds,
+            has_ended: true,
+        }),
         None => Ending::Unclear,
     }
 }
 
 /// What an end tells of a run that is or isn't open.
-fn told(run: Option<OpenRun>, at: Moment) -> Ending
+fn told(run: Option<LogLine>, at: Moment) -> Ending
     ensures { result ≡ told run at }
 {
     match run {
-        Some(run) => ending(run.at, at),
+        Some(run) => ending_of(run.at, at),
         None => Ending::NoBeginning,
     }
+}
+
+/// What is known at a later moment of a run that began by this line, and has no end.
+pub(crate) fn without_end(later: Moment, line: &LogLine) -> Ending
+    ensures { result ≡ (without_end later line.now).1 }
+{
+    Ending::Run(Ran {
+        began: line.at,
+        seconds: passed(line.at, later).unwrap_or(u64::MAX),
+        has_ended: false,
+    })
 }
 
 impl OpenRuns {
@@ -81,23 +106,36 @@ impl OpenRuns {
         }
     }
 
-    /// Takes a line that tells of a beginning. The only error is out of memory.
-    #[tactic(auto, unfolding(crate::specs::Runs::begun))]
-    pub fn begin(&mut self, line: LogLine) -> Result<(), AllocError>
-        ensures { OnOk result (self.new ≡ begun MAX_OPEN self.old line) }
+    /// Returns how many runs are open.
+    pub fn count(&self) -> usize
+        ensures { result ≡ length self.now }
     {
-        if self.runs.len() >= MAX_OPEN {
-            self.runs.clear();
-        }
-        let LogLine {
-            at,
-            name,
-            user,
-            command,
-            ..
-        } = line;
-        self.runs.insert(name, OpenRun { at, user, command })?;
-        Ok(())
+        self.runs.len()
+    }
+
+    /// Returns the line by which the open run at that place began, in the order of their beginnings.
+    pub fn at(&self, place: usize) -> Option<&LogLine>
+        ensures { option_map (λ line. line.now) result
+            ≡ option_map (λ run. run.1) (slice_get self.now place) }
+    {
+        let (_, line) = self.runs.get_index(place)?;
+        Some(line)
+    }
+
+    /// Forgets all of them.
+    pub fn clear(&mut self)
+        ensures { self.new ≡ [] }
+    {
+        self.runs.clear();
+    }
+
+    /// Takes a line that tells of a beginning, and returns that of the run whose place it takes.
+    /// The only error is out of memory.
+    pub fn begin(&mut self, line: LogLine) -> Result<Option<LogLine>, AllocError>
+        ensures opens { OnOk result (self.new ≡ begun self.old line) }
+        ensures place { IfOk result (λ run. run ≡ replaced self.old line) }
+    {
+        Ok(self.runs.insert(line.name, line)?)
     }
 
     fn is_of(&self, name: RunName, line: &LogLine) -> bool

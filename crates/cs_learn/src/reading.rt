@@ -54,8 +54,9 @@ pub struct Unread<'a> {
 }
 
 /// Reads all of the logs at these paths one after the other, in memory that doesn't grow with their
-/// length: a run may begin in one and end in a later one. A log without end after
-/// [`MOST_READS`](cs_io::MOST_READS) reads can't be read. After an error nothing is known of the jobs.
+/// length: a run may begin in one and end in a later one, and one that is open behind all of them
+/// has no end. A log without end after [`MOST_READS`](cs_io::MOST_READS) reads can't be read. After
+/// an error nothing is known of the jobs.
 pub fn read_logs<'a, I: Inputs>(
     alloc: Global,
     inputs: &mut I,
@@ -85,7 +86,10 @@ pub fn read_logs<'a, I: Inputs>(
         (I.reads inputs.old) (I.reads inputs.new) }
 {
     match paths.split_first() {
-        None => Ok(()),
+        None => {
+            log.close();
+            Ok(())
+        }
         Some((path, later)) => match read_log(alloc, inputs, *path, log) {
             Ok(()) => read_logs(alloc, inputs, later, log),
             Err(fault) => Err(Unread { path: *path, fault }),

@@ -1,8 +1,7 @@
 //! The text of declarations, in which some numbers are others.
-use crate::maxes::max_of;
-use cs_civil::push_number;
+use crate::maxes::{max_of, new_max};
 use cs_crontab::Line;
-use cs_decl::{CronEntry, Entries};
+use cs_decl::Entries;
 use cs_diagnostics::{Object, Span, parsed, parts, trimmed};
 use serde_json::Value;
 use std::alloc::{AllocError, Global};
@@ -61,16 +60,8 @@ fn spans_of_maxes(alloc: Global, bytes: &[u8]) -> Result<Vec<Option<Span>>, Allo
     }
 }
 
-/// The longest time that an entry is to have, if it has no parts and its line has one.
-fn learned_max(lines: &[Line], maxes: &[Option<u64>], entry: &CronEntry) -> Option<u64> {
-    if !entry.parts.is_empty() {
-        return None;
-    }
-    max_of(lines, maxes, &entry.name)
-}
-
-/// The text, in which the longest time of each entry without parts is that of its line, where there
-/// is one. The only error is out of memory.
+/// The text, in which the longest time of each entry is the one that it is to have. The only error
+/// is out of memory.
 pub(crate) fn spliced(
     alloc: Global,
     lines: &[Line],
@@ -82,9 +73,10 @@ pub(crate) fn spliced(
     let mut copied = 0usize;
     let spans = spans_of_maxes(alloc, bytes)?;
     for (entry, span) in entries.cron.as_slice().iter().zip(spans.iter()) {
-        if let (Some(span), Some(max)) = (span, learned_max(lines, maxes, entry)) {
+        if let Some(span) = span {
+            let max = new_max(entry, max_of(lines, maxes, entry.mode, &entry.name));
             text.extend_from_slice(Span::between(copied, span.from).bytes(bytes))?;
-            push_number(alloc, &mut text, u128::from(max))?;
+            text.extend_from_slice(format!(in alloc; "{max}")?.as_bytes())?;
             copied = span.to;
         }
     }

@@ -4,7 +4,8 @@ use crate::evidence::{Evidence, Ran};
 use crate::job_evidence::JobEvidence;
 use crate::limits::FEW_RUNS;
 use crate::log::Log;
-use crate::maxes::is_named;
+use crate::max::LONGEST_MAX;
+use crate::maxes::{Remaxed, is_named};
 use crate::tally::Tally;
 use cs_civil::push_number;
 use cs_crontab::{Line, When};
@@ -14,6 +15,8 @@ use cs_gather::{Place, place_of, push_place_text};
 use std::alloc::{AllocError, Global};
 
 const LOST: &[u8] = b"note: ends left out, since no line tells of the start: ";
+
+const UNENDED: &[u8] = b"note: starts of which no line tells the end: ";
 
 const UNCLEAR: &[u8] =
     b"note: ends left out, since the clock went back or the log doesn't tell the year: ";
@@ -76,13 +79,30 @@ fn entry_of<'e>(entries: &'e [CronEntry], line: &Line) -> Option<&'e CronEntry> 
     None
 }
 
-/// What is declared of it.
-fn push_declared(alloc: Global, text: &mut Vec<u8>, entry: Option<&CronEntry>) -> Done {
+/// ` in place of 60 min`, where an old max is lowered.
+fn push_lowered(alloc: Global, text: &mut Vec<u8>, old: Option<&CronEntry>, max: i128) -> Done {
+    match old {
+        Some(old) if max < old.max => {
+            let old = old.max;
+            text.extend_from_slice(format!(in alloc; " in place of {old} min")?.as_bytes())
+        }
+        _ => Ok(()),
+    }
+}
+
+/// What is declared of it, and what was.
+fn push_declared(
+    alloc: Global,
+    text: &mut Vec<u8>,
+    entry: Option<&CronEntry>,
+    old: Option<&CronEntry>,
+) -> Done {
     let Some(entry) = entry else {
         return text.extend_from_slice(b", no entry");
     };
     let max = entry.max;
     text.extend_from_slice(format!(in alloc; ", max {max} min")?.as_bytes())?;
+    push_lowered(alloc, text, old, max)?;
     if entry.parts.is_empty() {
         return Ok(());
     }
@@ -96,7 +116,8 @@ fn push_row(
     places: &[Place],
     line: &Line,
     evidence: &Evidence,
-    entries: &[CronEntry],
+    entry: Option<&CronEntry>,
+    old: Option<&CronEntry>,
 ) -> Done {
     push_line(alloc, text, places, line.number())?;
     match evidence.longest() {
@@ -107,7 +128,7 @@ fn push_row(
         }
         None => text.extend_from_slice(b": no runs")?,
     }
-    push_declared(alloc, text, entry_of(entries, line))?;
+    push_declared(alloc, text, entry, old)?;
     text.extend_from_slice(b"\n")
 }
 
@@ -143,19 +164,42 @@ fn push_overrun(alloc: Global, text: &mut Vec<u8>, line: &Line, evidence: &Evide
     text.extend_from_slice(b" that may lie between its due minutes\n")
 }
 
-/// Tells that the longest run is too long for a max.
-fn push_too_long(
-    alloc: Global,
-    text: &mut Vec<u8>,
-    line: &Line,
-    evidence: &Evidence,
-    max: Option<u64>,
-) -> Done {
-    if max.is_some() || evidence.count() == 0 {
+/// Tells of starts without an end.
+fn push_unended(alloc: Global, text: &mut Vec<u8>, line: &Line, evidence: &Evidence) -> Done {
+    let Some(start) = evidence.longest_open() else {
         return Ok(());
-    }
+    };
+    let count = evidence.unended();
+    let starts: &[u8] = match count {
+        1 => b" start without an end, that of ",
+        _ => b" starts without an end, such as that of ",
+    };
     push_note(alloc, text, line)?;
-    text.extend_from_slice(b"its longest run makes more than 4320 min, so its max isn't learned\n")
+    push_count(alloc, text, b"", count, starts)?;
+    push_moment(text, start.began)?;
+    text.extend_from_slice(b"\n")
+}
+
+/// Whether runs of the line have ended, and its entry doesn't have the max that they make.
+fn is_too_long(evidence: &Evidence, max: Option<u64>, entry: Option<&CronEntry>) -> bool {
+    match (max, entry) {
+        (None, _) => evidence.count() > 0,
+        (Some(max), Some(entry)) => entry.parts.is_empty() && entry.max < i128::from(max),
+        _ => false,
+    }
+}
+
+/// Tells that a run is too long for a max.
+fn push_too_long(alloc: Global, text: &mut Vec<u8>, line: &Line, evidence: &Evidence) -> Done {
+    let what: &[u8] = match evidence.longest_open() {
+        Some(start) if start.seconds / 60 >= LONGEST_MAX => {
+            b"the time since a start without an end may be"
+        }
+        _ => b"its longest run makes",
+    };
+    push_note(alloc, text, line)?;
+    text.extend_from_slice(what)?;
+    text.extend_from_slice(b" more than 4320 min, so its max isn't learned\n")
 }
 
 /// Tells that two lines have one command.
@@ -208,6 +252,9 @@ fn push_left_out(alloc: Global, text: &mut Vec<u8>, told: &[u8], count: u64) -> 
 /// Tells what the lines of the logs don't tell.
 fn push_tally(alloc: Global, text: &mut Vec<u8>, tally: Tally) -> Done {
     push_untold(text, tally)?;
+    if !tally.has_no_ends() {
+        push_left_out(alloc, text, UNENDED, tally.unended)?;
+    }
     push_left_out(alloc, text, LOST, tally.no_beginning)?;
     push_left_out(alloc, text, UNCLEAR, tally.unclear)?;
     push_left_out(alloc, text, TOO_LONG, tally.too_long)
@@ -218,21 +265,29 @@ fn push_notes(
     alloc: Global,
     text: &mut Vec<u8>,
     lines: &[Line],
-    jobs: &[JobEvidence],
+    log: &Log,
     maxes: &[Option<u64>],
+    entries: &[CronEntry],
 ) -> Done {
+    let jobs = log.jobs();
     for (place, line) in lines.iter().enumerate() {
         if let (Some(known), Some(max)) = (jobs.get(place), maxes.get(place)) {
-            push_too_long(alloc, text, line, &known.evidence, *max)?;
-            push_overrun(alloc, text, line, &known.evidence)?;
+            let evidence = &known.evidence;
+            if !log.tally().has_no_ends() {
+                push_unended(alloc, text, line, evidence)?;
+            }
+            if is_too_long(evidence, *max, entry_of(entries, line)) {
+                push_too_long(alloc, text, line, evidence)?;
+            }
+            push_overrun(alloc, text, line, evidence)?;
             push_alike(alloc, text, lines, jobs, place)?;
         }
     }
     Ok(())
 }
 
-/// Adds what is told of the lines of a crontab, whose logs were read, and of which the entries
-/// declare what they do now: a line each, and then the notes. The only error is out of memory.
+/// Adds what is told of the lines of a crontab, whose logs were read, and of which this is
+/// declared: a line each, and then the notes. The only error is out of memory.
 pub fn push_summary(
     alloc: Global,
     text: &mut Vec<u8>,
@@ -240,12 +295,17 @@ pub fn push_summary(
     places: &[Place],
     log: &Log,
     maxes: &[Option<u64>],
-    entries: &[CronEntry],
+    found: &Remaxed,
+    is_new: bool,
 ) -> Done {
     let jobs = log.jobs();
+    let entries = found.now.entries().cron.as_slice();
+    let drawn = found.drawn.entries().cron.as_slice();
+    let old: &[CronEntry] = if is_new { &[] } else { drawn };
     for (line, known) in lines.iter().zip(jobs.iter()) {
-        push_row(alloc, text, places, line, &known.evidence, entries)?;
+        let (entry, old) = (entry_of(entries, line), entry_of(old, line));
+        push_row(alloc, text, places, line, &known.evidence, entry, old)?;
     }
-    push_notes(alloc, text, lines, jobs, maxes)?;
+    push_notes(alloc, text, lines, log, maxes, entries)?;
     push_tally(alloc, text, log.tally())
 }

@@ -1,7 +1,7 @@
 ghost use Rattle.std.specs.Prelude.{◌≡◌};
-ghost use Rattle.cs_learn.specs.Learning.{has_no_ends, one_begun, one_ended, one_other, one_too_long};
+ghost use Rattle.cs_learn.specs.Learning.{has_no_ends, one_begun, one_ended, one_other, one_too_long, some_unended};
 
-use crate::open_run::Ending;
+use crate::open_runs::Ending;
 
 /// How many lines of a log told what. No count goes past `u64::MAX`.
 #[derive(Clone, Copy)]
@@ -10,6 +10,8 @@ pub struct Tally {
     pub begun: u64,
     /// That a run ended whose beginning another line told.
     pub runs: u64,
+    /// That a run began whose end no line told.
+    pub unended: u64,
     /// That a run ended whose beginning no line told.
     pub no_beginning: u64,
     /// That a run ended, by a clock that went back or doesn't tell how long it took.
@@ -47,11 +49,21 @@ impl Tally {
         self.begun = self.begun.saturating_add(1);
     }
 
+    pub(crate) fn count_unended(&mut self, some: u64)
+        ensures { self.new ≡ some_unended some self.old }
+    {
+        self.unended = self.unended.saturating_add(some);
+    }
+
     pub(crate) fn count_ended(&mut self, ending: Ending)
         ensures { self.new ≡ one_ended ending self.old }
     {
         match ending {
-            Ending::Ran(_, _) => self.runs = self.runs.saturating_add(1),
+            Ending::Run(run) => if run.has_ended {
+                self.runs = self.runs.saturating_add(1);
+            } else {
+                self.count_unended(1);
+            },
             Ending::NoBeginning => self.no_beginning = self.no_beginning.saturating_add(1),
             Ending::Unclear => self.unclear = self.unclear.saturating_add(1),
         }

@@ -1,7 +1,10 @@
 use Rattle.std.proofs.Common.{ℕ, List}
-use Rattle.cs_learn.specs.Log.{IsReading, at_front, with_log}
-use Rattle.cs_learn.proofs.LogLemmas.{at_front_text, first_turn, named_later, told_later}
+use Rattle.cs_learn.specs.Log.{IsReading, at_front, closed, with_log}
+use Rattle.cs_learn.proofs.LogLemmas.{at_front_text, first_turn, named_later, no_log, told_later}
 use Rattle.cs_learn.proofs.reading.+read_logs.Goals as goal
+
+pub returns-in-None-clause-told : goal.returns-in-None-clause-told
+returns-in-None-clause-told g t c = λ fresh jobs told reads. (closed told, no_log (g.I.Inputs.whole c.args.inputs.now) c.args.paths.now told c.in-None.ensures.cases, c.close.ensures jobs told reads)
 
 pub returns-in-Ok-clause-told : goal.returns-in-Ok-clause-told
 returns-in-Ok-clause-told g t c = λ fresh jobs told reads.

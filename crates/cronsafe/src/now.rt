@@ -69,10 +69,11 @@ fn zone_path<R: Env + AllocGlobal>(rt: &R, name: &str) -> Option<String> {
     Some(path)
 }
 
-/// The offset of the time zone of a file (TZif, RFC 9636), if there is such a file.
+/// The offset of the time zone of a file (TZif, RFC 9636), if there is such a file. Of no bytes are
+/// files of the kernel too, a read of which may never end.
 fn file_offset<R: Files + AllocGlobal>(rt: &R, path: &str, at: Timestamp) -> Option<i16> {
     let found = fs::metadata(rt, path).ok()?;
-    if !found.is_file() || found.len() > MAX_TABLE as u64 {
+    if !found.is_file() || found.len() == 0 || found.len() > MAX_TABLE as u64 {
         return None;
     }
     let bytes = fs::read(rt, path).ok()?;

@@ -16,7 +16,8 @@ const MAX_EVENTS: usize = 400_000;
 pub(crate) enum Ending {
     /// Something is broken.
     Broken,
-    /// Its next event is refused, or comes when a run is over its declared time, or it would be too long, or take too many looks.
+    /// Its next event is refused, or comes when a run is over its declared time, or it would be too
+    /// long, or no looks are left.
     Stuck,
     /// Memory ran out.
     OutOfMemory,
@@ -89,8 +90,8 @@ impl Play {
         self.core().test(&event).is_ok()
     }
 
-    /// Takes an event, unless the story ends before it; it ends with it if something is broken. That takes a look at the event,
-    /// and at each run.
+    /// Takes an event, unless the story ends before it; it ends with it if something is broken. That
+    /// costs a look at the event, and at each run.
     pub(crate) fn take(&mut self, event: Event) -> Result<(), Ending> {
         let number = self.events.len();
         let runs = self.core().running().len() as u64 + self.core().waiting().len() as u64;

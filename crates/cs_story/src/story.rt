@@ -86,7 +86,8 @@ fn script_from(
     }
 }
 
-/// The script of an aim, if one was found. Who puts off a run that waits is seen by a look at each minute of a day.
+/// The script of an aim, if one was found. Each run that others put off costs a look for each minute
+/// of a day.
 fn script_of(
     alloc: Global,
     plan: &Plan,
@@ -115,7 +116,7 @@ fn script_of(
 
 /// A script in which the plan is broken although each run ends within its declared time, where these windows break a rule. What
 /// it breaks first may be something else. It starts at 1970-01-04 00:00 or later. `None` if none of at most 400,000 events was
-/// found by so many looks, of which those that are left are handed back. The only error is want of memory.
+/// found with so many looks; `looks` are those left, before and after. The only error is want of memory.
 pub fn tell(
     alloc: Global,
     plan: &Plan,

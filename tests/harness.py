@@ -22,6 +22,11 @@ os.environ["TZ"] = "UTC"
 
 TOP = Path(__file__).resolve().parent.parent
 PROGRAM = TOP / "crates/cronsafe/out/cronsafe"
+# What is told of a plan that decides nothing.
+NO_CONFLICT = (
+    b"note: no two jobs can conflict, unless one still runs when it starts again: no exclusive group "
+    b"has two jobs, no job has mode skip, and all together fit into the capacity\n"
+)
 NAME = os.path.relpath(os.path.realpath(sys.argv[0]), TOP)
 
 

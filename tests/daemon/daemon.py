@@ -1,6 +1,7 @@
 """The built program as a process, over the files of one test."""
 import json
 import os
+import re
 import signal
 import subprocess
 import time
@@ -39,6 +40,11 @@ def stamp_text(minute):
     return time.strftime("%Y%m%d\n", time.gmtime(60 * minute))
 
 
+def without_note(text):
+    """Returns what a call says, without that the plan decides nothing, as most of these plans do."""
+    return re.sub(r"(?m)^note: no two jobs can conflict, .*\n", "", text)
+
+
 def runs(*names):
     """Returns the lines of runs that exit with status 0."""
     return [line for it in names for line in (f"started {it}", f"ended {it} status 0")]
@@ -61,13 +67,14 @@ class Room:
     def read(self, name):
         """Returns the text of a file, '' where there is none, or of each file of a folder.
 
-        The state that a daemon keeps among its stamps is left out.
+        The state that a daemon keeps among its stamps is left out, and so is what `without_note`
+        leaves out.
         """
         path = self.folder / name
         if path.is_dir():
             inside = (it for it in path.iterdir() if not it.name.startswith("cronsafe state"))
             return {it.name: self.read(it) for it in inside}
-        return path.read_text("utf-8", "replace") if path.is_file() else ""
+        return without_note(path.read_text("utf-8", "replace")) if path.is_file() else ""
 
     def holds(self, lines=None, **texts):
         """Holds files, the folder of stamps, and what was printed against texts and lines.
@@ -91,7 +98,7 @@ class Room:
     def ask(self, *words):
         """Returns the same of a call that has no tables."""
         status, *sides = called(self.program, words, self.folder, seconds=SECONDS)
-        return status, *(it.decode("utf-8", "replace") for it in sides)
+        return status, *(without_note(it.decode("utf-8", "replace")) for it in sides)
 
     def reload(self):
         """Returns the same of `reload`, without that it waits where the daemon is slow."""

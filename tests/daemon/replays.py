@@ -11,7 +11,7 @@ from functools import partial
 
 from harness import wanted
 
-from tests import MINUTE, UNTIL, declared, digest_line, minute_of, moments_and_texts
+from tests import MINUTE, UNTIL, declared, digest_line, job_lines, minute_of, moments_and_texts
 
 JOB = "7 0 a true\n"
 # so many minutes the clock of a plan is ahead of UTC, or behind it
@@ -178,6 +178,9 @@ OLD_ANSWERS = """\
 down 2024-03-10 00:13, pending 0, waiting 0, running 0
 safe so far
 """
+NEW_TABLE = "# new\n14 0 * * * exit 1\n"
+# what `learn` says of the second plan's run, by the first plan's table
+OTHER = "note: line 2: 1 run left out, since the log lists another command for it, or none"
 NEW_LOG = """\
 running crontab with declarations and certificate and anacrontab, stamps in stamps, capacity 2
 started line 2 due 2024-03-10 00:14
@@ -215,8 +218,8 @@ def wait_for_logged(room, *texts):
         room.wait_for(f"'{text}' in the log", lambda text=text: text in room.read("log"))
 
 
-def look_at_log(log, digest, right):
-    """Holds a log against its lines, whose order isn't promised.
+def look_at_log(log, digest, table, right):
+    """Holds the log of a daemon of this table against its lines, whose order isn't promised.
 
     A stamp that can't be written is told each second. How long a run took isn't looked at.
     """
@@ -224,7 +227,8 @@ def look_at_log(log, digest, right):
     texts = [re.sub(r" after \d+ s$", "", it) for it in texts]
     often = "stamp not written a"
     texts = [it for it in texts if it != often] + [often] * (often in texts)
-    wanted("log", "\n".join(sorted([*right.splitlines(), digest])), "\n".join(sorted(texts)))
+    right = [*right.splitlines(), digest, *job_lines(table)]
+    wanted("log", "\n".join(sorted(right)), "\n".join(sorted(texts)))
 
 
 def look_at_replay(room, names, script, answers):
@@ -283,7 +287,7 @@ def replayed_log(room):
     at("2024-03-10 02:15")
     room.write("twelve", "")
     room.ends(0)
-    look_at_log(room.read("log"), digest, LOG)
+    look_at_log(room.read("log"), digest, TABLE, LOG)
     wanted("stamp", "20240310\n", room.read("stamps")["a"])
     look_at_replay(room, ("crontab", "log", "declarations"), SCRIPT, ANSWERS)
 
@@ -318,7 +322,7 @@ def replayed_logs_of_two_plans(room):
     until("started line 1", "waiting line 2")
     for name in ("crontab", "declarations"):
         room.write(f"old {name}", room.read(name))
-    room.take(declared(2, [2], ["a"], offset=BEHIND), "# new\n14 0 * * * exit 1\n", JOB)
+    room.take(declared(2, [2], ["a"], offset=BEHIND), NEW_TABLE, JOB)
     wanted("reload", (0, "", ""), room.reload())
     at("2024-03-10 00:13")
     room.write("one", "")
@@ -330,11 +334,16 @@ def replayed_logs_of_two_plans(room):
     room.holds(printed="", said="cronsafe: the clock went back, or is before 1970-01-04\n")
     log = room.read("log")
     front = log[: log.rindex("\n", 0, log.rindex(" running ")) + 1]
-    look_at_log(front, digest, OLD_LOG)
-    look_at_log(log.removeprefix(front), digest_line(room), NEW_LOG)
+    look_at_log(front, digest, OLD_TABLE, OLD_LOG)
+    look_at_log(log.removeprefix(front), digest_line(room), NEW_TABLE, NEW_LOG)
     room.write("front", front)
     look_at_replay(room, ("old crontab", "front", "old declarations"), OLD_SCRIPT, OLD_ANSWERS)
     look_at_replay(room, ("crontab", "log", "declarations"), NEW_SCRIPT, NEW_ANSWERS)
+    for table, line, other in (("old crontab", 1, [OTHER]), ("crontab", 2, [])):
+        status, _, told = room.ask("learn", table, "log")
+        wanted("status of learn", 0, status)
+        wanted("the run of the table", True, f"line {line}: 1 run (fewer than 10)" in told)
+        wanted("other runs", other, [it for it in told.splitlines() if "left out" in it])
 
 
 TESTS = [replayed_log, replayed_logs_of_two_plans]

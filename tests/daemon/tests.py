@@ -80,6 +80,12 @@ def digest_line(room):
     return f"certificate sha256 {digest}"
 
 
+def job_lines(table):
+    """Returns the lines of a log that list the commands of a crontab."""
+    lines = [(at, it.split(None, 5)) for at, it in enumerate(table.splitlines(), 1)]
+    return [f"job line {at}: {words[5]}" for at, words in lines if len(words) == 6]
+
+
 def take_job(room, command="echo x >>ran", **terms):
     """Takes a job of an anacrontab; returns the minute that it is, and the job's run in it."""
     room.take(declared(1, [], ["a"], a=terms), "", f"7 0 a {command}\n")
@@ -343,7 +349,7 @@ def refused_reload(room):
     _, texts = moments_and_texts(room.read("log").splitlines())
     asked = ["asked to reload", "reload refused, the old plan goes on", refusal.strip()]
     others = [it for it in texts[2:] if not it.startswith(("started ", "ended ", "overrun "))]
-    wanted("log", [*asked, "asked to stop", "stopped"], others)
+    wanted("log", [*job_lines(table), *asked, "asked to stop", "stopped"], others)
 
 
 def late_answer(room):
@@ -847,16 +853,18 @@ def states_that_cant_be_read(room):
 
 
 def shown_name(room):
-    """An identifier that would make a line and colours of its own.
+    """An identifier that would make a line and colours of its own, and such a command.
 
-    For a log with times that a name can forge or that a terminal obeys.
+    For a log with times that a text can forge or that a terminal obeys.
     """
     name = "a\x1b[31m\rb"
-    room.take(declared(1, [], [name]), "", f"7 0 {name} true\n")
+    table = "0 0 1 1 * printf 'a\\tb'\t|\x1b[31m cat\n"
+    room.take(declared(2, [1], [name]), table, f"7 0 {name} true\n")
     early_minute()
     room.run(*ONCE, "--log", "log", seconds=SOON)
     _, texts = moments_and_texts(room.read("log").split("\n")[:-1])
-    wanted("the name", "started job a\\x1b[31m\\x0db at", texts[2][: texts[2].index(" at") + 3])
+    wanted("the command", "job line 1: printf 'a\\x5ctb'\\x09|\\x1b[31m cat", texts[2])
+    wanted("the name", "started job a\\x1b[31m\\x0db at", texts[3][: texts[3].index(" at") + 3])
 
 
 def signal_in_a_log(room):

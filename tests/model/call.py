@@ -9,11 +9,11 @@ import re
 from collections import namedtuple
 from itertools import chain, takewhile
 
-from model import calendar, certificate, crontab, rules, run_parts, script
+from model import calendar, certificate, crontab, rules, script
 from model.anacrontab import NONE, read_anacrontab
 from model.calendar import DAY
 from model.day import day_answer
-from model.declarations import GREATEST_MAX, plain_plan, read_declared, read_plan
+from model.declarations import GREATEST_MAX, lines_named, plain_plan, read_declared, read_plan
 from model.faults import Fault
 from model.gather import gathered, shown, system_source, table_of, user_source
 from model.overload import overload_notes
@@ -187,6 +187,11 @@ STALE_NOTE = (
     b"note: the tables or declarations may have changed since the certificate was made: "
     b"cronsafe make TABLE DECLS makes a new one\n"
 )
+# Beside a plan that decides nothing.
+NOTHING_NOTE = (
+    b"note: no two jobs can conflict, unless one still runs when it starts again: no exclusive group "
+    b"has two jobs, no job has mode skip, and all together fit into the capacity\n"
+)
 
 
 def warnings_of_settings(table, of):
@@ -210,7 +215,7 @@ def warnings_of(table, jobs):
 
 def notes_of(plan):
     """Returns what is told of a plan that is judged: what its declarations have twice, what it leaves
-    out, and what has the default.
+    out, what has the default, what is a guess, and that hardly anything is decided.
     """
     told = []
     if plan.doubled is not None:
@@ -225,18 +230,33 @@ def notes_of(plan):
         told.append(b"note: 1 job without an entry has the default\n")
     elif plan.defaulted:
         told.append(b"note: %d jobs without an entry have the default\n" % plan.defaulted)
-    return b"".join(told)
+    if plan.guessed == 1:
+        told.append(b"note: 1 longest time is a draft's guess\n")
+    elif plan.guessed:
+        told.append(b"note: %d longest times are a draft's guess\n" % plan.guessed)
+    return b"".join(told) + (NOTHING_NOTE if decides_nothing(plan) else b"")
+
+
+def decides_nothing(plan):
+    """Returns whether no exclusive group has two jobs, no job has mode skip, and all fit together."""
+    groups = [it.group for it in plan.jobs if it.group is not None]
+    exclusive = [it for it in groups if plan.groups[it].exclusive]
+    has_skip = any(it.is_never_skipped for it in plan.jobs)
+    are_apart = len(exclusive) == len(set(exclusive))
+    return are_apart and not has_skip and sum(it.weight for it in plan.jobs) <= plan.capacity
 
 
 def places_of(text, table):
-    """Returns the place and the user of each line of a gathered table, by its number."""
+    """Returns the place, the user and the names of the parts of each line of a gathered table, by its
+    number.
+    """
     if all(it.name != b"CRONSAFE_TABLE" for it in table.settings):
         return {}
     places, lines = {}, text.split(b"\n")
     for at, line in enumerate(lines, 1):
         if found := PLACE.fullmatch(line):
-            parts = takewhile(PART.fullmatch, lines[at:])
-            places[at + 1 + len(list(parts))] = found.groups()
+            parts = [it[8:] for it in takewhile(PART.fullmatch, lines[at:])]
+            places[at + 1 + len(parts)] = *found.groups(), parts
     return places
 
 
@@ -245,7 +265,7 @@ def notes_of_lines(named, text, table, head):
     places, numbers = places_of(text, table), {int(it) for it in NAMED.findall(named)}
     told = head + b"line %d is %s (%s): %s\n"
     placed = [it for it in table.commands if it.line in numbers & places.keys()]
-    return b"".join(told % (it.line, *places[it.line], shown(it.text)) for it in placed)
+    return b"".join(told % (it.line, *places[it.line][:2], shown(it.text)) for it in placed)
 
 
 def notes_of_refusal(verdict, text, plan):
@@ -254,20 +274,6 @@ def notes_of_refusal(verdict, text, plan):
     """
     places = notes_of_lines(verdict, text, crontab.read_crontab(text), b"note: ")
     return places + taker_notes(verdict, plan) + (STALE_NOTE if verdict.startswith(STALE) else b"")
-
-
-def told_of_parts(table, path, root):
-    """Yields what is told of the parts of a table's commands where no folder is below a root."""
-    for it in table.commands:
-        of = b"the command on line %d of %s" % (it.line, path)
-        try:
-            found = run_parts.run_parts(it.text)
-        except run_parts.Unread as why:
-            yield b"warning: the parts of %s aren't known: %s\n" % (of, why.args[0])
-            continue
-        if found is not None:
-            folder = root + shown(found[0])
-            yield b"note: there are no parts of %s: there is no folder %s\n" % (of, folder)
 
 
 class Call:
@@ -305,6 +311,18 @@ class Call:
     def read_plan(self, found):
         tables = self.read_tables(found)
         return read_plan(self.bytes_of(found["DECLS"]), *tables)
+
+    def read_placed_plan(self, found):
+        """Reads a plan of which entries have the parts that a gathered table tells."""
+        plan, text = self.read_plan(found), self.bytes_of(found["TABLE"])
+        table, entries = crontab.read_crontab(text), read_declared(self.bytes_of(found["DECLS"])).cron
+        places = places_of(text, table)
+        for at, entry in enumerate(entries, 1):
+            [line] = lines_named(entry.job, table)
+            told, parts = places.get(line, (b"", b"", []))[2], [it.name for it in entry.parts]
+            if told and parts and sorted(told) != sorted(it.encode() for it in parts):
+                raise Fault("declarations", "OtherParts", b"cron %d" % at)
+        return plan
 
     def look_at_max(self, longest):
         if not 1 <= longest <= GREATEST_MAX:
@@ -354,20 +372,19 @@ class Call:
             raise NoCall
         if "root" in found:
             self.look_at_root(found["root"])
+            return 1, b""
         system = (system_source(it, self.bytes_of(it)) for it in found.get("SYSTEM", []))
         users = (user_source(it, self.bytes_of(it)) for it in found.get("USER", []))
-        return 0, gathered(self.warned_of(chain(system, users), found.get("root")))
+        return 0, gathered(self.warned_of(chain(system, users)))
 
-    def warned_of(self, sources, root):
-        """Yields the sources, and warns of each: of the parts of its commands, and once it has been
-        gathered, of settings, and of users where there are none.
+    def warned_of(self, sources):
+        """Yields the sources, and warns of each, once it has been gathered, of settings, and of users
+        where there are none.
         """
         told = b"warning: the command on line %d of %s begins with %s, as in a system table: "
         none = b"warning: the user on line %d of %s is %s, as a command in a user's table: "
         for it in sources:
             path = shown(it.path)
-            if root is not None:
-                self.warned += b"".join(self.told_of_source(it, root))
             yield it
             table = table_of(it)
             self.warned += warnings_of_settings(table, path)
@@ -378,13 +395,6 @@ class Call:
                 for line, user in users_in(table)[:1]:
                     self.warned += told % (line, path, shown(user)) + b"see --system\n"
 
-    def told_of_source(self, source, root):
-        """Returns what is told of the parts of a table's commands; of one with a fault nothing."""
-        try:
-            return told_of_parts(table_of(source), shown(source.path), root)
-        except Fault:
-            return []
-
     def draft(self, found):
         self.look_at_max(found.get("max", 60))
         self.read_tables(found)
@@ -394,15 +404,22 @@ class Call:
         return 0, None
 
     def judge(self, found):
+        plan = self.read_placed_plan(found)
+        self.warned += notes_of(plan)
+        return None, None
+
+    make = judge
+
+    def advise(self, found):
         plan = self.read_plan(found)
         self.warned += notes_of(plan)
         return None, None
 
-    make = advise = room = judge
+    room = advise
 
     def check(self, found):
         """Notes are told beside a verdict alone, so not before a fault of the certificate."""
-        plan, text = self.read_plan(found), self.bytes_of(found["CERT"])
+        plan, text = self.read_placed_plan(found), self.bytes_of(found["CERT"])
         said = certificate.read(text) if self.is_judged else None
         self.warned += notes_of(plan)
         if said is None:

@@ -22,18 +22,22 @@ Declared = namedtuple(
 )
 Group = namedtuple("Group", "name exclusive")
 Default = namedtuple("Default", "max weight")
-# How a line of the crontab is named: by its number, by its command, or by both.
-LineName = namedtuple("LineName", "number command")
+# How a line of the crontab is named: by its number, by its command, or by both, and perhaps by its
+# schedule, a list of one as a command has it.
+LineName = namedtuple("LineName", "number command when")
 # `job` is the name of a line; of an anacron entry an identifier, and `mode` is whether it has one.
-# `parts` are what a command runs, if that is known; no anacron entry has any.
-Entry = namedtuple("Entry", "job max weight group mode parts", defaults=[()])
+# `guess` is whether max is a draft's guess. `parts` are what a command runs, if that is known; no
+# anacron entry has any.
+Entry = namedtuple("Entry", "job max weight group guess mode parts", defaults=[()])
 Part = namedtuple("Part", "name max")
 # Tables without the lines that are left out, whose numbers rise; the jobs of a plan, of which so
-# many have the default, are those of the crontab first; a member that an object has twice.
+# many have the default, are those of the crontab first; a member that an object has twice; how many
+# entries are a guess.
 Plan = namedtuple(
     "Plan",
-    "crontab anacrontab jobs groups capacity hours pass_minute offset left_out defaulted doubled",
-    defaults=[[], 0, None],
+    "crontab anacrontab jobs groups capacity hours pass_minute offset left_out defaulted doubled"
+    " guessed",
+    defaults=[[], 0, None, 0],
 )
 
 
@@ -72,6 +76,18 @@ mode = such_that(lambda value: isinstance(value, str) and value in MODES)
 offset = such_that(lambda value: -GREATEST_OFFSET <= whole(value) <= GREATEST_OFFSET)
 
 
+def when(value):
+    """Reads a schedule as a crontab has it in front of a command."""
+    line = text(value).encode() + b" x"
+    try:
+        commands = read_crontab(line).commands
+    except Fault:
+        raise OtherShape from None
+    if b"\n" in line or [it.text for it in commands] != [b"x"]:
+        raise OtherShape
+    return [commands[0].schedule]
+
+
 def hours(value):
     return tuple(numbers_of(value, 2))
 
@@ -85,8 +101,8 @@ def list_of(read):
 REQUIRED = object()
 GROUP = {"name": (text, REQUIRED), "exclusive": (boolean, REQUIRED)}
 DEFAULT = {"max": (whole, REQUIRED), "weight": (whole, 1)}
-LINE = {"line": (whole, None), "command": (text, None)}
-COMMON = {**DEFAULT, "group": (text, None)}
+LINE = {"line": (whole, None), "command": (text, None), "when": (when, None)}
+COMMON = {**DEFAULT, "group": (text, None), "guess": (boolean, False)}
 PART = {"name": (text, REQUIRED), "max": (whole, REQUIRED)}
 ANACRON = {"id": (text, REQUIRED), "mode": (lambda _: True, False), **COMMON}
 
@@ -121,8 +137,8 @@ def default_entry(value):
 
 def name_in(found):
     """Takes the name of a line out of members, which have its number or its command."""
-    name = LineName(found.pop("line"), found.pop("command"))
-    if name == (None, None):
+    name = LineName(found.pop("line"), found.pop("command"), found.pop("when"))
+    if name[:2] == (None, None):
         raise OtherShape
     return name
 
@@ -207,23 +223,34 @@ def faults_alone(declared):
 
 
 def are_bad(parts, longest):
-    """Returns whether parts don't make up a longest time."""
+    """Returns whether parts don't fit into a longest time."""
     times, names = [it.max for it in parts], {it.name for it in parts}
     has_bad_time = any(not 1 <= time <= GREATEST_MAX for time in times)
-    return has_bad_time or len(names) < len(parts) or sum(times) != longest
+    return has_bad_time or len(names) < len(parts) or sum(times) > longest
 
 
 def lines_named(name, crontab):
     """Returns the numbers of the lines that a name means, with a number at most one."""
     if name.number is not None:
         return [it.line for it in crontab.commands if it.line == name.number]
-    return [it.line for it in crontab.commands if it.text == name.command.encode()]
+    command = name.command.encode()
+    return [it.line for it in crontab.commands if it.text == command and has_when(it, name)]
+
+
+def has_when(command, name):
+    """Returns whether a name tells no schedule, or that of the command."""
+    return name.when in (None, [command.schedule])
 
 
 def is_other(name, crontab):
     """Returns whether the line of a name's number has another command than the name tells."""
     texts = [it.text for it in crontab.commands if it.line == name.number]
-    return None not in name and texts != [name.command.encode()]
+    return None not in name[:2] and texts != [name.command.encode()]
+
+
+def is_mistimed(name, crontab):
+    """Returns whether the line of a name's number has another schedule than the name tells."""
+    return any(it.line == name.number and not has_when(it, name) for it in crontab.commands)
 
 
 def faults_of_tables(declared, crontab, anacrontab):
@@ -249,6 +276,7 @@ def faults_of_tables(declared, crontab, anacrontab):
     rest = without_lines(crontab, out)
     yield "Undeclared", [] if declared.default else undeclared(declared, rest, anacrontab, lines)
     yield "RebootLine", reboot_places(rest)
+    yield "OtherSchedule", sum(of_names(lambda it: is_mistimed(it, crontab)), [])
 
 
 def without_lines(crontab, numbers):
@@ -282,7 +310,9 @@ def joined(declared, crontab, anacrontab):
         else:
             jobs.append(Job(of, it.max, it.weight, groups[it.group], it.mode or "none"))
     more = declared.groups, declared.capacity, declared.hours, declared.pass_minute
-    return Plan(rest, anacrontab, jobs, *more, declared.offset, left_out, defaulted)
+    guessed = sum(it.guess for it in [*declared.cron, *declared.anacron])
+    plan = Plan(rest, anacrontab, jobs, *more, declared.offset, left_out, defaulted)
+    return plan._replace(guessed=guessed)
 
 
 def tell_first(faults):

@@ -1,5 +1,6 @@
 """What a draft declares of two tables, but for groups and modes, which are read off commands; and
 what an update keeps of older declarations."""
+import json
 import re
 from itertools import pairwise, takewhile
 
@@ -87,14 +88,28 @@ def is_bound(name, crontab):
 def sound_plan(text, files):
     """Returns the plan of what was drawn up for tables, none where something is wrong with it.
 
-    It has to join with them, and each of its names has the line and the command of that.
+    It has to join with them, and each of its names has the line and the command of that, and the
+    schedule where two lines have the command.
     """
     try:
         plan = plan_of({**files, b"declarations": text})
     except Fault:
         return None
     crontab, names = read_crontab(files[b"crontab"]), names_in(read_declared(text))
-    return plan if all(is_bound(it, crontab) for it in names) else None
+    texts = [it.text for it in crontab.commands]
+    shared = [it for it in entries_in(text, "cron", "left_out") if tells_one_of(it, texts)]
+    is_sound = all(is_bound(it, crontab) for it in names) and all("when" in it for it in shared)
+    return plan if is_sound else None
+
+
+def entries_in(text, *lists):
+    """Returns the entries of these lists, as JSON has them."""
+    return [entry for name in lists for entry in json.loads(text).get(name, [])]
+
+
+def tells_one_of(entry, texts):
+    """Returns whether two of the commands are that of an entry."""
+    return texts.count(entry.get("command", "").encode()) > 1
 
 
 def is_draft(text, files, asked):
@@ -113,6 +128,7 @@ def is_draft(text, files, asked):
         and plan.left_out == [it.line for it in commands if it.schedule is None]
         and plan.defaulted == 0
         and all(it.max == longest_time(it.of, asked, names_of(it, told)) for it in plan.jobs)
+        and all(it.get("guess") for it in entries_in(text, "cron", "anacron"))
         and all(has_shares(it, told.get(line, [])) for line, it in entries.items())
     )
 

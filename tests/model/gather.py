@@ -32,6 +32,11 @@ def shown(text):
     return HIDDEN.sub(lambda it: b"\\x%02x" % it[0][0], text)
 
 
+def shown_user(user):
+    """Returns the name of a user as its comment shows it: as one word."""
+    return shown(user).replace(b" ", rb"\x20")
+
+
 def table_of(source):
     """Returns the table that a source says."""
     return read_system(source.text) if source.user is None else read_crontab(source.text)
@@ -48,7 +53,7 @@ def command_lines(place, parts, line, user, command):
     """Returns the comments of a command, and its line, in which no user stands."""
     time = line.removesuffix(schedule_of(line)[1])
     parts = [b"#@ part " + it for it in parts]
-    return [b"#@ " + place + b" " + shown(user), *parts, time + command]
+    return [b"#@ " + place + b" " + shown_user(user), *parts, time + command]
 
 
 def lines_said(source):

@@ -14,6 +14,9 @@ NO_FOLDER = b"run-parts has no folder"
 NOT_PLAIN = b"the folder of run-parts isn't a plain path"
 TWO_FOLDERS = b"run-parts has more than one folder"
 UNKNOWN = b"run-parts has an option that isn't known here"
+GOES_ON = b"run-parts isn't the last program in it"
+# The first word of a program behind another one, which `}` isn't.
+NEXT = re.compile(rb"(?:[;(]|(?<![<>])[&|])[ \t;&|()<>]*(?!}(?:[ \t;&|()<>]|\Z))[^ \t;&|()<>]")
 
 
 class Unread(Exception):
@@ -33,7 +36,10 @@ def run_parts(command):
         raise Unread(HIDDEN)
     if len(calls) > 1:
         raise Unread(TWICE)
-    return folder_of(words_behind(text[calls[0].end() :]))
+    behind = text[calls[0].end() :]
+    if NEXT.search(behind):
+        raise Unread(GOES_ON)
+    return folder_of(words_behind(behind))
 
 
 def words_behind(text):

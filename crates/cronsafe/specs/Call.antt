@@ -7,6 +7,7 @@ use Rattle.cs_args.specs.CommandLine.{AskedStatus, AskedStop, AsksHelp, AsksVers
 use Rattle.cs_args.specs.Asked.{asked_status, asked_stop}
 use Rattle.cs_args.specs.Version.{version_text}
 use Rattle.cs_io.specs.Files.{Failed}
+use Rattle.cs_io.specs.Folders.{Tree}
 use Rattle.cs_advise.specs.Answer.{AnswersAdvise, AnswersRoom}
 use Rattle.cs_cli.specs.Answer.{AnswersRun, EndsAs}
 use Rattle.cs_views.specs.ChartAnswer.{AnswersChart}
@@ -53,26 +54,26 @@ IsToTell a before failed (Tells words) = (failed ≡ before) × (asked_status wo
 IsToTell a before failed (Reloads folder) = ⊥
 
 -- what is answered to a subcommand, at this time
-abbrev pub AnswersAsked : Now → Asking → (List ℕ → Option (List ℕ)) → Failed → Failed → Answer
-    → Type 0
-AnswersAsked now (Day a) files before failed = EndsAs (AnswersDay a files before failed)
-AnswersAsked now (Replay a) files before failed = EndsAs (AnswersReplay a files before failed)
-AnswersAsked now (Check a) files before failed = EndsAs (IsChecked a files before failed)
-AnswersAsked now (Run a) files before failed = AnswersRun a files before failed
-AnswersAsked now (Stop a) files before failed = IsToStop a before failed
-AnswersAsked now (Reload stamps) files before failed = IsToReload stamps before failed
-AnswersAsked now (Status a) files before failed = IsToTell a before failed
-AnswersAsked now (Judge a) files before failed = EndsAs (AnswersJudge a files before failed)
-AnswersAsked now (Make a) files before failed = EndsAs (AnswersMake a files before failed)
-AnswersAsked now (Advise a) files before failed = EndsAs (AnswersAdvise a files before failed)
-AnswersAsked now (Room a) files before failed = EndsAs (AnswersRoom a files before failed)
-AnswersAsked now (Gather a) files before failed = EndsAs (AnswersGather a files before failed)
-AnswersAsked now (Draft a) files before failed = EndsAs (AnswersDraft a now.offset files before failed)
-AnswersAsked now (Learn a) files before failed = EndsAs (AnswersLearn a now.offset files before failed)
-AnswersAsked now (Lint a) files before failed = EndsAs (AnswersLint a now.instant.nanosecond files before failed)
-AnswersAsked now (Chart a) files before failed = EndsAs (AnswersChart a files before failed)
-AnswersAsked now (Explain name) files before failed = EndsAs (AnswersExplain before failed)
-AnswersAsked offset Help files before failed = EndsAs (ShowsHelp before failed)
+abbrev pub AnswersAsked : Now → Asking → Tree → (List ℕ → Option (List ℕ)) → Failed → Failed
+    → Answer → Type 0
+AnswersAsked now (Day a) tree files before failed = EndsAs (AnswersDay a files before failed)
+AnswersAsked now (Replay a) tree files before failed = EndsAs (AnswersReplay a files before failed)
+AnswersAsked now (Check a) tree files before failed = EndsAs (IsChecked a files before failed)
+AnswersAsked now (Run a) tree files before failed = AnswersRun a files before failed
+AnswersAsked now (Stop a) tree files before failed = IsToStop a before failed
+AnswersAsked now (Reload stamps) tree files before failed = IsToReload stamps before failed
+AnswersAsked now (Status a) tree files before failed = IsToTell a before failed
+AnswersAsked now (Judge a) tree files before failed = EndsAs (AnswersJudge a files before failed)
+AnswersAsked now (Make a) tree files before failed = EndsAs (AnswersMake a files before failed)
+AnswersAsked now (Advise a) tree files before failed = EndsAs (AnswersAdvise a files before failed)
+AnswersAsked now (Room a) tree files before failed = EndsAs (AnswersRoom a files before failed)
+AnswersAsked now (Gather a) tree files before failed = EndsAs (AnswersGather a tree files before failed)
+AnswersAsked now (Draft a) tree files before failed = EndsAs (AnswersDraft a now.offset files before failed)
+AnswersAsked now (Learn a) tree files before failed = EndsAs (AnswersLearn a now.offset files before failed)
+AnswersAsked now (Lint a) tree files before failed = EndsAs (AnswersLint a now.instant.nanosecond files before failed)
+AnswersAsked now (Chart a) tree files before failed = EndsAs (AnswersChart a files before failed)
+AnswersAsked now (Explain name) tree files before failed = EndsAs (AnswersExplain before failed)
+AnswersAsked offset Help tree files before failed = EndsAs (ShowsHelp before failed)
 
 -- the version is shown
 abbrev pub ShowsVersion : Failed → Failed → Ending → Type 0
@@ -83,9 +84,10 @@ abbrev pub IsRejected : Failed → Failed → Ending → Type 0
 IsRejected before failed ending = (failed ≡ before) × (ending.status ≡ 4) × (ending.out ≡ [])
 
 -- what is answered to words: what they ask, help, the version, or that they are no call
-abbrev pub Answers : Now → List Text → (List ℕ → Option (List ℕ)) → Failed → Failed → Answer → Type 0
-Answers now words files before failed answer =
-    ((a : Asking) × Asks words a × AnswersAsked now a files before failed answer)
+abbrev pub Answers : Now → List Text → Tree → (List ℕ → Option (List ℕ)) → Failed → Failed
+    → Answer → Type 0
+Answers now words tree files before failed answer =
+    ((a : Asking) × Asks words a × AnswersAsked now a tree files before failed answer)
     ⊎ ((AsksHelp words × EndsAs (ShowsHelp before failed) answer)
     ⊎ ((AsksVersion words × EndsAs (ShowsVersion before failed) answer)
     ⊎ (IsNoCall words × EndsAs (IsRejected before failed) answer)))

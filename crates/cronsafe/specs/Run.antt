@@ -2,6 +2,7 @@
 use Rattle.std.specs.Prelude.{◌⊎◌, ℕ, List, Option}
 use Rattle.clap.specs.Words.{Text}
 use Rattle.cs_io.specs.Files.{Failed, Reads}
+use Rattle.cs_io.specs.Folders.{Tree}
 use Rattle.cs_cli.specs.Answer.{IfEnds}
 use Rattle.cs_cli.specs.declared.answer.Answer.{Answer}
 use Rattle.cs_cli.specs.declared.answer.Answer.TheVariants as answers
@@ -31,19 +32,19 @@ CarriesOut (answers.Tells words) out-old out-new err-old err-new status =
     Tells words.stamps.now out-old out-new err-old err-new status
 
 -- the words are answered so, and the answer is carried out
-abbrev pub Carries : Now → List Text → (List ℕ → Option (List ℕ)) → Failed → Failed → Reads
+abbrev pub Carries : Now → List Text → Tree → (List ℕ → Option (List ℕ)) → Failed → Failed → Reads
     → Answer → Sink → Sink → Sink → Sink → ℕ → Type 0
-Carries now words files before failed reads answer out-old out-new err-old err-new status =
-    Answers now words files before failed answer
+Carries now words tree files before failed reads answer out-old out-new err-old err-new status =
+    Answers now words tree files before failed answer
     × IfEnds (IsHonest failed reads) answer
     × CarriesOut answer out-old out-new err-old err-new status
 
 -- the words are answered, or memory ran out, behind what is to be warned of by then
-abbrev pub Runs : Now → List Text → (List ℕ → Option (List ℕ)) → Failed → Failed → Reads → Reads
-    → Sink → Sink → Sink → Sink → ℕ → Type 0
-Runs now words files before failed reads-old reads-new out-old out-new err-old err-new status =
+abbrev pub Runs : Now → List Text → Tree → (List ℕ → Option (List ℕ)) → Failed → Failed → Reads
+    → Reads → Sink → Sink → Sink → Sink → ℕ → Type 0
+Runs now words tree files before failed reads-old reads-new out-old out-new err-old err-new status =
     ((answer : Answer)
-    × Carries now words files before failed reads-new answer out-old out-new err-old err-new
+    × Carries now words tree files before failed reads-new answer out-old out-new err-old err-new
     status)
     ⊎ ((warnings : Option (List ℕ)) × RanOutOn words files before reads-old reads-new warnings
     × RunsOutBehind warnings out-old out-new err-old err-new status)

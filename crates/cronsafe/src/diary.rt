@@ -2,6 +2,7 @@
 use cs_args::version_text;
 use cs_civil::{Minute, date_text};
 use cs_cli::Order;
+use cs_crontab::Line;
 use cs_daemon::Cause;
 use cs_machine::{ClockBack, HookCall, JobNote, Remarks, RunLog, Setup, ToldFile, push_hex};
 use cs_table::Setting;
@@ -161,6 +162,15 @@ fn mail_line(alloc: Global, setting: &Setting, table: &str) -> io::Result<Vec<u8
     Ok(line)
 }
 
+/// The command of a line of the crontab.
+fn job_line(alloc: Global, line: &Line) -> io::Result<Vec<u8>> {
+    let mut text = Vec::new(alloc);
+    let number = line.number();
+    write!(text, "job line {number}: ")?;
+    text.write_all(line.command())?;
+    Ok(text)
+}
+
 impl<'a, 'r, R: Clock + Files + Wait, W: Write> Hand<'a, 'r, R, W> {
     /// Notes a line, if there was memory for it.
     fn note_made(&mut self, line: io::Result<Vec<u8>>) {
@@ -178,14 +188,22 @@ impl<'a, 'r, R: Clock + Files + Wait, W: Write> Hand<'a, 'r, R, W> {
         }
     }
 
-    /// Notes what a daemon begins with: its files, its certificate, and the settings that have no
-    /// effect.
+    /// Notes the commands of a crontab, by which readers of the log know what its runs are of.
+    fn note_jobs(&mut self, alloc: Global, lines: &[Line]) {
+        for line in lines {
+            self.note_made(job_line(alloc, line));
+        }
+    }
+
+    /// Notes what a daemon begins with: its files, its certificate, the settings that have no
+    /// effect, and its commands.
     pub(crate) fn note_opening(&mut self, alloc: Global, order: &Order<'_>) {
         self.note_made(opening(alloc, order));
         self.note_made(digest_line(alloc, &order.digest));
         let plan = order.checked.plan();
         self.note_mail(alloc, plan.crontab().settings(), "crontab");
         self.note_mail(alloc, plan.anacrontab().settings(), "anacrontab");
+        self.note_jobs(alloc, plan.crontab().lines());
     }
 }
 

@@ -49,8 +49,25 @@ fn asks_time(alloc: Global, words: &[String]) -> bool {
     }
 }
 
-/// What time it is. Where it isn't known and isn't asked for, it is 1970-01-01 00:00 UTC.
-fn time_for<R: Clock + Env + Files + AllocGlobal>(rt: &R, words: &[String]) -> Option<Now> {
+/// Warns that `TZ` names no time zone, if the words ask for declarations, which tell the offset.
+fn warn_of_zone<E: Output>(alloc: Global, words: &[String], err: &mut E) {
+    match parse_words(alloc, words) {
+        Ok(Request::Draft(_)) | Ok(Request::Learn(_)) => {
+            let _ = err.print(
+                b"warning: TZ names no known time zone and is taken as UTC\n".as_slice(),
+            );
+        }
+        _ => {}
+    }
+}
+
+/// What time it is. Where it isn't known and isn't asked for, it is 1970-01-01 00:00 UTC. A time zone
+/// that isn't known is UTC.
+fn time_for<R: Clock + Env + Files + AllocGlobal, E: Output>(
+    rt: &R,
+    words: &[String],
+    err: &mut E,
+) -> Option<Now> {
     let Some(instant) = read_clock(rt) else {
         if asks_time(rt.alloc(), words) {
             return None;
@@ -60,7 +77,13 @@ fn time_for<R: Clock + Env + Files + AllocGlobal>(rt: &R, words: &[String]) -> O
             instant: Timestamp::UNIX_EPOCH,
         });
     };
-    let offset = local_offset(rt, instant).unwrap_or(0);
+    let offset = match local_offset(rt, instant) {
+        Some(offset) => offset,
+        None => {
+            warn_of_zone(rt.alloc(), words, err);
+            0
+        }
+    };
     Some(Now { offset, instant })
 }
 
@@ -96,7 +119,7 @@ pub(crate) fn run_program<
     if is_watched {
         announce(alloc, words, err);
     }
-    let Some(now) = time_for(rt, words) else {
+    let Some(now) = time_for(rt, words, err) else {
         let _ = err.print(farewell(Cause::ClockFailed).as_bytes());
         return ExitCode::from(status_for(Cause::ClockFailed).code());
     };

@@ -93,8 +93,8 @@ pub(crate) fn run_words<
     requires { F.IsAlwaysCallable new_runner }
     // Where each path of known bytes stands at its front.
     ensures value { IsFresh (I.whole inputs.old) (I.left inputs.old)
-        → Runs now (map S.text words.now) (I.whole inputs.old) (I.failed inputs.old)
-        (I.failed inputs.new)
+        → Runs now (map S.text words.now) (I.tree inputs.old)
+        (I.whole inputs.old) (I.failed inputs.old) (I.failed inputs.new)
         (I.reads inputs.old) (I.reads inputs.new)
         (sink (O.Output.contents out.old) (O.Output.failed out.old))
         (sink (O.Output.contents out.new) (O.Output.failed out.new))

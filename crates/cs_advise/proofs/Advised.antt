@@ -1,10 +1,7 @@
 -- Advice with one change more.
-use Rattle.std.proofs.Common.{◌≡◌, ◌∙◌, ℕ, List, ◌∷◌, ◌++◌, [], Option, None, Some, Result, Ok, Err, Vec, Global, ap, subst, sym}
-use Rattle.std.specs.Prelude.{IfOk, IfSome}
+use Rattle.std.proofs.Common.{◌≡◌, ◌∙◌, ℕ, List, ◌∷◌, ◌++◌, [], ap, subst, sym}
 use Rattle.std.specs.List.{AllZip, concat}
-use Rattle.std.specs.declared.alloc.AllocError.{AllocError}
 use Rattle.std.proofs.lemmas.List.{append-nil, append_assoc}
-use Rattle.cs_check.specs.Checked.{plan_in}
 use Rattle.cs_check.specs.declared.checked.Checked.{Checked}
 use Rattle.cs_decl.specs.Plan.{Declared}
 use Rattle.cs_judge.specs.Called.{reach_in}
@@ -12,7 +9,7 @@ use Rattle.cs_judge.specs.Judged.{IsCheckedFor, IsJudgement}
 use Rattle.cs_judge.specs.declared.judged.Judged.TheVariants.{Safe}
 use Rattle.cs_advise.specs.Advice.{IsAdvice, IsSafeLine}
 use Rattle.cs_advise.specs.Change.{IsChanged}
-use Rattle.cs_advise.specs.Told.{change_line}
+use Rattle.cs_advise.specs.Told.{IsLine}
 use Rattle.cs_advise.specs.declared.change.Change.{Change}
 use Rattle.cs_advise.specs.declared.source.Source.{Source}
 
@@ -40,25 +37,15 @@ one_more source plan changes text change line is safe = record {
 }
 
 -- the plan that was judged safe with a change is the one that the checker accepted
-pub if_checked : (source : Source) (plan : Declared) (change : Change) (changed : Declared)
-    → (answer : Result (Option Checked) AllocError) → IsChanged source plan change changed
-    → IfOk answer (λ found. IfSome found (λ checked. IsJudgement changed (Safe checked)))
-    → IfOk answer (λ found. IfSome found (λ checked. IsChanged source plan change (plan_in checked) × IsJudgement (plan_in checked) (Safe checked)))
-if_checked source plan change changed (Err e) is known = tt
-if_checked source plan change changed (Ok None) is known = tt
-if_checked source plan change changed (Ok (Some checked)) is known =
-    let accepted : IsCheckedFor changed checked = known.safe in (
-      subst (λ (d : Declared). IsChanged source plan change d) (sym accepted.same) is,
-      subst (λ (d : Declared). IsJudgement d (Safe checked)) (sym accepted.same) known,
-    )
-
--- so a line that tells the change by the reaches of its certificate is a safe one
-pub if_safe : (source : Source) (plan : Declared) (change : Change) (checked : Checked)
-    → (answer : Result (Option (Vec ℕ Global)) AllocError)
-    → IsChanged source plan change (plan_in checked) → IsJudgement (plan_in checked) (Safe checked)
-    → IfOk answer (λ found. IfSome found (λ line. line.items ≡ change_line plan (reach_in checked) change))
-    → IfOk answer (λ found. IfSome found (λ line. IsSafeLine source plan change line.items))
-if_safe source plan change checked (Err e) is known told = tt
-if_safe source plan change checked (Ok None) is known told = tt
-if_safe source plan change checked (Ok (Some line)) is known told =
-    record { checked = checked; changed = is; safe = known; told = told }
+pub if_safe : (source : Source) (plan : Declared) (change : Change) (pasted : List ℕ) (changed : Declared)
+    → (checked : Checked) (line : List ℕ) → IsChanged source plan change pasted changed
+    → IsJudgement changed (Safe checked) → IsLine plan (reach_in checked) change pasted line
+    → IsSafeLine source plan change line
+if_safe source plan change pasted changed checked line is known told =
+    let accepted : IsCheckedFor changed checked = known.safe in record {
+      checked = checked;
+      pasted = pasted;
+      changed = subst (λ (d : Declared). IsChanged source plan change pasted d) (sym accepted.same) is;
+      safe = subst (λ (d : Declared). IsJudgement d (Safe checked)) (sym accepted.same) known;
+      told = told;
+    }

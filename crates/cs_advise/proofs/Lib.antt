@@ -1,6 +1,5 @@
 pub mod Own
 pub mod Each
-pub mod Lines
 pub mod Advised
 pub mod Texts
 pub mod Shifts

@@ -8,18 +8,19 @@ use Rattle.cs_judge.specs.Called.{reach_in}
 use Rattle.cs_judge.specs.Judged.{IsJudgement}
 use Rattle.cs_judge.specs.declared.judged.Judged.TheVariants.{Safe}
 use Rattle.cs_advise.specs.Change.{IsChanged}
-use Rattle.cs_advise.specs.Told.{change_line}
+use Rattle.cs_advise.specs.Told.{IsLine}
 use Rattle.cs_advise.specs.declared.change.Change.{Change}
 use Rattle.cs_advise.specs.declared.source.Source.{Source}
 
--- the plan with the change was judged safe, and the line tells the change, with the reaches that
--- the accepted certificate gives
+-- The plan with the change was judged safe. The line tells the change, with the reaches that the
+-- accepted certificate gives, and what to paste.
 pub record IsSafeLine (source : Source) (plan : Declared) (change : Change) (line : List ℕ) : Type 0
   where
     pub checked : Checked
-    pub changed : IsChanged source plan change (plan_in checked)
+    pub pasted : List ℕ
+    pub changed : IsChanged source plan change pasted (plan_in checked)
     pub safe : IsJudgement (plan_in checked) (Safe checked)
-    pub told : line ≡ change_line plan (reach_in checked) change
+    pub told : IsLine plan (reach_in checked) change pasted line
 
 -- so it is with each of the changes alone, and the text has their lines
 pub record IsAdvice (source : Source) (plan : Declared) (changes : List Change) (text : List ℕ)

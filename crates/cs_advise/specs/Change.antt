@@ -1,35 +1,24 @@
 -- Changes of a table or of declarations.
-use Rattle.std.specs.Prelude.{◌≡◌, ◌≢◌, ◌==◌, ◌+◌, ◌-◌, ◌%◌, ◌<◌, ◌≤◌, ℕ, List, ◌∷◌, ◌++◌, []}
-use Rattle.std.specs.Prelude.{Ok, false, flat_map, if◌then◌else◌, length, set, slice_index_or}
+use Rattle.std.specs.Prelude.{◌≡◌, ◌≢◌, ◌==◌, ◌+◌, ◌%◌, ◌<◌, ◌≤◌, ℕ, List, Ok, false, length}
+use Rattle.std.specs.Prelude.{if◌then◌else◌, slice_index_or}
+use Rattle.cs_anacrontab.specs.Anacrontab.{Table as JobTable}
 use Rattle.cs_crontab.specs.Crontab.{CommandLine, Table}
 use Rattle.cs_crontab.specs.Faults.{IsCrontab}
 use Rattle.cs_crontab.specs.declared.table.When.{When}
-use Rattle.cs_decl.specs.Changed.{with_capacity, with_hours, with_max, with_mode}
 use Rattle.cs_decl.specs.Join.{joined}
 use Rattle.cs_decl.specs.Meaning.{declared_by}
-use Rattle.cs_decl.specs.Plan.{Declared, command_of, is_due, no_command}
+use Rattle.cs_decl.specs.Plan.{Declared, is_due, no_command}
 use Rattle.cs_decl.specs.declared.entries.Entries.{Entries}
 use Rattle.cs_schedule.specs.Times.{Times, is_time_due}
-use Rattle.cs_table.specs.Text.{lines_of}
+use Rattle.cs_advise.specs.Edit.{HasValue, IsPut}
+use Rattle.cs_advise.specs.Replaced.{IsOtherLine}
 use Rattle.cs_advise.specs.declared.change.Change.{Change}
-use Rattle.cs_advise.specs.declared.change.Change.TheVariants.{Both, Capacity, Hours, Max, Mode}
+use Rattle.cs_advise.specs.declared.change.Change.TheVariants.{Both, Member as Other}
 use Rattle.cs_advise.specs.declared.change.Change.TheVariants.{Start as Alone}
+use Rattle.cs_advise.specs.declared.change.Member.{Member}
 use Rattle.cs_advise.specs.declared.change.Shift.{Shift}
 use Rattle.cs_advise.specs.declared.change.Shift.TheVariants.{Earlier, Later}
-use Rattle.cs_advise.specs.declared.change.Start.{Start}
 use Rattle.cs_advise.specs.declared.source.Source.{Source}
-
--- a line of a text, with its newline
-abbrev pub ended : List ℕ → List ℕ
-ended line = line ++ 10 ∷ []
-
--- the text in which another line stands at a place, counted from 0
-unfoldable pub with_line : List ℕ → ℕ → List ℕ → List ℕ
-with_line text place line = flat_map ended (set (lines_of text) place line)
-
--- where the line of a cron job stands in the text of the table
-abbrev pub place_of : Declared → ℕ → ℕ
-place_of plan job = (command_of plan job).number - 1
 
 -- so many minutes after each minute the other is due exactly where the one is due at the minute:
 -- minute 0 is 1970-01-01 00:00
@@ -56,10 +45,7 @@ abbrev pub shift_of : Change → ℕ → Shift
 shift_of (Alone start) job = if start.job == job then start.shift else Later 0
 shift_of (Both one other) job =
     if one.job == job then one.shift else (if other.job == job then other.shift else Later 0)
-shift_of (Max changed max) job = Later 0
-shift_of (Mode changed mode) job = Later 0
-shift_of (Capacity capacity) job = Later 0
-shift_of (Hours hours) job = Later 0
+shift_of (Other member) job = Later 0
 
 -- the same command, on the same line, and its starts are shifted so
 pub record IsMovedLine (shift : Shift) (old new : CommandLine) : Type 0 where
@@ -74,30 +60,39 @@ pub record AreMoved (change : Change) (old new : List CommandLine) : Type 0 wher
       → IsMovedLine (shift_of change j)
       (slice_index_or old j no_command) (slice_index_or new j no_command)
 
--- the text of a table in which the line of the job is another one
-abbrev pub with_start : Declared → List ℕ → Start → List ℕ
-with_start plan text start = with_line text (place_of plan start.job) start.line
-
--- The text of a table is read, and joined with the same declarations. Its commands are those of the
--- plan, with their starts shifted as the change says.
-pub record IsMoved (source : Source) (plan : Declared) (change : Change) (text : List ℕ)
-    (moved : Declared) : Type 0 where
+-- the texts of a crontab and of declarations are read, and joined with an anacrontab to the plan
+pub record IsPlanOf (text declarations : List ℕ) (anacrontab : JobTable) (plan : Declared)
+    : Type 0 where
   pub table : Table
   pub read : IsCrontab text table
   pub entries : Entries
-  pub declared : declared_by source.declarations ≡ Ok entries
-  pub joined : joined table plan.anacrontab entries ≡ Ok moved
+  pub declared : declared_by declarations ≡ Ok entries
+  pub joined : joined table anacrontab entries ≡ Ok plan
+
+-- The plan of another text of the table. Its commands are those of the plan, with their starts
+-- shifted as the change says.
+pub record IsMoved (source : Source) (plan : Declared) (change : Change) (text : List ℕ)
+    (moved : Declared) : Type 0 where
+  pub read : IsPlanOf text source.declarations plan.anacrontab moved
   pub commands : AreMoved change plan.crontab.lines moved.crontab.lines
 
--- the plan is that one with the change; two starts that are moved are of two jobs
-abbrev pub IsChanged : Source → Declared → Change → Declared → Type 0
-IsChanged source plan (Alone start) changed =
-    IsMoved source plan (Alone start) (with_start plan source.table start) changed
-IsChanged source plan (Both one other) changed =
-    (one.job ≢ other.job)
-    × IsMoved source plan (Both one other)
-    (with_start plan (with_start plan source.table one) other) changed
-IsChanged source plan (Max job max) changed = changed ≡ with_max plan job max
-IsChanged source plan (Mode job mode) changed = changed ≡ with_mode plan job mode
-IsChanged source plan (Capacity capacity) changed = changed ≡ with_capacity plan capacity
-IsChanged source plan (Hours hours) changed = changed ≡ with_hours plan hours
+-- The plan of declarations in which that is pasted. It has the value, which the old one hasn't.
+pub record IsEdited (source : Source) (plan : Declared) (member : Member) (pasted : List ℕ)
+    (edited : Declared) : Type 0 where
+  pub text : List ℕ
+  pub put : IsPut member source.declarations pasted text
+  pub read : IsPlanOf source.table text plan.anacrontab edited
+  pub has : HasValue edited member
+  pub had : ¬ (HasValue plan member)
+
+-- The plan is that of a table with the line of the change, or both; or of declarations in which
+-- something is pasted.
+abbrev pub IsChanged : Source → Declared → Change → List ℕ → Declared → Type 0
+IsChanged source plan (Alone start) pasted changed =
+    (text : List ℕ) × IsOtherLine source.table start.line text
+    × IsMoved source plan (Alone start) text changed
+IsChanged source plan (Both one other) pasted changed =
+    (first : List ℕ) × (text : List ℕ) × IsOtherLine source.table one.line first
+    × IsOtherLine first other.line text × (one.job ≢ other.job)
+    × IsMoved source plan (Both one other) text changed
+IsChanged source plan (Other member) pasted changed = IsEdited source plan member pasted changed

@@ -1,6 +1,8 @@
 pub mod Names
 pub mod Gap
 pub mod Room
+pub mod Replaced
+pub mod Edit
 pub mod Change
 pub mod Told
 pub mod Advice

@@ -38,13 +38,9 @@ pub struct Start {
     pub line: Bytes,
 }
 
-/// A change of a line of a table or of two, or of one member of declarations.
+/// Another value of one member of declarations.
 #[derive(Drop)]
-pub enum Change {
-    /// A cron job starts so.
-    Start(Start),
-    /// Two cron jobs start so.
-    Both(Start, Start),
+pub enum Member {
     /// Each run of a job ends within so many minutes.
     Max(u16, u16),
     /// A cron job treats the lock of its group so.
@@ -53,4 +49,15 @@ pub enum Change {
     Capacity(u8),
     /// Anacron jobs may start at these minutes of a day.
     Hours(Hours),
+}
+
+/// A change of a line of a table or of two, or of declarations.
+#[derive(Drop)]
+pub enum Change {
+    /// A cron job starts so.
+    Start(Start),
+    /// Two cron jobs start so.
+    Both(Start, Start),
+    /// A member has another value.
+    Member(Member),
 }

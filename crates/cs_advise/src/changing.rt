@@ -1,115 +1,58 @@
 //! The plan with a single change.
-ghost use Rattle.std.specs.Prelude.{◌≡◌, ◌-◌, IfOk, IfSome, IsTrue, Ok, slice_index_or};
+ghost use Rattle.std.specs.Prelude.{◌≡◌, ◌≢◌, ◌↔◌, ℕ, List, IfOk, IfSome, IsTrue, Ok, slice_index_or};
 ghost use Rattle.cs_crontab.specs.Faults.{IsCrontab};
 ghost use Rattle.cs_crontab.specs.declared.table.When.TheVariants.{At};
-ghost use Rattle.cs_decl.specs.Changed.{with_capacity, with_max, with_mode};
 ghost use Rattle.cs_decl.specs.Join.{joined};
 ghost use Rattle.cs_decl.specs.Meaning.{declared_by};
 ghost use Rattle.cs_decl.specs.Plan.{no_command};
-ghost use Rattle.cs_decl.specs.declared.entries.Entries.{Entries};
-ghost use Rattle.cs_advise.specs.Change.{AreMoved, IsChanged, IsMoved, IsMovedLine, IsShifted};
-ghost use Rattle.cs_advise.specs.Change.{shift_of, with_start};
+ghost use Rattle.cs_advise.specs.Change.{AreMoved, IsChanged, IsEdited, IsMoved, IsMovedLine};
+ghost use Rattle.cs_advise.specs.Change.{IsPlanOf, IsShifted, shift_of};
+ghost use Rattle.cs_advise.specs.Edit.{HasValue};
+ghost use Rattle.cs_advise.specs.Replaced.{IsOtherLine};
 
-use crate::change::{Change, Shift, Start};
-use crate::entry::line_number;
+use crate::change::{Change, Member, Shift, Start};
+use crate::edit::edit_of;
 use crate::later::is_later;
+use crate::shifting::line_span;
 use crate::source::Source;
 use crate::text::with_line;
-use cs_anacrontab::Anacrontab;
-use cs_crontab::{Crontab, Line, Schedule, TableFault, When, read_crontab};
-use cs_decl::{DeclError, Declarations, MAX_CAPACITY, MAX_MINUTES, Plan, join, read_declarations};
-use cs_history::Mode;
+use cs_crontab::{Line, TableFault, When, read_crontab};
+use cs_decl::{DeclError, Plan, join, read_declarations};
 use std::alloc::{AllocError, Global};
 
-/// The plan with another longest time, if the job is there and may have it.
-fn with_max(alloc: Global, plan: &Plan, job: u16, max: u16) -> Result<Option<Plan>, AllocError>
-    ensures { IfOk result
-        (λ found. IfSome found (λ changed. changed ≡ with_max plan.now job max)) }
-{
-    if usize::from(job) >= plan.jobs().len() || max == 0 || max > MAX_MINUTES {
-        return Ok(None);
-    }
-    Ok(Some(plan.with_max(alloc, job, max)?))
+/// A plan with a change.
+#[derive(Drop)]
+pub(crate) struct ChangedPlan {
+    pub(crate) plan: Plan,
+    /// What is pasted into the declarations.
+    pub(crate) pasted: Vec<u8>,
 }
 
-/// The plan with another mode, if the job is a cron job and may have it.
-fn with_mode(alloc: Global, plan: &Plan, job: u16, mode: Mode) -> Result<Option<Plan>, AllocError>
-    ensures { IfOk result
-        (λ found. IfSome found (λ changed. changed ≡ with_mode plan.now job mode)) }
-{
-    if usize::from(job) >= plan.crons() || plan.job_at(job).group().is_none() {
-        return Ok(None);
-    }
-    Ok(Some(plan.with_mode(alloc, job, mode)?))
-}
-
-/// The plan with another capacity, if there may be that.
-fn with_capacity(alloc: Global, plan: &Plan, capacity: u8) -> Result<Option<Plan>, AllocError>
-    ensures { IfOk result
-        (λ found. IfSome found (λ changed. changed ≡ with_capacity plan.now capacity)) }
-{
-    if capacity == 0 || capacity > MAX_CAPACITY {
-        return Ok(None);
-    }
-    Ok(Some(plan.with_capacity(alloc, capacity)?))
-}
-
-/// The crontab that the bytes denote, if they denote one.
-fn table_in(alloc: Global, bytes: &[u8]) -> Result<Option<Crontab>, AllocError>
-    ensures { IfOk result (λ found. IfSome found (IsCrontab bytes.now)) }
-{
-    match read_crontab(alloc, bytes) {
-        Ok(table) => Ok(Some(table)),
-        Err(TableFault::OutOfMemory) => Err(AllocError),
-        Err(_) => Ok(None),
-    }
-}
-
-/// What the bytes declare, if they declare something.
-fn declarations_in(alloc: Global, bytes: &[u8]) -> Result<Option<Declarations>, AllocError>
-    ensures { IfOk result
-        (λ found. IfSome found (λ declarations. declared_by bytes.now ≡ Ok declarations)) }
-{
-    match read_declarations(alloc, bytes) {
-        Ok(declarations) => Ok(Some(declarations)),
-        Err(DeclError::OutOfMemory) => Err(AllocError),
-        Err(_) => Ok(None),
-    }
-}
-
-/// The plan of tables and declarations, if they make one.
+/// The plan of the texts of a crontab and of declarations and the anacrontab, if they make one.
 fn plan_of(
     alloc: Global,
-    crontab: Crontab,
-    anacrontab: Anacrontab,
-    declarations: Declarations,
+    plan: &Plan,
+    table: &[u8],
+    declarations: &[u8],
 ) -> Result<Option<Plan>, AllocError>
-    ensures { IfOk result
-        (λ found. IfSome found (λ plan. joined crontab anacrontab declarations ≡ Ok plan)) }
+    ensures { IfOk result (λ found. IfSome found
+        (IsPlanOf table.now declarations.now plan.now.anacrontab)) }
 {
-    match join(alloc, crontab, anacrontab, declarations) {
+    let table = match read_crontab(alloc, table) {
+        Ok(table) => table,
+        Err(TableFault::OutOfMemory) => return Err(AllocError),
+        Err(_) => return Ok(None),
+    };
+    let declarations = match read_declarations(alloc, declarations) {
+        Ok(declarations) => declarations,
+        Err(DeclError::OutOfMemory) => return Err(AllocError),
+        Err(_) => return Ok(None),
+    };
+    match join(alloc, table, plan.anacrontab().copy(alloc)?, declarations) {
         Ok(plan) => Ok(Some(plan)),
         Err(DeclError::OutOfMemory) => Err(AllocError),
         Err(_) => Ok(None),
     }
-}
-
-/// The plan of another table and the declarations in a text, if they make one.
-fn plan_with(
-    alloc: Global,
-    plan: &Plan,
-    table: Crontab,
-    text: &[u8],
-) -> Result<Option<Plan>, AllocError>
-    ensures { IfOk result (λ found. IfSome found (λ made. (entries : Entries)
-        × (declared_by text.now ≡ Ok entries)
-        × (joined table plan.now.anacrontab entries ≡ Ok made))) }
-{
-    let Some(declarations) = declarations_in(alloc, text)? else {
-        return Ok(None);
-    };
-    let anacrontab = plan.anacrontab().copy(alloc)?;
-    plan_of(alloc, table, anacrontab, declarations)
 }
 
 /// Whether the starts are shifted so.
@@ -179,11 +122,24 @@ fn are_moved(change: &Change, old: &[Line], new: &[Line]) -> bool
 }
 
 /// The text of a table with another line of a cron job.
-fn with_start(alloc: Global, plan: &Plan, text: &[u8], start: &Start) -> Result<Vec<u8>, AllocError>
-    ensures { IfOk result (λ changed. changed.items ≡ with_start plan.now text.now start.now) }
+fn with_start(
+    alloc: Global,
+    plan: &Plan,
+    text: &[u8],
+    start: &Start,
+) -> Result<Option<Vec<u8>>, AllocError>
+    ensures { IfOk result
+        (λ found. IfSome found (λ new. IsOtherLine text.now start.now.line new.items)) }
 {
-    let place = (line_number(plan, usize::from(start.job)) as usize).saturating_sub(1);
-    with_line(alloc, text, place, start.line.as_slice())
+    let Some(line) = plan.crontab().lines().get(usize::from(start.job)) else {
+        return Ok(None);
+    };
+    with_line(
+        alloc,
+        text,
+        line_span(text, line.number()),
+        start.line.as_slice(),
+    )
 }
 
 /// The plan of another text of the table, if that can be read, fits the declarations, and moves the
@@ -194,21 +150,61 @@ fn moved_plan(
     plan: &Plan,
     change: &Change,
     text: &[u8],
-) -> Result<Option<Plan>, AllocError>
+) -> Result<Option<ChangedPlan>, AllocError>
     ensures { IfOk result
-        (λ found. IfSome found (IsMoved source.now plan.now change.now text.now)) }
+        (λ found. IfSome found (λ moved. IsMoved source.now plan.now change.now text.now moved.plan)) }
 {
-    let Some(table) = table_in(alloc, text)? else {
+    let Some(moved) = plan_of(alloc, plan, text, source.declarations.as_slice())? else {
         return Ok(None);
     };
-    let declarations = source.declarations.as_slice();
-    let Some(moved) = plan_with(alloc, plan, table, declarations)? else {
+    if !are_moved(change, plan.crontab().lines(), moved.crontab().lines()) {
         return Ok(None);
-    };
-    if are_moved(change, plan.crontab().lines(), moved.crontab().lines()) {
-        return Ok(Some(moved));
     }
-    Ok(None)
+    Ok(Some(ChangedPlan {
+        plan: moved,
+        pasted: Vec::new(alloc),
+    }))
+}
+
+/// Whether a plan has that value.
+fn has_value(plan: &Plan, member: &Member) -> bool
+    ensures { IsTrue result ↔ HasValue plan.now member.now }
+{
+    match member {
+        Member::Max(job, max) => plan.job_at(*job).max() == *max,
+        Member::Mode(job, mode) => plan.job_at(*job).mode() == *mode,
+        Member::Capacity(capacity) => plan.capacity() == *capacity,
+        Member::Hours(hours) => plan.hours() == *hours,
+    }
+}
+
+/// The plan of declarations with another value, if they can be read, fit the tables, and declare it.
+fn edited_plan(
+    alloc: Global,
+    source: &Source,
+    plan: &Plan,
+    member: &Member,
+) -> Result<Option<ChangedPlan>, AllocError>
+    ensures { IfOk result (λ found. IfSome found
+        (λ edited. IsEdited source.now plan.now member.now edited.pasted.items edited.plan)) }
+{
+    if has_value(plan, member) {
+        return Ok(None);
+    }
+    let Some(edit) = edit_of(alloc, plan, source.declarations.as_slice(), member)? else {
+        return Ok(None);
+    };
+    let table = source.table.as_slice();
+    let Some(edited) = plan_of(alloc, plan, table, edit.text.as_slice())? else {
+        return Ok(None);
+    };
+    if !has_value(&edited, member) {
+        return Ok(None);
+    }
+    Ok(Some(ChangedPlan {
+        plan: edited,
+        pasted: edit.pasted,
+    }))
 }
 
 /// The plan with a change, if it may be changed so. The only error is want of memory.
@@ -217,26 +213,27 @@ pub(crate) fn changed_plan(
     source: &Source,
     plan: &Plan,
     change: &Change,
-) -> Result<Option<Plan>, AllocError>
-    ensures { IfOk result
-        (λ found. IfSome found (IsChanged source.now plan.now change.now)) }
+) -> Result<Option<ChangedPlan>, AllocError>
+    ensures { IfOk result (λ found. IfSome found
+        (λ made. IsChanged source.now plan.now change.now made.pasted.items made.plan)) }
 {
     match change {
-        Change::Start(start) => {
-            let text = with_start(alloc, plan, source.table.as_slice(), start)?;
-            moved_plan(alloc, source, plan, change, text.as_slice())
-        }
+        Change::Start(start) => match with_start(alloc, plan, source.table.as_slice(), start)? {
+            Some(text) => moved_plan(alloc, source, plan, change, text.as_slice()),
+            None => Ok(None),
+        },
         Change::Both(one, other) => {
             if one.job == other.job {
                 return Ok(None);
             }
-            let first = with_start(alloc, plan, source.table.as_slice(), one)?;
-            let both = with_start(alloc, plan, first.as_slice(), other)?;
-            moved_plan(alloc, source, plan, change, both.as_slice())
+            let Some(first) = with_start(alloc, plan, source.table.as_slice(), one)? else {
+                return Ok(None);
+            };
+            match with_start(alloc, plan, first.as_slice(), other)? {
+                Some(text) => moved_plan(alloc, source, plan, change, text.as_slice()),
+                None => Ok(None),
+            }
         }
-        Change::Max(job, max) => with_max(alloc, plan, *job, *max),
-        Change::Mode(job, mode) => with_mode(alloc, plan, *job, *mode),
-        Change::Capacity(capacity) => with_capacity(alloc, plan, *capacity),
-        Change::Hours(hours) => Ok(Some(plan.with_hours(alloc, *hours)?)),
+        Change::Member(member) => edited_plan(alloc, source, plan, member),
     }
 }

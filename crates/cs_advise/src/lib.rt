@@ -8,7 +8,7 @@ mod answers;
 mod breach;
 mod change;
 mod changing;
-mod entry;
+mod edit;
 mod gap;
 mod label;
 mod later;
@@ -23,7 +23,7 @@ mod told;
 
 pub use answering::{answer_advise, answer_room};
 pub use answers::Question;
-pub use change::{Change, Shift, Start};
+pub use change::{Change, Member, Shift, Start};
 pub use gap::Gap;
 pub use room::Room;
 pub use source::Source;

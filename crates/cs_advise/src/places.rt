@@ -2,7 +2,7 @@
 ghost use Rattle.std.specs.Prelude.{◌≡◌, ◌++◌, IfOk, OnOk, flat_map};
 ghost use Rattle.cs_advise.specs.Places.{change_jobs, job_places, shown_jobs};
 
-use crate::change::Change;
+use crate::change::{Change, Member};
 use cs_counterexample::Shown;
 use cs_decl::Plan;
 use cs_gather::{Place, push_places_told};
@@ -17,8 +17,10 @@ fn push_change_jobs(jobs: &mut Vec<usize>, change: &Change) -> Result<(), AllocE
         Change::Both(one, other) => {
             jobs.extend_from_slice(&[usize::from(one.job), usize::from(other.job)])
         }
-        Change::Max(job, _) | Change::Mode(job, _) => jobs.extend_from_slice(&[usize::from(*job)]),
-        Change::Capacity(_) | Change::Hours(_) => Ok(()),
+        Change::Member(Member::Max(job, _) | Member::Mode(job, _)) => {
+            jobs.extend_from_slice(&[usize::from(*job)])
+        }
+        Change::Member(Member::Capacity(_) | Member::Hours(_)) => Ok(()),
     }
 }
 

@@ -1,7 +1,7 @@
 //! Where changes that make a plan safe are looked for. Nothing here is relied on: each change is
 //! judged again before it is told.
 
-use crate::change::{Change, Shift, Start};
+use crate::change::{Change, Member, Shift, Start};
 use crate::changing::changed_plan;
 use crate::shifting::shifted_line;
 use crate::source::Source;
@@ -60,7 +60,7 @@ fn halfway(low: u16, high: u16) -> u16 {
 /// Adds the catch-up hours between two minutes of the day, if there are some.
 fn push_hours(changes: &mut Vec<Change>, from: u16, to: u16) -> Result<(), AllocError> {
     if let Some(hours) = Hours::new(u64::from(from), u64::from(to)) {
-        changes.push(Change::Hours(hours))?;
+        changes.push(Change::Member(Member::Hours(hours)))?;
     }
     Ok(())
 }
@@ -68,10 +68,10 @@ fn push_hours(changes: &mut Vec<Change>, from: u16, to: u16) -> Result<(), Alloc
 impl<R: Threads + Sync> Search<'_, R> {
     /// Whether the plan is called safe with a change.
     fn is_safe(&self, change: &Change) -> Result<bool, AllocError> {
-        let Some(changed) = changed_plan(self.alloc, self.source, self.plan, change)? else {
-            return Ok(false);
-        };
-        is_called_safe(self.rt, self.alloc, &changed)
+        match changed_plan(self.alloc, self.source, self.plan, change)? {
+            Some(changed) => is_called_safe(self.rt, self.alloc, &changed.plan),
+            None => Ok(false),
+        }
     }
 
     /// The start of a job later or earlier, if fields can say it.
@@ -241,7 +241,7 @@ impl<R: Threads + Sync> Search<'_, R> {
         for _ in 0..16 {
             let middle = halfway(low, high);
             if middle > low {
-                if self.is_safe(&Change::Max(job, middle))? {
+                if self.is_safe(&Change::Member(Member::Max(job, middle)))? {
                     low = middle;
                 } else {
                     high = middle;
@@ -249,7 +249,7 @@ impl<R: Threads + Sync> Search<'_, R> {
             }
         }
         if low > 0 {
-            changes.push(Change::Max(job, low))?;
+            changes.push(Change::Member(Member::Max(job, low)))?;
         }
         Ok(())
     }
@@ -257,7 +257,7 @@ impl<R: Threads + Sync> Search<'_, R> {
     /// Adds the modes of a job with which the plan is safe, but for its own.
     fn add_modes(&self, changes: &mut Vec<Change>, job: u16) -> Result<(), AllocError> {
         for mode in [Mode::Wait, Mode::Skip, Mode::Try, Mode::Shared] {
-            let change = Change::Mode(job, mode);
+            let change = Change::Member(Member::Mode(job, mode));
             if mode != self.plan.job_at(job).mode() && self.is_safe(&change)? {
                 changes.push(change)?;
             }
@@ -270,27 +270,27 @@ impl<R: Threads + Sync> Search<'_, R> {
     fn add_capacity(&self, changes: &mut Vec<Change>) -> Result<(), AllocError> {
         let mut low = self.plan.capacity();
         let mut high = MAX_CAPACITY;
-        if !self.is_safe(&Change::Capacity(high))? {
+        if !self.is_safe(&Change::Member(Member::Capacity(high)))? {
             return Ok(());
         }
         for _ in 0..8 {
             let middle = low.saturating_add(high.saturating_sub(low) / 2);
             if middle > low {
-                if self.is_safe(&Change::Capacity(middle))? {
+                if self.is_safe(&Change::Member(Member::Capacity(middle)))? {
                     high = middle;
                 } else {
                     low = middle;
                 }
             }
         }
-        changes.push(Change::Capacity(high))?;
+        changes.push(Change::Member(Member::Capacity(high)))?;
         Ok(())
     }
 
     /// Whether the plan is safe with the catch-up hours between two minutes of the day.
     fn is_safe_in(&self, from: u16, to: u16) -> Result<bool, AllocError> {
         match Hours::new(u64::from(from), u64::from(to)) {
-            Some(hours) => self.is_safe(&Change::Hours(hours)),
+            Some(hours) => self.is_safe(&Change::Member(Member::Hours(hours))),
             None => Ok(false),
         }
     }

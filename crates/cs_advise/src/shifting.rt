@@ -5,6 +5,7 @@ use crate::change::Shift;
 use crate::later::is_daily;
 use cs_civil::{Bytes, MINUTES_OF_DAY, push_number};
 use cs_crontab::{Part, Schedule};
+use cs_diagnostics::Span;
 use cs_table::text::{first_line, skip_blanks, word};
 use std::alloc::{AllocError, Global};
 
@@ -97,20 +98,20 @@ fn push_rest(
     text.extend_from_slice(behind)
 }
 
-/// The line of that number, counted from 1; nothing where there is none.
-fn line_at(text: &[u8], number: u32) -> &[u8] {
+/// Where the line of that number stands, counted from 1; the end of the text where there is none.
+pub(crate) fn line_span(text: &[u8], number: u32) -> Span {
     let mut rest = text;
     for at in 1..=number {
         if rest.is_empty() {
-            return rest;
+            break;
         }
         let (line, more) = first_line(rest);
         if at == number {
-            return line;
+            return Span::of(text.len().saturating_sub(rest.len()), line.len());
         }
         rest = more;
     }
-    b""
+    Span::of(text.len(), 0)
 }
 
 /// The line of a command that starts later or earlier, if fields can say so. The only error is want
@@ -129,6 +130,7 @@ pub(crate) fn shifted_line(
     push_numbers(alloc, &mut text, minutes, 60)?;
     text.push(b' ')?;
     push_numbers(alloc, &mut text, hours, 24)?;
-    push_rest(alloc, &mut text, line_at(table, number), schedule)?;
+    let line = line_span(table, number).bytes(table);
+    push_rest(alloc, &mut text, line, schedule)?;
     Ok(Some(Bytes::from_vec(text)))
 }

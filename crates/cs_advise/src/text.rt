@@ -1,59 +1,58 @@
-//! The text of a table with another line in it.
-ghost use Rattle.std.specs.Prelude.{◌≡◌, ◌++◌, IfOk, OnOk, flat_map};
-ghost use Rattle.cs_table.specs.Text.{lines_of};
-ghost use Rattle.cs_advise.specs.Change.{ended, with_line};
+//! A text with another part, or another line.
+ghost use Rattle.std.specs.Prelude.{◌≡◌, ◌==◌, ◌++◌, ℕ, List, IfOk, IfSome, false};
+ghost use Rattle.std.specs.List.{list_any};
+ghost use Rattle.cs_advise.specs.Replaced.{IsOtherLine, IsReplaced};
 
-use cs_table::text::first_line;
+use cs_diagnostics::Span;
 use std::alloc::{AllocError, Global};
 
-/// Adds a line and its newline.
-fn push_line(text: &mut Vec<u8>, line: &[u8]) -> Result<(), AllocError>
-    ensures { OnOk result (text.new.items ≡ text.old.items ++ ended line.now) }
+/// Three texts, one behind the other.
+pub(crate) fn joined(
+    alloc: Global,
+    front: &[u8],
+    part: &[u8],
+    back: &[u8],
+) -> Result<Vec<u8>, AllocError>
+    ensures { IfOk result (λ text. text.items ≡ front.now ++ (part.now ++ back.now)) }
 {
-    text.extend_from_slice(line)?;
-    text.push(b'\n')?;
-    Ok(())
+    let mut text = Vec::from_slice(alloc, front)?;
+    text.extend_from_slice(part)?;
+    text.extend_from_slice(back)?;
+    Ok(text)
 }
 
-/// Adds the lines of a text, each with a newline.
-#[tactic(auto, unfolding(cs_table::specs::Text::lines_of))]
-fn push_lines(text: &mut Vec<u8>, lines: &[u8]) -> Result<(), AllocError>
-    ensures { OnOk result
-        (text.new.items ≡ text.old.items ++ flat_map ended (lines_of lines.now)) }
-{
-    let mut rest = lines;
-    while !rest.is_empty() {
-        let (line, more) = first_line(rest);
-        push_line(text, line)?;
-        rest = more;
-    }
-    Ok(())
-}
-
-/// The text in which another line stands at a place, counted from 0. The only error is want of
-/// memory.
-#[tactic(auto, unfolding(crate::specs::Change::with_line, cs_table::specs::Text::lines_of), using(crate::proofs::Lines::later, crate::proofs::Lines::here))]
-pub(crate) fn with_line(
+/// The text with another part, which stood at a place.
+pub(crate) fn replaced(
     alloc: Global,
     text: &[u8],
     place: usize,
-    line: &[u8],
-) -> Result<Vec<u8>, AllocError>
-    ensures { IfOk result (λ changed. changed.items ≡ with_line text.now place line.now) }
+    part: &[u8],
+    put: &[u8],
+) -> Result<Option<Vec<u8>>, AllocError>
+    ensures { IfOk result (λ found. IfSome found
+        (λ new. IsReplaced text.now part.now put.now new.items)) }
 {
-    let mut changed = Vec::new(alloc);
-    let mut rest = text;
-    let mut ahead = place;
-    while !rest.is_empty() {
-        let (old, more) = first_line(rest);
-        if ahead == 0 {
-            push_line(&mut changed, line)?;
-            push_lines(&mut changed, more)?;
-            return Ok(changed);
-        }
-        push_line(&mut changed, old)?;
-        ahead -= 1;
-        rest = more;
+    let front = Span::between(0, place).bytes(text);
+    let back = Span::between(place.saturating_add(part.len()), text.len()).bytes(text);
+    if joined(alloc, front, part, back)?.as_slice() != text {
+        return Ok(None);
     }
-    Ok(changed)
+    Ok(Some(joined(alloc, front, put, back)?))
+}
+
+/// The text with another line, which stood at a span.
+pub(crate) fn with_line(
+    alloc: Global,
+    text: &[u8],
+    span: Span,
+    line: &[u8],
+) -> Result<Option<Vec<u8>>, AllocError>
+    ensures { IfOk result
+        (λ found. IfSome found (λ new. IsOtherLine text.now line.now new.items)) }
+{
+    let old = span.bytes(text);
+    if old.contains(&b'\n') {
+        return Ok(None);
+    }
+    replaced(alloc, text, span.from, old, line)
 }

@@ -1,62 +1,19 @@
 //! The line that tells a change.
-ghost use Rattle.std.specs.Prelude.{◌≡◌, ◌++◌, IfOk, IfSome, OnOk, map};
-ghost use Rattle.cs_decl.specs.Changed.{with_max, with_mode};
-ghost use Rattle.cs_advise.specs.Told.{after_due, both_lines, capacity_line, hours_line};
-ghost use Rattle.cs_advise.specs.Told.{hours_member, in_place_of, max_line, may_end, may_start};
-ghost use Rattle.cs_advise.specs.Told.{minutes_text};
-ghost use Rattle.cs_advise.specs.Told.{mode_line, mode_words, replaced_text, seen, shift_text};
-ghost use Rattle.cs_advise.specs.Told.{span_text, start_line, wait_words};
+ghost use Rattle.std.specs.Prelude.{◌≡◌, ◌++◌, ℕ, List, IfOk, OnOk, codes, map};
+ghost use Rattle.cs_history.specs.declared.mode.Mode.TheVariants.{Wait};
+ghost use Rattle.cs_judge.specs.Called.{reach_in};
+ghost use Rattle.cs_advise.specs.Told.{TellReach, both_lines};
+ghost use Rattle.cs_advise.specs.Told.{minutes_text, seen, shift_text, start_line, wait_words};
+ghost use Rattle.cs_advise.specs.declared.change.Member.TheVariants.{Mode as OtherMode};
 
-use crate::change::{Shift, Start};
-use crate::entry::entry_text;
+use crate::change::{Member, Shift, Start};
 use crate::label::push_label;
-use cs_civil::{Hours, push_number};
+use cs_check::Checked;
+use cs_civil::push_number;
 use cs_decl::Plan;
 use cs_history::Mode;
+use cs_judge::reach_in;
 use std::alloc::{AllocError, Global};
-
-#[tactic(auto, unfolding(crate::specs::Told::in_place_of))]
-fn push_in_place_of(text: &mut Vec<u8>) -> Result<(), AllocError>
-    ensures { OnOk result (text.new.items ≡ text.old.items ++ in_place_of) }
-{
-    text.extend_from_slice(b" in place of ")
-}
-
-/// Adds a number, and the one that it replaces.
-#[tactic(auto, unfolding(crate::specs::Told::replaced_text))]
-fn push_replaced(alloc: Global, text: &mut Vec<u8>, new: u16, old: u16) -> Result<(), AllocError>
-    ensures { OnOk result (text.new.items ≡ text.old.items ++ replaced_text new old) }
-{
-    push_number(alloc, text, u128::from(new))?;
-    push_in_place_of(text)?;
-    push_number(alloc, text, u128::from(old))
-}
-
-/// The line of another longest time, of which a plan is given; none where its entry has no text.
-#[tactic(auto, unfolding(crate::specs::Told::max_line))]
-pub(crate) fn max_line(
-    alloc: Global,
-    plan: &Plan,
-    changed: &Plan,
-    job: u16,
-    max: u16,
-) -> Result<Option<Vec<u8>>, AllocError>
-    requires { changed.now ≡ with_max plan.now job max }
-    ensures { IfOk result
-        (λ line. IfSome line (λ text. text.items ≡ max_line plan.now job max)) }
-{
-    let Some(entry) = entry_text(alloc, changed, job)? else {
-        return Ok(None);
-    };
-    let mut text = Vec::new(alloc);
-    push_label(alloc, &mut text, plan, job)?;
-    text.extend_from_slice(b", max ")?;
-    push_replaced(alloc, &mut text, max, plan.job_at(job).max())?;
-    text.extend_from_slice(b": ")?;
-    text.extend_from_slice(entry.as_slice())?;
-    text.extend_from_slice(b"\n")?;
-    Ok(Some(text))
-}
 
 /// Adds `1 minute` or `N minutes`.
 #[tactic(auto, unfolding(crate::specs::Told::minutes_text))]
@@ -70,151 +27,118 @@ fn push_minutes(alloc: Global, text: &mut Vec<u8>, minutes: u16) -> Result<(), A
     text.extend_from_slice(b" minutes")
 }
 
-#[tactic(auto, unfolding(crate::specs::Told::may_start))]
-fn push_may_start(text: &mut Vec<u8>) -> Result<(), AllocError>
-    ensures { OnOk result (text.new.items ≡ text.old.items ++ may_start) }
-{
-    text.extend_from_slice(b", mode wait, so that a run may start up to ")
-}
-
-#[tactic(auto, unfolding(crate::specs::Told::may_end))]
-fn push_may_end(text: &mut Vec<u8>) -> Result<(), AllocError>
-    ensures { OnOk result (text.new.items ≡ text.old.items ++ may_end) }
-{
-    text.extend_from_slice(b" late and end up to ")
-}
-
-#[tactic(auto, unfolding(crate::specs::Told::after_due))]
-fn push_after_due(text: &mut Vec<u8>) -> Result<(), AllocError>
-    ensures { OnOk result (text.new.items ≡ text.old.items ++ after_due) }
-{
-    text.extend_from_slice(b" after its due minute: ")
-}
-
-/// Adds how late a run of so many minutes may start, and how long after its due minute it may end,
-/// by its reach.
+/// Adds how late a run of so many minutes may start and end, by its reach.
 #[tactic(auto, unfolding(crate::specs::Told::wait_words))]
 fn push_wait_words(
     alloc: Global,
     text: &mut Vec<u8>,
+    between: &[u8],
     max: u16,
     reach: u16,
 ) -> Result<(), AllocError>
-    ensures { OnOk result (text.new.items ≡ text.old.items ++ wait_words max reach) }
+    ensures { OnOk result (text.new.items ≡ text.old.items ++ wait_words between.now max reach) }
 {
-    push_may_start(text)?;
     push_minutes(alloc, text, reach.saturating_sub(max))?;
-    push_may_end(text)?;
-    push_minutes(alloc, text, reach)?;
-    push_after_due(text)
+    text.extend_from_slice(between)?;
+    push_minutes(alloc, text, reach)
 }
 
-/// Adds what becomes of a run of so many minutes, by its reach.
-fn push_mode_words(
-    alloc: Global,
-    text: &mut Vec<u8>,
-    mode: Mode,
-    max: u16,
-    reach: u16,
-) -> Result<(), AllocError>
-    ensures { OnOk result (text.new.items ≡ text.old.items ++ mode_words mode max reach) }
-{
+/// What a mode is, how cron keeps it, and what becomes of a run.
+fn about(mode: Mode) -> &'static [u8] {
     match mode {
-        Mode::Plain => text.extend_from_slice(b", mode none, so that its runs take no lock: "),
+        Mode::Plain => b", mode none, so that its runs take no lock: ",
         Mode::Skip => {
-            text.extend_from_slice(b", mode skip, so that no run may find the lock held: ")
+            b", mode skip, which cron keeps only by flock -n in the command, so that no run may \
+            find the lock held: "
         }
-        Mode::Try => text.extend_from_slice(
-            b", mode try, so that a run that finds the lock held is left out: ",
-        ),
-        Mode::Wait => push_wait_words(alloc, text, max, reach),
-        Mode::Shared => text.extend_from_slice(
-            b", mode shared, so that a run may start late, and beside others that share the lock: ",
-        ),
+        Mode::Try => {
+            b", mode try, which cron keeps only by flock -n in the command, so that a run that \
+            finds the lock held is left out: "
+        }
+        Mode::Wait =>
+            b", mode wait, which cron keeps only by flock in the command, so that a run may start up to ",
+        Mode::Shared => {
+            b", mode shared, which cron keeps only by flock -s in the command, so that a run may \
+            start late, and beside others that share the lock: "
+        }
     }
 }
 
-/// The line of another mode, of which a plan is given, with the reach of the job; none where its
-/// entry has no text.
-#[tactic(auto, unfolding(crate::specs::Told::mode_line))]
-pub(crate) fn mode_line(
-    alloc: Global,
-    plan: &Plan,
-    changed: &Plan,
-    job: u16,
-    mode: Mode,
-    reach: u16,
-) -> Result<Option<Vec<u8>>, AllocError>
-    requires { changed.now ≡ with_mode plan.now job mode }
-    ensures { IfOk result
-        (λ line. IfSome line (λ text. text.items ≡ mode_line plan.now job mode reach)) }
-{
-    let Some(entry) = entry_text(alloc, changed, job)? else {
-        return Ok(None);
-    };
+/// The name of a job, and words behind it.
+fn named(alloc: Global, plan: &Plan, job: u16, words: &[u8]) -> Result<Vec<u8>, AllocError> {
     let mut text = Vec::new(alloc);
     push_label(alloc, &mut text, plan, job)?;
-    push_mode_words(alloc, &mut text, mode, plan.job_at(job).max(), reach)?;
-    text.extend_from_slice(entry.as_slice())?;
-    text.extend_from_slice(b"\n")?;
-    Ok(Some(text))
-}
-
-/// The line of another capacity.
-#[tactic(auto, unfolding(crate::specs::Told::capacity_line))]
-pub(crate) fn capacity_line(alloc: Global, plan: &Plan, capacity: u8) -> Result<Vec<u8>, AllocError>
-    ensures { IfOk result (λ text. text.items ≡ capacity_line plan.now capacity) }
-{
-    let mut text = Vec::from_slice(alloc, b"capacity ".as_slice())?;
-    push_replaced(
-        alloc,
-        &mut text,
-        u16::from(capacity),
-        u16::from(plan.capacity()),
-    )?;
-    text.extend_from_slice(b": {\"capacity\":")?;
-    push_number(alloc, &mut text, u128::from(capacity))?;
-    text.extend_from_slice(b"}\n")?;
+    text.extend_from_slice(words)?;
     Ok(text)
 }
 
-/// Adds both ends of catch-up hours, in minutes of the day.
-#[tactic(auto, unfolding(crate::specs::Told::span_text))]
-fn push_span(
+/// The words on mode wait, with the reach of the job.
+fn words_on_wait(
     alloc: Global,
-    text: &mut Vec<u8>,
-    hours: Hours,
-    between: &[u8],
-) -> Result<(), AllocError>
-    ensures { OnOk result (text.new.items ≡ text.old.items ++ span_text between.now hours) }
+    plan: &Plan,
+    checked: &Checked,
+    job: u16,
+) -> Result<Vec<u8>, AllocError>
+    ensures { IfOk result
+        (λ words. TellReach plan.now (reach_in checked.now) (OtherMode job Wait) words.items) }
 {
-    push_number(alloc, text, u128::from(hours.from()))?;
-    text.extend_from_slice(between)?;
-    push_number(alloc, text, u128::from(hours.to()))
+    let mut words = named(alloc, plan, job, about(Mode::Wait))?;
+    let (max, reach) = (plan.job_at(job).max(), reach_in(checked, job));
+    push_wait_words(alloc, &mut words, b" late and end up to ", max, reach)?;
+    words.extend_from_slice(b" after its due minute: ")?;
+    Ok(words)
 }
 
-/// Adds the member of catch-up hours, a line.
-#[tactic(auto, unfolding(crate::specs::Told::hours_member))]
-fn push_hours_member(alloc: Global, text: &mut Vec<u8>, hours: Hours) -> Result<(), AllocError>
-    ensures { OnOk result (text.new.items ≡ text.old.items ++ hours_member hours) }
+/// The words on another value of a member.
+fn words_on(
+    alloc: Global,
+    plan: &Plan,
+    checked: &Checked,
+    member: &Member,
+) -> Result<Vec<u8>, AllocError>
+    ensures { IfOk result
+        (λ words. TellReach plan.now (reach_in checked.now) member.now words.items) }
 {
-    text.extend_from_slice(b"{\"hours\":[")?;
-    push_span(alloc, text, hours, b",")?;
-    text.extend_from_slice(b"]}\n")
+    match member {
+        Member::Max(job, max) => {
+            let old = plan.job_at(*job).max();
+            let words = format!(in alloc; ", max {max} in place of {old}: ")?;
+            named(alloc, plan, *job, words.as_bytes())
+        }
+        Member::Mode(job, Mode::Wait) => words_on_wait(alloc, plan, checked, *job),
+        Member::Mode(job, mode) => named(alloc, plan, *job, about(*mode)),
+        Member::Capacity(capacity) => {
+            let old = plan.capacity();
+            Ok(format!(in alloc; "capacity {capacity} in place of {old}: ")?.into_bytes())
+        }
+        Member::Hours(hours) => {
+            let (from, to, old) = (hours.from(), hours.to(), plan.hours());
+            let (old_from, old_to) = (old.from(), old.to());
+            let words = format!(in alloc;
+                "hours {from} to {to} in place of {old_from} to {old_to}, if anacron \
+                itself keeps to them (START_HOURS_RANGE, which Debian's anacron doesn't know): "
+            )?;
+            Ok(words.into_bytes())
+        }
+    }
 }
 
-/// The line of other catch-up hours.
-#[tactic(auto, unfolding(crate::specs::Told::hours_line))]
-pub(crate) fn hours_line(alloc: Global, plan: &Plan, hours: Hours) -> Result<Vec<u8>, AllocError>
-    ensures { IfOk result (λ text. text.items ≡ hours_line plan.now hours) }
+/// The line of another value of a member, with what is pasted.
+pub(crate) fn member_line(
+    alloc: Global,
+    plan: &Plan,
+    checked: &Checked,
+    member: &Member,
+    pasted: &[u8],
+) -> Result<Vec<u8>, AllocError>
+    ensures { IfOk result (λ line. (words : List ℕ)
+        × TellReach plan.now (reach_in checked.now) member.now words
+        × (line.items ≡ words ++ (pasted.now ++ codes "\n"))) }
 {
-    let mut text = Vec::from_slice(alloc, b"hours ".as_slice())?;
-    push_span(alloc, &mut text, hours, b" to ")?;
-    push_in_place_of(&mut text)?;
-    push_span(alloc, &mut text, plan.hours(), b" to ")?;
-    text.extend_from_slice(b": ")?;
-    push_hours_member(alloc, &mut text, hours)?;
-    Ok(text)
+    let mut line = words_on(alloc, plan, checked, member)?;
+    line.extend_from_slice(pasted)?;
+    line.push(b'\n')?;
+    Ok(line)
 }
 
 /// Adds how much later or earlier.

@@ -4,6 +4,7 @@ use Rattle.std.proofs.lemmas.Bool.{lt-ltb}
 use Rattle.cs_crontab.specs.Crontab.{Table}
 use Rattle.cs_anacrontab.specs.Anacrontab.{Table as JobTable}
 use Rattle.cs_decl.specs.Plan.{Declared}
+use Rattle.cs_gather.specs.declared.places.Place.{Place}
 use Rattle.cs_claims.specs.Certificate.{content}
 use Rattle.cs_claims.specs.Content.{Content}
 use Rattle.cs_cert.specs.Denoted.{certificate_by}
@@ -14,7 +15,7 @@ use Rattle.cs_check.specs.Checked.{certificate_in, plan_in}
 use Rattle.cs_check.specs.declared.checked.Checked.{Checked}
 use Rattle.cs_args.specs.CommandLine.{AskedCheck}
 use Rattle.cs_cli.specs.Check.{AreRead, IsDigestOf, ReadsCertificate, said}
-use Rattle.cs_files.specs.Reads.{IsRead, MeansIt, ReadsDeclared, without_rest}
+use Rattle.cs_files.specs.Reads.{IsRead, MeansIt, PlacesIn, ReadsFitting, without_rest}
 use Rattle.cs_files.specs.declared.fault.Fault.{Fault}
 use Rattle.clap.specs.Words.{Text}
 use Rattle.sha2.specs.Sha256.{sha256}
@@ -24,12 +25,14 @@ use Rattle.cs_io.specs.Files.{Failed, IsFresh, IsUpTo}
 use Rattle.cs_files.specs.Trouble.{InAnacrontab, InCertificate, InCrontab, InDeclarations, InGathered, InScript, InWords, NoTimeZone, Unread}
 
 -- what was accepted is what was read
-pub are_read : (files : List ℕ → Option (List ℕ)) (a : AskedCheck) (tables : Table × JobTable) (before : Failed) (plan : Declared) (x : Content) (found : Result Checked Ending)
-    → ReadsDeclared files tables a.declarations before before (Ok plan) → ReadsCertificate files a.certificate before before (Ok x)
+pub are_read : (files : List ℕ → Option (List ℕ)) (a : AskedCheck) (tables : Table × JobTable) (places : List Place) (before : Failed) (plan : Declared) (x : Content) (found : Result Checked Ending)
+    → PlacesIn files a.table tables.0 places → ReadsFitting files places tables a.declarations before before (Ok plan) → ReadsCertificate files a.certificate before before (Ok x)
     → IfOk found (λ checked. (plan_in checked ≡ plan) × (certificate_in checked ≡ x)) → IfOk found (AreRead files a tables before)
-are_read files a tables before plan x (Err answer) one two same = same
-are_read files a tables before plan x (Ok checked) one two same = record {
-  plan = subst (λ (p : Declared). ReadsDeclared files tables a.declarations before before (Ok p)) (sym same.0) one;
+are_read files a tables places before plan x (Err answer) placed one two same = same
+are_read files a tables places before plan x (Ok checked) placed one two same = record {
+  places = places;
+  placed = placed;
+  plan = subst (λ (p : Declared). ReadsFitting files places tables a.declarations before before (Ok p)) (sym same.0) one;
   certificate = subst (λ (d : Content). ReadsCertificate files a.certificate before before (Ok d)) (sym same.1) two;
 }
 

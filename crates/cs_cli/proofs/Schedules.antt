@@ -1,16 +1,17 @@
 -- What the answers to calls say of the bytes of their files.
 use Rattle.std.proofs.Common.{◌≡◌, ◌≢◌, ◌⊎◌, inl, inr, ℕ, ◌<◌, ◌≤◌, arith, Bool, true, false, List, [], ◌∷◌, ◌++◌, Option, Some, None, Result, Ok, Err, refl, ap, subst, sym, ◌∙◌}
-use Rattle.std.specs.Prelude.{IfSome}
+use Rattle.std.specs.Prelude.{IfSome, position}
 use Rattle.clap.specs.Words.{Text}
 use Rattle.cs_crontab.specs.Crontab.{Table}
 use Rattle.cs_crontab.specs.Faults.{Means}
 use Rattle.cs_anacrontab.specs.Anacrontab.{Table as JobTable}
 use Rattle.cs_anacrontab.specs.Faults.{Means as MeansJobs}
-use Rattle.cs_decl.specs.Faults.{Fault as DeclaredFault}
+use Rattle.cs_decl.specs.Faults.{Fault as DeclaredFault, at_cron}
 use Rattle.cs_decl.specs.Join.{joined}
-use Rattle.cs_decl.specs.Meaning.{declared_by}
+use Rattle.cs_decl.specs.Meaning.{◌>>=◌, declared_by, unless}
 use Rattle.cs_decl.specs.Plan.{Declared}
 use Rattle.cs_decl.specs.declared.entries.Entries.{Entries}
+use Rattle.cs_decl.specs.declared.fault.DeclFault.TheVariants as faults
 use Rattle.cs_cert.specs.Denoted.{certificate_by}
 use Rattle.cs_check.specs.Case.{fault_of}
 use Rattle.cs_check.specs.Checked.{certificate_in, plan_in}
@@ -30,15 +31,17 @@ use Rattle.cs_report.specs.Told.{told}
 use Rattle.cs_report.specs.declared.check_fault.CheckFault.{CheckFault}
 use Rattle.cs_args.specs.CommandLine.{AskedCheck, AskedJudge, AskedMake, AskedRun}
 use Rattle.cs_io.specs.Files.{Failed}
-use Rattle.cs_files.specs.Reads.{AndThen, Gives, GivesSome, MeansTable, ReadsAs, ReadsDeclared, ReadsEntries, ReadsJobs, ReadsTables, behind, planned}
+use Rattle.cs_files.specs.Fitting.{fitting, has_other_parts}
+use Rattle.cs_files.specs.Reads.{AndThen, Gives, GivesSome, MeansTable, PlacesIn, ReadsAs, ReadsEntries, ReadsFitting, ReadsJobs, ReadsTables, behind, planned}
 use Rattle.cs_files.specs.Response.{Ending}
 use Rattle.cs_files.specs.Trouble.{InAnacrontab, InCertificate, InCrontab, InDeclarations, InGathered, InScript, InWords, NoTimeZone, Trouble, Unread, trouble_status}
 use Rattle.cs_cli.specs.Answer.{IsOfOthers, IsOrder}
 use Rattle.cs_cli.specs.Check.{AnswersCheck, IsProofOf, verdict_text}
-use Rattle.cs_cli.specs.Judge.{AnswersJudge, AnswersMake, AnswersWanted, IsJudged, IsJudgedAt, JudgesPlan, outcome_status, wanted_of}
+use Rattle.cs_cli.specs.Judge.{AnswersJudge, AnswersMake, AnswersWanted, IsJudged, JudgesPlan, outcome_status, wanted_of}
 use Rattle.cs_cli.specs.Safe.{IsChecked, IsSafe}
 use Rattle.cs_cli.proofs.CheckLemmas.{digest_of}
 use Rattle.cs_cli.specs.Theorem.{DenoteJobs, DenotesPlan, Given, Hold, HoldsIt, IsCalmPlan, IsCalmSchedule, IsGatheredSchedule, IsJudgedSafe, IsJudgedUnknown, IsJudgedUnsafe, IsOrdered, IsPrintedSchedule, IsRefused, IsSafePlan, IsSafeSchedule}
+use Rattle.cs_gather.specs.Places.{places_of}
 use Rattle.cs_gather.specs.declared.places.Place.{Place}
 use Rattle.cs_cli.specs.declared.answer.Order.{Order}
 
@@ -92,16 +95,21 @@ entries_denoted : (files : List ℕ → Option (List ℕ)) (path : Text) (before
 entries_denoted files path before after d bytes holds (inl read) = file_means files path (λ text e. declared_by text ≡ e) InDeclarations before after d bytes holds read
 entries_denoted files path before after d bytes holds (inr (same, long, (t, told, e))) = absurd (cc)
 
-is_planned : (r : Result Declared DeclaredFault) (plan : Declared) → Ok plan ≡ planned r → r ≡ Ok plan
-is_planned (Ok p) plan e = cc
-is_planned (Err fault) plan e = absurd (cc)
+-- a plan of which entries have the parts is the joined one, and no entry has others
+is_fitting : (r : Result Declared DeclaredFault) (first : Option ℕ) (plan : Declared) → Ok plan ≡ planned (r >>= λ p. unless p (at_cron faults.OtherParts first)) → (r ≡ Ok plan) × (first ≡ None)
+is_fitting (Ok p) None plan e = (cc, refl)
+is_fitting (Ok p) (Some i) plan e = absurd (cc)
+is_fitting (Err fault) first plan e = absurd (cc)
 
-plan_denoted : (files : List ℕ → Option (List ℕ)) (table : Text) (anacrontab : Option Text) (declarations : Text) (given : Given) (before after before' after' : Failed) (both : Table × JobTable) (plan : Declared)
+plan_denoted : (files : List ℕ → Option (List ℕ)) (table : Text) (anacrontab : Option Text) (declarations : Text) (given : Given) (before after before' after' : Failed) (both : Table × JobTable) (places : List Place) (plan : Declared)
     → Hold files table anacrontab declarations given → ReadsTables files table anacrontab before after (Ok both)
-    → ReadsDeclared files both declarations before' after' (Ok plan) → DenotesPlan given plan
-plan_denoted files table anacrontab declarations given before after before' after' both plan hold read rest =
+    → PlacesIn files table both.0 places → ReadsFitting files places both declarations before' after' (Ok plan) → DenotesPlan given plan
+plan_denoted files table anacrontab declarations given before after before' after' both places plan hold read placed rest =
     let tables = tables_denoted files table anacrontab declarations given before after both hold read in
-    let one = both_gave (ReadsEntries files declarations) (λ d. Gives (planned (joined both.0 both.1 d))) before' after' plan rest in
+    let one = both_gave (ReadsEntries files declarations) (λ d. Gives (planned (fitting places both d))) before' after' plan rest in
+    let first = λ (ps : List Place). position (has_other_parts ps both.0.lines) one.value.cron in
+    let fit = is_fitting (joined both.0 both.1 one.value) (first places) plan one.two.1 in
+    let listed = subst (λ (o : Option (List ℕ)). IfSome o (λ bytes. places ≡ places_of bytes both.0)) hold.crontab placed in
     record {
       crontab = both.0;
       is_crontab = tables.0;
@@ -109,7 +117,8 @@ plan_denoted files table anacrontab declarations given before after before' afte
       is_anacrontab = tables.1;
       entries = one.value;
       are_entries = entries_denoted files declarations before' before' one.value given.declarations hold.declarations one.one;
-      joins = is_planned (joined both.0 both.1 one.value) plan one.two.1;
+      joins = fit.0;
+      fits = subst (λ (ps : List Place). first ps ≡ None) listed fit.1;
     }
 
 -- ---- `check`, and an order to run
@@ -119,7 +128,7 @@ schedule : (files : List ℕ → Option (List ℕ)) (a : AskedCheck) (failed : F
     → IsProofOf files a failed checked → IsSafePlan (plan_in checked) → IsSafeSchedule given certificate
 schedule files a failed checked given certificate hold holds proof safe = record {
   plan = plan_in checked;
-  is_plan = plan_denoted files a.table a.anacrontab a.declarations given failed failed failed failed proof.tables (plan_in checked) hold proof.read proof.rest.plan;
+  is_plan = plan_denoted files a.table a.anacrontab a.declarations given failed failed failed failed proof.tables proof.rest.places (plan_in checked) hold proof.read proof.rest.placed proof.rest.plan;
   content = certificate_in checked;
   is_certificate = file_means files a.certificate (λ bytes c. certificate_by bytes ≡ c) InCertificate failed failed (certificate_in checked) certificate holds proof.rest.certificate;
   accepted = checked.kept;
@@ -221,15 +230,14 @@ answered_by : (wanted : Wanted) (files : List ℕ → Option (List ℕ)) (a : As
     → JudgesPlan wanted files a both before after r → (behind w r).status ≢ 3 → (behind w r).status ≢ 6
     → IsAnswered wanted given (behind w r).status (behind w r).out
 answered_by wanted files a before after w both given (Err t) hold read judged three six = absurd (troubled t three six)
-answered_by wanted files a before after w both given (Ok answer) hold read judged three six =
-    let one = both_gave (ReadsDeclared files both a.declarations) (λ plan. GivesSome (IsJudgedAt wanted files a.table both.0 plan)) before after answer judged in
-    let told = some_given (IsJudgedAt wanted files a.table both.0 one.value) before after answer one.two in
+answered_by wanted files a before after w both given (Ok answer) hold read (places, placed, judged) three six =
+    let one = both_gave (ReadsFitting files places both a.declarations) (λ plan. GivesSome (IsJudged wanted plan places)) before after answer judged in
     record {
       plan = one.value;
-      is_plan = plan_denoted files a.table a.anacrontab a.declarations given before before before before both one.value hold read one.one;
+      is_plan = plan_denoted files a.table a.anacrontab a.declarations given before before before before both places one.value hold read placed one.one;
       answer = answer;
-      places = told.0;
-      judged = told.2;
+      places = places;
+      judged = some_given (IsJudged wanted one.value places) before after answer one.two;
       same_status = refl;
       same_out = refl;
     }

@@ -26,7 +26,7 @@ use Rattle.cs_report.specs.Warning.{plan_notes}
 use Rattle.cs_args.specs.CommandLine.{AskedCheck}
 use Rattle.cs_io.specs.Files.{Failed}
 use Rattle.cs_files.specs.Response.{Ending, done}
-use Rattle.cs_files.specs.Reads.{AndThen, Answered, GivesSome, PlacesIn, ReadsAs, ReadsDeclared, ReadsTables}
+use Rattle.cs_files.specs.Reads.{AndThen, Answered, Gives, PlacesIn, ReadsAs, ReadsFitting, ReadsTables, WithPlaces}
 use Rattle.cs_files.specs.Trouble.{InCertificate, Trouble}
 use Rattle.cs_cli.specs.declared.check.Examined.{Examined}
 use Rattle.cs_cli.specs.declared.check.Examined.TheVariants.{Accepted, Ended}
@@ -114,18 +114,14 @@ abbrev pub ReadsCertificate : (List ℕ → Option (List ℕ)) → Text → Fail
     → Result Content Trouble → Type 0
 ReadsCertificate files path = ReadsAs files path (λ bytes c. certificate_by bytes ≡ c) InCertificate
 
--- what the checker says of a plan and a certificate, with the places of the table at a path
-abbrev pub IsVerdict : (List ℕ → Option (List ℕ)) → Text → Table → Declared → Content → Ending
-    → Type 0
-IsVerdict files path table plan c ending = (places : List Place)
-    × PlacesIn files path table places × (ending ≡ verdict plan places c.reach (fault_of plan c))
-
--- the declarations and the certificate are read, and the checker says of the two
+-- the declarations and the certificate are read, and the checker says of the two, with the places of
+-- the table
 abbrev pub Judges : (List ℕ → Option (List ℕ)) → AskedCheck → Table × JobTable → Failed → Failed
     → Result Ending Trouble → Type 0
-Judges files a tables = AndThen (ReadsDeclared files tables a.declarations) (λ plan.
+Judges files a tables = WithPlaces files a.table tables.0 (λ places.
+    AndThen (ReadsFitting files places tables a.declarations) (λ plan.
     AndThen (ReadsCertificate files a.certificate) (λ c.
-    GivesSome (IsVerdict files a.table tables.0 plan c)))
+    Gives (Ok (verdict plan places c.reach (fault_of plan c))))))
 
 -- `safe` where the checker has accepted the plan, beside the notes on it, else what it says of the
 -- first rule
@@ -136,7 +132,9 @@ answer_of (Err answer) = answer
 -- the declarations and the certificate are read, and denote what was accepted
 pub record AreRead (files : List ℕ → Option (List ℕ)) (a : AskedCheck) (tables : Table × JobTable)
     (failed : Failed) (checked : Checked) : Type 0 where
-  pub plan : ReadsDeclared files tables a.declarations failed failed (Ok (plan_in checked))
+  pub places : List Place
+  pub placed : PlacesIn files a.table tables.0 places
+  pub plan : ReadsFitting files places tables a.declarations failed failed (Ok (plan_in checked))
   pub certificate : ReadsCertificate files a.certificate failed failed (Ok (certificate_in checked))
 
 -- the files, each read in its own turn, denote the plan and the certificate that were accepted

@@ -1,6 +1,5 @@
 -- What is answered to `judge` and to `make`: how the tables stand as they are declared.
 use Rattle.std.specs.Prelude.{◌≡◌, ℕ, Bool, true, false, List, [], ◌++◌, Option, Some, None, Result}
-use Rattle.clap.specs.Words.{Text}
 use Rattle.cs_crontab.specs.Crontab.{Table}
 use Rattle.cs_anacrontab.specs.Anacrontab.{Table as JobTable}
 use Rattle.cs_decl.specs.Plan.{Declared}
@@ -17,7 +16,7 @@ use Rattle.cs_report.specs.Warning.{plan_notes}
 use Rattle.cs_args.specs.CommandLine.{AskedJudge, AskedMake}
 use Rattle.cs_io.specs.Files.{Failed}
 use Rattle.cs_files.specs.Response.{Ending}
-use Rattle.cs_files.specs.Reads.{AndThen, Answered, GivesSome, PlacesIn, ReadsDeclared, ReadsTables}
+use Rattle.cs_files.specs.Reads.{AndThen, Answered, GivesSome, ReadsFitting, ReadsTables, WithPlaces}
 use Rattle.cs_files.specs.Trouble.{Trouble}
 use Rattle.cs_gather.specs.declared.places.Place.{Place}
 use Rattle.cs_cli.specs.Check.{fault_places}
@@ -46,18 +45,12 @@ pub record IsJudged (wanted : Wanted) (plan : Declared) (places : List Place) (e
   pub status : ending.status ≡ outcome_status found
   pub err : ending.err ≡ plan_notes plan ++ refusal_places plan places judged
 
--- and so with the places of the table at a path
-abbrev pub IsJudgedAt : Wanted → (List ℕ → Option (List ℕ)) → Text → Table → Declared → Ending
-    → Type 0
-IsJudgedAt wanted files path table plan ending =
-    (places : List Place) × PlacesIn files path table places × IsJudged wanted plan places ending
-
--- the declarations are read, and the plan is judged
+-- the declarations are read, and the plan is judged, with the places of the table
 abbrev pub JudgesPlan : Wanted → (List ℕ → Option (List ℕ)) → AskedJudge → Table × JobTable → Failed
     → Failed → Result Ending Trouble → Type 0
-JudgesPlan wanted files a tables =
-    AndThen (ReadsDeclared files tables a.declarations)
-    (λ plan. GivesSome (IsJudgedAt wanted files a.table tables.0 plan))
+JudgesPlan wanted files a tables = WithPlaces files a.table tables.0 (λ places.
+    AndThen (ReadsFitting files places tables a.declarations)
+    (λ plan. GivesSome (IsJudged wanted plan places)))
 
 -- what is answered where this is wanted: how the plan was found, or the first fault of a file, and no
 -- file is read before its own turn

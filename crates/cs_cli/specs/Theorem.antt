@@ -1,5 +1,5 @@
 -- What the words of `check`, `judge`, `make` and `run` say of the bytes of their files.
-use Rattle.std.specs.Prelude.{◌≡◌, ◌⊎◌, ℕ, true, false, List, [], ◌∷◌, ◌++◌, Option, Some, None, Ok, ⊤}
+use Rattle.std.specs.Prelude.{◌≡◌, ◌⊎◌, ℕ, true, false, List, [], ◌∷◌, ◌++◌, Option, Some, None, Ok, ⊤, position}
 use Rattle.clap.specs.Words.{Text}
 use Rattle.sha2.specs.Sha256.{sha256}
 use Rattle.cs_crontab.specs.Crontab.{Table}
@@ -7,6 +7,7 @@ use Rattle.cs_crontab.specs.Faults.{Means}
 use Rattle.cs_anacrontab.specs.Anacrontab.{Table as JobTable, no_lines as no_jobs}
 use Rattle.cs_anacrontab.specs.Faults.{Means as MeansJobs}
 use Rattle.cs_gather.specs.Gather.{is_gathered}
+use Rattle.cs_gather.specs.Places.{places_of}
 use Rattle.cs_gather.specs.declared.places.Place.{Place}
 use Rattle.cs_history.specs.Plan.{IsReached}
 use Rattle.cs_history.specs.Calm.{IsCalm}
@@ -28,6 +29,7 @@ use Rattle.cs_judge.specs.Breach.{IsBreach}
 use Rattle.cs_judge.specs.declared.breach.Breach.{Breach}
 use Rattle.cs_args.specs.Asked.{asked_run}
 use Rattle.cs_args.specs.CommandLine.{AskedRun}
+use Rattle.cs_files.specs.Fitting.{has_other_parts}
 use Rattle.cs_files.specs.Response.{Ending}
 use Rattle.cs_cli.specs.Check.{verdict_text}
 use Rattle.cs_cli.specs.declared.answer.Order.{Order}
@@ -57,7 +59,8 @@ abbrev pub DenoteJobs : Option (List ℕ) → JobTable → Type 0
 DenoteJobs None jobs = jobs ≡ no_jobs
 DenoteJobs (Some bytes) jobs = MeansJobs bytes (Ok jobs)
 
--- what is given denotes two tables and declarations, which join to this plan
+-- what is given denotes two tables and declarations, which join to this plan; and no entry has other
+-- parts than the place of its line tells
 pub record DenotesPlan (given : Given) (plan : Declared) : Type 0 where
   pub crontab : Table
   pub is_crontab : Means given.crontab (Ok crontab)
@@ -66,6 +69,8 @@ pub record DenotesPlan (given : Given) (plan : Declared) : Type 0 where
   pub entries : Entries
   pub are_entries : declared_by given.declarations ≡ Ok entries
   pub joins : joined crontab anacrontab entries ≡ Ok plan
+  pub fits : position (has_other_parts (places_of given.crontab crontab) crontab.lines) entries.cron
+      ≡ None
 
 -- Every legal history of the plan in which each run ends within its declared time is safe. This is
 -- said again in the words of histories, and not by `IsHeadline`, nor the next by

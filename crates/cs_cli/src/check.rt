@@ -32,7 +32,7 @@ use cs_claims::{Certificate, JobReach, MAX_CERTIFICATE};
 use cs_crontab::Crontab;
 use cs_decl::Plan;
 use cs_files::{
-    Fault, RanOut, Response, bytes_at, declared_plan_from, read_placed_tables, text_behind,
+    Fault, RanOut, Response, bytes_at, placed_plan_from, read_placed_tables, text_behind,
 };
 use cs_gather::Place;
 use cs_io::Inputs;
@@ -158,6 +158,7 @@ fn ruling_on_files<'a, R: Threads + Sync, I: Inputs>(
         (I.failed inputs.old) (I.failed inputs.new)) (result_map_both answer_of (λ e. e)
         (without_rest result)) }
     ensures read { IsFresh (I.whole inputs.old) (I.left inputs.old)
+        → PlacesIn (I.whole inputs.old) (asked_check request.now).table tables.0 places.now
         → IfOk result (λ found. IfOk found.0 (AreRead (I.whole inputs.old)
         (asked_check request.now) tables (I.failed inputs.old))) }
     ensures digest { IsFresh (I.whole inputs.old) (I.left inputs.old)
@@ -171,7 +172,8 @@ fn ruling_on_files<'a, R: Threads + Sync, I: Inputs>(
         (I.reads inputs.old) (I.reads inputs.new) }
 {
     let (table, jobs) = tables;
-    let plan = declared_plan_from(alloc, inputs, request.declarations, table, jobs)?;
+    let path = request.declarations;
+    let plan = placed_plan_from(alloc, inputs, path, table, jobs, places)?;
     let (certificate, digest) = certificate_from(alloc, inputs, request.certificate)?;
     Ok((ruling(rt, alloc, plan, places, certificate)?, digest))
 }

@@ -17,7 +17,7 @@ use cs_args::{JudgeWords, MakeWords};
 use cs_civil::Bytes;
 use cs_crontab::Crontab;
 use cs_decl::Plan;
-use cs_files::{Fault, RanOut, Response, Status, declared_plan_from, read_placed_tables};
+use cs_files::{Fault, RanOut, Response, Status, placed_plan_from, read_placed_tables};
 use cs_gather::Place;
 use cs_io::Inputs;
 use cs_judge::{Judged, Outcome, Wanted, answer, judge};
@@ -90,7 +90,8 @@ fn told<'a, R: Threads + Sync, I: Inputs>(
         (I.reads inputs.old) (I.reads inputs.new) }
 {
     let (table, jobs) = tables;
-    let plan = declared_plan_from(alloc, inputs, request.declarations, table, jobs)?;
+    let path = request.declarations;
+    let plan = placed_plan_from(alloc, inputs, path, table, jobs, places)?;
     Ok(judged(rt, alloc, &plan, places, wanted)?)
 }
 

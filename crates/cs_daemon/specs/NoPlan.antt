@@ -16,5 +16,6 @@ no_plan = record {
   offset = pos 0;
   left_out = [];
   defaulted = 0;
+  guessed = 0;
   doubled = None;
 }

@@ -1,6 +1,6 @@
 -- The lines that entries of a plan name.
-use Rattle.std.proofs.Common.{◌≡◌, ◌≢◌, ℕ, ◌<◌, ◌≤◌, List, Bool, true, false, ◌&&◌, map, length, get_or, Option, Some, None, Ok, pos, refl, sym, ap, ◌∙◌, arith}
-use Rattle.std.specs.Prelude.{All, IfSome, option_map}
+use Rattle.std.proofs.Common.{◌≡◌, ◌≢◌, ◌⊎◌, ◌++◌, inl, inr, ℕ, ◌<◌, ◌≤◌, List, Bool, true, false, not, ◌&&◌, map, length, get_or, Option, Some, None, Ok, pos, refl, sym, subst, ap, ◌∙◌, arith}
+use Rattle.std.specs.Prelude.{All, Contains, IfSome, option_map}
 use Rattle.std.specs.Ordering.{int_eq}
 use Rattle.std.specs.List.{list_any, count_by}
 use Rattle.std.proofs.lemmas.Bool.{ltb-false}
@@ -12,14 +12,15 @@ use Rattle.cs_anacrontab.specs.Anacrontab.{Table as Anacrontab}
 use Rattle.cs_decl.specs.declared.entries.LineName.{LineName}
 use Rattle.cs_decl.specs.declared.entries.Entries.{Entries}
 use Rattle.cs_decl.specs.Plan.{Declared}
-use Rattle.cs_decl.specs.Faults.{Fault, same_number}
+use Rattle.cs_decl.specs.Faults.{Fault, first_fault, same_number}
 use Rattle.cs_decl.specs.Meaning.{unless}
-use Rattle.cs_decl.specs.Join.{is_named, is_unlike, has_no_line, has_other_command, is_ambiguous, number_of, cron_numbers, rest, lines_left_out, naming_faults, undeclared, plan_of, joined}
-use Rattle.cs_decl.specs.Lines.{names_of, TellsOf, IsLeftOut, HasNoEntry}
+use Rattle.cs_decl.specs.Join.{is_named, names_line, is_unlike, has_other_schedule, has_no_line, has_other_command, is_ambiguous, number_of, cron_numbers, rest, lines_left_out, naming_faults, undeclared, mistimed, plan_of, joined}
+use Rattle.cs_decl.specs.Lines.{names_of, TellsOf, is_told, IsLeftOut, HasNoEntry}
+use Rattle.cs_decl.specs.When.{is_told_when}
 use Rattle.cs_decl.proofs.Positions.{position_none}
 use Rattle.cs_decl.proofs.Validity.{yes, locked, no_part}
-use Rattle.cs_decl.proofs.Joins.{NamesAreRight, names_are_right, JobsAreDeclared, jobs_are_declared}
-use Rattle.cs_decl.proofs.Once.{none_pass, any_map, at_least_one, found_once, apart}
+use Rattle.cs_decl.proofs.Joins.{NamesAreRight, names_are_right, JobsAreDeclared, jobs_are_declared, SchedulesAreRight, schedules_are_right}
+use Rattle.cs_decl.proofs.Once.{none_pass, any_map, at_least_one, found_once, passing, count_none, apart}
 
 -- ---- a plan is made where there is no fault
 
@@ -28,13 +29,18 @@ no_fault x y None h = (refl, cc)
 no_fault x y (Some f) h = absurd cc
 
 module _ (c : Crontab) (a : Anacrontab) (d : Entries) (plan : Declared) (made : joined c a d ≡ Ok plan) where
-  pub named_right : NamesAreRight c.lines a.lines d
+  parted : (first_fault (naming_faults c.lines a.lines d) ≡ None) × (first_fault (undeclared (rest d c).lines a.lines d ++ mistimed c.lines d) ≡ None)
   unfolding joined
-  named_right = names_are_right c.lines a.lines d (no_part (naming_faults c.lines a.lines d) (undeclared (rest d c).lines a.lines d) (no_fault (plan_of (rest d c) (lines_left_out d c) a d) plan _ made).0).0
+  parted = no_part (naming_faults c.lines a.lines d) (undeclared (rest d c).lines a.lines d ++ mistimed c.lines d) (no_fault (plan_of (rest d c) (lines_left_out d c) a d) plan _ made).0
+
+  pub named_right : NamesAreRight c.lines a.lines d
+  named_right = names_are_right c.lines a.lines d parted.0
 
   pub declared_right : JobsAreDeclared (rest d c).lines a.lines d
-  unfolding joined
-  declared_right = jobs_are_declared (rest d c).lines a.lines d (no_part (naming_faults c.lines a.lines d) (undeclared (rest d c).lines a.lines d) (no_fault (plan_of (rest d c) (lines_left_out d c) a d) plan _ made).0).1
+  declared_right = jobs_are_declared (rest d c).lines a.lines d (no_part (undeclared (rest d c).lines a.lines d) (mistimed c.lines d) parted.1).0
+
+  pub timed_right : SchedulesAreRight c.lines d
+  timed_right = schedules_are_right c.lines d (no_part (undeclared (rest d c).lines a.lines d) (mistimed c.lines d) parted.1).1
 
   pub plan_is : plan_of (rest d c) (lines_left_out d c) a d ≡ plan
   unfolding joined
@@ -50,17 +56,20 @@ own : (command : List ℕ) (told : Option (List ℕ)) → is_unlike command told
 own command None e = tt
 own command (Some text) e = (bytes_eq-Decides text command).0 (yes _ e)
 
-tells : (lines : List CommandLine) (name : LineName) → has_other_command lines name ≡ false → All (TellsOf name) lines
-tells lines name e =
-    All-weaker (λ line. (is_named name line && is_unlike line.command name.command) ≡ false) (TellsOf name) (λ line h named. own line.command name.command (locked _ _ h named)) lines
-    (none_pass (λ line. is_named name line && is_unlike line.command name.command) lines e)
+tells : (lines : List CommandLine) (name : LineName) → has_other_command lines name ≡ false → has_other_schedule lines name ≡ false → All (TellsOf name) lines
+tells lines name command when = λ k l low named.
+    let line = get_or lines k l in
+    let unlike = none_pass (λ x. is_named name x && is_unlike x.command name.command) lines command k l low in
+    let late = none_pass (λ x. is_named name x && not (is_told_when name.when x.when)) lines when k l low in
+    (own line.command name.command (locked _ _ unlike named), yes _ (locked _ _ late named))
 
 pub commands : (c : Crontab) (a : Anacrontab) (d : Entries) (plan : Declared) → joined c a d ≡ Ok plan → All (λ name. All (TellsOf name) c.lines) (names_of d)
 commands c a d plan made =
     let right = named_right c a d plan made in
+    let timed = timed_right c a d plan made in
     all_names d (λ name. All (TellsOf name) c.lines)
-    (All-weaker (λ e. has_other_command c.lines e.name ≡ false) (λ e. All (TellsOf e.name) c.lines) (λ e. tells c.lines e.name) d.cron (position_none (λ e. has_other_command c.lines e.name) d.cron right.cron_told))
-    (All-weaker (λ name. has_other_command c.lines name ≡ false) (λ name. All (TellsOf name) c.lines) (tells c.lines) d.left_out (position_none (has_other_command c.lines) d.left_out right.left_out_told))
+    (λ k e low. tells c.lines (get_or d.cron k e).name (position_none (λ x. has_other_command c.lines x.name) d.cron right.cron_told k e low) (position_none (λ x. has_other_schedule c.lines x.name) d.cron timed.crons k e low))
+    (λ k name low. tells c.lines (get_or d.left_out k name) (position_none (has_other_command c.lines) d.left_out right.left_out_told k name low) (position_none (has_other_schedule c.lines) d.left_out timed.left_out k name low))
 
 -- ---- each names one line
 
@@ -80,6 +89,56 @@ one_line c a d plan made =
     let left_out_once = position_none (is_ambiguous c.lines) d.left_out right.left_out_once in
     all_names d (λ name. count_by (is_named name) c.lines ≡ 1) (λ k e low. exactly c.lines (get_or d.cron k e).name (cron_some k e low) (cron_once k e low))
     (λ k name low. exactly c.lines (get_or d.left_out k name) (left_out_some k name low) (left_out_once k name low))
+
+-- ---- entries stay with their commands
+
+some_passes : {A : Type 0} (p : A → Bool) (xs : List A) (b : Bool) → list_any p xs ≡ b → count_by p xs ≡ 1 → list_any p xs ≡ true
+some_passes p xs true is one = is
+some_passes p xs false is one = absurd (omega (arith, one, count_none p xs (none_pass p xs is)))
+
+same_one : {A : Type 0} (p : A → Bool) (xs : List A) (x y : A) → count_by p xs ≡ 1 → Contains xs x → p x ≡ true → Contains xs y → p y ≡ true → x ≡ y
+same_one p xs x y one (i, low, is) px (j, high, at) py =
+    let once : count_by p xs ≤ 1 = omega (arith, one) in
+    let first = found_once p xs i x once low (rw is px) in
+    let second = found_once p xs j y once high (rw at py) in
+    let found : Some (get_or xs i x) ≡ Some (get_or xs j y) = sym first ∙ second in
+    let same : get_or xs i x ≡ get_or xs j y = cc in
+    sym is ∙ same ∙ at
+
+-- what a name tells is told of a line that it names
+told_of : (name : LineName) (line : CommandLine) (told : Option (List ℕ)) → name.command ≡ told → IfSome told (λ text. text ≡ line.command) → is_told_when name.when line.when ≡ true → (is_told name line ≡ true) ⊎ (told ≡ None)
+told_of name line None is own when = inr refl
+told_of name line (Some text) is own when = inl (rw (is, (bytes_eq-Decides text line.command).1 own, when) refl)
+
+none_told : (name : LineName) (lines : List CommandLine) → name.command ≡ None → count_by (is_told name) lines ≡ 0
+none_told name lines none = count_none (is_told name) lines (λ k l low. rw none refl)
+
+module _ (d : Entries) (one other : Crontab) (jobs more : Anacrontab) (p q : Declared) (name : LineName) (a b : CommandLine) (made : joined one jobs d ≡ Ok p) (again : joined other more d ≡ Ok q) (there : Contains (names_of d) name) where
+  told_here : Contains one.lines a → is_named name a ≡ true → IfSome name.command (λ text. text ≡ a.command) × (is_told_when name.when a.when ≡ true)
+  told_here at named = All-contains (TellsOf name) one.lines a (All-contains (λ n. All (TellsOf n) one.lines) (names_of d) name (commands one jobs d p made) there) at named
+
+  moved : (told : Option (List ℕ)) → name.command ≡ told → b.command ≡ a.command → b.when ≡ a.when → IfSome name.command (λ text. text ≡ a.command) × (is_told_when name.when a.when ≡ true) → (is_told name b ≡ true) ⊎ (told ≡ None)
+  moved told is command when tells = told_of name b told is (rw (command, ← is) tells.0) (rw when tells.1)
+
+  its_line : (x : CommandLine) × Contains other.lines x × (is_named name x ≡ true)
+  its_line =
+      let once = All-contains (λ n. count_by (is_named n) other.lines ≡ 1) (names_of d) name (one_line other more d q again) there in
+      passing (is_named name) other.lines (some_passes (is_named name) other.lines (list_any (is_named name) other.lines) refl once)
+
+  both : (told : Option (List ℕ)) → name.command ≡ told → Contains other.lines b → count_by (is_told name) other.lines ≡ 1 → (is_told name b ≡ true) ⊎ (told ≡ None) → is_named name b ≡ true
+  both None is at alone passes = absurd (omega (arith, alone, none_told name other.lines is))
+  both (Some text) is at alone (inr never) = absurd cc
+  both (Some text) is at alone (inl told) =
+      let x = its_line in
+      let tells = All-contains (TellsOf name) other.lines x.0 (All-contains (λ n. All (TellsOf n) other.lines) (names_of d) name (commands other more d q again) there) x.1 x.2 in
+      by_line (told_of name x.0 (Some text) is (subst (λ (o : Option (List ℕ)). IfSome o (λ t. t ≡ x.0.command)) is tells.0) tells.1)
+    where
+      by_line : (is_told name its_line.0 ≡ true) ⊎ (Some text ≡ None) → is_named name b ≡ true
+      by_line (inr never) = absurd cc
+      by_line (inl also) = rw (← same_one (is_told name) other.lines its_line.0 b alone its_line.1 also at told) its_line.2
+
+  pub stays : Contains one.lines a → is_named name a ≡ true → Contains other.lines b → b.command ≡ a.command → b.when ≡ a.when → count_by (is_told name) other.lines ≡ 1 → is_named name b ≡ true
+  stays in_one named in_other command when alone = both name.command refl in_other alone (moved name.command refl command when (told_here in_one named))
 
 -- ---- lines that are left out have no entry
 

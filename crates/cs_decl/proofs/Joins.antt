@@ -1,5 +1,5 @@
 -- Where tables and declarations have no fault.
-use Rattle.std.proofs.Common.{◌≡◌, List, [], ◌∷◌, Some, None, Err, ap}
+use Rattle.std.proofs.Common.{◌≡◌, List, [], ◌∷◌, ◌++◌, Some, None, Err, ap}
 use Rattle.std.specs.Prelude.{position}
 use Rattle.std.specs.List.{find}
 use Rattle.cs_crontab.specs.Crontab.{Table as Crontab, CommandLine}
@@ -8,7 +8,7 @@ use Rattle.cs_decl.specs.declared.fault.DeclFault.TheVariants as faults
 use Rattle.cs_decl.specs.declared.fault.Place.TheVariants.{LeftOut, Line}
 use Rattle.cs_decl.specs.declared.entries.Entries.{Entries}
 use Rattle.cs_decl.specs.Faults.{first_again, first_twice, same_number, Fault, first_fault, at_anacron, at_left_out}
-use Rattle.cs_decl.specs.Join.{has_no_line, has_no_job, has_other_command, is_ambiguous, cron_numbers, left_out_numbers, is_undeclared, is_undeclared_job, is_reboot, reboot_fault, lineless, misquoted, ambiguous, named_twice, naming_faults, undeclared, rest, lines_left_out, plan_of, joined}
+use Rattle.cs_decl.specs.Join.{has_no_line, has_no_job, has_other_command, is_ambiguous, cron_numbers, left_out_numbers, is_undeclared, is_undeclared_job, is_reboot, reboot_fault, lineless, misquoted, ambiguous, named_twice, naming_faults, undeclared, has_other_schedule, mistimed, rest, lines_left_out, plan_of, joined}
 use Rattle.cs_decl.specs.Meaning.{unless}
 use Rattle.cs_decl.proofs.Validity.{no_row, no_part, mapped_none}
 use Rattle.cs_decl.proofs.Order.{in_front, behind}
@@ -66,12 +66,30 @@ jobs_are_declared lines jobs d e =
       timed = mapped_none (λ (l : CommandLine). (faults.RebootLine, Some (Line l.number))) (find (λ line. is_reboot line.when) lines) r2.0;
     }
 
+pub record SchedulesAreRight (lines : List CommandLine) (d : Entries) : Type 0 where
+  pub crons : position (λ e. has_other_schedule lines e.name) d.cron ≡ None
+  pub left_out : position (has_other_schedule lines) d.left_out ≡ None
+
+pub schedules_are_right : (lines : List CommandLine) (d : Entries) → first_fault (mistimed lines d) ≡ None → SchedulesAreRight lines d
+unfolding mistimed
+schedules_are_right lines d e =
+    let r0 = no_row _ _ e in
+    let r1 = no_row (at_left_out faults.OtherSchedule (position (has_other_schedule lines) d.left_out)) [] r0.1 in
+    record {
+      crons = mapped_none _ _ r0.0;
+      left_out = mapped_none (λ i. (faults.OtherSchedule, Some (LeftOut i))) (position (has_other_schedule lines) d.left_out) r1.0;
+    }
+
 -- ---- what is wrong with names comes first
 
-pub past_names : (c : Crontab) (a : Anacrontab) (d : Entries) → first_fault (naming_faults c.lines a.lines d) ≡ None → joined c a d ≡ unless (plan_of (rest d c) (lines_left_out d c) a d) (first_fault (undeclared (rest d c).lines a.lines d))
+pub past_names : (c : Crontab) (a : Anacrontab) (d : Entries) → first_fault (naming_faults c.lines a.lines d) ≡ None → joined c a d ≡ unless (plan_of (rest d c) (lines_left_out d c) a d) (first_fault (undeclared (rest d c).lines a.lines d ++ mistimed c.lines d))
 unfolding joined
-past_names c a d e = ap (unless (plan_of (rest d c) (lines_left_out d c) a d)) (behind (naming_faults c.lines a.lines d) (undeclared (rest d c).lines a.lines d) e)
+past_names c a d e = ap (unless (plan_of (rest d c) (lines_left_out d c) a d)) (behind (naming_faults c.lines a.lines d) (undeclared (rest d c).lines a.lines d ++ mistimed c.lines d) e)
 
 pub wrong_name : (c : Crontab) (a : Anacrontab) (d : Entries) (f : Fault) → first_fault (naming_faults c.lines a.lines d) ≡ Some f → joined c a d ≡ Err f
 unfolding joined
-wrong_name c a d f e = ap (unless (plan_of (rest d c) (lines_left_out d c) a d)) (in_front (naming_faults c.lines a.lines d) (undeclared (rest d c).lines a.lines d) f e)
+wrong_name c a d f e = ap (unless (plan_of (rest d c) (lines_left_out d c) a d)) (in_front (naming_faults c.lines a.lines d) (undeclared (rest d c).lines a.lines d ++ mistimed c.lines d) f e)
+
+pub wrong_job : (c : Crontab) (a : Anacrontab) (d : Entries) (f : Fault) → first_fault (undeclared (rest d c).lines a.lines d) ≡ Some f
+    → unless (plan_of (rest d c) (lines_left_out d c) a d) (first_fault (undeclared (rest d c).lines a.lines d ++ mistimed c.lines d)) ≡ Err f
+wrong_job c a d f e = ap (unless (plan_of (rest d c) (lines_left_out d c) a d)) (in_front (undeclared (rest d c).lines a.lines d) (mistimed c.lines d) f e)

@@ -1,3 +1,4 @@
+pub mod Agreements
 pub mod Plans
 pub mod Misreadings
 pub mod Texts

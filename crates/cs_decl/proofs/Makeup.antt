@@ -1,8 +1,7 @@
 -- Parts that aren't bad make up what they are parts of.
 use Rattle.std.proofs.Common.{◌≡◌, ◌⊎◌, inl, inr, ℕ, zero, suc, ◌<◌, List, [], ◌∷◌, Bool, true, false, not, ◌||◌, ◌&&◌, ◌==◌, length, get_or, map, Some, None, Option, is_some, refl, sym, ◌∙◌, subst, arith, ℤ, pos, negsuc, unsigned_abs, bytes_eq}
-use Rattle.std.specs.Prelude.{All}
+use Rattle.std.specs.Prelude.{All, int_le}
 use Rattle.std.specs.List.{list_any}
-use Rattle.std.proofs.lemmas.Bool.Decides.{Decides-int_eq}
 use Rattle.std.proofs.lemmas.List.{length-map}
 use Rattle.std.proofs.lemmas.List.Elements.{All-weaker}
 use Rattle.cs_decl.specs.declared.entries.PartEntry.{PartEntry}
@@ -44,13 +43,13 @@ possible parts none = λ i d within.
     let abs = within_abs 1 MAX_MINUTES (get_or parts i d).max ok in
     (abs.0, abs.1, in_range (get_or parts i d).max ok)
 
-made_up : (max : ℤ) (parts : List PartEntry) → are_bad max parts ≡ false → (max ≡ pos (minutes_of parts)) × All IsPossiblePart parts × HaveOwnNames parts
+made_up : (max : ℤ) (parts : List PartEntry) → are_bad max parts ≡ false → (int_le (pos (minutes_of parts)) max ≡ true) × All IsPossiblePart parts × HaveOwnNames parts
 made_up max parts bad =
     let a = or_false (is_some (first_twice bytes_eq (map (λ p. p.name) parts)) || list_any (λ p. is_bad_max p.max) parts) _ bad in
     let b = or_false (is_some (first_twice bytes_eq (map (λ p. p.name) parts))) _ a.0 in
-    ((Decides-int_eq max (pos (minutes_of parts))).0 (yes _ a.1), possible parts b.1, own_names parts (no_more _ b.0))
+    (yes _ a.1, possible parts b.1, own_names parts (no_more _ b.0))
 
-its_parts : (max : ℤ) (parts : List PartEntry) → (not (length parts == 0) && are_bad max parts) ≡ false → (parts ≡ []) ⊎ ((max ≡ pos (minutes_of parts)) × All IsPossiblePart parts × HaveOwnNames parts)
+its_parts : (max : ℤ) (parts : List PartEntry) → (not (length parts == 0) && are_bad max parts) ≡ false → (parts ≡ []) ⊎ ((int_le (pos (minutes_of parts)) max ≡ true) × All IsPossiblePart parts × HaveOwnNames parts)
 its_parts max [] bad = inl refl
 its_parts max (p ∷ parts) bad = inr (made_up max (p ∷ parts) (rw (other_row (suc (length parts)) 0 (omega arith)) at bad))
 

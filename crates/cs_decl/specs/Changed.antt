@@ -37,6 +37,7 @@ with_jobs d jobs = record {
   offset = d.offset;
   left_out = d.left_out;
   defaulted = d.defaulted;
+  guessed = d.guessed;
   doubled = d.doubled;
 }
 
@@ -52,6 +53,7 @@ with_capacity d capacity = record {
   offset = d.offset;
   left_out = d.left_out;
   defaulted = d.defaulted;
+  guessed = d.guessed;
   doubled = d.doubled;
 }
 
@@ -67,6 +69,7 @@ with_hours d hours = record {
   offset = d.offset;
   left_out = d.left_out;
   defaulted = d.defaulted;
+  guessed = d.guessed;
   doubled = d.doubled;
 }
 

@@ -73,11 +73,11 @@ are_bad_hours h = not (int_le (pos 0) h.0 && int_lt h.0 h.1 && int_le h.1 (pos M
 abbrev pub minutes_of : List PartEntry → ℕ
 minutes_of parts = sum_by (λ p. unsigned_abs p.max) parts
 
--- two of one name, a longest time that is none, or all together another than the entry's
+-- two of one name, a longest time that is none, or all together above the entry's
 abbrev pub are_bad : ℤ → List PartEntry → Bool
 are_bad max parts = is_some (first_twice bytes_eq (map (λ p. p.name) parts))
     || list_any (λ p. is_bad_max p.max) parts
-    || not (int_eq max (pos (minutes_of parts)))
+    || not (int_le (pos (minutes_of parts)) max)
 
 -- an entry that has parts, and bad ones
 abbrev pub has_bad_parts : CronEntry → Bool

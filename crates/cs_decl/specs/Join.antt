@@ -21,17 +21,19 @@ use Rattle.cs_decl.specs.Plan.{Declared, DeclaredGroup}
 use Rattle.cs_civil.specs.Hours.{CatchUpHours}
 use Rattle.cs_decl.specs.Faults.{Fault, same_number, first_again, first_twice, at_cron, at_anacron, at_left_out, first_fault}
 use Rattle.cs_decl.specs.Meaning.{unless}
+use Rattle.cs_decl.specs.When.{is_told_when}
 
 -- ---- names and lines
 
--- a number names the line that has it, and a command alone each line that has that command
-abbrev pub names_line : Option ℤ → Option (List ℕ) → CommandLine → Bool
-names_line (Some number) told line = int_eq number (pos line.number)
-names_line None (Some told) line = bytes_eq told line.command
-names_line None None line = false
+-- a number names the line that has it, and a command alone each line that has that command, and
+-- the schedule that is told beside it
+abbrev pub names_line : Option ℤ → Option (List ℕ) → Option When → CommandLine → Bool
+names_line (Some number) told when line = int_eq number (pos line.number)
+names_line None (Some told) when line = bytes_eq told line.command && is_told_when when line.when
+names_line None None when line = false
 
 abbrev pub is_named : LineName → CommandLine → Bool
-is_named name line = names_line name.number name.command line
+is_named name line = names_line name.number name.command name.when line
 
 -- it names no line
 abbrev pub has_no_line : List CommandLine → LineName → Bool
@@ -46,6 +48,11 @@ is_unlike command (Some told) = not (bytes_eq told command)
 abbrev pub has_other_command : List CommandLine → LineName → Bool
 has_other_command lines name =
     list_any (λ line. is_named name line && is_unlike line.command name.command) lines
+
+-- its line has another schedule than it tells
+abbrev pub has_other_schedule : List CommandLine → LineName → Bool
+has_other_schedule lines name =
+    list_any (λ line. is_named name line && not (is_told_when name.when line.when)) lines
 
 -- it names several lines
 unfoldable pub is_ambiguous : List CommandLine → LineName → Bool
@@ -154,6 +161,13 @@ undeclared lines jobs d =
     ∷ reboot_fault lines
     ∷ []
 
+-- entries with another schedule than their line
+unfoldable pub mistimed : List CommandLine → Entries → List (Option Fault)
+mistimed lines d =
+    at_cron faults.OtherSchedule (position (λ e. has_other_schedule lines e.name) d.cron)
+    ∷ at_left_out faults.OtherSchedule (position (has_other_schedule lines) d.left_out)
+    ∷ []
+
 -- what is wrong with what entries name
 abbrev pub naming_faults : List CommandLine → List JobLine → Entries → List (Option Fault)
 naming_faults lines jobs d =
@@ -163,7 +177,7 @@ naming_faults lines jobs d =
 abbrev pub join_faults : Crontab → Anacrontab → Entries → List (Option Fault)
 join_faults crontab anacrontab d =
     naming_faults crontab.lines anacrontab.lines d
-    ++ undeclared (rest d crontab).lines anacrontab.lines d
+    ++ (undeclared (rest d crontab).lines anacrontab.lines d ++ mistimed crontab.lines d)
 
 -- ---- the plan
 
@@ -228,6 +242,10 @@ defaulted d lines jobs =
     count_by (λ line. not (has_entry d line)) lines
     + count_by (λ line. not (has_job_entry d line)) jobs
 
+-- how many entries are a draft's guess
+abbrev pub guessed : Entries → ℕ
+guessed d = count_by (λ e. e.guess) d.cron + count_by (λ e. e.guess) d.anacron
+
 -- the plan of the rest of a crontab, and the numbers of the lines that are left out of it
 unfoldable pub plan_of : Crontab → List ℕ → Anacrontab → Entries → Declared
 plan_of crontab left_out anacrontab d = record {
@@ -241,6 +259,7 @@ plan_of crontab left_out anacrontab d = record {
   offset = d.offset;
   left_out = left_out;
   defaulted = defaulted d crontab.lines anacrontab.lines;
+  guessed = guessed d;
   doubled = d.doubled;
 }
 

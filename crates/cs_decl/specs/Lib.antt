@@ -7,6 +7,7 @@ pub mod Shape
 pub mod Faults
 pub mod NameSet
 pub mod Doubled
+pub mod When
 pub mod Meaning
 pub mod Join
 pub mod Plain

@@ -1,5 +1,5 @@
 -- What a plan has of the lines of a crontab.
-use Rattle.std.specs.Prelude.{◌≡◌, ◌⊎◌, ◌++◌, ℕ, List, [], ◌∷◌, map, Some, None, true, false, All, Contains, IfSome, unsigned_abs}
+use Rattle.std.specs.Prelude.{◌≡◌, ◌⊎◌, ◌++◌, ℕ, List, [], ◌∷◌, map, Some, None, true, false, All, Contains, IfSome, unsigned_abs, Bool, None}
 use Rattle.cs_crontab.specs.Crontab.{CommandLine}
 use Rattle.cs_history.specs.declared.mode.Mode.TheVariants.{Plain}
 use Rattle.cs_decl.specs.declared.entries.LineName.{LineName}
@@ -7,15 +7,22 @@ use Rattle.cs_decl.specs.declared.entries.CronEntry.{CronEntry}
 use Rattle.cs_decl.specs.declared.entries.DefaultEntry.{DefaultEntry}
 use Rattle.cs_decl.specs.declared.entries.Entries.{Entries}
 use Rattle.cs_decl.specs.Job.{DeclaredJob}
-use Rattle.cs_decl.specs.Join.{is_named, group_place}
+use Rattle.cs_decl.specs.Join.{is_named, names_line, group_place}
+use Rattle.cs_decl.specs.When.{is_told_when}
 
 -- the names of lines in all entries
 abbrev pub names_of : Entries → List LineName
 names_of d = map (λ e. e.name) d.cron ++ d.left_out
 
--- the name tells no command, or that of each line that it names
+-- the name tells no command, or that of each line that it names; and so of the schedule
 abbrev pub TellsOf : LineName → CommandLine → Type 0
-TellsOf name line = is_named name line ≡ true → IfSome name.command (λ told. told ≡ line.command)
+TellsOf name line = is_named name line ≡ true
+    → IfSome name.command (λ told. told ≡ line.command)
+    × (is_told_when name.when line.when ≡ true)
+
+-- by its command, and the schedule that it tells, it names the line
+abbrev pub is_told : LineName → CommandLine → Bool
+is_told name = names_line None name.command name.when
 
 -- an entry of `left_out` names the line
 abbrev pub IsLeftOut : Entries → CommandLine → Type 0

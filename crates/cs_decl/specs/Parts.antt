@@ -1,5 +1,5 @@
 -- What the parts of an entry are to it.
-use Rattle.std.specs.Prelude.{◌≡◌, ◌≢◌, ◌⊎◌, ◌≤◌, pos, unsigned_abs, List, [], All, AllPairs}
+use Rattle.std.specs.Prelude.{◌≡◌, ◌≢◌, ◌⊎◌, ◌≤◌, pos, unsigned_abs, int_le, true, List, [], All, AllPairs}
 use Rattle.cs_decl.specs.declared.limits.TheConstants.{MAX_MINUTES}
 use Rattle.cs_decl.specs.declared.entries.PartEntry.{PartEntry}
 use Rattle.cs_decl.specs.declared.entries.CronEntry.{CronEntry}
@@ -14,7 +14,7 @@ IsPossiblePart p = (1 ≤ unsigned_abs p.max) × (unsigned_abs p.max ≤ MAX_MIN
 abbrev pub HaveOwnNames : List PartEntry → Type 0
 HaveOwnNames parts = AllPairs (λ p q. p.name ≢ q.name) parts
 
--- none; or parts of their own names and possible times, which together are the longest time
+-- none; or parts of their own names and possible times, which together are within the longest time
 abbrev pub AreItsParts : CronEntry → Type 0
-AreItsParts e = (e.parts ≡ []) ⊎ ((e.max ≡ pos (minutes_of e.parts))
+AreItsParts e = (e.parts ≡ []) ⊎ ((int_le (pos (minutes_of e.parts)) e.max ≡ true)
     × All IsPossiblePart e.parts × HaveOwnNames e.parts)

@@ -30,6 +30,7 @@ plain_plan crontab anacrontab max = record {
   offset = pos 0;
   left_out = [];
   defaulted = 0;
+  guessed = 0;
   doubled = None;
 }
 

@@ -27,6 +27,8 @@ fault_text faults.BadPassMinute = codes "15 BadPassMinute"
 fault_text faults.OtherCommand = codes "16 OtherCommand"
 fault_text faults.AmbiguousCommand = codes "17 AmbiguousCommand"
 fault_text faults.BadParts = codes "18 BadParts"
+fault_text faults.OtherSchedule = codes "19 OtherSchedule"
+fault_text faults.OtherParts = codes "20 OtherParts"
 
 -- an entry is counted from 1, a line is named by its number, and a job by its identifier
 abbrev pub place_text : Place → List ℕ

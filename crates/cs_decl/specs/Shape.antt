@@ -1,5 +1,5 @@
 -- The shape of declarations, member by member: what a JSON value declares, or BadShape.
-use Rattle.std.specs.Prelude.{List, [], ◌∷◌, ℕ, pos, Option, None, Some, option_and_then, is_some, if◌then◌else◌, Bool, ◌||◌, bytes_eq, codes, Result, Ok, ⊤}
+use Rattle.std.specs.Prelude.{List, [], ◌∷◌, ℕ, pos, Option, None, Some, option_and_then, is_some, if◌then◌else◌, Bool, false, ◌||◌, bytes_eq, codes, Result, Ok, ⊤}
 use Rattle.serde_json.specs.Data.{Data}
 use Rattle.serde_json.specs.Find.{as_str, get}
 use Rattle.cs_json.specs.Gives.{◌>>=◌}
@@ -15,6 +15,8 @@ use Rattle.cs_decl.specs.declared.entries.AnacronEntry.{AnacronEntry}
 use Rattle.cs_decl.specs.declared.entries.DefaultEntry.{DefaultEntry}
 use Rattle.cs_decl.specs.declared.entries.Entries.{Entries}
 use Rattle.cs_decl.specs.declared.reading.Terms.{Terms}
+use Rattle.cs_decl.specs.When.{when_named}
+use Rattle.cs_crontab.specs.declared.table.When.{When}
 
 -- how a mode is written
 abbrev pub mode_named : List ℕ → Option Mode
@@ -29,6 +31,10 @@ mode_named s =
 abbrev pub mode_of : Data → Result Mode JsonFault
 mode_of d = or_bad_shape (option_and_then mode_named (as_str d))
 
+-- a text that stands for a schedule
+abbrev pub when_of : Data → Result When JsonFault
+when_of d = or_bad_shape (option_and_then when_named (as_str d))
+
 -- the members of an entry of `groups`
 unfoldable pub is_group_member : List ℕ → Bool
 is_group_member = is_among (codes "exclusive" ∷ codes "name" ∷ codes "note" ∷ [])
@@ -40,13 +46,14 @@ is_part_member = is_among (codes "max" ∷ codes "name" ∷ codes "note" ∷ [])
 -- the members of an entry of `cron`
 unfoldable pub is_cron_member : List ℕ → Bool
 is_cron_member = is_among
-    (codes "command" ∷ codes "group" ∷ codes "line" ∷ codes "max" ∷ codes "mode" ∷ codes "note"
-    ∷ codes "parts" ∷ codes "weight" ∷ [])
+    (codes "command" ∷ codes "group" ∷ codes "guess" ∷ codes "line" ∷ codes "max" ∷ codes "mode"
+    ∷ codes "note" ∷ codes "parts" ∷ codes "weight" ∷ codes "when" ∷ [])
 
 -- the members of an entry of `anacron`
 unfoldable pub is_anacron_member : List ℕ → Bool
 is_anacron_member = is_among
-    (codes "group" ∷ codes "id" ∷ codes "max" ∷ codes "mode" ∷ codes "note" ∷ codes "weight" ∷ [])
+    (codes "group" ∷ codes "guess" ∷ codes "id" ∷ codes "max" ∷ codes "mode" ∷ codes "note"
+    ∷ codes "weight" ∷ [])
 
 -- the members of `default`
 unfoldable pub is_default_member : List ℕ → Bool
@@ -54,7 +61,8 @@ is_default_member = is_among (codes "max" ∷ codes "note" ∷ codes "weight" �
 
 -- the members of an entry of `left_out`
 unfoldable pub is_left_out_member : List ℕ → Bool
-is_left_out_member = is_among (codes "command" ∷ codes "line" ∷ codes "note" ∷ [])
+is_left_out_member = is_among
+    (codes "command" ∷ codes "line" ∷ codes "note" ∷ codes "when" ∷ [])
 
 -- the members of declarations
 unfoldable pub is_member : List ℕ → Bool
@@ -66,13 +74,15 @@ is_member = is_among
 abbrev pub note_of : Data → Result ⊤ JsonFault
 note_of d = member_or_default (λ note. check (is_some (as_str note))) tt (codes "note") d
 
--- a line's number, its command or both; the command is the bytes of its text
+-- a line's number, its command or both, and perhaps its schedule; the command is the bytes of its
+-- text
 unfoldable pub line_name_of : Data → Result LineName JsonFault
 line_name_of d = do
   number ← member_or_none whole_number (codes "line") d
   command ← member_or_none text (codes "command") d
   one ← check (is_some number || is_some command)
-  Ok (record { number = number; command = command })
+  when ← member_or_none when_of (codes "when") d
+  Ok (record { number = number; command = command; when = when })
 
 -- an entry of `groups`: name and `exclusive` have to be there
 unfoldable pub group_of : Data → Result GroupEntry JsonFault
@@ -92,7 +102,12 @@ part_of d = do
   max ← member_as whole_number (codes "max") d
   Ok (record { name = name; max = max })
 
--- an entry of `cron`: where they are absent, the weight is 1, the mode `none`, and parts are none
+-- whether the longest time is a draft's guess
+abbrev pub guess_of : Data → Result Bool JsonFault
+guess_of d = member_or_default flag false (codes "guess") d
+
+-- an entry of `cron`: where they are absent, the weight is 1, the mode `none`, parts are none, and
+-- nothing is a guess
 unfoldable pub cron_of : Data → Result CronEntry JsonFault
 cron_of d = do
   o ← object_with is_cron_member d
@@ -103,6 +118,7 @@ cron_of d = do
   group ← member_or_none text (codes "group") d
   mode ← member_or_default mode_of Plain (codes "mode") d
   parts ← member_or_default (list_as part_of) [] (codes "parts") d
+  guess ← guess_of d
   Ok (record {
     name = name;
     max = max;
@@ -110,6 +126,7 @@ cron_of d = do
     group = group;
     mode = mode;
     parts = parts;
+    guess = guess;
   })
 
 -- an entry of `anacron`: of a mode it is known alone whether it is there
@@ -121,12 +138,14 @@ anacron_of d = do
   max ← member_as whole_number (codes "max") d
   weight ← member_or_default whole_number (pos 1) (codes "weight") d
   group ← member_or_none text (codes "group") d
+  guess ← guess_of d
   Ok (record {
     identifier = identifier;
     max = max;
     weight = weight;
     group = group;
     has_mode = is_some (get (codes "mode") d);
+    guess = guess;
   })
 
 -- `default`: the weight is 1 where it is absent

@@ -1,13 +1,17 @@
 use cs_civil::{Bytes, Sequence};
+use cs_crontab::When;
 use cs_history::Mode;
 
-/// How an entry names a line of the crontab: by its number, by its command, or by both.
+/// How an entry names a line of the crontab: by its number, by its command, or by both; a schedule
+/// that is told beside them is the line's.
 #[derive(Debug, Drop)]
 pub struct LineName {
     /// The number of the line, counted from 1 over all lines of the table.
     pub number: Option<i128>,
     /// The command, as the line has it.
     pub command: Option<Bytes>,
+    /// When the command starts, as the line has it.
+    pub when: Option<When>,
 }
 
 /// An entry of `groups`.
@@ -34,6 +38,8 @@ pub struct CronEntry {
     pub mode: Mode,
     /// The parts of its command, if it is known to have some.
     pub parts: Sequence<PartEntry>,
+    /// Whether the longest time is a draft's guess.
+    pub guess: bool,
 }
 
 /// An entry of `parts`: one of the programs that a command runs one after the other, as run-parts(8)
@@ -59,6 +65,8 @@ pub struct AnacronEntry {
     pub group: Option<Bytes>,
     /// Whether it has a mode, which no anacron job may have.
     pub has_mode: bool,
+    /// Whether the longest time is a draft's guess.
+    pub guess: bool,
 }
 
 /// What is declared of each job without an entry.

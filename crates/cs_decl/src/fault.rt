@@ -45,8 +45,12 @@ pub enum DeclFault {
     /// Several lines have the command of an entry without a number.
     AmbiguousCommand,
     /// Two parts have one name, the longest time of a part is not from 1 to
-    /// [`MAX_MINUTES`](crate::MAX_MINUTES) minutes, or all together are not that of the entry.
+    /// [`MAX_MINUTES`](crate::MAX_MINUTES) minutes, or all together are above that of the entry.
     BadParts,
+    /// The line of an entry has another schedule than the entry tells.
+    OtherSchedule,
+    /// The parts of an entry are not those of its line's place in a gathered table.
+    OtherParts,
 }
 
 impl DeclFault {
@@ -73,6 +77,8 @@ impl DeclFault {
             DeclFault::OtherCommand => "16 OtherCommand",
             DeclFault::AmbiguousCommand => "17 AmbiguousCommand",
             DeclFault::BadParts => "18 BadParts",
+            DeclFault::OtherSchedule => "19 OtherSchedule",
+            DeclFault::OtherParts => "20 OtherParts",
         }
     }
 }

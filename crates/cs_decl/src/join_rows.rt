@@ -2,14 +2,14 @@
 ghost use Rattle.std.specs.Prelude.{◌≡◌, IfOk, option_map};
 ghost use Rattle.cs_decl.specs.Faults.{first_fault};
 ghost use Rattle.cs_decl.specs.Join.{at_line, at_job, lineless, misquoted, ambiguous, named_twice};
-ghost use Rattle.cs_decl.specs.Join.{naming_faults, undeclared};
+ghost use Rattle.cs_decl.specs.Join.{naming_faults, undeclared, mistimed};
 
 use crate::entries::Entries;
 use crate::fault::{DeclFault, Place};
 use crate::lookups::{first_reboot, first_undeclared, first_undeclared_job, jobless};
 use crate::naming::{
-    ambiguous, ambiguous_cron, cron_numbers, left_out_numbers, lineless, lineless_cron, other,
-    other_cron,
+    ambiguous, ambiguous_cron, cron_numbers, left_out_numbers, lineless, lineless_cron, mistimed,
+    mistimed_cron, other, other_cron,
 };
 use crate::rows::Found;
 use crate::twice::twice_number;
@@ -128,6 +128,20 @@ pub(crate) fn naming_fault(
         return Ok(Some(found));
     }
     twice_fault(alloc, lines, entries)
+}
+
+/// The first entry with another schedule than its line.
+#[tactic(auto, unfolding(crate::specs::Join::mistimed))]
+pub(crate) fn mistimed_fault(lines: &[Line], entries: &Entries) -> Option<Found>
+    ensures { result ≡ first_fault (mistimed lines.now entries.now) }
+{
+    if let Some(i) = mistimed_cron(entries.cron.as_slice(), lines) {
+        return Some((DeclFault::OtherSchedule, Some(Place::Cron(i))));
+    }
+    if let Some(i) = mistimed(entries.left_out.as_slice(), lines) {
+        return Some((DeclFault::OtherSchedule, Some(Place::LeftOut(i))));
+    }
+    None
 }
 
 /// The first of jobs without an entry and without a default, and of `@reboot` lines.

@@ -4,13 +4,13 @@ ghost use Rattle.std.specs.List.{find};
 ghost use Rattle.cs_decl.specs.Faults.{Fault, first_fault};
 ghost use Rattle.cs_decl.specs.Meaning.{Answers, IsValid, unless};
 ghost use Rattle.cs_decl.specs.Join.{is_reboot, undeclared, rest, lines_left_out, declared_hours};
-ghost use Rattle.cs_decl.specs.Join.{plan_of, joined};
+ghost use Rattle.cs_decl.specs.Join.{mistimed, plan_of, joined};
 
 use crate::declarations::Declarations;
 use crate::entries::Entries;
 use crate::fault::{DeclError, DeclFault};
-use crate::join_rows::{naming_fault, undeclared_fault};
-use crate::lookups::{defaulted, lines_left_out};
+use crate::join_rows::{mistimed_fault, naming_fault, undeclared_fault};
+use crate::lookups::{defaulted, guessed, lines_left_out};
 use crate::plan::{Plan, copy_name};
 use crate::terms::{groups_of, jobs_of, small, smaller};
 use cs_anacrontab::Anacrontab;
@@ -82,6 +82,7 @@ fn plan_of(
         offset_of(entries),
         left_out,
         defaulted,
+        guessed(entries),
         doubled,
     ))
 }
@@ -100,7 +101,9 @@ fn rest_of(
     Ok((crontab.without(left_out.as_slice()), left_out))
 }
 
-/// The plan of the rest of the crontab, unless a job of it has neither an entry nor the default.
+/// The plan of the rest of the crontab, unless a job of it has neither an entry nor the default, or
+/// an entry tells another schedule than its line has.
+#[tactic(auto, using(crate::proofs::Order::in_front, crate::proofs::Order::behind))]
 fn joined_rest(
     alloc: Global,
     crontab: Crontab,
@@ -111,11 +114,15 @@ fn joined_rest(
     ensures { Answers (λ plan. plan)
         (unless (plan_of (rest entries.now crontab) (lines_left_out entries.now crontab) anacrontab
         entries.now) (first_fault (undeclared (rest entries.now crontab).lines anacrontab.lines
-        entries.now))) result }
+        entries.now ++ mistimed crontab.lines entries.now))) result }
 {
+    let late = mistimed_fault(crontab.lines(), entries);
     let (rest, left_out) = rest_of(alloc, crontab, entries)?;
     match undeclared_fault(alloc, rest.lines(), anacrontab.lines(), entries)? {
-        None => Ok(plan_of(alloc, rest, left_out, anacrontab, entries)?),
+        None => match late {
+            None => Ok(plan_of(alloc, rest, left_out, anacrontab, entries)?),
+            Some((fault, place)) => Err(DeclError::At { fault, place }),
+        },
         Some((fault, place)) => Err(DeclError::At { fault, place }),
     }
 }
@@ -129,7 +136,9 @@ fn joined_rest(
 /// lines; [`TwiceDeclared`](DeclFault::TwiceDeclared) if its line has an entry already. Then come
 /// those of the lines that are not left out: [`Undeclared`](DeclFault::Undeclared) if a job has no
 /// entry and there is no default, in the order of jobs; [`RebootLine`](DeclFault::RebootLine) if one
-/// is an `@reboot`, declared or not, in order of line. Memory may run out.
+/// is an `@reboot`, declared or not, in order of line. Last comes
+/// [`OtherSchedule`](DeclFault::OtherSchedule), if the line of a cron entry, or of one of `left_out`,
+/// has another schedule than the entry tells. Memory may run out.
 #[tactic(auto, unfolding(crate::specs::Join::joined))]
 pub fn join(
     alloc: Global,

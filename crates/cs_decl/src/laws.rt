@@ -1,17 +1,19 @@
 //! Which fault of declarations is returned, and what there is where none is.
 ghost use Rattle.std.specs.Prelude.{◌≡◌, ◌++◌, ℕ, ◌<◌, map, List, Some, None, Ok, All, IsUtf8, true};
+ghost use Rattle.std.specs.Prelude.{Contains};
 ghost use Rattle.json.specs.Json.{Json, document};
 ghost use Rattle.json.specs.Strict.{HasUniqueKeys};
 ghost use Rattle.cs_decl.specs.Doubled.{doubled_member};
 ghost use Rattle.std.specs.List.{count_by};
-ghost use Rattle.cs_crontab.specs.Crontab.{Table};
+ghost use Rattle.cs_crontab.specs.Crontab.{CommandLine, Table};
 ghost use Rattle.cs_anacrontab.specs.Anacrontab.{Table as JobTable};
 ghost use Rattle.cs_decl.specs.declared.entries.Entries.{Entries};
+ghost use Rattle.cs_decl.specs.declared.entries.LineName.{LineName};
 ghost use Rattle.cs_decl.specs.Faults.{Fault, faults_of, first_fault};
 ghost use Rattle.cs_decl.specs.Join.{is_named, joined};
 ghost use Rattle.cs_decl.specs.Law.{IsFirst, stands};
 ghost use Rattle.cs_decl.specs.Lines.{TellsOf, IsLeftOut, HasNoEntry, AreParted, IsDeclared};
-ghost use Rattle.cs_decl.specs.Lines.{names_of};
+ghost use Rattle.cs_decl.specs.Lines.{is_told, names_of};
 ghost use Rattle.cs_decl.specs.Meaning.{IsValid};
 ghost use Rattle.cs_decl.specs.Parts.{AreItsParts};
 ghost use Rattle.cs_decl.specs.Plan.{Declared, places_of, command_of, job_at, crons};
@@ -24,12 +26,25 @@ pub fn first_of_faults()
         → ⊥ }
 {}
 
-/// Lemma. Where tables and declarations make a plan, each entry that tells a command tells that of
-/// its line, one that is left out or not.
+/// Lemma. Where tables and declarations make a plan, each entry that tells a command or a schedule
+/// tells that of its line, one that is left out or not.
 pub fn commands_are_those_of_lines()
     ensures { (table : Table) (jobs : JobTable) (d : Entries) (plan : Declared)
         → joined table jobs d ≡ Ok plan
         → All (λ name. All (TellsOf name) table.lines) (names_of d) }
+{}
+
+/// Lemma. An entry that tells a command, and a schedule too where several lines have that command,
+/// stays with them, whichever lines change places: where two tables make plans with the same
+/// declarations, and of the second one's lines one alone has what the entry tells, the entry names
+/// there the line that has the command and the schedule of its line in the first.
+pub fn entries_stay_with_commands()
+    ensures { (d : Entries) (one other : Table) (jobs more : JobTable) (p q : Declared)
+        (name : LineName) (a b : CommandLine) → joined one jobs d ≡ Ok p
+        → joined other more d ≡ Ok q → Contains (names_of d) name
+        → Contains one.lines a → is_named name a ≡ true
+        → Contains other.lines b → b.command ≡ a.command → b.when ≡ a.when
+        → count_by (is_told name) other.lines ≡ 1 → is_named name b ≡ true }
 {}
 
 /// Lemma. Where tables and declarations make a plan, each entry names exactly one line, left out or
@@ -68,7 +83,7 @@ pub fn each_line_has_its_job()
 {}
 
 /// Lemma. Where declarations are read, the parts of an entry, if it has some, have names of their own,
-/// each from 1 to 4,320 minutes, and all together the entry's longest time.
+/// each from 1 to 4,320 minutes, and all together are within the entry's longest time.
 pub fn parts_make_up_the_whole()
     ensures { (d : Entries) → IsValid d → All AreItsParts d.cron }
 {}

@@ -22,6 +22,7 @@ mod reading;
 mod rows;
 mod terms;
 mod twice;
+mod when;
 
 pub use declarations::{Declarations, read_declarations};
 pub use entries::{
@@ -34,7 +35,10 @@ pub use job_names::{identifier_of, push_command_name, push_due_name};
 pub use joining::join;
 pub use laws::{
     commands_are_those_of_lines, doubled_members_are_told, each_entry_names_one_line,
-    each_line_has_its_job, first_of_faults, left_out_lines_have_no_entry, parts_make_up_the_whole,
+    each_line_has_its_job, entries_stay_with_commands, first_of_faults,
+    left_out_lines_have_no_entry, parts_make_up_the_whole,
 };
 pub use limits::{MAX_CAPACITY, MAX_GROUPS, MAX_MINUTES, MAX_OFFSET, MAX_WEIGHT};
+pub use naming::is_named;
 pub use plan::Plan;
+pub use when::is_told_when;

@@ -5,8 +5,9 @@ ghost use Rattle.cs_crontab.specs.declared.limits.TheConstants.{MAX_COMMANDS};
 ghost use Rattle.cs_anacrontab.specs.declared.limits.TheConstants.{MAX_JOBS};
 ghost use Rattle.cs_decl.specs.Join.{is_of_job, has_no_job, is_reboot, is_left_out, has_entry};
 ghost use Rattle.cs_decl.specs.Join.{has_job_entry, is_undeclared, is_undeclared_job, defaulted};
+ghost use Rattle.cs_decl.specs.Join.{guessed};
 
-use crate::entries::{AnacronEntry, Entries};
+use crate::entries::{AnacronEntry, CronEntry, Entries};
 use crate::naming::is_named;
 use cs_anacrontab::Job as JobLine;
 use cs_civil::Sequence;
@@ -145,4 +146,23 @@ pub(crate) fn defaulted(entries: &Entries, commands: &[Line], lines: &[JobLine])
     ensures { result ≡ defaulted entries.now commands.now lines.now }
 {
     count_without_entry(entries, commands) + count_jobs_without_entry(entries, lines)
+}
+
+fn count_guesses(entries: &[CronEntry]) -> usize
+    ensures { result ≡ count_by (λ e. e.guess) entries.now }
+{
+    entries.iter().filter(|entry| entry.guess).count()
+}
+
+fn count_guesses_of_jobs(entries: &[AnacronEntry]) -> usize
+    ensures { result ≡ count_by (λ e. e.guess) entries.now }
+{
+    entries.iter().filter(|entry| entry.guess).count()
+}
+
+/// How many entries are a draft's guess.
+pub(crate) fn guessed(entries: &Entries) -> usize
+    ensures { result ≡ guessed entries.now }
+{
+    count_guesses(entries.cron.as_slice()) + count_guesses_of_jobs(entries.anacron.as_slice())
 }

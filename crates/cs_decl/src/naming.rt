@@ -1,21 +1,27 @@
 //! The lines that entries name.
-ghost use Rattle.std.specs.Prelude.{◌≡◌, ◌&&◌, map, option_map, position, IfOk};
+ghost use Rattle.std.specs.Prelude.{◌≡◌, ◌&&◌, not, map, option_map, position, IfOk};
 ghost use Rattle.std.specs.List.{find, list_any, count_by};
 ghost use Rattle.cs_decl.specs.Join.{is_named, has_no_line, is_unlike, has_other_command};
 ghost use Rattle.cs_decl.specs.Join.{is_ambiguous, number_of, cron_numbers, left_out_numbers};
+ghost use Rattle.cs_decl.specs.Join.{has_other_schedule};
 
 use crate::entries::{CronEntry, Entries, LineName};
+use crate::when::is_told_when;
 use cs_civil::{Bytes, Sequence};
 use cs_crontab::Line;
 use std::alloc::{AllocError, Global};
 
-pub(crate) fn is_named(name: &LineName, line: &Line) -> bool
+/// Whether it names the line: by a number the line that has it, else each line with its command and,
+/// where it tells one, its schedule.
+pub fn is_named(name: &LineName, line: &Line) -> bool
     ensures { result ≡ is_named name.now line.now }
 {
     match name.number {
         Some(number) => number == i128::from(line.number()),
         None => match &name.command {
-            Some(told) => told.as_slice() == line.command(),
+            Some(told) => {
+                told.as_slice() == line.command() && is_told_when(&name.when, line.when())
+            }
             None => false,
         },
     }
@@ -40,6 +46,12 @@ fn has_other_command(lines: &[Line], name: &LineName) -> bool
     ensures { result ≡ has_other_command lines.now name.now }
 {
     lines.iter().any(|line| is_named(name, line) && is_unlike(line.command(), &name.command))
+}
+
+fn has_other_schedule(lines: &[Line], name: &LineName) -> bool
+    ensures { result ≡ has_other_schedule lines.now name.now }
+{
+    lines.iter().any(|line| is_named(name, line) && !is_told_when(&name.when, line.when()))
 }
 
 fn count_named(lines: &[Line], name: &LineName) -> usize
@@ -85,6 +97,24 @@ pub(crate) fn other(names: &[LineName], lines: &[Line]) -> Option<usize>
     ensures { result ≡ position (has_other_command lines.now) names.now }
 {
     names.iter().position(|name| has_other_command(lines, name))
+}
+
+/// The index of the first cron entry whose line has another schedule than the entry tells.
+pub(crate) fn mistimed_cron(entries: &[CronEntry], lines: &[Line]) -> Option<usize>
+    ensures { result ≡ position (λ e. has_other_schedule lines.now e.name) entries.now }
+{
+    entries
+        .iter()
+        .position(|entry| has_other_schedule(lines, &entry.name))
+}
+
+/// The index of the first of these names whose line has another schedule than it tells.
+pub(crate) fn mistimed(names: &[LineName], lines: &[Line]) -> Option<usize>
+    ensures { result ≡ position (has_other_schedule lines.now) names.now }
+{
+    names
+        .iter()
+        .position(|name| has_other_schedule(lines, name))
 }
 
 /// The index of the first cron entry that names several lines.

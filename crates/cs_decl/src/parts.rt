@@ -32,7 +32,7 @@ fn are_bad(alloc: Global, max: i128, parts: &[PartEntry]) -> Result<bool, AllocE
     if first_twice(alloc, parts)?.is_some() || have_bad_max(parts) {
         return Ok(true);
     }
-    Ok(max < 0 || max.unsigned_abs() != minutes_of(parts))
+    Ok(max < 0 || max.unsigned_abs() < minutes_of(parts))
 }
 
 fn has_bad_parts(alloc: Global, entry: &CronEntry) -> Result<bool, AllocError>

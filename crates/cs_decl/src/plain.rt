@@ -78,6 +78,7 @@ fn plain_plan(
         0,
         left_out,
         0,
+        0,
         None,
     ))
 }

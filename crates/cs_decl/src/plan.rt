@@ -31,6 +31,7 @@ pub struct Plan {
     offset: i16,
     left_out: Sequence<u32>,
     defaulted: usize,
+    guessed: usize,
     doubled: Option<Bytes>,
 }
 
@@ -50,6 +51,7 @@ impl Model for Plan {
       offset = a.offset;
       left_out = a.left_out;
       defaulted = a.defaulted;
+      guessed = a.guessed;
       doubled = a.doubled;
     } };
 
@@ -65,6 +67,7 @@ impl Model for Plan {
           offset = a.offset;
           left_out = a.left_out;
           defaulted = a.defaulted;
+          guessed = a.guessed;
           doubled = a.doubled;
         }) };
 }
@@ -119,6 +122,7 @@ impl Plan {
         offset: i16,
         left_out: Sequence<u32>,
         defaulted: usize,
+        guessed: usize,
         doubled: Option<Bytes>,
     ) -> Plan
         requires { IsWhole (record {
@@ -132,6 +136,7 @@ impl Plan {
           offset = offset;
           left_out = left_out;
           defaulted = defaulted;
+          guessed = guessed;
           doubled = doubled;
         }) }
         ensures { result
@@ -146,6 +151,7 @@ impl Plan {
               offset = offset;
               left_out = left_out;
               defaulted = defaulted;
+              guessed = guessed;
               doubled = doubled;
             } }
     {
@@ -160,6 +166,7 @@ impl Plan {
             offset,
             left_out,
             defaulted,
+            guessed,
             doubled,
         }
     }
@@ -179,6 +186,7 @@ impl Plan {
             offset: self.offset,
             left_out: Sequence::from_slice(alloc, self.left_out.as_slice())?,
             defaulted: self.defaulted,
+            guessed: self.guessed,
             doubled: copy_name(alloc, &self.doubled)?,
         })
     }
@@ -354,6 +362,14 @@ impl Plan {
     {
         self.defaulted
     }
+
+    /// Returns how many entries are a draft's guess, which nobody has replaced.
+    pub fn guessed(&self) -> usize
+        ensures { result ≡ self.now.guessed }
+    {
+        self.guessed
+    }
+
     /// Returns the first member that stands twice in one object of the declarations' text, if one
     /// does. The last one of that name counts.
     pub fn doubled(&self) -> &Option<Bytes>

@@ -1,5 +1,6 @@
 ghost use Rattle.std.specs.Prelude.{◌≡◌, List, [], Some, None, Ok, map, option_map};
 ghost use Rattle.std.specs.Prelude.{option_and_then, string_bytes, pos, codes, is_some, ◌||◌};
+ghost use Rattle.std.specs.Prelude.{false};
 ghost use Rattle.serde_json.specs.View.{view};
 ghost use Rattle.serde_json.specs.Find.{get};
 ghost use Rattle.cs_json.specs.Gives.{Gives};
@@ -7,6 +8,7 @@ ghost use Rattle.cs_json.specs.Shape.{check, text, whole_number, list_as, member
 ghost use Rattle.cs_json.specs.Shape.{member_or_default, member_or_none, object_with};
 ghost use Rattle.cs_history.specs.declared.mode.Mode.TheVariants.{Plain};
 ghost use Rattle.cs_decl.specs.Shape.{mode_named, mode_of, note_of, group_of, line_name_of};
+ghost use Rattle.cs_decl.specs.Shape.{when_of, guess_of};
 ghost use Rattle.cs_decl.specs.Shape.{cron_of, anacron_of, default_of, left_out_of, terms_of};
 ghost use Rattle.cs_decl.specs.Shape.{entries_of, is_group_member, is_cron_member};
 ghost use Rattle.cs_decl.specs.Shape.{is_anacron_member, is_default_member, is_left_out_member};
@@ -22,7 +24,9 @@ ghost use Rattle.cs_decl.specs.declared.entries.Entries.{Entries};
 use crate::entries::{
     AnacronEntry, CronEntry, DefaultEntry, Entries, GroupEntry, LineName, PartEntry,
 };
+use crate::when::named_when;
 use cs_civil::{Bytes, Sequence};
+use cs_crontab::When;
 use cs_history::Mode;
 use cs_json::{BAD_SHAPE, FromJson, Misread, member, member_if_there, member_or, only_members};
 use serde_json::Value;
@@ -79,7 +83,31 @@ fn weight_member(alloc: Global, value: &Value) -> Result<i128, Misread>
     member_or(alloc, value, "weight", 1)
 }
 
-/// The number of a line, its command or both. `BadShape` if there is neither.
+/// The schedule that a member tells, if it is there. `BadShape` if its text stands for none.
+fn when_if_there(alloc: Global, value: &Value) -> Result<Option<When>, Misread>
+    ensures { Gives (λ w. w) result (member_or_none when_of (codes "when") (view value.now)) }
+{
+    let Some(found) = value.get("when") else {
+        return Ok(None);
+    };
+    let Some(text) = found.as_str() else {
+        return Err(BAD_SHAPE);
+    };
+    match named_when(alloc, text)? {
+        Some(when) => Ok(Some(when)),
+        None => Err(BAD_SHAPE),
+    }
+}
+
+/// Whether the longest time is a draft's guess: by default it isn't.
+fn guess_member(alloc: Global, value: &Value) -> Result<bool, Misread>
+    ensures { Gives (λ g. g) result (guess_of (view value.now)) }
+{
+    member_or(alloc, value, "guess", false)
+}
+
+/// The number of a line, its command or both, and perhaps its schedule. `BadShape` if there is
+/// neither number nor command.
 #[tactic(auto, unfolding(crate::specs::Shape::line_name_of))]
 fn line_name(alloc: Global, value: &Value) -> Result<LineName, Misread>
     ensures { Gives (λ n. n) result (line_name_of (view value.now)) }
@@ -89,7 +117,12 @@ fn line_name(alloc: Global, value: &Value) -> Result<LineName, Misread>
     if number.is_none() && command.is_none() {
         return Err(BAD_SHAPE);
     }
-    Ok(LineName { number, command })
+    let when = when_if_there(alloc, value)?;
+    Ok(LineName {
+        number,
+        command,
+        when,
+    })
 }
 
 fn named_mode(name: &str) -> Option<Mode>
@@ -152,7 +185,7 @@ fn cron_object(value: &Value) -> Result<(), Misread>
     only_members(
         value,
         [
-            "command", "group", "line", "max", "mode", "note", "parts", "weight",
+            "command", "group", "guess", "line", "max", "mode", "note", "parts", "weight", "when",
         ]
         .as_slice(),
     )
@@ -176,6 +209,7 @@ impl FromJson for CronEntry {
             group: text_if_there(alloc, value, "group")?,
             mode: mode_member(value)?,
             parts: list_member(alloc, value, "parts")?,
+            guess: guess_member(alloc, value)?,
         })
     }
 }
@@ -211,7 +245,7 @@ fn anacron_object(value: &Value) -> Result<(), Misread>
 {
     only_members(
         value,
-        ["group", "id", "max", "mode", "note", "weight"].as_slice(),
+        ["group", "guess", "id", "max", "mode", "note", "weight"].as_slice(),
     )
 }
 
@@ -232,6 +266,7 @@ impl FromJson for AnacronEntry {
             weight: weight_member(alloc, value)?,
             group: text_if_there(alloc, value, "group")?,
             has_mode: value.get("mode").is_some(),
+            guess: guess_member(alloc, value)?,
         })
     }
 }
@@ -267,7 +302,7 @@ impl FromJson for DefaultEntry {
 fn left_out_object(value: &Value) -> Result<(), Misread>
     ensures { Gives (λ u. u) result (object_with is_left_out_member (view value.now)) }
 {
-    only_members(value, ["command", "line", "note"].as_slice())
+    only_members(value, ["command", "line", "note", "when"].as_slice())
 }
 
 /// An entry of `left_out`.

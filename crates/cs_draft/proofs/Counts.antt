@@ -1,7 +1,8 @@
--- How many entries tell a command.
+-- How many entries tell a line.
 use Rattle.std.proofs.Common.{◌≡◌, ◌∙◌, ℕ, ◌+◌, Bool, List, [], ◌∷◌, ◌++◌, cond, map, refl, ap}
 use Rattle.std.specs.List.{count_by, fold}
 use Rattle.std.proofs.lemmas.List.Sums.{sum_by-append}
+use Rattle.cs_crontab.specs.Crontab.{CommandLine}
 use Rattle.cs_decl.specs.declared.entries.LineName.{LineName}
 use Rattle.cs_decl.specs.declared.entries.CronEntry.{CronEntry}
 use Rattle.cs_decl.specs.declared.entries.Entries.{Entries}
@@ -16,5 +17,5 @@ counted_map p n (e ∷ es) = counted_map p (n + cond (p e.name) 1 0) es
 both : (p : LineName → Bool) (es : List CronEntry) (names : List LineName) → count_by p (map (λ e. e.name) es ++ names) ≡ count_by (λ e. p e.name) es + count_by p names
 both p es names = sum_by-append (λ x. cond (p x) 1 0) (map (λ e. e.name) es) names ∙ ap (λ n. n + count_by p names) (counted_map p 0 es)
 
-pub counted : (command : List ℕ) (d : Entries) → times_told command d ≡ count_by (λ e. tells command e.name) d.cron + count_by (tells command) d.left_out
-counted command d = both (tells command) d.cron d.left_out
+pub counted : (timed : Bool) (d : Entries) (line : CommandLine) → times_told timed d line ≡ count_by (λ e. tells timed line e.name) d.cron + count_by (tells timed line) d.left_out
+counted timed d line = both (tells timed line) d.cron d.left_out

@@ -1,29 +1,65 @@
 //! Whether what old declarations don't tell is declared as in a draft.
 ghost use Rattle.std.specs.Prelude.{All, IfOk, IsTrue, option_map};
-ghost use Rattle.std.specs.List.{find};
-ghost use Rattle.cs_decl.specs.Join.{is_named};
-ghost use Rattle.cs_draft.specs.Draft.{IsAsNew, IsDrafted, IsNewJob, IsNewLine};
+ghost use Rattle.cs_draft.specs.Draft.{HasDefault, IsAsNew, IsDefaulted, IsNewJob, IsNewLine};
 
 use crate::brief::is_drafted;
 use crate::kept::is_new;
+use crate::lock::own_lock;
 use crate::locked::has_lock;
 use crate::names::{entry_of, is_left_out, job_entry};
 use crate::terms::is_drafted_job;
 use cs_anacrontab::Job;
+use cs_civil::Bytes;
 use cs_crontab::Line;
-use cs_decl::Entries;
+use cs_decl::{CronEntry, DefaultEntry, Entries};
 use cs_gather::Place;
+use cs_history::Mode;
 use std::alloc::{AllocError, Global};
 
-/// Whether the line is declared as in a draft, or has no entry where there is a default.
-fn is_as_new(asked: u64, places: &[Place], old: &Entries, new: &Entries, line: &Line) -> bool
-    ensures { IsTrue result → IsAsNew old.now.default
-        (find (λ e. is_named e.name line.now) new.now.cron)
-        (IsDrafted asked places.now new.now line.now) }
+/// Whether the entry has the longest time and the weight of the default, and no parts.
+fn has_default(default: &DefaultEntry, entry: &CronEntry) -> bool
+    ensures { IsTrue result → HasDefault default.now entry.now }
 {
-    match old.default {
-        Some(_) => entry_of(new, line).is_none(),
-        None => is_drafted(asked, places, new, line),
+    entry.max == default.max
+        && entry.weight == default.weight
+        && entry.parts.is_empty()
+        && !entry.guess
+}
+
+/// Whether a new command with that lock has such an entry, and one without a lock has none.
+fn is_defaulted(
+    default: &DefaultEntry,
+    lock: &Option<(Bytes, Mode)>,
+    entry: Option<&CronEntry>,
+) -> bool
+    ensures { IsTrue result
+        → IsDefaulted default.now lock.now (option_map (λ e. e.now) entry.entry) }
+{
+    match (lock, entry) {
+        (Some(_), Some(entry)) => has_default(default, entry),
+        (Some(_), None) => false,
+        (None, entry) => entry.is_none(),
+    }
+}
+
+/// Whether the line is declared as in a draft, or so where there is a default. The only error is want
+/// of memory.
+fn is_as_new(
+    alloc: Global,
+    asked: u64,
+    places: &[Place],
+    old: &Option<DefaultEntry>,
+    new: &Entries,
+    line: &Line,
+) -> Result<bool, AllocError>
+    ensures { IfOk result (λ b. IsTrue b → IsAsNew old.now asked places.now new.now line.now) }
+{
+    match old {
+        Some(default) => {
+            let lock = own_lock(alloc, line.command())?;
+            Ok(is_defaulted(default, &lock, entry_of(new, line)))
+        }
+        None => Ok(is_drafted(asked, places, new, line)),
     }
 }
 
@@ -42,7 +78,7 @@ fn is_new_line(
     if !is_new(old, line) {
         return Ok(true);
     }
-    if !is_as_new(asked, places, old, new, line) || is_left_out(new, line) {
+    if is_left_out(new, line) || !is_as_new(alloc, asked, places, &old.default, new, line)? {
         return Ok(false);
     }
     has_lock(alloc, new, line)

@@ -2,11 +2,11 @@
 ghost use Rattle.std.specs.Prelude.{◌≡◌, ◌⊎◌, ◌*◌, ◌≤◌, [], All, IsTrue, length, pos, true};
 ghost use Rattle.cs_gap.specs.Gap.{AreApart, can_be_apart};
 ghost use Rattle.cs_gap.specs.declared.gap.TheConstants.{MAX_GAP};
-ghost use Rattle.cs_draft.specs.Draft.{IsDrafted, IsShare, IsTimed, IsTimedAlone, parts_of, parts_with};
+ghost use Rattle.cs_draft.specs.Draft.{IsDrafted, IsNewEntry, IsShare, IsTimed, IsTimedAlone, is_guess, parts_of, parts_with};
 
 use crate::names::{entry_of, is_left_out};
 use crate::parts::{are_parts_with, parts_of};
-use crate::timeouts::asked_for;
+use crate::timeouts::{asked_for, time_limit};
 use cs_civil::Bytes;
 use cs_crontab::{Line, When};
 use cs_decl::{CronEntry, Entries, MAX_MINUTES};
@@ -74,22 +74,42 @@ fn is_timed(asked: u64, schedule: &Schedule, names: &[Bytes], entry: &CronEntry)
     has_shares(share_of(schedule, asked, names.len()), names, entry)
 }
 
-/// Whether the line is left out if it is started at startup, and else has an entry with such times
-/// that weighs 1.
+/// Whether that longest time is a guess: the command's timeout(1) doesn't set it.
+pub(crate) fn is_guess(command: &[u8], max: i128) -> bool
+    ensures { result ≡ is_guess command.now max }
+{
+    match time_limit(command) {
+        Some(limit) => max != i128::from(limit),
+        None => true,
+    }
+}
+
+/// Whether the entry has the times of a new command, weighs 1, and is marked as a guess if it is one.
+fn is_new_entry(
+    asked: u64,
+    command: &[u8],
+    schedule: &Schedule,
+    names: &[Bytes],
+    entry: &CronEntry,
+) -> bool
+    ensures { IsTrue result → IsNewEntry asked command.now schedule.now names.now entry.now }
+{
+    entry.weight == 1
+        && entry.guess == is_guess(command, entry.max)
+        && is_timed(asked_for(asked, command), schedule, names, entry)
+}
+
+/// Whether the line is left out if it is started at startup, and else has such an entry.
 pub(crate) fn is_drafted(asked: u64, places: &[Place], entries: &Entries, line: &Line) -> bool
     ensures { IsTrue result → IsDrafted asked places.now entries.now line.now }
 {
-    let names = parts_of(places, line.number());
+    let (is_out, names) = (is_left_out(entries, line), parts_of(places, line.number()));
     match line.when() {
         When::At(schedule) => match entry_of(entries, line) {
-            Some(entry) => {
-                !is_left_out(entries, line)
-                    && entry.weight == 1
-                    && is_timed(asked_for(asked, line.command()), schedule, names, entry)
-            }
+            Some(entry) => !is_out && is_new_entry(asked, line.command(), schedule, names, entry),
             None => false,
         },
-        When::Reboot => is_left_out(entries, line),
+        When::Reboot => is_out,
     }
 }
 

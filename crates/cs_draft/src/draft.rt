@@ -4,55 +4,47 @@ ghost use Rattle.cs_draft.specs.Drawing.{IsDrawing, IsUpdating};
 
 use crate::confirm::{is_draft, is_update};
 use crate::fresh::fresh_text;
-use crate::notice::{Notice, notices_text};
 use crate::old::Old;
+use crate::told::Told;
 use crate::updated::updated_text;
 use cs_anacrontab::Anacrontab;
-use cs_civil::Bytes;
+use cs_civil::{Bytes, Sequence};
 use cs_crontab::Crontab;
 use cs_decl::{Declarations, Entries, MAX_MINUTES};
 use cs_gather::Place;
 use cs_json::{Misread, parse};
 use std::alloc::{AllocError, Global};
-use std::marker::Model;
 
 /// Declarations to begin from, and what an operator has to know of them.
 #[derive(Debug, Drop)]
 pub struct Draft {
-    text: Bytes,
-    warnings: Bytes,
-}
-
-impl Model for Draft {
-    ghost use Rattle.cs_draft.specs.Texts.{Texts};
-
-    ghost Value = { Texts };
-
-    ghost view = { λ a. record { text = a.text; warnings = a.warnings } };
-}
-
-impl Draft {
     /// The declarations: JSON, with one entry a line.
-    pub fn text(&self) -> &[u8]
-        ensures { result.now ≡ self.now.text }
-    {
-        self.text.as_slice()
-    }
-
+    pub text: Bytes,
     /// What an operator has to know, a line each: what is left out, which commands are declared
     /// without the lock that they take, and of an update what is new or gone. Each line begins with
     /// `warning: ` or `note: `, and ends with a newline.
-    pub fn warnings(&self) -> &[u8]
-        ensures { result.now ≡ self.now.warnings }
-    {
-        self.warnings.as_slice()
-    }
+    pub warnings: Bytes,
+    /// The numbers of the crontab's lines whose commands are told to be declared without a lock.
+    pub unlocked: Sequence<u32>,
+    /// The same of the anacrontab's lines.
+    pub unlocked_jobs: Sequence<u32>,
+}
 
-    /// The declarations, and the warnings.
-    pub fn into_parts(self) -> (Bytes, Bytes)
-        ensures { result ≡ (self.text, self.warnings) }
+impl Draft {
+    fn new(text: Vec<u8>, told: Told) -> Draft
+        ensures { result ≡ record {
+          text = text.items;
+          warnings = told.text.items;
+          unlocked = told.unlocked.items;
+          unlocked_jobs = told.unlocked_jobs.items;
+        } }
     {
-        (self.text, self.warnings)
+        Draft {
+            text: Bytes::from_vec(text),
+            warnings: Bytes::from_vec(told.text),
+            unlocked: Sequence::from_vec(told.unlocked),
+            unlocked_jobs: Sequence::from_vec(told.unlocked_jobs),
+        }
     }
 }
 
@@ -78,10 +70,11 @@ fn is_possible_max(max: u64) -> bool
 /// are ahead of UTC by `offset` minutes.
 ///
 /// Each job has that longest time, or that of timeout(1) where it limits the whole command; a
-/// command has the time to its own next due minute if that is shorter. The capacity is the
-/// greatest, and the catch-up hours are all. A command that has parts, as the places tell, has them in its entry: each has an equal
-/// share of the time to the next due minute, but at most `max` minutes and at least one, and the
-/// longest time is their sum. A command that is a plain call of flock(1), behind settings, guards
+/// command has the time to its own next due minute if that is shorter. A longest time that isn't
+/// that of timeout(1) is marked as a guess. The capacity is the greatest, and the catch-up hours
+/// are all. Where two lines have one command, their entries tell the schedule too. A command that
+/// has parts, as the places tell, has them in its entry: each has an equal share of the time to the
+/// next due minute, but at most `max` minutes and at least one, and the longest time is their sum. A command that is a plain call of flock(1), behind settings, guards
 /// and nice(1), has the group of the lock file, which is exclusive and has the file's name, and the
 /// mode that the options ask for: `try` for `-n`, `shared` for `-s`, else `wait`. Each other command
 /// that names a program that locks files has no lock, and a warning says how to declare one.
@@ -100,9 +93,8 @@ pub fn draw_up(
     if !is_possible_max(max) {
         return Ok(Drawing::BadMax);
     }
-    let (text, notices) = fresh_text(alloc, table, jobs, places, max, offset)?;
-    let notices = notices.as_slice();
-    if !is_draft(
+    let (text, told) = fresh_text(alloc, table, jobs, places, max, offset)?;
+    if is_draft(
         alloc,
         table,
         jobs,
@@ -110,15 +102,11 @@ pub fn draw_up(
         max,
         offset,
         text.as_slice(),
-        notices,
+        &told,
     )? {
-        return Ok(Drawing::NotConfirmed);
+        return Ok(Drawing::Drawn(Draft::new(text, told)));
     }
-    let warnings = notices_text(alloc, notices)?;
-    Ok(Drawing::Drawn(Draft {
-        text: Bytes::from_vec(text),
-        warnings: Bytes::from_vec(warnings),
-    }))
+    Ok(Drawing::NotConfirmed)
 }
 
 /// The text of an update of the declarations in the bytes, and what is told, or none where they
@@ -131,7 +119,7 @@ fn text_of(
     entries: &Entries,
     bytes: &[u8],
     max: u64,
-) -> Result<Option<(Vec<u8>, Vec<Notice>)>, AllocError> {
+) -> Result<Option<(Vec<u8>, Told)>, AllocError> {
     match parse(alloc, bytes) {
         Ok(value) => {
             let old = Old {
@@ -147,12 +135,13 @@ fn text_of(
 
 /// The old declarations, which were read from the bytes, for the jobs of both tables.
 ///
-/// A command that an old entry tells keeps what that declares, wherever its line is now: of several
-/// entries and lines of one command, if there are as many of both, the first is that of the first,
-/// and so on. Where its entry has parts, and the places tell others, those that stay keep their
+/// A command that an old entry tells keeps what that declares, wherever its line is now. Of several
+/// entries and lines of one command an entry that tells a schedule is that of the line with that
+/// schedule; of those that tell none, if there are as many of both, the first is that of the first,
+/// and so on; and one entry that is left is that of the one line that is left. Where its entry has parts, and the places tell others, those that stay keep their
 /// longest times, and the longest time is the new sum. An anacron job keeps what is declared of its
-/// identifier, and all else is as before. Where there is no default, what is new is declared as by
-/// [`draw_up`]. What is new or gone is told. What is drawn up was read back, compared with the old
+/// identifier, and all else is as before. What is new is declared as by [`draw_up`]; where there is a
+/// default, only a new command with a lock has an entry, with the default's longest time. What is new or gone is told. What is drawn up was read back, compared with the old
 /// declarations and the commands, and joined with the tables. The only error is want of memory.
 pub fn update(
     alloc: Global,
@@ -168,26 +157,12 @@ pub fn update(
     if !is_possible_max(max) {
         return Ok(Drawing::BadMax);
     }
-    let Some((text, notices)) = text_of(alloc, table, jobs, places, old.entries(), bytes, max)?
-    else {
+    let old = old.entries();
+    let Some((text, told)) = text_of(alloc, table, jobs, places, old, bytes, max)? else {
         return Ok(Drawing::NotConfirmed);
     };
-    let notices = notices.as_slice();
-    if !is_update(
-        alloc,
-        table,
-        jobs,
-        places,
-        old.entries(),
-        max,
-        text.as_slice(),
-        notices,
-    )? {
-        return Ok(Drawing::NotConfirmed);
+    if is_update(alloc, table, jobs, places, old, max, text.as_slice(), &told)? {
+        return Ok(Drawing::Drawn(Draft::new(text, told)));
     }
-    let warnings = notices_text(alloc, notices)?;
-    Ok(Drawing::Drawn(Draft {
-        text: Bytes::from_vec(text),
-        warnings: Bytes::from_vec(warnings),
-    }))
+    Ok(Drawing::NotConfirmed)
 }

@@ -1,8 +1,8 @@
 //! The draft of tables of which nothing is declared yet.
 
 use crate::layout::Front;
-use crate::notice::Notice;
 use crate::sheet::Sheet;
+use crate::told::Told;
 use cs_anacrontab::Anacrontab;
 use cs_crontab::{Crontab, Line, When};
 use cs_decl::MAX_CAPACITY;
@@ -14,8 +14,8 @@ fn add_line<'a>(alloc: Global, sheet: &mut Sheet<'a>, line: &'a Line) -> Result<
     match line.when() {
         When::At(schedule) => sheet.add_new(alloc, line, schedule),
         When::Reboot => {
-            sheet.told.reboot(line.number())?;
-            sheet.leave_out(alloc, line, None, true)
+            sheet.told.reboot(alloc, line.number())?;
+            sheet.leave_out(alloc, line, None)
         }
     }
 }
@@ -41,15 +41,15 @@ fn front(alloc: Global, offset: i16) -> Result<Front, AllocError> {
 
 /// The text of declarations, and what is told, for a longest time in minutes and an offset. The
 /// only error is want of memory.
-pub(crate) fn fresh_text(
+pub(crate) fn fresh_text<'a>(
     alloc: Global,
-    table: &Crontab,
+    table: &'a Crontab,
     jobs: &Anacrontab,
-    places: &[Place],
+    places: &'a [Place],
     max: u64,
     offset: i16,
-) -> Result<(Vec<u8>, Vec<Notice>), AllocError> {
-    let mut sheet = Sheet::new(alloc, places, max);
+) -> Result<(Vec<u8>, Told), AllocError> {
+    let mut sheet = Sheet::new(alloc, table.lines(), places, max);
     if set_hours(jobs) {
         sheet.told.start_hours(alloc)?;
     }

@@ -1,10 +1,11 @@
 //! Whether new declarations keep what old ones declare.
-ghost use Rattle.std.specs.Prelude.{◌≡◌, ◌==◌, All, IsTrue, bytes_eq, length, option_map, take, true};
+ghost use Rattle.std.specs.Prelude.{◌≡◌, All, IsTrue, length, option_map, take};
 ghost use Rattle.std.specs.List.{count_by, find, list_any};
 ghost use Rattle.cs_decl.specs.Join.{is_named};
-ghost use Rattle.cs_draft.specs.Draft.{AreAlike, AreAlikeJobs, AreTerms, IsKept, IsKeptJob, IsKeptLine, is_lone, is_new, parts_of, tells, times_told};
+ghost use Rattle.cs_draft.specs.Draft.{AreAlike, AreAlikeJobs, AreTerms, IsKept, IsKeptIfLone, IsKeptJob, IsKeptLine};
+ghost use Rattle.cs_draft.specs.Draft.{is_lone, is_new, parts_of, tells, times_told};
 
-use crate::names::{entry_of, is_left_out, is_reboot, job_entry, tells};
+use crate::names::{count_like, entry_of, is_left_out, is_reboot, job_entry, tells};
 use crate::parts::{keeps_times, parts_of};
 use cs_anacrontab::Job;
 use cs_civil::Bytes;
@@ -34,68 +35,60 @@ fn are_alike(asked: u64, names: &[Bytes], old: &CronEntry, new: &CronEntry) -> b
 fn are_alike_jobs(old: &AnacronEntry, new: &AnacronEntry) -> bool
     ensures { IsTrue result → AreAlikeJobs old.now new.now }
 {
-    old.max == new.max && old.weight == new.weight && is_same_name(&old.group, &new.group)
+    old.max == new.max
+        && old.weight == new.weight
+        && is_same_name(&old.group, &new.group)
+        && old.guess == new.guess
 }
 
 // ---- lines
 
-fn count_commands(lines: &[Line], command: &[u8]) -> usize
-    ensures { result ≡ count_by (λ l. bytes_eq l.command command.now) lines.now }
-{
-    lines
-        .iter()
-        .filter(|line| line.command() == command)
-        .count()
-}
-
-fn count_entries(entries: &[CronEntry], command: &[u8]) -> usize
-    ensures { result ≡ count_by (λ e. tells command.now e.name) entries.now }
+fn count_entries(timed: bool, entries: &[CronEntry], line: &Line) -> usize
+    ensures { result ≡ count_by (λ e. tells timed line.now e.name) entries.now }
 {
     entries
         .iter()
-        .filter(|entry| tells(command, &entry.name))
+        .filter(|entry| tells(timed, line, &entry.name))
         .count()
 }
 
-fn count_names(names: &[LineName], command: &[u8]) -> usize
-    ensures { result ≡ count_by (tells command.now) names.now }
+fn count_names(timed: bool, names: &[LineName], line: &Line) -> usize
+    ensures { result ≡ count_by (tells timed line.now) names.now }
 {
-    names.iter().filter(|name| tells(command, name)).count()
+    names.iter().filter(|name| tells(timed, line, name)).count()
 }
 
-/// How many entries tell the command.
+/// How many entries tell the command of the line; and its schedule, if that is asked for.
 #[tactic(auto, using(crate::proofs::Counts::counted))]
-fn times_told(entries: &Entries, command: &[u8]) -> usize
-    ensures { result ≡ times_told command.now entries.now }
+fn times_told(timed: bool, entries: &Entries, line: &Line) -> usize
+    ensures { result ≡ times_told timed entries.now line.now }
 {
-    let cron = count_entries(entries.cron.as_slice(), command);
-    let left_out = count_names(entries.left_out.as_slice(), command);
+    let cron = count_entries(timed, entries.cron.as_slice(), line);
+    let left_out = count_names(timed, entries.left_out.as_slice(), line);
     cron + left_out
 }
 
-/// Whether one line alone has its command, not at startup, and one entry alone tells it.
-fn is_lone(lines: &[Line], old: &Entries, line: &Line) -> bool
-    ensures { result ≡ is_lone lines.now old.now line.now }
+/// Whether no other line is like it, it isn't started at startup, and one entry alone tells it.
+fn is_lone(timed: bool, lines: &[Line], old: &Entries, line: &Line) -> bool
+    ensures { result ≡ is_lone timed lines.now old.now line.now }
 {
-    !is_reboot(line)
-        && count_commands(lines, line.command()) == 1
-        && times_told(old, line.command()) == 1
+    !is_reboot(line) && count_like(timed, lines, line) == 1 && times_told(timed, old, line) == 1
 }
 
 /// Whether the command isn't started at startup, and no entry tells it.
 pub(crate) fn is_new(old: &Entries, line: &Line) -> bool
     ensures { result ≡ is_new old.now line.now }
 {
-    !is_reboot(line) && times_told(old, line.command()) == 0
+    !is_reboot(line) && times_told(false, old, line) == 0
 }
 
-/// The first entry that tells the command.
-fn entry_that_tells<'e>(entries: &'e Entries, command: &[u8]) -> Option<&'e CronEntry>
+/// The first entry that tells the line.
+fn entry_that_tells<'e>(timed: bool, entries: &'e Entries, line: &Line) -> Option<&'e CronEntry>
     ensures { option_map (λ e. e.now) result
-        ≡ find (λ e. tells command.now e.name) entries.now.cron }
+        ≡ find (λ e. tells timed line.now e.name) entries.now.cron }
 {
     let cron = entries.cron.as_slice();
-    cron.iter().find(|entry| tells(command, &entry.name))
+    cron.iter().find(|entry| tells(timed, line, &entry.name))
 }
 
 fn is_kept(asked: u64, names: &[Bytes], old: Option<&CronEntry>, new: Option<&CronEntry>) -> bool
@@ -112,33 +105,48 @@ fn is_kept(asked: u64, names: &[Bytes], old: Option<&CronEntry>, new: Option<&Cr
     }
 }
 
-/// Whether an entry of `left_out` tells the command.
-fn was_left_out(old: &Entries, command: &[u8]) -> bool
-    ensures { result ≡ list_any (tells command.now) old.now.left_out }
+/// Whether an entry of `left_out` tells the line.
+fn was_left_out(timed: bool, old: &Entries, line: &Line) -> bool
+    ensures { result ≡ list_any (tells timed line.now) old.now.left_out }
 {
     let names = old.left_out.as_slice();
-    names.iter().any(|name| tells(command, name))
+    names.iter().any(|name| tells(timed, line, name))
 }
 
-/// Whether the line's entry declares what the old one that tells its command does, if there is one.
-fn keeps_entry(asked: u64, places: &[Place], old: &Entries, new: &Entries, line: &Line) -> bool
+/// Whether the line's entry declares what the old one that tells it does, if there is one.
+fn keeps_entry(
+    timed: bool,
+    asked: u64,
+    places: &[Place],
+    old: &Entries,
+    new: &Entries,
+    line: &Line,
+) -> bool
     ensures { IsTrue result → IsKept (AreAlike asked (parts_of places.now line.now.number))
-        (find (λ e. tells line.now.command e.name) old.now.cron)
+        (find (λ e. tells timed line.now e.name) old.now.cron)
         (find (λ e. is_named e.name line.now) new.now.cron) }
 {
     let names = parts_of(places, line.number());
-    let entry = entry_that_tells(old, line.command());
+    let entry = entry_that_tells(timed, old, line);
     is_kept(asked, names, entry, entry_of(new, line))
 }
 
-fn is_kept_line(asked: u64, places: &[Place], old: &Entries, new: &Entries, line: &Line) -> bool
-    ensures { IsTrue result → IsKeptLine asked places.now old.now new.now line.now }
+fn is_kept_line(
+    timed: bool,
+    asked: u64,
+    places: &[Place],
+    old: &Entries,
+    new: &Entries,
+    line: &Line,
+) -> bool
+    ensures { IsTrue result → IsKeptLine timed asked places.now old.now new.now line.now }
 {
-    keeps_entry(asked, places, old, new, line)
-        && (!was_left_out(old, line.command()) || is_left_out(new, line))
+    keeps_entry(timed, asked, places, old, new, line)
+        && (!was_left_out(timed, old, line) || is_left_out(new, line))
 }
 
 fn is_kept_if_lone(
+    timed: bool,
     asked: u64,
     places: &[Place],
     lines: &[Line],
@@ -146,25 +154,26 @@ fn is_kept_if_lone(
     new: &Entries,
     line: &Line,
 ) -> bool
-    ensures { IsTrue result → is_lone lines.now old.now line.now ≡ true
-        → IsKeptLine asked places.now old.now new.now line.now }
+    ensures { IsTrue result
+        → IsKeptIfLone timed asked places.now lines.now old.now new.now line.now }
 {
-    !is_lone(lines, old, line) || is_kept_line(asked, places, old, new, line)
+    !is_lone(timed, lines, old, line) || is_kept_line(timed, asked, places, old, new, line)
 }
 
 /// Whether each lone line is declared as before, with new parts where there are some.
 pub(crate) fn are_kept_lines(
+    timed: bool,
     asked: u64,
     places: &[Place],
     old: &Entries,
     new: &Entries,
     lines: &[Line],
 ) -> bool
-    ensures { IsTrue result → All (λ line. is_lone lines.now old.now line ≡ true
-        → IsKeptLine asked places.now old.now new.now line) lines.now }
+    ensures { IsTrue result
+        → All (IsKeptIfLone timed asked places.now lines.now old.now new.now) lines.now }
 {
     for line in lines {
-        if !is_kept_if_lone(asked, places, lines, old, new, line) {
+        if !is_kept_if_lone(timed, asked, places, lines, old, new, line) {
             return false;
         }
     }

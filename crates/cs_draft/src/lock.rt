@@ -20,8 +20,8 @@ pub enum Lock {
     Absent,
     /// It holds the lock of the file, in that mode.
     Of(Bytes, Mode),
-    /// It names one, but it isn't known which lock it holds.
-    Unlike,
+    /// It names one, in a text that isn't read as a plain lock.
+    Unread,
 }
 
 /// The text that the shell is given for the command, where that has no input. The only error is want
@@ -64,7 +64,7 @@ fn lock_in(alloc: Global, text: &[u8]) -> Result<Option<(Bytes, Mode)>, AllocErr
 }
 
 /// The lock of the command. The only error is want of memory.
-fn own_lock(alloc: Global, command: &[u8]) -> Result<Option<(Bytes, Mode)>, AllocError>
+pub(crate) fn own_lock(alloc: Global, command: &[u8]) -> Result<Option<(Bytes, Mode)>, AllocError>
     ensures { IfOk result (λ lock. lock ≡ lock_of command.now) }
 {
     match shell_text(alloc, command)? {
@@ -81,7 +81,7 @@ pub fn lock_of(alloc: Global, command: &[u8]) -> Result<Lock, AllocError>
         return Ok(Lock::Of(file, mode));
     }
     if names_lock(command) {
-        Ok(Lock::Unlike)
+        Ok(Lock::Unread)
     } else {
         Ok(Lock::Absent)
     }

@@ -1,24 +1,14 @@
 //! Whether entries take the locks that their commands take.
 ghost use Rattle.std.specs.Prelude.{◌≡◌, All, IfOk, IsTrue, Some};
-ghost use Rattle.cs_draft.specs.Draft.{HasLock, IsDraftedGroup, IsFull, IsLocked, TakesLock, TakesNone, is_text};
+ghost use Rattle.cs_draft.specs.Draft.{HasLock, IsDraftedGroup, IsFull, IsLocked, TakesLock, TakesNone};
 ghost use Rattle.cs_draft.specs.Locks.{lock_of};
 
-use crate::lock::{Lock, lock_of};
-use crate::names::entry_of;
+use crate::lock::own_lock;
+use crate::names::{entry_of, is_text};
 use cs_crontab::Line;
 use cs_decl::{CronEntry, Entries, GroupEntry, MAX_GROUPS};
 use cs_history::Mode;
 use std::alloc::{AllocError, Global};
-
-/// Whether the group of the entry has that name.
-fn is_in_group(name: &[u8], entry: &CronEntry) -> bool
-    ensures { result ≡ is_text name.now entry.now.group }
-{
-    match &entry.group {
-        Some(told) => told.as_slice() == name,
-        None => false,
-    }
-}
 
 /// Whether the entry takes no lock.
 fn takes_none(entry: &CronEntry) -> bool
@@ -31,7 +21,7 @@ fn takes_none(entry: &CronEntry) -> bool
 fn takes_lock(file: &[u8], mode: Mode, entry: &CronEntry) -> bool
     ensures { IsTrue result → TakesLock file.now mode entry.now }
 {
-    is_in_group(file, entry) && entry.mode == mode
+    is_text(file, &entry.group) && entry.mode == mode
 }
 
 /// Whether there are as many groups as there may be, and none of that name.
@@ -61,9 +51,9 @@ fn is_locked(
     ensures { IfOk result (λ b. IsTrue b
         → IsLocked groups.now (lock_of command.now) entry.now) }
 {
-    match lock_of(alloc, command)? {
-        Lock::Of(file, mode) => Ok(takes_lock_if_any(groups, file.as_slice(), mode, entry)),
-        Lock::Absent | Lock::Unlike => Ok(takes_none(entry)),
+    match own_lock(alloc, command)? {
+        Some((file, mode)) => Ok(takes_lock_if_any(groups, file.as_slice(), mode, entry)),
+        None => Ok(takes_none(entry)),
     }
 }
 
@@ -100,7 +90,7 @@ fn is_drafted_group(entries: &Entries, group: &GroupEntry) -> bool
 {
     let name = group.name.as_slice();
     let cron = entries.cron.as_slice();
-    group.exclusive && cron.iter().any(|entry| is_in_group(name, entry))
+    group.exclusive && cron.iter().any(|entry| is_text(name, &entry.group))
 }
 
 /// And so of all groups.

@@ -1,32 +1,73 @@
 //! The lines and jobs that entries name.
-ghost use Rattle.std.specs.Prelude.{◌≡◌, option_map};
-ghost use Rattle.std.specs.List.{find};
+ghost use Rattle.std.specs.Prelude.{◌≡◌, ◌&&◌, bytes_eq, option_map};
+ghost use Rattle.std.specs.List.{count_by, find};
 ghost use Rattle.cs_decl.specs.Join.{is_left_out, is_named, is_of_job, is_reboot};
-ghost use Rattle.cs_draft.specs.Draft.{tells};
+ghost use Rattle.cs_decl.specs.When.{is_told_when};
+ghost use Rattle.cs_draft.specs.Draft.{are_like, is_shared, is_text, tells, when_of};
 
+use cs_civil::Bytes;
 use cs_crontab::{Line, When};
-use cs_decl::{AnacronEntry, CronEntry, Entries, LineName};
+use cs_decl::{AnacronEntry, CronEntry, Entries, LineName, is_named, is_told_when};
 
-pub(crate) fn is_named(name: &LineName, line: &Line) -> bool
-    ensures { result ≡ is_named name.now line.now }
+/// Whether the text is this one.
+pub(crate) fn is_text(text: &[u8], told: &Option<Bytes>) -> bool
+    ensures { result ≡ is_text text.now told.now }
 {
-    match name.number {
-        Some(number) => number == i128::from(line.number()),
-        None => match &name.command {
-            Some(told) => told.as_slice() == line.command(),
-            None => false,
-        },
+    match told {
+        Some(told) => told.as_slice() == text,
+        None => false,
     }
 }
 
-/// Whether the name tells this command.
-pub(crate) fn tells(command: &[u8], name: &LineName) -> bool
-    ensures { result ≡ tells command.now name.now }
+/// Whether the name tells the command of the line; and its schedule, if that is asked for.
+pub(crate) fn tells(timed: bool, line: &Line, name: &LineName) -> bool
+    ensures { result ≡ tells timed line.now name.now }
 {
-    match &name.command {
-        Some(told) => told.as_slice() == command,
-        None => false,
+    is_text(line.command(), &name.command)
+        && (!timed || name.when.is_some() && is_told_when(&name.when, line.when()))
+}
+
+/// The schedule of the line, if that is asked for.
+fn when_of(timed: bool, line: &Line) -> Option<When>
+    ensures { result ≡ when_of timed line.now }
+{
+    if !timed {
+        return None;
     }
+    match line.when() {
+        When::At(schedule) => Some(When::At(schedule.copy())),
+        When::Reboot => Some(When::Reboot),
+    }
+}
+
+/// Whether another line has the line's command, and that schedule, if there is one.
+fn is_like(when: &Option<When>, line: &Line, other: &Line) -> bool
+    ensures { result ≡ (bytes_eq other.now.command line.now.command
+        && is_told_when when.now other.now.when) }
+{
+    other.command() == line.command() && is_told_when(when, other.when())
+}
+
+/// How many lines have the line's command; and its schedule, if that is asked for.
+pub(crate) fn count_like(timed: bool, lines: &[Line], line: &Line) -> usize
+    ensures { result ≡ count_by (are_like timed line.now) lines.now }
+{
+    let when = when_of(timed, line);
+    lines
+        .iter()
+        .filter(|other| is_like(&when, line, other))
+        .count()
+}
+
+/// Whether another line has the line's command too.
+pub(crate) fn is_shared(lines: &[Line], line: &Line) -> bool
+    ensures { result ≡ is_shared lines.now line.now }
+{
+    lines
+        .iter()
+        .filter(|other| other.command() == line.command())
+        .count()
+        > 1
 }
 
 pub(crate) fn is_left_out(entries: &Entries, line: &Line) -> bool

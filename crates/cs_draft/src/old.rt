@@ -4,7 +4,7 @@
 use crate::names::is_reboot;
 use crate::told::Told;
 use cs_crontab::Line;
-use cs_decl::{Entries, PartEntry};
+use cs_decl::{Entries, LineName, PartEntry, is_told_when};
 use serde_json::Value;
 use std::alloc::{AllocError, Global};
 
@@ -15,31 +15,32 @@ pub(crate) struct Old<'v> {
     pub(crate) entries: &'v Entries,
 }
 
-impl<'v> Old<'v> {
-    /// The parts of the entry at that index of `cron`.
-    fn parts_at(self, index: usize) -> &'v [PartEntry] {
-        match self.entries.cron.as_slice().get(index) {
-            Some(entry) => entry.parts.as_slice(),
+/// An entry that tells a command.
+#[derive(Clone, Copy)]
+pub(crate) struct Bound<'v> {
+    pub(crate) value: &'v Value,
+    pub(crate) name: &'v LineName,
+    /// Its parts; of an entry that leaves a line out there are none.
+    pub(crate) parts: &'v [PartEntry],
+    pub(crate) is_guess: bool,
+    pub(crate) is_left_out: bool,
+}
+
+impl<'v> Bound<'v> {
+    pub(crate) fn command(&self) -> &'v [u8] {
+        match &self.name.command {
+            Some(command) => command.as_slice(),
             None => &[],
         }
     }
 }
 
-/// An entry that tells a command.
-#[derive(Clone, Copy)]
-pub(crate) struct Bound<'v> {
-    pub(crate) entry: &'v Value,
-    /// Its parts; of an entry that leaves a line out there are none.
-    pub(crate) parts: &'v [PartEntry],
-    pub(crate) command: &'v str,
-    /// The number of the line, if that is told.
-    pub(crate) number: Option<u64>,
-    pub(crate) is_left_out: bool,
-}
-
 /// The items of the member of that name; none where it is absent.
-pub(crate) fn items<'v>(value: &'v Value, name: &str) -> Option<&'v Vec<Value>> {
-    value.get(name)?.as_array()
+pub(crate) fn items<'v>(value: &'v Value, name: &str) -> &'v [Value] {
+    match value.get(name).and_then(Value::as_array) {
+        Some(list) => list.as_slice(),
+        None => &[],
+    }
 }
 
 /// The text of the member of that name.
@@ -47,88 +48,140 @@ pub(crate) fn text_of<'v>(value: &'v Value, name: &str) -> Option<&'v str> {
     value.get(name)?.as_str()
 }
 
-/// Adds the entries of a list that tell a command, and tells of those that don't.
-fn add_bound<'v>(
-    alloc: Global,
-    bound: &mut Vec<Bound<'v>>,
-    told: &mut Told,
-    old: Old<'v>,
-    list: &str,
-    is_left_out: bool,
-) -> Result<(), AllocError> {
-    let Some(entries) = items(old.value, list) else {
-        return Ok(());
-    };
-    for (i, entry) in entries.iter().enumerate() {
-        match text_of(entry, "command") {
-            Some(command) => bound.push(Bound {
-                entry,
-                parts: if is_left_out { &[] } else { old.parts_at(i) },
-                command,
-                number: entry.get("line").and_then(Value::as_u64),
-                is_left_out,
-            })?,
-            None => told.unbound(alloc, list, i.saturating_add(1))?,
-        }
-    }
-    Ok(())
-}
-
 /// The entries of the declarations that tell a command, in the order of the lines that they name.
-/// The only error is want of memory.
+/// It is told of the others. The only error is want of memory.
 pub(crate) fn bound_in<'v>(
     alloc: Global,
     told: &mut Told,
     old: Old<'v>,
 ) -> Result<Vec<Bound<'v>>, AllocError> {
     let mut bound = Vec::new(alloc);
-    add_bound(alloc, &mut bound, told, old, "cron", false)?;
-    add_bound(alloc, &mut bound, told, old, "left_out", true)?;
-    bound.sort_by_key(|entry| entry.number)?;
+    let entries = old.entries.cron.as_slice().iter();
+    for (i, (value, entry)) in items(old.value, "cron").iter().zip(entries).enumerate() {
+        if entry.name.command.is_none() {
+            told.unbound(alloc, "cron", i.saturating_add(1))?;
+            continue;
+        }
+        bound.push(Bound {
+            value,
+            name: &entry.name,
+            parts: entry.parts.as_slice(),
+            is_guess: entry.guess,
+            is_left_out: false,
+        })?;
+    }
+    let names = old.entries.left_out.as_slice().iter();
+    for (i, (value, name)) in items(old.value, "left_out").iter().zip(names).enumerate() {
+        if name.command.is_none() {
+            told.unbound(alloc, "left_out", i.saturating_add(1))?;
+            continue;
+        }
+        bound.push(Bound {
+            value,
+            name,
+            parts: &[],
+            is_guess: false,
+            is_left_out: true,
+        })?;
+    }
+    bound.sort_by_key(|entry| entry.name.number)?;
     Ok(bound)
 }
 
-/// How many of the lines have that command and are started at startup, or aren't.
-pub(crate) fn count_lines(lines: &[Line], command: &[u8], reboot: bool) -> usize {
+// ---- the entries of lines
+
+/// An entry of a line, by the places of both.
+#[derive(Clone, Copy)]
+pub(crate) struct Pair {
+    pub(crate) line: usize,
+    pub(crate) entry: usize,
+}
+
+/// What an entry tells of the schedule of a line with its command.
+#[derive(Clone, Copy)]
+enum Tells {
+    This,
+    None,
+    Other,
+}
+
+/// Whether an entry can be that of a line, of which it tells so much. One of `left_out` that tells no
+/// schedule, or another one, is that of a line that is started at startup, if there is one.
+fn fits(tells: Tells, entry: &Bound<'_>, line: &Line, has_reboot: bool) -> bool {
+    let when = &entry.name.when;
+    let is_told = match tells {
+        Tells::This => when.is_some() && is_told_when(when, line.when()),
+        Tells::None => when.is_none(),
+        Tells::Other => when.is_some(),
+    };
+    let can_be = if is_reboot(line) {
+        entry.is_left_out
+    } else {
+        !(entry.is_left_out && has_reboot)
+    };
+    is_told && can_be && entry.command() == line.command()
+}
+
+/// Whether a line with that command is started at startup.
+fn has_reboot(lines: &[Line], command: &[u8]) -> bool {
     lines
         .iter()
-        .filter(|line| is_reboot(line) == reboot && line.command() == command)
-        .count()
+        .any(|line| line.command() == command && is_reboot(line))
 }
 
-/// Whether an entry can be that of a line with this command. An entry of `left_out` is that of a
-/// line that is started at startup, if there is one with its command.
-fn is_candidate(entry: &Bound<'_>, command: &[u8], reboot: bool, has_reboot: bool) -> bool {
-    entry.command.as_bytes() == command
-        && (if reboot {
-            entry.is_left_out
-        } else {
-            !(entry.is_left_out && has_reboot)
-        })
-}
-
-/// The index of the entry of the line at a place: of the entries and the lines of one command the
-/// first is that of the first, and so on, if there are as many of both.
-pub(crate) fn entry_of(bound: &[Bound<'_>], lines: &[Line], place: usize) -> Option<usize> {
-    let line = lines.get(place)?;
-    let (command, reboot) = (line.command(), is_reboot(line));
-    let has_reboot = count_lines(lines, command, true) > 0;
-    let entries = bound
-        .iter()
-        .filter(|entry| is_candidate(entry, command, reboot, has_reboot))
-        .count();
-    if entries != count_lines(lines, command, reboot) && !reboot {
-        return None;
-    }
-    let before = count_lines(&lines[..place], command, reboot);
-    let mut left = before;
+/// The place of the entry of a line, of which it tells so much: of the entries and the lines that are
+/// left the first is that of the first, if there are as many of both; but where entries tell other
+/// schedules, if there is one of both.
+fn owner_of(
+    tells: Tells,
+    bound: &[Bound<'_>],
+    lines: &[Line],
+    pairs: &[Pair],
+    line: &Line,
+) -> Option<usize> {
+    let has_reboot = match tells {
+        Tells::This => false,
+        _ => has_reboot(lines, line.command()),
+    };
+    let mut owner = None;
+    let mut entries = 0usize;
     for (i, entry) in bound.iter().enumerate() {
-        if is_candidate(entry, command, reboot, has_reboot) {
-            if left == 0 {
-                return Some(i);
-            }
-            left = left.saturating_sub(1);
+        if fits(tells, entry, line, has_reboot) && !pairs.iter().any(|pair| pair.entry == i) {
+            owner = owner.or(Some(i));
+            entries = entries.saturating_add(1);
         }
     }
-    None
+    let entry = bound.get(owner?)?;
+    let mut count = 0usize;
+    for (i, other) in lines.iter().enumerate() {
+        if fits(tells, entry, other, has_reboot) && !pairs.iter().any(|pair| pair.line == i) {
+            count = count.saturating_add(1);
+        }
+    }
+    let is_clear = match tells {
+        Tells::Other => entries == 1 && count == 1,
+        _ => entries == count || is_reboot(line),
+    };
+    if is_clear { owner } else { None }
+}
+
+/// The lines that have an entry: first those whose schedule an entry tells, then those of entries that
+/// tell none, and then those of entries that tell another one. The only error is want of memory.
+pub(crate) fn pairs_of(
+    alloc: Global,
+    bound: &[Bound<'_>],
+    lines: &[Line],
+) -> Result<Vec<Pair>, AllocError> {
+    let mut pairs: Vec<Pair> = Vec::new(alloc);
+    for tells in [Tells::This, Tells::None, Tells::Other] {
+        for (place, line) in lines.iter().enumerate() {
+            if pairs.iter().any(|pair| pair.line == place) {
+                continue;
+            }
+            if let Some(entry) = owner_of(tells, bound, lines, pairs.as_slice(), line) {
+                pairs.push(Pair { line: place, entry })?;
+            }
+        }
+    }
+    Ok(pairs)
 }

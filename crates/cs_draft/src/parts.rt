@@ -1,8 +1,8 @@
 //! The parts of commands: those that a gathered table tells, and those that entries have.
-ghost use Rattle.std.specs.Prelude.{◌≡◌, ◌+◌, ◌<◌, IfNone, IfSome, IsTrue, option_map, pos};
+ghost use Rattle.std.specs.Prelude.{◌≡◌, ◌||◌, ◌+◌, ◌<◌, IfNone, IfSome, IsTrue, not, option_map, pos};
 ghost use Rattle.std.specs.List.{find, list_all, list_any};
 ghost use Rattle.cs_decl.specs.Faults.{minutes_of};
-ghost use Rattle.cs_draft.specs.Draft.{AreRenewed, AreTooLong, KeepsTimes, are_same, declarable, has_name};
+ghost use Rattle.cs_draft.specs.Draft.{AreRenewed, AreTooLong, KeepsTimes, all_are_parts, are_same, declarable, has_name};
 ghost use Rattle.cs_draft.specs.Draft.{have_changed, have_own, is_part, names_at, parts_of, parts_with, time_of};
 ghost use Rattle.cs_gather.specs.Places.{place_of};
 
@@ -81,8 +81,9 @@ pub(crate) fn has_part(parts: &[PartEntry], name: &[u8]) -> bool
     parts.iter().any(|part| part.name.as_slice() == name)
 }
 
-fn all_are_parts(names: &[Bytes], parts: &[PartEntry]) -> bool
-    ensures { result ≡ list_all (λ name. list_any (is_part name) parts.now) names.now }
+/// Whether each name is that of a part.
+pub(crate) fn all_are_parts(names: &[Bytes], parts: &[PartEntry]) -> bool
+    ensures { result ≡ all_are_parts names.now parts.now }
 {
     names.iter().all(|name| has_part(parts, name.as_slice()))
 }
@@ -192,6 +193,14 @@ fn is_sum(max: i128, share: u64, old: &[PartEntry], names: &[Bytes]) -> bool
     max >= 0 && minutes_left(max.unsigned_abs(), share, old, names) == Some(0)
 }
 
+/// Whether the longest time is a guess where an entry gets parts of those names: it was one, or one of
+/// them is new.
+fn is_guess(names: &[Bytes], old: &CronEntry) -> bool
+    ensures { result ≡ (old.now.guess || not (all_are_parts names.now old.now.parts)) }
+{
+    old.guess || !all_are_parts(names, old.parts.as_slice())
+}
+
 /// Whether the new entry has the table's parts, as the old one has them where it does.
 fn are_renewed(asked: u64, names: &[Bytes], old: &CronEntry, new: &CronEntry) -> bool
     ensures { IsTrue result → AreRenewed asked names.now old.now new.now }
@@ -201,7 +210,7 @@ fn are_renewed(asked: u64, names: &[Bytes], old: &CronEntry, new: &CronEntry) ->
     if share > asked || !are_parts_with(share, before, names, parts) {
         return false;
     }
-    if !is_sum(new.max, share, before, names) {
+    if !is_sum(new.max, share, before, names) || new.guess != is_guess(names, old) {
         return false;
     }
     share == asked || are_too_long(share + 1, before, names)
@@ -231,8 +240,11 @@ fn are_equal(old: &[PartEntry], new: &[PartEntry]) -> bool
 fn have_same_times(old: &CronEntry, new: &CronEntry) -> bool
     ensures max { IsTrue result → new.now.max ≡ old.now.max }
     ensures parts { IsTrue result → new.now.parts ≡ old.now.parts }
+    ensures guess { IsTrue result → new.now.guess ≡ old.now.guess }
 {
-    old.max == new.max && are_equal(old.parts.as_slice(), new.parts.as_slice())
+    old.max == new.max
+        && old.guess == new.guess
+        && are_equal(old.parts.as_slice(), new.parts.as_slice())
 }
 
 /// Whether the new entry has the times of the old one, but for parts that came or went.

@@ -3,17 +3,18 @@
 use crate::layout::{Front, Listing, Object};
 use crate::lock::{Lock, lock_of};
 use crate::named::names_lock;
-use crate::notice::Notice;
+use crate::names::{count_like, is_shared};
 use crate::old::Bound;
 use crate::parts::{declarable, has_name, has_part, have_changed, is_placed, names_at};
 use crate::paths::behind_place;
-use crate::timeouts::{asked_for, is_killed, limit_in};
-use crate::times::{add_new_times, add_old_times, add_renewed_times, room_for};
+use crate::schedule_text::schedule_text;
+use crate::timeouts::{asked_for, is_killed, limit_in, time_limit};
+use crate::times::{add_max, add_new_times, add_old_times, add_renewed_times, room_for};
 use crate::told::{IN_ANACRONTAB, IN_CRONTAB, Told};
 use cs_anacrontab::Job;
 use cs_civil::Bytes;
 use cs_crontab::Line;
-use cs_decl::{MAX_GROUPS, MAX_MINUTES, PartEntry};
+use cs_decl::{MAX_GROUPS, MAX_MINUTES, PartEntry, is_told_when};
 use cs_gather::Place;
 use cs_history::Mode;
 use cs_schedule::Schedule;
@@ -23,6 +24,7 @@ use std::alloc::{AllocError, Global};
 /// The entries so far, the names of the groups, in order of first use, and what is told.
 #[derive(Drop)]
 pub(crate) struct Sheet<'a> {
+    lines: &'a [Line],
     places: &'a [Place],
     max: u64,
     names: Vec<String>,
@@ -57,15 +59,6 @@ fn mode_text(mode: Mode) -> &'static str {
     }
 }
 
-/// Adds the member that binds an entry to its command; nothing where the command isn't UTF-8, as no
-/// text of JSON is like it then. The only error is want of memory.
-fn add_command(alloc: Global, entry: &mut Object, line: &Line) -> Result<(), AllocError> {
-    match str::from_utf8(line.command()) {
-        Ok(command) => entry.add_text(alloc, "command", command),
-        Err(_) => Ok(()),
-    }
-}
-
 /// The mode that flock(1) of a command has, as a member of its entry, and the group.
 fn add_lock(alloc: Global, entry: &mut Object, file: &str, mode: Mode) -> Result<(), AllocError> {
     entry.add_text(alloc, "group", file)?;
@@ -73,9 +66,15 @@ fn add_lock(alloc: Global, entry: &mut Object, file: &str, mode: Mode) -> Result
 }
 
 impl<'a> Sheet<'a> {
-    /// No entries, for the places of the lines and a longest time of new jobs in minutes.
-    pub(crate) fn new(alloc: Global, places: &'a [Place], max: u64) -> Sheet<'a> {
+    /// No entries, for lines and their places and a longest time of new jobs in minutes.
+    pub(crate) fn new(
+        alloc: Global,
+        lines: &'a [Line],
+        places: &'a [Place],
+        max: u64,
+    ) -> Sheet<'a> {
         Sheet {
+            lines,
             places,
             max,
             names: Vec::new(alloc),
@@ -135,9 +134,55 @@ impl<'a> Sheet<'a> {
                 }
                 "its lock file would be group 65 of at most 64"
             }
-            Lock::Unlike => UNREAD,
+            Lock::Unread => UNREAD,
         };
-        self.told.unlocked(line.number(), reason)
+        self.told.unlocked(alloc, line.number(), reason)
+    }
+
+    /// An entry with the number of the line, if it is to be told: no old entry is that of the line, or
+    /// that told the number, or another line has the same command and schedule. The only error is want
+    /// of memory.
+    fn entry_of(
+        &self,
+        alloc: Global,
+        line: &Line,
+        old: Option<Bound<'_>>,
+    ) -> Result<Object, AllocError> {
+        let mut entry = Object::new(alloc);
+        let is_told = match old {
+            Some(old) => old.name.number.is_some(),
+            None => true,
+        };
+        if is_told || count_like(true, self.lines, line) > 1 {
+            entry.add_number(alloc, "line", u64::from(line.number()))?;
+        }
+        Ok(entry)
+    }
+
+    /// Adds the members that bind an entry to its line: the command, unless it isn't UTF-8, as no text
+    /// of JSON is like it then; and the schedule, if the old entry told one, or another line has the
+    /// command. The only error is want of memory.
+    fn bind(
+        &mut self,
+        alloc: Global,
+        entry: &mut Object,
+        line: &Line,
+        old: Option<Bound<'_>>,
+    ) -> Result<(), AllocError> {
+        if let Ok(command) = str::from_utf8(line.command()) {
+            entry.add_text(alloc, "command", command)?;
+        }
+        if let Some(old) = old
+            && old.name.when.is_some()
+        {
+            if is_told_when(&old.name.when, line.when()) {
+                return entry.add_members(alloc, old.value, ["when"].as_slice());
+            }
+            self.told.other_schedule(alloc, line.number())?;
+        } else if !is_shared(self.lines, line) {
+            return Ok(());
+        }
+        entry.add_text(alloc, "when", schedule_text(alloc, line.when())?.as_str())
     }
 
     /// The names of the parts of a line; none where declarations can't have them, which is told.
@@ -153,7 +198,7 @@ impl<'a> Sheet<'a> {
         } else {
             "two parts of one name: they aren't declared"
         };
-        self.told.undeclared(line.number(), IN_CRONTAB, reason)?;
+        self.told.warn(alloc, line.number(), IN_CRONTAB, reason)?;
         Ok(parts)
     }
 
@@ -167,12 +212,12 @@ impl<'a> Sheet<'a> {
     ) -> Result<(), AllocError> {
         if sleeps_at_random(command) {
             let what = "a random sleep, which its longest time has to include";
-            self.told.undeclared(number, behind, what)?;
+            self.told.warn(alloc, number, behind, what)?;
         }
         match limit_in(command) {
             Some(limit) if limit > u64::from(MAX_MINUTES) => {
                 let what = "a timeout of more than 4320 minutes, which no longest time can be";
-                self.told.undeclared(number, behind, what)
+                self.told.warn(alloc, number, behind, what)
             }
             Some(_) if !is_killed(command) => self.told.unkilled(alloc, number, behind),
             _ => Ok(()),
@@ -186,14 +231,27 @@ impl<'a> Sheet<'a> {
         line: &'a Line,
         schedule: &Schedule,
     ) -> Result<(), AllocError> {
-        let mut entry = Object::new(alloc);
-        entry.add_number(alloc, "line", u64::from(line.number()))?;
+        let mut entry = self.entry_of(alloc, line, None)?;
         let names = self.parts_of(alloc, line)?;
-        let max = asked_for(self.max, line.command());
-        add_new_times(alloc, &mut entry, schedule, max, names)?;
+        add_new_times(alloc, &mut entry, line.command(), schedule, self.max, names)?;
         self.tell_times(alloc, line.number(), IN_CRONTAB, line.command())?;
         self.add_lock_of(alloc, &mut entry, line)?;
-        add_command(alloc, &mut entry, line)?;
+        self.bind(alloc, &mut entry, line, None)?;
+        self.cron.add(alloc, &entry)
+    }
+
+    /// Adds the entry of a new command that takes a lock, where there is that default. The only error
+    /// is want of memory.
+    pub(crate) fn add_locked(
+        &mut self,
+        alloc: Global,
+        line: &'a Line,
+        default: &Value,
+    ) -> Result<(), AllocError> {
+        let mut entry = self.entry_of(alloc, line, None)?;
+        entry.add_members(alloc, default, ["max", "weight"].as_slice())?;
+        self.add_lock_of(alloc, &mut entry, line)?;
+        self.bind(alloc, &mut entry, line, None)?;
         self.cron.add(alloc, &entry)
     }
 
@@ -241,38 +299,34 @@ impl<'a> Sheet<'a> {
         let names = self.parts_of(alloc, line)?;
         if !have_changed(names, old.parts) {
             self.tell_kept_parts(alloc, number)?;
-            return add_old_times(alloc, entry, old.entry);
+            return add_old_times(alloc, entry, old.value);
         }
         let Some(share) = room_for(self.max, old.parts, names) else {
             let reason = "more parts than a job may have minutes: its entry is kept";
-            self.told.undeclared(number, IN_CRONTAB, reason)?;
-            return add_old_times(alloc, entry, old.entry);
+            self.told.warn(alloc, number, IN_CRONTAB, reason)?;
+            return add_old_times(alloc, entry, old.value);
         };
         self.tell_parts(alloc, number, old.parts, names)?;
         add_renewed_times(alloc, entry, share, old, names)
     }
 
-    /// Adds the entry of a command as it was declared, but for parts that came or went; with the
-    /// number of its line if it is to be told. The only error is want of memory.
+    /// Adds the entry of a command as it was declared, but for parts that came or went. The only error
+    /// is want of memory.
     pub(crate) fn add_kept(
         &mut self,
         alloc: Global,
         line: &Line,
         old: Bound<'_>,
-        is_numbered: bool,
     ) -> Result<(), AllocError> {
-        let mut entry = Object::new(alloc);
-        if is_numbered {
-            entry.add_number(alloc, "line", u64::from(line.number()))?;
-        }
+        let mut entry = self.entry_of(alloc, line, Some(old))?;
         if old.parts.is_empty() {
-            add_old_times(alloc, &mut entry, old.entry)?;
+            add_old_times(alloc, &mut entry, old.value)?;
         } else {
             self.add_parts(alloc, &mut entry, line, old)?;
         }
         let names = ["weight", "group", "mode", "note"];
-        entry.add_members(alloc, old.entry, names.as_slice())?;
-        add_command(alloc, &mut entry, line)?;
+        entry.add_members(alloc, old.value, names.as_slice())?;
+        self.bind(alloc, &mut entry, line, Some(old))?;
         self.cron.add(alloc, &entry)
     }
 
@@ -281,18 +335,32 @@ impl<'a> Sheet<'a> {
         &mut self,
         alloc: Global,
         line: &Line,
-        old: Option<&Value>,
-        is_numbered: bool,
+        old: Option<Bound<'_>>,
     ) -> Result<(), AllocError> {
-        let mut entry = Object::new(alloc);
-        if is_numbered {
-            entry.add_number(alloc, "line", u64::from(line.number()))?;
-        }
+        let mut entry = self.entry_of(alloc, line, old)?;
         if let Some(old) = old {
-            entry.add_members(alloc, old, ["note"].as_slice())?;
+            entry.add_members(alloc, old.value, ["note"].as_slice())?;
         }
-        add_command(alloc, &mut entry, line)?;
+        self.bind(alloc, &mut entry, line, old)?;
         self.left_out.add(alloc, &entry)
+    }
+
+    /// Tells that the command of a line without an entry may take a lock that isn't declared. The only
+    /// error is want of memory.
+    pub(crate) fn tell_line(&mut self, alloc: Global, line: &Line) -> Result<(), AllocError> {
+        if names_lock(line.command()) {
+            return self.told.unlocked(alloc, line.number(), UNREAD);
+        }
+        Ok(())
+    }
+
+    /// Tells that the command of an anacron job may take a lock that isn't declared. The only error is
+    /// want of memory.
+    pub(crate) fn tell_job(&mut self, alloc: Global, job: &Job) -> Result<(), AllocError> {
+        if names_lock(job.command()) {
+            return self.told.unlocked_job(alloc, job.number());
+        }
+        Ok(())
     }
 
     /// Adds the entry of an anacron job: as it was declared, or that of a new one. The only error
@@ -308,15 +376,15 @@ impl<'a> Sheet<'a> {
         entry.add_text(alloc, "id", identifier)?;
         match old {
             Some(old) => {
-                let names = ["max", "weight", "group", "note"];
+                let names = ["max", "guess", "weight", "group", "note"];
                 entry.add_members(alloc, old, names.as_slice())?;
             }
             None => {
-                entry.add_number(alloc, "max", asked_for(self.max, job.command()))?;
-                self.tell_times(alloc, job.number(), IN_ANACRONTAB, job.command())?;
-                if names_lock(job.command()) {
-                    self.told.unlocked_job(job.number())?;
-                }
+                let command = job.command();
+                let max = asked_for(self.max, command);
+                add_max(alloc, &mut entry, max, time_limit(command).is_none())?;
+                self.tell_times(alloc, job.number(), IN_ANACRONTAB, command)?;
+                self.tell_job(alloc, job)?;
             }
         }
         self.anacron.add(alloc, &entry)
@@ -328,7 +396,7 @@ impl<'a> Sheet<'a> {
         self,
         alloc: Global,
         front: &Front,
-    ) -> Result<(Vec<u8>, Vec<Notice>), AllocError> {
+    ) -> Result<(Vec<u8>, Told), AllocError> {
         let mut text = Vec::from_slice(alloc, b"{".as_slice())?;
         text.extend_from_slice(front.as_bytes())?;
         self.groups.push_to(&mut text, "groups")?;
@@ -336,6 +404,6 @@ impl<'a> Sheet<'a> {
         self.anacron.push_to(&mut text, "anacron")?;
         self.left_out.push_to(&mut text, "left_out")?;
         text.extend_from_slice(b"\n}\n")?;
-        Ok((text, self.told.into_notices()))
+        Ok((text, self.told))
     }
 }

@@ -3,8 +3,9 @@ ghost use Rattle.std.specs.Prelude.{◌≡◌, All, IsTrue, option_map, pos};
 ghost use Rattle.std.specs.List.{find};
 ghost use Rattle.cs_civil.specs.declared.minute.TheConstants.{MINUTES_OF_DAY};
 ghost use Rattle.cs_decl.specs.Join.{is_of_job};
-ghost use Rattle.cs_draft.specs.Draft.{AreFresh, IsDraftedJob};
+ghost use Rattle.cs_draft.specs.Draft.{AreFresh, IsDraftedJob, IsNewJobEntry};
 
+use crate::brief::is_guess;
 use crate::names::job_entry;
 use crate::timeouts::asked_for;
 use cs_anacrontab::Job;
@@ -35,12 +36,15 @@ pub(crate) fn are_fresh(offset: i16, entries: &Entries) -> bool
     is_at_offset(offset, entries) && has_all_hours(entries) && entries.default.is_none()
 }
 
-/// Whether the entry of an anacron job has the asked time, the least weight and no group.
-fn is_plain(asked: u64, entry: &AnacronEntry) -> bool
-    ensures { IsTrue result → (entry.now.max ≡ pos asked) × (entry.now.weight ≡ pos 1)
-        × (entry.now.group ≡ None) }
+/// Whether the entry of an anacron job has the asked time, or that of its command, the least weight and
+/// no group, and is marked as a guess if it is one.
+fn is_new_entry(asked: u64, command: &[u8], entry: &AnacronEntry) -> bool
+    ensures { IsTrue result → IsNewJobEntry asked command.now entry.now }
 {
-    entry.max == i128::from(asked) && entry.weight == 1 && entry.group.is_none()
+    entry.max == i128::from(asked_for(asked, command))
+        && entry.weight == 1
+        && entry.group.is_none()
+        && entry.guess == is_guess(command, entry.max)
 }
 
 /// Whether the anacron job has such an entry.
@@ -48,7 +52,7 @@ pub(crate) fn is_drafted_job(asked: u64, entries: &Entries, job: &Job) -> bool
     ensures { IsTrue result → IsDraftedJob asked entries.now job.now }
 {
     match job_entry(entries, job.identifier()) {
-        Some(entry) => is_plain(asked_for(asked, job.command()), entry),
+        Some(entry) => is_new_entry(asked, job.command(), entry),
         None => false,
     }
 }

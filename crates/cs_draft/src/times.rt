@@ -1,9 +1,10 @@
 //! The longest times of entries and of their parts, as they are laid out.
 
-use crate::brief::{brief_max, share_of};
+use crate::brief::{brief_max, is_guess, share_of};
 use crate::layout::Object;
 use crate::old::{Bound, items, text_of};
-use crate::parts::{has_part, minutes_left};
+use crate::parts::{all_are_parts, has_part, minutes_left};
+use crate::timeouts::asked_for;
 use cs_civil::Bytes;
 use cs_decl::{MAX_MINUTES, PartEntry};
 use cs_schedule::Schedule;
@@ -28,20 +29,39 @@ fn old_part(alloc: Global, old: &Value) -> Result<Object, AllocError> {
     Ok(part)
 }
 
+/// Adds the longest time of an entry in minutes, and whether it is a guess. The only error is want of
+/// memory.
+pub(crate) fn add_max(
+    alloc: Global,
+    entry: &mut Object,
+    max: u64,
+    is_guess: bool,
+) -> Result<(), AllocError> {
+    entry.add_number(alloc, "max", max)?;
+    if is_guess {
+        entry.add("guess", "true")?;
+    }
+    Ok(())
+}
+
 /// Adds the longest time of a new command in minutes, and its parts. The only error is want of
 /// memory.
 pub(crate) fn add_new_times(
     alloc: Global,
     entry: &mut Object,
+    command: &[u8],
     schedule: &Schedule,
     asked: u64,
     names: &[Bytes],
 ) -> Result<(), AllocError> {
+    let asked = asked_for(asked, command);
     if names.is_empty() {
-        return entry.add_number(alloc, "max", brief_max(schedule, asked));
+        let max = brief_max(schedule, asked);
+        return add_max(alloc, entry, max, is_guess(command, i128::from(max)));
     }
     let share = share_of(schedule, asked, names.len());
-    entry.add_number(alloc, "max", share.saturating_mul(names.len() as u64))?;
+    let max = share.saturating_mul(names.len() as u64);
+    add_max(alloc, entry, max, is_guess(command, i128::from(max)))?;
     let mut parts = Vec::new(alloc);
     for name in names {
         parts.push(new_part(alloc, name.as_slice(), share)?)?;
@@ -55,12 +75,12 @@ pub(crate) fn add_old_times(
     entry: &mut Object,
     old: &Value,
 ) -> Result<(), AllocError> {
-    entry.add_members(alloc, old, ["max"].as_slice())?;
-    let Some(old) = items(old, "parts") else {
+    entry.add_members(alloc, old, ["max", "guess"].as_slice())?;
+    if old.get("parts").is_none() {
         return Ok(());
-    };
+    }
     let mut parts = Vec::new(alloc);
-    for part in old {
+    for part in items(old, "parts") {
         parts.push(old_part(alloc, part)?)?;
     }
     entry.add_list(alloc, "parts", parts.as_slice())
@@ -83,7 +103,7 @@ pub(crate) fn room_for(asked: u64, old: &[PartEntry], names: &[Bytes]) -> Option
 
 /// The old part of that name, as its JSON has it.
 fn part_in<'v>(old: &'v Value, name: &[u8]) -> Option<&'v Value> {
-    items(old, "parts")?.iter().find(|part| text_of(part, "name").map(str::as_bytes) == Some(name))
+    items(old, "parts").iter().find(|part| text_of(part, "name").map(str::as_bytes) == Some(name))
 }
 
 /// Adds parts of those names, of which the new ones have that longest time and the others are as in
@@ -96,11 +116,12 @@ pub(crate) fn add_renewed_times(
     names: &[Bytes],
 ) -> Result<(), AllocError> {
     let left = minutes_left(MOST, share, old.parts, names).unwrap_or(0);
-    entry.add_number(alloc, "max", MOST.saturating_sub(left) as u64)?;
+    let is_guess = old.is_guess || !all_are_parts(names, old.parts);
+    add_max(alloc, entry, MOST.saturating_sub(left) as u64, is_guess)?;
     let mut parts = Vec::new(alloc);
     for name in names {
         let name = name.as_slice();
-        let part = match part_in(old.entry, name) {
+        let part = match part_in(old.value, name) {
             Some(part) => old_part(alloc, part)?,
             None => new_part(alloc, name, share)?,
         };

@@ -1,7 +1,5 @@
 //! What an operator has to know of a draft, as it is gathered.
 
-use crate::notice::Notice;
-use cs_civil::Bytes;
 use cs_diagnostics::shown;
 use std::alloc::{AllocError, Global};
 
@@ -10,53 +8,73 @@ pub(crate) const IN_CRONTAB: &str = " of the crontab has ";
 
 pub(crate) const IN_ANACRONTAB: &str = " of the anacrontab has ";
 
-/// Notices, in the order in which they are told.
+/// Warnings and notes, a line each, in the order in which they are told.
 #[derive(Drop)]
 pub(crate) struct Told {
-    notices: Vec<Notice>,
+    pub(crate) text: Vec<u8>,
+    /// The numbers of the crontab's lines whose commands may take a lock that isn't declared.
+    pub(crate) unlocked: Vec<u32>,
+    /// The same of the anacrontab's lines.
+    pub(crate) unlocked_jobs: Vec<u32>,
 }
 
 impl Told {
     pub(crate) fn new(alloc: Global) -> Told {
         Told {
-            notices: Vec::new(alloc),
+            text: Vec::new(alloc),
+            unlocked: Vec::new(alloc),
+            unlocked_jobs: Vec::new(alloc),
         }
     }
 
     fn note(&mut self, note: String) -> Result<(), AllocError> {
-        let note = Bytes::from_vec(note.into_bytes());
-        self.notices.push(Notice::Note(note))?;
-        Ok(())
+        self.text.extend_from_slice(b"note: ")?;
+        self.text.extend_from_slice(note.as_bytes())?;
+        self.text.extend_from_slice(b"\n")
+    }
+
+    /// Warns of the command on that line. The only error is want of memory.
+    pub(crate) fn warn(
+        &mut self,
+        alloc: Global,
+        number: u32,
+        behind: &str,
+        what: &str,
+    ) -> Result<(), AllocError> {
+        let front = format!(in alloc; "warning: the command on line {number}")?;
+        self.text.extend_from_slice(front.as_bytes())?;
+        self.text.extend_from_slice(behind.as_bytes())?;
+        self.text.extend_from_slice(what.as_bytes())?;
+        self.text.extend_from_slice(b"\n")
     }
 
     /// The line of that number is started at startup, and so left out. The only error is want of
     /// memory.
-    pub(crate) fn reboot(&mut self, number: u32) -> Result<(), AllocError> {
-        self.notices.push(Notice::Reboot(number))?;
-        Ok(())
+    pub(crate) fn reboot(&mut self, alloc: Global, number: u32) -> Result<(), AllocError> {
+        let line = format!(in alloc;
+            "warning: @reboot on line {number} of the crontab is left out: no plan has startup \
+             jobs\n"
+        )?;
+        self.text.extend_from_slice(line.as_bytes())
     }
 
-    /// The command of that line takes a lock that isn't declared. The only error is want of memory.
-    pub(crate) fn unlocked(&mut self, number: u32, reason: &'static str) -> Result<(), AllocError> {
-        self.notices.push(Notice::Unlocked(number, reason))?;
-        Ok(())
-    }
-
-    /// So does the command of the anacron job on that line. The only error is want of memory.
-    pub(crate) fn unlocked_job(&mut self, number: u32) -> Result<(), AllocError> {
-        self.notices.push(Notice::UnlockedJob(number))?;
-        Ok(())
-    }
-
-    /// What that line's command has isn't declared. The only error is want of memory.
-    pub(crate) fn undeclared(
+    /// The command of that line may take a lock that isn't declared. The only error is want of memory.
+    pub(crate) fn unlocked(
         &mut self,
+        alloc: Global,
         number: u32,
-        behind: &'static str,
-        what: &'static str,
+        reason: &str,
     ) -> Result<(), AllocError> {
-        self.notices.push(Notice::Undeclared(number, behind, what))?;
-        Ok(())
+        self.unlocked.push(number)?;
+        let behind = " of the crontab is declared without a lock: ";
+        self.warn(alloc, number, behind, reason)
+    }
+
+    /// So may the command of the anacron job on that line. The only error is want of memory.
+    pub(crate) fn unlocked_job(&mut self, alloc: Global, number: u32) -> Result<(), AllocError> {
+        self.unlocked_jobs.push(number)?;
+        let behind = " of the anacrontab is declared without a lock: ";
+        self.warn(alloc, number, behind, "anacron jobs have no mode")
     }
 
     /// A program may go on behind the limit of that line's command. The only error is want of
@@ -85,6 +103,13 @@ impl Told {
     pub(crate) fn no_parts(&mut self, alloc: Global, number: u32) -> Result<(), AllocError> {
         self.note(format!(in alloc;
             "line {number} has no parts in the crontab: those of its entry are kept"
+        )?)
+    }
+
+    /// That line's command has another schedule than its entry told. The only error is want of memory.
+    pub(crate) fn other_schedule(&mut self, alloc: Global, number: u32) -> Result<(), AllocError> {
+        self.note(format!(in alloc;
+            "line {number} has another schedule than its entry: the entry is kept"
         )?)
     }
 
@@ -128,8 +153,8 @@ impl Told {
     }
 
     /// No line has that command any more. The only error is want of memory.
-    pub(crate) fn gone(&mut self, alloc: Global, command: &str) -> Result<(), AllocError> {
-        let command = shown(alloc, command.as_bytes())?;
+    pub(crate) fn gone(&mut self, alloc: Global, command: &[u8]) -> Result<(), AllocError> {
+        let command = shown(alloc, command)?;
         self.note(format!(in alloc; "gone: {command}")?)
     }
 
@@ -161,9 +186,5 @@ impl Told {
             1 => self.note(format!(in alloc; "1 job without an entry has the default")?),
             _ => self.note(format!(in alloc; "{jobs} jobs without an entry have the default")?),
         }
-    }
-
-    pub(crate) fn into_notices(self) -> Vec<Notice> {
-        self.notices
     }
 }

@@ -1,8 +1,8 @@
 //! The draft of tables of which something is declared already.
 
 use crate::layout::{Front, Object, value_text};
-use crate::notice::Notice;
-use crate::old::{Bound, Old, bound_in, count_lines, entry_of, items, text_of};
+use crate::lock::own_lock;
+use crate::old::{Bound, Old, Pair, bound_in, items, pairs_of, text_of};
 use crate::sheet::Sheet;
 use crate::told::Told;
 use cs_anacrontab::{Anacrontab, Job};
@@ -14,10 +14,7 @@ use std::alloc::{AllocError, Global};
 
 /// Adds the groups as they were declared.
 fn add_groups<'a>(alloc: Global, sheet: &mut Sheet<'a>, old: &'a Value) -> Result<(), AllocError> {
-    let Some(groups) = items(old, "groups") else {
-        return Ok(());
-    };
-    for group in groups {
+    for group in items(old, "groups") {
         if let Some(name) = text_of(group, "name") {
             sheet.add_group(alloc, name, group)?;
         }
@@ -25,23 +22,14 @@ fn add_groups<'a>(alloc: Global, sheet: &mut Sheet<'a>, old: &'a Value) -> Resul
     Ok(())
 }
 
-/// Whether an entry of the line has to tell its number: it did, or other lines have its command.
-fn is_numbered(entry: &Bound<'_>, lines: &[Line]) -> bool {
-    let command = entry.command.as_bytes();
-    let lines = count_lines(lines, command, false).saturating_add(count_lines(
-        lines, command, true,
-    ));
-    entry.number.is_some() || lines > 1
-}
-
 /// Declarations as they are updated.
 #[derive(Drop)]
 struct Update<'a> {
     sheet: Sheet<'a>,
-    /// The old entries that tell a command, and the indices of those that a line has.
+    /// The old entries that tell a command, and those that a line has.
     bound: Vec<Bound<'a>>,
-    kept: Vec<usize>,
-    has_default: bool,
+    pairs: Vec<Pair>,
+    default: Option<&'a Value>,
     /// How many jobs have the default.
     defaulted: usize,
 }
@@ -49,78 +37,48 @@ struct Update<'a> {
 impl<'a> Update<'a> {
     fn of(
         alloc: Global,
+        lines: &'a [Line],
         places: &'a [Place],
         old: Old<'a>,
         max: u64,
     ) -> Result<Update<'a>, AllocError> {
-        let mut sheet = Sheet::new(alloc, places, max);
+        let mut sheet = Sheet::new(alloc, lines, places, max);
         add_groups(alloc, &mut sheet, old.value)?;
         let bound = bound_in(alloc, &mut sheet.told, old)?;
+        let pairs = pairs_of(alloc, bound.as_slice(), lines)?;
         Ok(Update {
             sheet,
             bound,
-            kept: Vec::new(alloc),
-            has_default: old.value.get("default").is_some(),
+            pairs,
+            default: old.value.get("default"),
             defaulted: 0,
         })
     }
 
     /// The old entry of the line at a place.
-    fn take(&mut self, lines: &[Line], place: usize) -> Result<Option<Bound<'a>>, AllocError> {
-        let Some(at) = entry_of(self.bound.as_slice(), lines, place) else {
-            return Ok(None);
-        };
-        self.kept.push(at)?;
-        Ok(self.bound.get(at).copied())
-    }
-
-    /// Leaves out a line that is started at startup.
-    fn add_reboot(
-        &mut self,
-        alloc: Global,
-        lines: &[Line],
-        line: &Line,
-        entry: Option<Bound<'a>>,
-    ) -> Result<(), AllocError> {
-        self.sheet.told.reboot(line.number())?;
-        match entry {
-            Some(old) => {
-                let is_numbered = is_numbered(&old, lines);
-                self.sheet
-                    .leave_out(alloc, line, Some(old.entry), is_numbered)
-            }
-            None => self.sheet.leave_out(alloc, line, None, true),
-        }
+    fn entry_at(&self, place: usize) -> Option<Bound<'a>> {
+        let pair = self.pairs.iter().find(|pair| pair.line == place)?;
+        self.bound.get(pair.entry).copied()
     }
 
     /// Adds a line that has an old entry as that has it.
-    fn add_kept(
-        &mut self,
-        alloc: Global,
-        lines: &[Line],
-        line: &Line,
-        old: Bound<'a>,
-    ) -> Result<(), AllocError> {
-        let is_numbered = is_numbered(&old, lines);
+    fn add_kept(&mut self, alloc: Global, line: &Line, old: Bound<'a>) -> Result<(), AllocError> {
         if old.is_left_out {
             self.sheet.told.left_out(alloc, line.number())?;
-            return self
-                .sheet
-                .leave_out(alloc, line, Some(old.entry), is_numbered);
+            return self.sheet.leave_out(alloc, line, Some(old));
         }
-        self.sheet.add_kept(alloc, line, old, is_numbered)
+        self.sheet.add_kept(alloc, line, old)
     }
 
-    /// Adds a line that has none, unless there is a default.
+    /// Adds a line that has none.
     fn add_new(
         &mut self,
         alloc: Global,
         line: &'a Line,
         schedule: &Schedule,
     ) -> Result<(), AllocError> {
-        if self.has_default {
-            self.defaulted = self.defaulted.saturating_add(1);
-            return Ok(());
+        if let Some(default) = self.default {
+            return self.add_defaulted(alloc, line, default);
         }
         self.sheet
             .told
@@ -128,26 +86,39 @@ impl<'a> Update<'a> {
         self.sheet.add_new(alloc, line, schedule)
     }
 
-    fn add_line(
+    /// The same where there is a default: the line has no entry, unless its command takes a lock.
+    fn add_defaulted(
         &mut self,
         alloc: Global,
-        lines: &'a [Line],
-        place: usize,
         line: &'a Line,
+        default: &Value,
     ) -> Result<(), AllocError> {
-        let entry = self.take(lines, place)?;
-        match (line.when(), entry) {
-            (When::Reboot, entry) => self.add_reboot(alloc, lines, line, entry),
-            (When::At(_), Some(old)) => self.add_kept(alloc, lines, line, old),
+        if own_lock(alloc, line.command())?.is_some() {
+            self.sheet
+                .told
+                .new_line(alloc, line.number(), line.command())?;
+            return self.sheet.add_locked(alloc, line, default);
+        }
+        self.defaulted = self.defaulted.saturating_add(1);
+        self.sheet.tell_line(alloc, line)
+    }
+
+    fn add_line(&mut self, alloc: Global, place: usize, line: &'a Line) -> Result<(), AllocError> {
+        match (line.when(), self.entry_at(place)) {
+            (When::Reboot, entry) => {
+                self.sheet.told.reboot(alloc, line.number())?;
+                self.sheet.leave_out(alloc, line, entry)
+            }
+            (When::At(_), Some(old)) => self.add_kept(alloc, line, old),
             (When::At(schedule), None) => self.add_new(alloc, line, schedule),
         }
     }
 
-    /// Tells of the old entries whose command no line has.
+    /// Tells of the old entries that no line has.
     fn tell_gone(&mut self, alloc: Global) -> Result<(), AllocError> {
         for (i, entry) in self.bound.iter().enumerate() {
-            if !self.kept.as_slice().contains(&i) {
-                self.sheet.told.gone(alloc, entry.command)?;
+            if !self.pairs.iter().any(|pair| pair.entry == i) {
+                self.sheet.told.gone(alloc, entry.command())?;
             }
         }
         Ok(())
@@ -162,9 +133,9 @@ impl<'a> Update<'a> {
         identifier: &str,
     ) -> Result<(), AllocError> {
         let entry = job_entry(old, identifier);
-        if entry.is_none() && self.has_default {
+        if entry.is_none() && self.default.is_some() {
             self.defaulted = self.defaulted.saturating_add(1);
-            return Ok(());
+            return self.sheet.tell_job(alloc, job);
         }
         if entry.is_none() {
             self.sheet.told.job(alloc, identifier, "new")?;
@@ -175,7 +146,7 @@ impl<'a> Update<'a> {
 
 /// The old entry of the anacron job.
 fn job_entry<'v>(old: &'v Value, identifier: &str) -> Option<&'v Value> {
-    items(old, "anacron")?
+    items(old, "anacron")
         .iter()
         .find(|entry| text_of(entry, "id") == Some(identifier))
 }
@@ -192,10 +163,7 @@ fn tell_gone_jobs(
     jobs: &[Job],
     old: &Value,
 ) -> Result<(), AllocError> {
-    let Some(entries) = items(old, "anacron") else {
-        return Ok(());
-    };
-    for entry in entries {
+    for entry in items(old, "anacron") {
         if let Some(identifier) = text_of(entry, "id")
             && !has_job(jobs, identifier)
         {
@@ -224,18 +192,18 @@ fn front(alloc: Global, old: &Value) -> Result<Front, AllocError> {
 
 /// The text of declarations, and what is told, where a new job has a longest time in minutes. The
 /// only error is want of memory.
-pub(crate) fn updated_text(
+pub(crate) fn updated_text<'a>(
     alloc: Global,
-    table: &Crontab,
+    table: &'a Crontab,
     jobs: &Anacrontab,
-    places: &[Place],
-    old: Old<'_>,
+    places: &'a [Place],
+    old: Old<'a>,
     max: u64,
-) -> Result<(Vec<u8>, Vec<Notice>), AllocError> {
+) -> Result<(Vec<u8>, Told), AllocError> {
     let lines = table.lines();
-    let mut update = Update::of(alloc, places, old, max)?;
+    let mut update = Update::of(alloc, lines, places, old, max)?;
     for (place, line) in lines.iter().enumerate() {
-        update.add_line(alloc, lines, place, line)?;
+        update.add_line(alloc, place, line)?;
     }
     update.tell_gone(alloc)?;
     for job in jobs.lines() {

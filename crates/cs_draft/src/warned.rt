@@ -1,40 +1,35 @@
 //! Whether what is told of locks is what has to be told.
 ghost use Rattle.std.specs.Prelude.{◌≡◌, All, IfOk, IsTrue, map};
-ghost use Rattle.std.specs.List.{filter, filter_map, find};
+ghost use Rattle.std.specs.List.{filter, find};
 ghost use Rattle.cs_decl.specs.Join.{is_named};
-ghost use Rattle.cs_draft.specs.Notices.{IsJobToldIfNew, IsToldIfNew, Tell, TellNew, is_apart, is_new_job, is_told, is_unlocked, is_unlocked_job, unlocked_job_line, unlocked_line};
+ghost use Rattle.cs_draft.specs.Named.{names_lock};
+ghost use Rattle.cs_draft.specs.Notices.{AreTold, AreToldNew, IsJobToldIfNew, IsToldIfNew, is_apart, is_new_job, is_told, is_unlocked};
 
 use crate::kept::is_new;
 use crate::named::names_lock;
-use crate::names::{entry_of, job_entry};
-use crate::notice::Notice;
+use crate::names::{entry_of, is_left_out, job_entry};
+use crate::told::Told;
 use cs_anacrontab::{Anacrontab, Job};
 use cs_crontab::{Crontab, Line};
 use cs_decl::Entries;
 use std::alloc::{AllocError, Global};
 
-/// Whether the line has an entry, which is in no group.
+/// Whether the line has no entry, or one in no group.
 fn is_apart(entries: &Entries, line: &Line) -> bool
     ensures { result ≡ is_apart (find (λ e. is_named e.name line.now) entries.now.cron) }
 {
     match entry_of(entries, line) {
         Some(entry) => entry.group.is_none(),
-        None => false,
+        None => true,
     }
 }
 
-/// Whether the command names a program that locks files, and its entry is in no group.
+/// Whether the command names a program that locks files, isn't left out, and its entry, if it has one,
+/// is in no group.
 fn is_unlocked(entries: &Entries, line: &Line) -> bool
     ensures { result ≡ is_unlocked entries.now line.now }
 {
-    names_lock(line.command()) && is_apart(entries, line)
-}
-
-/// Whether the command of the anacron job names one, and the job has an entry.
-fn is_unlocked_job(entries: &Entries, job: &Job) -> bool
-    ensures { result ≡ is_unlocked_job entries.now job.now }
-{
-    names_lock(job.command()) && job_entry(entries, job.identifier()).is_some()
+    names_lock(line.command()) && !is_left_out(entries, line) && is_apart(entries, line)
 }
 
 fn unlocked_lines(alloc: Global, entries: &Entries, lines: &[Line]) -> Result<Vec<u32>, AllocError>
@@ -48,85 +43,34 @@ fn unlocked_lines(alloc: Global, entries: &Entries, lines: &[Line]) -> Result<Ve
         .collect(alloc)
 }
 
-fn told_lines(alloc: Global, notices: &[Notice]) -> Result<Vec<u32>, AllocError>
-    ensures { IfOk result (λ numbers. numbers.items ≡ filter_map unlocked_line notices.now) }
-{
-    notices
-        .iter()
-        .filter_map(|notice| notice.unlocked_line())
-        .collect(alloc)
-}
-
-/// Whether the lines of the crontab that are told are those that have to be. The only error is want
-/// of memory.
-fn are_told_lines(
-    alloc: Global,
-    entries: &Entries,
-    notices: &[Notice],
-    lines: &[Line],
-) -> Result<bool, AllocError>
-    ensures { IfOk result (λ b. IsTrue b → filter_map unlocked_line notices.now
-        ≡ map (λ line. line.number) (filter (is_unlocked entries.now) lines.now)) }
-{
-    let told = told_lines(alloc, notices)?;
-    let unlocked = unlocked_lines(alloc, entries, lines)?;
-    Ok(told.as_slice() == unlocked.as_slice())
-}
-
-fn unlocked_job_lines(
-    alloc: Global,
-    entries: &Entries,
-    jobs: &[Job],
-) -> Result<Vec<u32>, AllocError>
+fn unlocked_jobs(alloc: Global, jobs: &[Job]) -> Result<Vec<u32>, AllocError>
     ensures { IfOk result (λ numbers. numbers.items
-        ≡ map (λ job. job.number) (filter (is_unlocked_job entries.now) jobs.now)) }
+        ≡ map (λ job. job.number) (filter (λ job. names_lock job.command) jobs.now)) }
 {
     jobs.iter()
-        .filter(|job| is_unlocked_job(entries, job))
+        .filter(|job| names_lock(job.command()))
         .map(|job| job.number())
         .collect(alloc)
 }
 
-fn told_job_lines(alloc: Global, notices: &[Notice]) -> Result<Vec<u32>, AllocError>
-    ensures { IfOk result (λ numbers. numbers.items ≡ filter_map unlocked_job_line notices.now) }
-{
-    notices
-        .iter()
-        .filter_map(|notice| notice.unlocked_job_line())
-        .collect(alloc)
-}
-
-/// Whether the lines of the anacrontab that are told are those that have to be. The only error is
-/// want of memory.
-fn are_told_jobs(
-    alloc: Global,
-    entries: &Entries,
-    notices: &[Notice],
-    jobs: &[Job],
-) -> Result<bool, AllocError>
-    ensures { IfOk result (λ b. IsTrue b → filter_map unlocked_job_line notices.now
-        ≡ map (λ job. job.number) (filter (is_unlocked_job entries.now) jobs.now)) }
-{
-    let told = told_job_lines(alloc, notices)?;
-    let unlocked = unlocked_job_lines(alloc, entries, jobs)?;
-    Ok(told.as_slice() == unlocked.as_slice())
-}
-
-/// Whether all that has to be told of the declarations is told, and nothing else. The only error is
-/// want of memory.
-pub(crate) fn tell(
+/// Whether the locks that the declarations lack are told, and no others. The only error is want of
+/// memory.
+pub(crate) fn are_told(
     alloc: Global,
     table: &Crontab,
     jobs: &Anacrontab,
     entries: &Entries,
-    notices: &[Notice],
+    told: &Told,
 ) -> Result<bool, AllocError>
-    ensures { IfOk result (λ b. IsTrue b → Tell table.now jobs.now entries.now notices.now) }
+    ensures { IfOk result (λ b. IsTrue b → AreTold table.now jobs.now entries.now
+        told.now.unlocked.items told.now.unlocked_jobs.items) }
 {
-    if !are_told_lines(alloc, entries, notices, table.lines())? {
-        return Ok(false);
-    }
-    are_told_jobs(alloc, entries, notices, jobs.lines())
+    let unlocked = unlocked_lines(alloc, entries, table.lines())?;
+    let unlocked_jobs = unlocked_jobs(alloc, jobs.lines())?;
+    Ok(
+        told.unlocked.as_slice() == unlocked.as_slice()
+            && told.unlocked_jobs.as_slice() == unlocked_jobs.as_slice(),
+    )
 }
 
 // ---- updates
@@ -144,6 +88,7 @@ fn is_told_if_new(numbers: &[u32], old: &Entries, new: &Entries, line: &Line) ->
     !(is_new(old, line) && is_unlocked(new, line)) || is_told(numbers, line.number())
 }
 
+/// And so of all lines.
 fn all_told_if_new(numbers: &[u32], old: &Entries, new: &Entries, lines: &[Line]) -> bool
     ensures { IsTrue result → All (IsToldIfNew numbers.now old.now new.now) lines.now }
 {
@@ -155,74 +100,42 @@ fn all_told_if_new(numbers: &[u32], old: &Entries, new: &Entries, lines: &[Line]
     true
 }
 
-/// And so of all lines. The only error is want of memory.
-fn are_new_told(
-    alloc: Global,
-    old: &Entries,
-    new: &Entries,
-    notices: &[Notice],
-    lines: &[Line],
-) -> Result<bool, AllocError>
-    ensures { IfOk result (λ b. IsTrue b → All (IsToldIfNew
-        (filter_map unlocked_line notices.now) old.now new.now) lines.now) }
-{
-    let told = told_lines(alloc, notices)?;
-    Ok(all_told_if_new(told.as_slice(), old, new, lines))
-}
-
 fn is_new_job(old: &Entries, job: &Job) -> bool
     ensures { result ≡ is_new_job old.now job.now }
 {
     job_entry(old, job.identifier()).is_none()
 }
 
-/// Whether the anacron job is told, if it is new and its command is declared without a lock.
-fn is_job_told_if_new(numbers: &[u32], old: &Entries, new: &Entries, job: &Job) -> bool
-    ensures { IsTrue result → IsJobToldIfNew numbers.now old.now new.now job.now }
+/// Whether the anacron job is told, if it is new and its command names a program that locks files.
+fn is_job_told_if_new(numbers: &[u32], old: &Entries, job: &Job) -> bool
+    ensures { IsTrue result → IsJobToldIfNew numbers.now old.now job.now }
 {
-    !(is_new_job(old, job) && is_unlocked_job(new, job)) || is_told(numbers, job.number())
+    !(is_new_job(old, job) && names_lock(job.command())) || is_told(numbers, job.number())
 }
 
-fn all_jobs_told_if_new(numbers: &[u32], old: &Entries, new: &Entries, jobs: &[Job]) -> bool
-    ensures { IsTrue result → All (IsJobToldIfNew numbers.now old.now new.now) jobs.now }
+/// And so of all anacron jobs.
+fn all_jobs_told_if_new(numbers: &[u32], old: &Entries, jobs: &[Job]) -> bool
+    ensures { IsTrue result → All (IsJobToldIfNew numbers.now old.now) jobs.now }
 {
     for job in jobs {
-        if !is_job_told_if_new(numbers, old, new, job) {
+        if !is_job_told_if_new(numbers, old, job) {
             return false;
         }
     }
     true
 }
 
-/// And so of all anacron jobs. The only error is want of memory.
-fn are_new_jobs_told(
-    alloc: Global,
-    old: &Entries,
-    new: &Entries,
-    notices: &[Notice],
-    jobs: &[Job],
-) -> Result<bool, AllocError>
-    ensures { IfOk result (λ b. IsTrue b → All (IsJobToldIfNew
-        (filter_map unlocked_job_line notices.now) old.now new.now) jobs.now) }
-{
-    let told = told_job_lines(alloc, notices)?;
-    Ok(all_jobs_told_if_new(told.as_slice(), old, new, jobs))
-}
-
-/// Whether all that has to be told of an update is told. The only error is want of memory.
-pub(crate) fn tell_new(
-    alloc: Global,
+/// Whether all that an update has to tell of locks is told.
+pub(crate) fn are_told_new(
     table: &Crontab,
     jobs: &Anacrontab,
     old: &Entries,
     new: &Entries,
-    notices: &[Notice],
-) -> Result<bool, AllocError>
-    ensures { IfOk result
-        (λ b. IsTrue b → TellNew table.now jobs.now old.now new.now notices.now) }
+    told: &Told,
+) -> bool
+    ensures { IsTrue result → AreToldNew table.now jobs.now old.now new.now
+        told.now.unlocked.items told.now.unlocked_jobs.items }
 {
-    if !are_new_told(alloc, old, new, notices, table.lines())? {
-        return Ok(false);
-    }
-    are_new_jobs_told(alloc, old, new, notices, jobs.lines())
+    all_told_if_new(told.unlocked.as_slice(), old, new, table.lines())
+        && all_jobs_told_if_new(told.unlocked_jobs.as_slice(), old, jobs.lines())
 }

@@ -2,7 +2,7 @@
 use crate::meaning::Meaning;
 
 /// In the order of their numbers.
-pub(crate) static MEANINGS: [Meaning; 18] = [
+pub(crate) static MEANINGS: [Meaning; 20] = [
     Meaning {
         name: "NotJson",
         short: "the bytes aren't JSON",
@@ -19,10 +19,11 @@ right:
         name: "BadShape",
         short: "a member is unknown or absent, or has no value of its kind",
         text: r#"The members are capacity, offset, hours, pass, groups, default, cron, anacron
-and left_out. Those of a cron entry are line, command, max, weight, group, mode
-and parts; of a part name and max; of left_out line and command, of which one is
-enough; of default max and weight. Each object may have a note, a text. Numbers
-are whole and have no quotes; offset is -1439 to 1439.
+and left_out. Those of a cron entry are line, command, when, max, guess, weight,
+group, mode and parts; of a part name and max; of left_out line, command and
+when, of which line or command is enough; of default max and weight. Each object
+may have a note, a text. Numbers are whole and have no quotes; offset is -1439
+to 1439.
 crontab:
   30 23 * * * /usr/bin/backup
 wrong:
@@ -217,10 +218,10 @@ right:
     },
     Meaning {
         name: "BadParts",
-        short: "two parts have one name, one isn't 1 to 4320, or the sum isn't max",
-        text: r#"The parts are what run-parts(8) runs, one after the other, so max is the sum of
-theirs. Each has a name of its own, and a max from 1 to 4320. 'cronsafe lint'
-says which part is wrong.
+        short: "two parts share a name, one isn't 1 to 4320, or the sum is above max",
+        text: r#"The parts are what run-parts(8) runs, one after the other, so max is at least
+the sum of theirs. Each has a name of its own, and a max from 1 to 4320.
+'cronsafe lint' says which part is wrong.
 crontab:
   25 6 * * * run-parts /etc/cron.daily
 wrong:
@@ -229,5 +230,35 @@ wrong:
 right:
   {"capacity": 1, "cron": [{"line": 1, "max": 90,
    "parts": [{"name": "logrotate", "max": 60}, {"name": "man-db", "max": 30}]}]}"#,
+    },
+    Meaning {
+        name: "OtherSchedule",
+        short: "the command on that line has another schedule than the entry's",
+        text: r#"An entry of cron or left_out may tell the schedule of its line as 'when'. Where
+the line's schedule has changed, judge the plan again with the entry corrected.
+crontab:
+  0 1 * * * /usr/bin/report
+wrong:
+  {"capacity": 1, "cron": [{"line": 1, "max": 30, "when": "0 5 * * *"}]}
+right:
+  {"capacity": 1, "cron": [{"line": 1, "max": 30, "when": "0 1 * * *"}]}"#,
+    },
+    Meaning {
+        name: "OtherParts",
+        short: "a gathered table tells other parts than those of the entry",
+        text: r#"The comments above a line of a gathered table tell what run-parts(8) runs there.
+The parts of an entry are those, in any order: 'cronsafe lint' tells which came
+or went, and 'cronsafe draft --update' writes them anew.
+crontab:
+  CRONSAFE_TABLE=gathered
+  #@ /etc/crontab:19 root
+  #@ part logrotate
+  25 6 * * * run-parts /etc/cron.daily
+wrong:
+  {"capacity": 1, "cron": [{"line": 4, "max": 60,
+   "parts": [{"name": "man-db", "max": 60}]}]}
+right:
+  {"capacity": 1, "cron": [{"line": 4, "max": 60,
+   "parts": [{"name": "logrotate", "max": 60}]}]}"#,
     },
 ];

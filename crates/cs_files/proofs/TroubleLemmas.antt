@@ -10,6 +10,7 @@ use Rattle.cs_table.specs.Table.{Found as FoundIn}
 use Rattle.cs_gather.specs.Places.{places_of}
 use Rattle.cs_gather.specs.declared.places.Place.{Place}
 use Rattle.cs_anacrontab.specs.Anacrontab.{Table as JobTable}
+use Rattle.cs_decl.specs.Faults.{Fault as DeclaredFault}
 use Rattle.cs_decl.specs.Join.{joined}
 use Rattle.cs_decl.specs.Meaning.{declared_by}
 use Rattle.cs_decl.specs.Plan.{Declared}
@@ -25,7 +26,7 @@ use Rattle.cs_claims.specs.declared.limits.TheConstants.{MAX_CERTIFICATE}
 use Rattle.cs_report.specs.Warning.{warnings as warnings_text}
 use Rattle.cs_io.specs.Files.{Failed, IsFresh, IsReadOut, IsTooLong, IsUpTo, Reads}
 use Rattle.cs_io.specs.declared.inputs.TheConstants.{MOST_READS}
-use Rattle.cs_files.specs.Reads.{DeclaredIn, TextIn, AndThen, Answered, IsRead, IsUnreadWhole, MeansIt, MeansTable, PlacesIn, ReadsAs, ReadsDeclared}
+use Rattle.cs_files.specs.Reads.{DeclaredIn, TextIn, AndThen, Answered, IsRead, IsUnreadWhole, MeansIt, MeansTable, PlacesIn, ReadsAs, ReadsPlan, WithPlaces}
 use Rattle.cs_files.specs.Response.{Ending, complaint}
 use Rattle.cs_files.specs.Trouble.{CameTo, IsHonest, IsHonestOf, IsUnread, TellsPath, Trouble, ends, trouble, trouble_status, trouble_text}
 use Rattle.cs_files.specs.declared.fault.Fault.{Fault}
@@ -87,6 +88,16 @@ pub placed_on : (path : Text) (tables : Table × JobTable) (read places : List P
 placed_on path tables read places after before same is placed =
     subst (λ (f : List ℕ → Option (List ℕ)). PlacesIn f path tables.0 places) (sym same) (subst (λ (l : List Place). PlacesIn before path tables.0 l) (sym is) placed)
 
+-- what came of it, with these places
+pub with_places : {Y : Type 0} (files : List ℕ → Option (List ℕ)) (path : Text) (table : Table) (next : List Place → Failed → Failed → Result Y Trouble → Type 0) (before after : Failed) (places : List Place) (result : Result Y Fault)
+    → PlacesIn files path table places → CameTo (next places before after) result → CameTo (WithPlaces files path table next before after) result
+with_places files path table next before after places (Ok y) placed is = (places, placed, is)
+with_places files path table next before after places (Err e) placed is = by_trouble (trouble e) is
+  where
+    by_trouble : (o : Option Trouble) → IfSome o (λ t. next places before after (Err t)) → IfSome o (λ t. WithPlaces files path table next before after (Err t))
+    by_trouble None h = h
+    by_trouble (Some t) h = (places, placed, h)
+
 -- the bytes of declarations that were read are those of the file
 pub declared : (files left : List ℕ → Option (List ℕ)) (path : Text) (bytes : List ℕ) (tables : Table × JobTable) (d : Entries) (plan : Declared) → IsFresh files left → IfSome (left path) (λ text. bytes ≡ text)
     → declared_by bytes ≡ Ok d → joined tables.0 tables.1 d ≡ Ok plan → DeclaredIn files path tables plan bytes
@@ -97,23 +108,23 @@ declared files left path bytes tables d plan fresh read is joins = ((d, is, join
     by_file (Some text) rest same_rest up = subst (λ (o : Option (List ℕ)). IfSome o (λ t. bytes ≡ t)) same_rest up
 
 -- declarations, and the plan that they make
-pub plan_read : (files left : List ℕ → Option (List ℕ)) (path : Text) (bytes : List ℕ) (tables : Table × JobTable) (d : Entries) (plan : Declared) (before after : Failed)
-    → after ≡ before → IsFresh files left → IfSome (left path) (λ text. bytes ≡ text) → declared_by bytes ≡ Ok d → joined tables.0 tables.1 d ≡ Ok plan
-    → ReadsDeclared files tables path before after (Ok plan)
-plan_read files left path bytes tables d plan before after works fresh read is joins =
+pub plan_read : (made : Entries → Result Declared DeclaredFault) (files left : List ℕ → Option (List ℕ)) (path : Text) (bytes : List ℕ) (d : Entries) (plan : Declared) (before after : Failed)
+    → after ≡ before → IsFresh files left → IfSome (left path) (λ text. bytes ≡ text) → declared_by bytes ≡ Ok d → made d ≡ Ok plan
+    → ReadsPlan made files path before after (Ok plan)
+plan_read made files left path bytes d plan before after works fresh read is joins =
     inr (d, inl (refl, meant_whole (λ b r. declared_by b ≡ r) (Ok d) bytes (files path) (left path) (fresh path) read is), (works, rw joins refl))
 
 -- declarations that could not be read, or not to their end
-pub plan_unread : (files left : List ℕ → Option (List ℕ)) (path : Text) (tables : Table × JobTable) (before after : Failed) (old new : Reads) (e : Fault)
-    → IsFresh files left → IsUnreadWhole path left before after old new e → IfSome (trouble e) (λ t. ReadsDeclared files tables path before after (Err t))
-plan_unread files left path tables before after old new e fresh = by_trouble (trouble e)
+pub plan_unread : (made : Entries → Result Declared DeclaredFault) (files left : List ℕ → Option (List ℕ)) (path : Text) (before after : Failed) (old new : Reads) (e : Fault)
+    → IsFresh files left → IsUnreadWhole path left before after old new e → IfSome (trouble e) (λ t. ReadsPlan made files path before after (Err t))
+plan_unread made files left path before after old new e fresh = by_trouble (trouble e)
   where
     too_long : (whole rest : Option (List ℕ)) → IfSome whole (λ text. rest ≡ Some text) → IfSome rest (λ text. MOST_READS ≤ length text) → IfSome whole (λ text. MOST_READS ≤ length text)
     too_long None rest same long = same
     too_long (Some text) rest same long = subst (λ o. IfSome o (λ t. MOST_READS ≤ length t)) same long
 
     by_trouble : (o : Option Trouble) → IfSome o (λ t. TellsPath path t × ((after path ≡ true) ⊎ ((after ≡ before) × IsReadOut path old new × IsTooLong path left)))
-        → IfSome o (λ t. ReadsDeclared files tables path before after (Err t))
+        → IfSome o (λ t. ReadsPlan made files path before after (Err t))
     by_trouble None h = h
     by_trouble (Some t) (is, inl failed) = inl (t, inl (inl (failed, is)), refl)
     by_trouble (Some t) (is, inr (same, out, long)) = inl (t, inr (same, too_long (files path) (left path) (fresh path) long, (t, is, refl)), refl)

@@ -1,5 +1,6 @@
 pub mod Response
 pub mod Trouble
 pub mod RanOut
+pub mod Fitting
 pub mod Reads
 pub mod Turn

@@ -19,6 +19,7 @@ use Rattle.cs_decl.specs.Plan.{Declared}
 use Rattle.cs_decl.specs.declared.entries.Entries.{Entries}
 use Rattle.cs_report.specs.Warning.{warnings as warnings_text}
 use Rattle.cs_io.specs.Files.{Failed, IsReadOut, IsTooLong, IsUpTo, Reads}
+use Rattle.cs_files.specs.Fitting.{fitting}
 use Rattle.cs_files.specs.Response.{Ending}
 use Rattle.cs_files.specs.Trouble.{InAnacrontab, InCrontab, InDeclarations, TellsPath, Trouble, ends}
 use Rattle.cs_files.specs.Trouble.{trouble}
@@ -122,11 +123,27 @@ abbrev pub DeclaredIn : (List ℕ → Option (List ℕ)) → Text → Table × J
 DeclaredIn files path tables plan text =
     Declares text tables plan × IfSome (files path) (λ bytes. text ≡ bytes)
 
+-- the plan that the declarations at a path make
+abbrev pub ReadsPlan : (Entries → Result Declared DeclaredFault) → (List ℕ → Option (List ℕ))
+    → Text → Failed → Failed → Result Declared Trouble → Type 0
+ReadsPlan made files path = AndThen (ReadsEntries files path) (λ d. Gives (planned (made d)))
+
 -- the plan of both tables as the declarations at a path have it
 abbrev pub ReadsDeclared : (List ℕ → Option (List ℕ)) → Table × JobTable → Text → Failed → Failed
     → Result Declared Trouble → Type 0
-ReadsDeclared files tables path =
-    AndThen (ReadsEntries files path) (λ d. Gives (planned (joined tables.0 tables.1 d)))
+ReadsDeclared files tables = ReadsPlan (joined tables.0 tables.1) files
+
+-- and so where the crontab has these places, of which entries have the parts
+abbrev pub ReadsFitting : (List ℕ → Option (List ℕ)) → List Place → Table × JobTable → Text → Failed
+    → Failed → Result Declared Trouble → Type 0
+ReadsFitting files places tables = ReadsPlan (fitting places tables) files
+
+-- what follows has the places of the table that the file at a path holds
+abbrev pub WithPlaces : {Y : Type 0} → (List ℕ → Option (List ℕ)) → Text → Table
+    → (List Place → Failed → Failed → Result Y Trouble → Type 0) → Failed → Failed
+    → Result Y Trouble → Type 0
+WithPlaces files path table next before after r =
+    (places : List Place) × PlacesIn files path table places × next places before after r
 
 -- an answer, or what is answered of a fault
 abbrev pub ended : Result Ending Trouble → Ending

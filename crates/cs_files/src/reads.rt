@@ -8,12 +8,14 @@ ghost use Rattle.cs_decl.specs.Meaning.{declared_by};
 ghost use Rattle.cs_io.specs.Files.{AreReadInTurn, IsFresh, IsReadAlone};
 ghost use Rattle.cs_files.specs.Reads.{HoldsJobs, IsRead, IsUnreadAt, IsUnreadWhole, MeansIt};
 ghost use Rattle.cs_files.specs.Reads.{DeclaredIn, MeansTable, PlacesIn, ReadsAs, TextIn, are_named, is_letter};
-ghost use Rattle.cs_files.specs.Reads.{ReadsDeclared, ReadsEntries, ReadsJobs, ReadsTables, without_rest};
+ghost use Rattle.cs_files.specs.Reads.{ReadsDeclared, ReadsEntries, ReadsFitting, ReadsJobs, ReadsTables};
+ghost use Rattle.cs_files.specs.Reads.{without_rest};
 ghost use Rattle.cs_files.specs.Turn.{some_path, table_paths};
 ghost use Rattle.cs_files.specs.Trouble.{CameTo, InAnacrontab, InCrontab, InDeclarations, IsHonestOf};
 ghost use Rattle.cs_files.specs.Trouble.{IsOfContent};
 
 use crate::fault::Fault;
+use crate::parts::join_placed;
 use cs_anacrontab::{AnacronFault, Anacrontab, Job, read_anacrontab};
 use cs_civil::Sequence;
 use cs_crontab::{Crontab, read_crontab};
@@ -317,4 +319,28 @@ pub fn declared_plan_from<'a, I: Inputs>(
 {
     let (plan, _) = declared_plan_and_text(alloc, inputs, path, table, jobs)?;
     Ok(plan)
+}
+
+/// The same where the crontab has these places: an entry may also have other parts than they tell.
+pub fn placed_plan_from<'a, I: Inputs>(
+    alloc: Global,
+    inputs: &mut I,
+    path: &'a str,
+    table: Crontab,
+    jobs: Anacrontab,
+    places: &[Place],
+) -> Result<Plan, Fault<'a>>
+    ensures step { IsFresh (I.whole inputs.old) (I.left inputs.old)
+        → CameTo (ReadsFitting (I.whole inputs.old) places.now (table, jobs) path.now
+        (I.failed inputs.old) (I.failed inputs.new)) result }
+    ensures works { OnOk result (I.failed inputs.new ≡ I.failed inputs.old) }
+    ensures whole { I.whole inputs.new ≡ I.whole inputs.old }
+    ensures fresh { OnOk result (IsFresh (I.whole inputs.old) (I.left inputs.old)
+        → IsFresh (I.whole inputs.new) (I.left inputs.new)) }
+    ensures status { IfErr result (IsHonestOf (I.failed inputs.new) (I.reads inputs.new)) }
+    ensures alone { IsReadAlone path.now (I.reads inputs.old) (I.reads inputs.new) }
+{
+    let bytes = all_bytes_at(alloc, inputs, path)?;
+    let declarations = read_declarations(alloc, bytes.as_slice())?;
+    Ok(join_placed(alloc, table, jobs, places, declarations)?)
 }

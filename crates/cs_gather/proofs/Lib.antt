@@ -4,5 +4,6 @@ pub mod Calls
 pub mod Normal
 pub mod Noted
 pub mod Parted
+pub mod PartNames
 pub mod Walk
 pub mod Words

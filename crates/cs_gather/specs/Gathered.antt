@@ -61,6 +61,10 @@ abbrev pub shown : ℕ → List ℕ
 shown b =
     if is_plain b then b ∷ [] else 92 ∷ 120 ∷ hex_digit (b / 16) ∷ hex_digit (b % 16) ∷ []
 
+-- in the name of a user, which is one word of its comment, a blank is `\x20` too
+abbrev pub shown_in_user : ℕ → List ℕ
+shown_in_user b = if b == 32 then 92 ∷ 120 ∷ 50 ∷ 48 ∷ [] else shown b
+
 -- `NAME:LINE`
 abbrev pub place_text : List ℕ → ℕ → List ℕ
 place_text name number = flat_map shown name ++ 58 ∷ decimal number
@@ -68,7 +72,7 @@ place_text name number = flat_map shown name ++ 58 ∷ decimal number
 -- `#@ NAME:LINE USER`
 abbrev pub place_comment : GatheredCommand → List ℕ
 place_comment c =
-    codes "#@ " ++ (place_text c.name c.number ++ 32 ∷ flat_map shown c.user)
+    codes "#@ " ++ (place_text c.name c.number ++ 32 ∷ flat_map shown_in_user c.user)
 
 -- `#@ part NAME`
 abbrev pub part_comment : List ℕ → List ℕ

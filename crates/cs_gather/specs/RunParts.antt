@@ -83,6 +83,24 @@ count_of (b ∷ bs) =
 abbrev pub before_percent : List ℕ → List ℕ
 before_percent command = before_first (λ b. b == 37) command
 
+-- A program may begin behind `;`, `(`, `&` and `|`, but not where `<` or `>` is directly in front, as
+-- in `2>&1` (sh(1)).
+abbrev pub may_begin : Bool → Bool → ℕ → Bool
+may_begin may turned byte =
+    may || (is_of (codes ";(") byte || (is_of (codes "&|") byte && not turned))
+
+-- the first word is `}`
+abbrev pub closes : List ℕ → Bool
+closes text = bytes_eq (front is_inner text) (codes "}")
+
+-- another program begins in what stands behind the words of one: at its front one may begin, and `<`
+-- or `>` is directly in front of it
+unfoldable pub goes_on : Bool → Bool → List ℕ → Bool
+goes_on may turned [] = false
+goes_on may turned (b ∷ bs) =
+    if is_inner b then (may && not (closes (b ∷ bs))) || goes_on false false bs
+    else goes_on (may_begin may turned b) (is_of (codes "<>") b) bs
+
 -- ---- what is called
 
 -- its first byte is `<` or `>`
@@ -200,6 +218,8 @@ run_behind count None =
 run_behind count (Some text) =
     if is_some (behind_call true text) then Unread (codes "run-parts stands there twice")
     else if nat_lt 1 count then Unread (codes "run-parts stands in it in a way that isn't read")
+    else if goes_on false false (after is_unsigned text) then
+    Unread (codes "run-parts isn't the last program in it")
     else run_by (words_of (call_text text))
 
 -- what a command runs

@@ -1,6 +1,6 @@
 //! Places as comments.
 ghost use Rattle.std.specs.Prelude.{◌≡◌, ◌<◌, ◌++◌, ◌∷◌, flat_map, codes, IfOk, OnOk};
-ghost use Rattle.cs_gather.specs.Gathered.{is_plain, hex_digit, shown, place_text};
+ghost use Rattle.cs_gather.specs.Gathered.{is_plain, hex_digit, shown, shown_in_user, place_text};
 
 use cs_civil::push_number;
 use std::alloc::{AllocError, Global};
@@ -35,6 +35,20 @@ pub fn push_shown(text: &mut Vec<u8>, bytes: &[u8]) -> Result<(), AllocError>
 {
     for byte in bytes {
         push_byte(text, *byte)?;
+    }
+    Ok(())
+}
+
+/// Adds the name of a user as one word: as [`push_shown`] does, and a blank as `\x20`.
+pub(crate) fn push_user(text: &mut Vec<u8>, name: &[u8]) -> Result<(), AllocError>
+    ensures { OnOk result (text.new.items ≡ text.old.items ++ flat_map shown_in_user name.now) }
+{
+    for byte in name {
+        if *byte == b' ' {
+            text.extend_from_slice(b"\\x20")?;
+        } else {
+            push_byte(text, *byte)?;
+        }
     }
     Ok(())
 }

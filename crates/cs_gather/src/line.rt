@@ -2,7 +2,7 @@ ghost use Rattle.std.specs.Prelude.{◌≡◌, [], IfOk};
 ghost use Rattle.cs_gather.specs.Normal.{IsNormal};
 ghost use Rattle.cs_gather.specs.Gathered.{place_comment};
 
-use crate::comment::{push_place, push_shown};
+use crate::comment::{push_place, push_user};
 use crate::when::copy_when;
 use cs_civil::{Bytes, Sequence};
 use cs_crontab::When;
@@ -110,7 +110,7 @@ impl GatheredLine {
         let mut comment = Vec::from_slice(alloc, b"#@ ")?;
         push_place(alloc, &mut comment, self.table.as_slice(), self.line)?;
         comment.push(b' ')?;
-        push_shown(&mut comment, self.owner.as_slice())?;
+        push_user(&mut comment, self.owner.as_slice())?;
         Ok(comment)
     }
 }

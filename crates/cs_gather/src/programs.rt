@@ -1,6 +1,7 @@
 //! The parts that commands run by run-parts(8), and the comments with their names.
 ghost use Rattle.std.specs.Prelude.{◌≡◌, ◌==◌, IfOk, IsTrue, option_map};
 ghost use Rattle.std.specs.List.{find, list_all};
+ghost use Rattle.std.specs.Str.{IsUtf8};
 ghost use Rattle.cs_gather.specs.Gathered.{names_at, part_comment};
 ghost use Rattle.cs_gather.specs.Places.{is_name_byte, is_part_name, part_in};
 
@@ -33,8 +34,10 @@ fn has_only_name_bytes(name: &[u8]) -> bool
 
 /// Whether run-parts(8) runs a program of this name, and cron(8) reads a table of it in a folder of
 /// tables: one of ASCII letters, digits, `_` and `-` alone.
+#[tactic(auto, using(crate::proofs::PartNames::part_name_is_text))]
 pub fn is_part_name(name: &[u8]) -> bool
-    ensures { result ≡ is_part_name name.now }
+    ensures value { result ≡ is_part_name name.now }
+    ensures text { IsTrue result → IsUtf8 name.now }
 {
     !name.is_empty() && has_only_name_bytes(name)
 }

@@ -1,8 +1,10 @@
 //! Which folder's programs a command of a table runs by run-parts(8).
-ghost use Rattle.std.specs.Prelude.{◌≡◌, ◌==◌, option_map, position, true};
+ghost use Rattle.std.specs.Prelude.{◌≡◌, ◌==◌, false, option_map, position, true};
 ghost use Rattle.std.specs.List.{list_all};
 ghost use Rattle.cs_table.specs.Text.{after, front, is_digit};
-ghost use Rattle.cs_gather.specs.RunParts.{before_percent, behind_call, call_text, count_of, is_inner, is_run_parts, is_sign, is_unsigned, run_by, run_parts, seen, turns, without_number, words_of};
+ghost use Rattle.cs_gather.specs.RunParts.{before_percent, behind_call, call_text, closes, count_of};
+ghost use Rattle.cs_gather.specs.RunParts.{goes_on, is_inner, is_run_parts, is_sign, is_unsigned, may_begin};
+ghost use Rattle.cs_gather.specs.RunParts.{run_by, run_parts, seen, turns, without_number, words_of};
 
 use crate::call::Call;
 use crate::places::split_last_word;
@@ -113,6 +115,45 @@ fn count_of(text: &[u8]) -> usize
     count
 }
 
+/// Whether the first word is `}`.
+fn closes(text: &[u8]) -> bool
+    ensures { result ≡ closes text.now }
+{
+    let (word, _) = inner_word(text);
+    word == b"}".as_slice()
+}
+
+/// Whether a program may begin behind the byte, where one may begin in front of it or not.
+fn may_begin(may: bool, turned: bool, byte: u8) -> bool
+    ensures { result ≡ may_begin may turned byte }
+{
+    may || byte == b';' || byte == b'(' || (byte == b'&' || byte == b'|') && !turned
+}
+
+/// Whether another program begins in what stands behind the words of one.
+#[tactic(auto, unfolding(crate::specs::RunParts::goes_on))]
+fn goes_on(text: &[u8]) -> bool
+    ensures { result ≡ goes_on false false text.now }
+{
+    let mut may = false;
+    let mut turned = false;
+    let mut rest = text;
+    while let [first, others @ ..] = rest {
+        if is_inner(*first) {
+            if may && !closes(rest) {
+                return true;
+            }
+            may = false;
+            turned = false;
+        } else {
+            may = may_begin(may, turned, *first);
+            turned = *first == b'<' || *first == b'>';
+        }
+        rest = others;
+    }
+    false
+}
+
 fn first_percent(command: &[u8]) -> Option<usize>
     ensures { result ≡ position (λ b. b == 37) command.now }
 {
@@ -192,6 +233,10 @@ pub fn run_parts(command: &[u8]) -> RunParts<'_>
     }
     if count > 1 {
         return RunParts::Unread("run-parts stands in it in a way that isn't read");
+    }
+    let (_, others) = split_at_sign(behind);
+    if goes_on(others) {
+        return RunParts::Unread("run-parts isn't the last program in it");
     }
     run_by(call_text(behind))
 }

@@ -1,10 +1,20 @@
--- What is listed of a folder.
-use Rattle.std.specs.Prelude.{◌==◌, ◌&&◌, ℕ, Bool, List, [], ◌∷◌, length, not}
+-- What is known of folders.
+use Rattle.std.specs.Prelude.{◌==◌, ◌&&◌, ℕ, Bool, List, [], ◌∷◌, Option, None, length, not}
 use Rattle.std.specs.Ordering.{nat_cmp}
 use Rattle.std.specs.Cmp.Lexicographic.{slice_cmp}
 use Rattle.std.specs.List.{filter, slice_split}
 use Rattle.std.specs.List.Sorted.{IsSorted}
 use Rattle.std.specs.Str.{bytes_eq}
+use Rattle.cs_io.specs.declared.folders.FileKind.{FileKind}
+
+-- what is known of folders: what each path leads to, and the names in each folder, `Some None` where
+-- nothing is there
+pub record Tree : Type 0 where
+  pub kind : List ℕ → Option (Option FileKind)
+  pub names : List ℕ → Option (Option (List (List ℕ)))
+
+abbrev pub unknown : Tree
+unknown = record { kind = λ path. None; names = λ path. None }
 
 -- neither of the folder itself, nor of the one above it
 abbrev pub is_listed : List ℕ → Bool

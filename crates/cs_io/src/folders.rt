@@ -1,10 +1,10 @@
 //! The folders that the program looks into.
-ghost use Rattle.std.specs.Prelude.{◌≡◌, ◌<◌, ◌≤◌, ℕ, List, Option, None, true, IfOk, IfErr, IfSome};
-ghost use Rattle.std.specs.Prelude.{IsPermutation, OnErr, OnOk, length, map};
-ghost use Rattle.cs_io.specs.Folders.{IsInByteOrder, is_listed, names_in};
+ghost use Rattle.std.specs.Prelude.{◌≡◌, ◌<◌, ◌≤◌, None, true, IfOk, IfErr, IfSome};
+ghost use Rattle.std.specs.Prelude.{IsPermutation, OnOk, length, map};
+ghost use Rattle.cs_io.specs.Folders.{IsInByteOrder, Tree, is_listed, names_in, unknown};
 ghost use Rattle.cs_io.specs.Reasons.{IsCannotRead};
 
-use crate::inputs::{CannotRead, Inputs, ReadFault};
+use crate::inputs::{Inputs, ReadFault};
 use crate::reason::Reason;
 use cs_civil::{Bytes, Sequence};
 use std::alloc::{AllocError, Global};
@@ -15,6 +15,9 @@ use std::io::Read;
 pub enum FileKind {
     /// A regular file that no one may execute.
     Regular,
+    /// A regular file that no one may execute, of 0 bytes as the machine says: also one of its kernel's,
+    /// a read of which may wait for ever.
+    Empty,
     /// A regular file that someone may execute: one of the bits 0o111 of its mode is set.
     Program,
     /// A folder.
@@ -28,32 +31,37 @@ pub const MOST_NAMES: usize = 65_536;
 
 /// Folders by their paths. Only a folder is ever opened, so no name in one keeps a call waiting.
 pub trait Folders: Inputs {
-    ghost use Rattle.cs_io.specs.declared.folders.FileKind.{FileKind};
+    /// What is known of them.
+    ghost tree: { Self → Tree } = { λ _. unknown };
 
-    /// What a path leads to, if known: `Some None` if that is nothing.
-    ghost kinds: { Self → List ℕ → Option (Option FileKind) } = { λ _ _. None };
-
-    /// The names in a folder, if known: `Some None` if there is nothing at its path.
-    ghost listing: { Self → List ℕ → Option (Option (List (List ℕ))) } = { λ _ _. None };
+    /// From now on the links of each path that begins with this one are looked up below it: an absolute
+    /// one begins there, and none leads above it. Nothing changes for an empty path.
+    fn look_below(&mut self, alloc: Global, root: &str) -> Result<(), AllocError>
+        ensures stays { tree self.new ≡ tree self.old }
+        ensures files { (Self.whole self.new ≡ Self.whole self.old)
+            × (Self.left self.new ≡ Self.left self.old)
+            × (Self.reads self.new ≡ Self.reads self.old) }
+        ensures works { Self.failed self.new ≡ Self.failed self.old };
 
     /// What a path leads to, `None` if that is nothing.
-    fn kind_of(&mut self, path: &str) -> Result<Option<FileKind>, CannotRead>
-        ensures value { IfOk result (λ kind. IfSome (kinds self.old path.now)
+    fn kind_of(&mut self, path: &str) -> Result<Option<FileKind>, ReadFault>
+        ensures value { IfOk result (λ kind. IfSome ((tree self.old).kind path.now)
             (λ known. kind ≡ known)) }
-        ensures stays { (kinds self.new ≡ kinds self.old) × (listing self.new ≡ listing self.old) }
+        ensures stays { tree self.new ≡ tree self.old }
         ensures files { (Self.whole self.new ≡ Self.whole self.old)
             × (Self.left self.new ≡ Self.left self.old)
             × (Self.reads self.new ≡ Self.reads self.old) }
         ensures works { OnOk result (Self.failed self.new ≡ Self.failed self.old) }
-        ensures fails { OnErr result (Self.failed self.new path.now ≡ true) };
+        ensures fails { IfErr result (λ e. IsCannotRead e
+            → Self.failed self.new path.now ≡ true) };
 
     /// The names in a folder in the order of their bytes, `None` if there is nothing at its path.
     fn names(&mut self, alloc: Global, path: &str) -> Result<Option<Sequence<Bytes>>, ReadFault>
-        ensures value { IfOk result (λ found. IfSome (listing self.old path.now)
+        ensures value { IfOk result (λ found. IfSome ((tree self.old).names path.now)
             (λ known. found ≡ known)) }
         ensures few { IfOk result (λ found. IfSome found (λ names. length names ≤ MOST_NAMES)) }
         ensures order { IfOk result (λ found. IfSome found IsInByteOrder) }
-        ensures stays { (kinds self.new ≡ kinds self.old) × (listing self.new ≡ listing self.old) }
+        ensures stays { tree self.new ≡ tree self.old }
         ensures files { (Self.whole self.new ≡ Self.whole self.old)
             × (Self.left self.new ≡ Self.left self.old)
             × (Self.reads self.new ≡ Self.reads self.old) }

@@ -3,6 +3,7 @@
 
 mod folders;
 mod inputs;
+mod links;
 mod machine;
 mod outputs;
 mod reason;

@@ -1,15 +1,16 @@
 //! The machine's files and its standard input.
 ghost use Rattle.std.specs.Prelude.{◌≡◌, ◌==◌, ◌≤◌, IfOk, IfSome, bit_and, false, if◌then◌else◌, length};
-ghost use Rattle.std.specs.Fs.{permissions_mode};
+ghost use Rattle.std.specs.Fs.{metadata_len, metadata_mode};
 ghost use Rattle.cs_io.specs.Folders.{IsInByteOrder};
-ghost use Rattle.cs_io.specs.declared.folders.FileKind.TheVariants.{Program, Regular};
+ghost use Rattle.cs_io.specs.declared.folders.FileKind.TheVariants.{Empty, Program, Regular};
 
 use crate::folders::{FileKind, Folders, MOST_NAMES, names_in_order, read_list};
 use crate::inputs::{CannotRead, Inputs, ReadFault};
+use crate::links::Root;
 use crate::reason::Reason;
 use cs_civil::{Bytes, Sequence};
 use std::alloc::{AllocError, Global};
-use std::fs::Permissions;
+use std::fs::Metadata;
 use std::io::{ErrorKind, Read};
 use std::os::unix::fs::PermissionsExt;
 use std::rt::Files;
@@ -20,6 +21,7 @@ use std::{fs, io};
 pub struct Machine<'a, R: Files + Input> {
     rt: &'a R,
     open: Option<R::File>,
+    root: Option<Root>,
     has_failed: bool,
 }
 
@@ -31,8 +33,22 @@ impl<'a, R: Files + Input> Machine<'a, R> {
         Machine {
             rt,
             open: None,
+            root: None,
             has_failed: false,
         }
+    }
+
+    /// Where the file of a path below a root folder is.
+    fn behind_links(&self, path: &str) -> io::Result<Option<String>> {
+        match &self.root {
+            Some(root) => root.behind_links(self.rt, path),
+            None => Ok(None),
+        }
+    }
+
+    fn open_file(&self, path: &str) -> io::Result<R::File> {
+        let file = self.behind_links(path)?;
+        fs::open(self.rt, text_or(&file, path))
     }
 
     fn read_file(&mut self, path: &str, buf: &mut [u8]) -> io::Result<usize>
@@ -41,7 +57,7 @@ impl<'a, R: Files + Input> Machine<'a, R> {
     {
         let mut file = match self.open.take() {
             Some(file) => file,
-            None => fs::open(self.rt, path)?,
+            None => self.open_file(path)?,
         };
         let n = file.read(buf)?;
         if n != 0 {
@@ -56,27 +72,31 @@ impl<'a, R: Files + Input> Machine<'a, R> {
         self.rt.reader().read(buf)
     }
 
-    fn kind_at(&self, path: &str) -> Result<Option<FileKind>, Reason> {
-        let found = match fs::metadata(self.rt, path) {
-            Ok(found) => found,
-            Err(error) => return kind_behind(&error),
-        };
+    fn kind_at(&self, path: &str) -> io::Result<FileKind> {
+        let file = self.behind_links(path)?;
+        let found = fs::metadata(self.rt, text_or(&file, path))?;
         if found.is_file() {
-            return Ok(Some(file_kind(&found.permissions())));
+            return Ok(file_kind(&found));
         }
         if found.is_dir() {
-            return Ok(Some(FileKind::Folder));
+            return Ok(FileKind::Folder);
         }
-        Ok(Some(FileKind::Other))
+        Ok(FileKind::Other)
     }
 
-    fn open_folder(&self, path: &str) -> Result<Option<R::Dir>, ReadFault> {
-        match self.rt.open_dir(path) {
+    fn folder_at(&self, alloc: Global, path: &str) -> io::Result<R::Dir> {
+        let file = self.behind_links(path)?;
+        let path = with_slash(alloc, text_or(&file, path))?;
+        self.rt.open_dir(path.as_str())
+    }
+
+    fn open_folder(&self, alloc: Global, path: &str) -> Result<Option<R::Dir>, ReadFault> {
+        match self.folder_at(alloc, path) {
             Ok(folder) => Ok(Some(folder)),
             Err(error) => match error.kind() {
                 ErrorKind::NotFound => Ok(None),
                 ErrorKind::NotADirectory => Err(ReadFault::CannotRead(Reason::NoFolder)),
-                _ => Err(ReadFault::CannotRead(Reason::of(&error))),
+                _ => Err(fault_of(&error)),
             },
         }
     }
@@ -85,8 +105,7 @@ impl<'a, R: Files + Input> Machine<'a, R> {
         ensures few { IfOk result (λ found. IfSome found (λ names. length names ≤ MOST_NAMES)) }
         ensures order { IfOk result (λ found. IfSome found IsInByteOrder) }
     {
-        let path = with_slash(alloc, path)?;
-        let Some(mut folder) = self.open_folder(path.as_str())? else {
+        let Some(mut folder) = self.open_folder(alloc, path)? else {
             return Ok(None);
         };
         let list = read_list(alloc, &mut folder)?;
@@ -94,24 +113,43 @@ impl<'a, R: Files + Input> Machine<'a, R> {
     }
 }
 
-/// Which kind of regular file has these permissions.
-fn file_kind(permissions: &Permissions) -> FileKind
-    ensures { result ≡ (if bit_and (permissions_mode permissions.now) 0o111 == 0
-        then Regular else Program) }
+/// The text, or the other one where there is none.
+fn text_or<'t>(text: &'t Option<String>, other: &'t str) -> &'t str {
+    match text {
+        Some(text) => text.as_str(),
+        None => other,
+    }
+}
+
+/// The kind of a regular file.
+fn file_kind(found: &Metadata) -> FileKind
+    ensures { result ≡ (if bit_and (metadata_mode found.now) 0o111 == 0
+        then (if metadata_len found.now == 0 then Empty else Regular) else Program) }
 {
-    if permissions.mode() & 0o111 == 0 {
-        FileKind::Regular
+    if found.permissions().mode() & 0o111 != 0 {
+        return FileKind::Program;
+    }
+    if found.len() == 0 {
+        FileKind::Empty
     } else {
-        FileKind::Program
+        FileKind::Regular
+    }
+}
+
+/// Why something can't be looked at.
+fn fault_of(error: &io::Error) -> ReadFault {
+    match error.kind() {
+        ErrorKind::OutOfMemory => ReadFault::OutOfMemory,
+        _ => ReadFault::CannotRead(Reason::of(error)),
     }
 }
 
 /// What a path leads to that the machine can't follow, if that is known.
-fn kind_behind(error: &io::Error) -> Result<Option<FileKind>, Reason> {
+fn kind_behind(error: &io::Error) -> Result<Option<FileKind>, ReadFault> {
     match error.kind() {
         ErrorKind::NotFound | ErrorKind::NotADirectory => Ok(None),
         ErrorKind::FilesystemLoop => Ok(Some(FileKind::Other)),
-        _ => Err(Reason::of(error)),
+        _ => Err(fault_of(error)),
     }
 }
 
@@ -147,14 +185,24 @@ impl<'a, R: Files + Input> Inputs for Machine<'a, R> {
 }
 
 impl<'a, R: Files + Input> Folders for Machine<'a, R> {
-    fn kind_of(&mut self, path: &str) -> Result<Option<FileKind>, CannotRead> {
-        match self.kind_at(path) {
-            Ok(kind) => Ok(kind),
-            Err(reason) => {
-                self.has_failed = true;
-                Err(CannotRead { reason })
-            }
+    fn look_below(&mut self, alloc: Global, root: &str) -> Result<(), AllocError> {
+        self.root = if root.is_empty() {
+            None
+        } else {
+            Some(Root::new(alloc, root)?)
+        };
+        Ok(())
+    }
+
+    fn kind_of(&mut self, path: &str) -> Result<Option<FileKind>, ReadFault> {
+        let kind = match self.kind_at(path) {
+            Ok(kind) => Ok(Some(kind)),
+            Err(error) => kind_behind(&error),
+        };
+        if kind.is_err() {
+            self.has_failed = true;
         }
+        kind
     }
 
     fn names(&mut self, alloc: Global, path: &str) -> Result<Option<Sequence<Bytes>>, ReadFault> {

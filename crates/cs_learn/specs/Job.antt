@@ -1,5 +1,7 @@
 -- Which lines of a log are of which job.
-use Rattle.std.specs.Prelude.{ℕ, Bool, true, false, ◌&&◌, ◌||◌, ◌==◌, bytes_eq, List, Option, Some, None}
+use Rattle.std.specs.Prelude.{ℕ, Bool, true, false, not, ◌&&◌, ◌||◌, ◌==◌, bytes_eq, List, Option, Some, None}
+use Rattle.std.specs.List.{flat_map}
+use Rattle.cs_gather.specs.Gathered.{shown}
 use Rattle.cs_learn.specs.Logged.{logged}
 use Rattle.cs_learn.specs.declared.job.Job.{Job}
 use Rattle.cs_learn.specs.declared.log_line.LogLine.{LogLine}
@@ -11,6 +13,7 @@ job_of number user command = record {
   user = user;
   debian = logged true command;
   cronie = logged false command;
+  shown = flat_map shown command;
 }
 
 abbrev pub is_called : Job → List ℕ → Bool
@@ -21,13 +24,22 @@ abbrev pub may_be : Option (List ℕ) → List ℕ → Bool
 may_be None user = true
 may_be (Some own) user = bytes_eq own user
 
--- This program's log names a job by its line, cron's log by its user and command.
+-- Where the log lists the table, the command of the job is listed.
+abbrev pub may_be_listed : Job → LogLine → Bool
+may_be_listed job line = not line.is_listed || bytes_eq job.shown line.command
+
+-- This program's log names a job by its line, and where it lists the table by its command; cron's log
+-- by its user and command.
 abbrev pub is_named : Job → LogLine → Option ℕ → Bool
-is_named job line (Some due) = job.number == line.name.number
+is_named job line (Some due) = (job.number == line.name.number) && may_be_listed job line
 is_named job line None = may_be job.user line.user && is_called job line.command
 
 abbrev pub is_of : Job → LogLine → Bool
 is_of job line = is_named job line line.name.due
+
+-- a run of the job's line by another table
+abbrev pub is_of_other : Job → LogLine → Bool
+is_of_other job line = (job.number == line.name.number) && not (may_be_listed job line)
 
 abbrev pub may_both_be : Option (List ℕ) → Option (List ℕ) → Bool
 may_both_be user None = true

@@ -1,5 +1,6 @@
 -- What is known behind the lines of a log.
 use Rattle.std.specs.Prelude.{ℕ, ◌+◌, ◌-◌, ◌^◌, min, Bool, ◌&&◌, ◌==◌, nat_lt, if◌then◌else◌, List, [], ◌∷◌, ◌++◌, fold, length, Option, Some, None, option_map}
+use Rattle.cs_learn.specs.Listing.{Commands, behind_text, called}
 use Rattle.cs_learn.specs.LogLine.{log_line}
 use Rattle.cs_retrace.specs.declared.moment.Moment.{Moment}
 use Rattle.cs_retrace.specs.declared.moment.Moment.TheVariants.{Universal}
@@ -12,11 +13,12 @@ use Rattle.cs_learn.specs.declared.open_runs.Ending.TheVariants.{Run, NoBeginnin
 use Rattle.cs_learn.specs.declared.tally.Tally.{Tally}
 use Rattle.cs_learn.specs.declared.limits.TheConstants.{MAX_LINE}
 
--- the runs that are open, when the last line of a run was written, and how many lines of each kind
--- there were
+-- the runs that are open, when the last line of a run was written, what the log lists of its table,
+-- and how many lines of each kind there were
 pub record State : Type 0 where
   pub opens : Opens
   pub last : Moment
+  pub commands : Commands
   pub tally : Tally
 
 -- some more, as far as 64 bits count
@@ -60,6 +62,7 @@ behind_begin state line = (
   record {
     opens = begun state.opens line;
     last = line.at;
+    commands = state.commands;
     tally = one_told (option_map (without_end line.at) (replaced state.opens line))
         (one_begun state.tally);
   },
@@ -72,6 +75,7 @@ behind_end state line = (
   record {
     opens = (ended state.opens line).0;
     last = line.at;
+    commands = state.commands;
     tally = one_ended (ended state.opens line).1 state.tally;
   },
   Some (line, (ended state.opens line).1),
@@ -82,16 +86,25 @@ behind_sign state line Begin = behind_begin state line
 behind_sign state line End = behind_end state line
 behind_sign state line EndByParent = behind_end state line
 
-abbrev pub behind_line : State → Option LogLine → State × Option (LogLine × Ending)
-behind_line state None = (record state { tally = one_other state.tally }, None)
-behind_line state (Some line) = behind_sign state line line.sign
+abbrev pub behind_run : State → LogLine → State × Option (LogLine × Ending)
+behind_run state line = behind_sign state line line.sign
+
+abbrev pub behind_other : State → List ℕ → State
+behind_other state text = record state {
+  commands = behind_text state.commands text;
+  tally = one_other state.tally;
+}
+
+abbrev pub behind_line : State → List ℕ → Option LogLine → State × Option (LogLine × Ending)
+behind_line state text None = (behind_other state text, None)
+behind_line state text (Some line) = behind_run state (called state.commands line)
 
 -- one line of the log
 unfoldable pub learned : State → List ℕ → State × Option (LogLine × Ending)
 learned state text =
     if nat_lt MAX_LINE (length text)
     then (record state { tally = one_too_long state.tally }, None)
-    else behind_line state (log_line text)
+    else behind_line state text (log_line text)
 
 -- ---- all lines of a log
 
@@ -105,6 +118,7 @@ nothing = (
   record {
     opens = [];
     last = Universal 0;
+    commands = [];
     tally = record {
       begun = 0;
       runs = 0;

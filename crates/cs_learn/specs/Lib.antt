@@ -2,6 +2,7 @@ pub mod Told
 pub mod Own
 pub mod Journal
 pub mod LogLine
+pub mod Listing
 pub mod Runs
 pub mod Evidence
 pub mod Max

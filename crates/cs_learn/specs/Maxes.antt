@@ -1,9 +1,11 @@
 -- Declarations with the longest times that logs give.
-use Rattle.std.specs.Prelude.{◌≡◌, ℕ, ◌+◌, ◌-◌, ◌^◌, ◌<◌, ◌==◌, ◌&&◌, min, nat_le, max as nat_max, pos, if◌then◌else◌, List, length, map, position, slice_index_or, Option, Some, None, option_map, IsSomeAnd, IfSome, Ok}
+use Rattle.std.specs.Prelude.{◌≡◌, ℕ, ◌+◌, ◌-◌, ◌^◌, ◌<◌, ◌==◌, ◌&&◌, min, nat_le, max as nat_max, pos, Bool, true, false, if◌then◌else◌, List, [], ◌∷◌, length, position, slice_index_or, Option, Some, None, option_map, IsSomeAnd, IfSome, Ok}
 use Rattle.std.specs.List.{find}
 use Rattle.cs_crontab.specs.Crontab.{CommandLine}
+use Rattle.cs_crontab.specs.declared.table.When.{When}
 use Rattle.cs_decl.specs.Join.{is_named}
 use Rattle.cs_decl.specs.Meaning.{declared_by}
+use Rattle.cs_decl.specs.When.{same_when}
 use Rattle.cs_decl.specs.declared.entries.AnacronEntry.{AnacronEntry}
 use Rattle.cs_decl.specs.declared.entries.LineName.{LineName}
 use Rattle.cs_decl.specs.declared.entries.CronEntry.{CronEntry}
@@ -71,12 +73,36 @@ max_of lines maxes mode name =
     option_map (λ max. allowed (find (is_named name) lines) (begun_inside mode max))
     (max_at maxes (position (is_named name) lines))
 
--- An entry with parts stays, since its longest time is their sum; and so does one for which it
--- would be more than a job may have.
+-- What is learned is no guess. An entry with parts stays, since its longest time is their sum; and so
+-- does one for which it would be more than a job may have.
 abbrev pub with_max : CronEntry → Option ℕ → CronEntry
 with_max e None = e
-with_max e (Some max) =
-    if length e.parts == 0 && nat_le max LONGEST_MAX then record e { max = pos max } else e
+with_max e (Some max) = if length e.parts == 0 && nat_le max LONGEST_MAX
+    then record e { max = pos max; guess = false } else e
+
+-- no schedule is told, or one
+abbrev pub tell_one : Option When → Option When → Bool
+tell_one None None = true
+tell_one None (Some when) = false
+tell_one (Some told) None = false
+tell_one (Some told) (Some when) = same_when told when
+
+-- the same name, and the same schedule is told
+abbrev pub IsSameName : LineName → LineName → Type 0
+IsSameName old new =
+    (new ≡ record old { when = new.when }) × (tell_one old.when new.when ≡ true)
+
+-- the new entry is that of the old one's line, with the longest time that is learned of that
+abbrev pub HasMax : List CommandLine → List (Option ℕ) → CronEntry → CronEntry → Type 0
+HasMax lines maxes old new = IsSameName old.name new.name
+    × (new ≡ record (with_max old (max_of lines maxes old.mode old.name)) { name = new.name })
+
+-- so it is of each two of both lists
+abbrev pub AreEach : {A : Type 0} → (A → A → Type 0) → List A → List A → Type 0
+AreEach Is [] [] = Unit {0}
+AreEach Is [] (y ∷ ys) = ⊥
+AreEach Is (x ∷ xs) [] = ⊥
+AreEach Is (x ∷ xs) (y ∷ ys) = Is x y × AreEach Is xs ys
 
 -- An update keeps the entries of anacron jobs as they are.
 abbrev pub jobs_of : Option Entries → Entries → List AnacronEntry
@@ -91,13 +117,13 @@ pub record IsSameRest (old new : Entries) : Type 0 where
   pub pass : new.pass ≡ old.pass
   pub groups : new.groups ≡ old.groups
   pub default : new.default ≡ old.default
-  pub left_out : new.left_out ≡ old.left_out
+  pub left_out : AreEach IsSameName old.left_out new.left_out
   pub doubled : new.doubled ≡ old.doubled
 
 -- each entry has the longest time of its line, if one is learned
 pub record HaveMaxes (lines : List CommandLine) (maxes : List (Option ℕ)) (kept : Option Entries)
     (old new : Entries) : Type 0 where
-  pub cron : new.cron ≡ map (λ e. with_max e (max_of lines maxes e.mode e.name)) old.cron
+  pub cron : AreEach (HasMax lines maxes) old.cron new.cron
   pub anacron : new.anacron ≡ jobs_of kept old
   pub rest : IsSameRest old new
 

@@ -1,5 +1,5 @@
 -- What this program's own log tells of a run of a crontab's line, behind the time.
-use Rattle.std.specs.Prelude.{ℕ, List, [], codes, Option, Some, None}
+use Rattle.std.specs.Prelude.{ℕ, false, List, [], codes, Option, Some, None}
 use Rattle.cs_table.specs.Text.{is_nothing}
 use Rattle.cs_table.specs.SettingReading.{◌>>=◌}
 use Rattle.cs_retrace.specs.Words.{behind, or_else, if_so}
@@ -48,6 +48,13 @@ ended_parts text = do
 abbrev pub own_parts : List ℕ → Option (Sign × RunName)
 own_parts text = or_else (started_parts text) (ended_parts text)
 
--- The log tells neither the user nor the command.
+-- The line tells neither the user nor the command.
 abbrev pub of_own : Moment → Sign × RunName → LogLine
-of_own at parts = record { at = at; sign = parts.0; name = parts.1; user = []; command = [] }
+of_own at parts = record {
+  at = at;
+  sign = parts.0;
+  name = parts.1;
+  user = [];
+  command = [];
+  is_listed = false;
+}

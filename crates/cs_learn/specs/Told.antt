@@ -1,5 +1,5 @@
 -- What cron tells of a run: `host CRON[1234]: (root) CMD (command)`.
-use Rattle.std.specs.Prelude.{ℕ, Bool, ◌||◌, if◌then◌else◌, List, codes, bytes_eq, Option, Some, None}
+use Rattle.std.specs.Prelude.{ℕ, Bool, false, ◌||◌, if◌then◌else◌, List, codes, bytes_eq, Option, Some, None}
 use Rattle.cs_table.specs.SettingReading.{◌>>=◌, quoted_at}
 use Rattle.cs_retrace.specs.Words.{behind, before_last, number_of}
 use Rattle.cs_retrace.specs.declared.moment.Moment.{Moment}
@@ -36,10 +36,22 @@ process number = record { number = number; due = None }
 
 -- a line of cron, with the number of the process that wrote it
 abbrev pub of_cron : Moment → Sign → ℕ → List ℕ → List ℕ → Option (ℕ × List ℕ) → LogLine
-of_cron at sign writer user text None =
-    record { at = at; sign = sign; name = process writer; user = user; command = text }
-of_cron at sign writer user text (Some own) =
-    record { at = at; sign = own_sign sign; name = process own.0; user = user; command = own.1 }
+of_cron at sign writer user text None = record {
+  at = at;
+  sign = sign;
+  name = process writer;
+  user = user;
+  command = text;
+  is_listed = false;
+}
+of_cron at sign writer user text (Some own) = record {
+  at = at;
+  sign = own_sign sign;
+  name = process own.0;
+  user = user;
+  command = own.1;
+  is_listed = false;
+}
 
 -- `(root) CMD (command)`: the user, what is told, and what stands in the second parentheses
 unfoldable pub message_parts : List ℕ → Option (List ℕ × Sign × List ℕ)

@@ -102,11 +102,10 @@ fn with_learned(
         (option_map (λ d. d.now) old.entry) draft.text l.text)) }
 {
     let lines = table.lines();
-    let (text, told) = draft.into_parts();
-    let Some(found) = with_maxes(alloc, lines, maxes, old, bytes, text.as_slice())? else {
+    let Some(found) = with_maxes(alloc, lines, maxes, old, bytes, draft.text.as_slice())? else {
         return Ok(None);
     };
-    let mut told = told.into_vec();
+    let mut told = draft.warnings.into_vec();
     let is_new = old.is_none();
     push_summary(alloc, &mut told, lines, places, log, maxes, &found, is_new)?;
     Ok(Some(Learned {

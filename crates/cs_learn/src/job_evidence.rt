@@ -11,6 +11,8 @@ pub struct JobEvidence {
     pub job: Job,
     /// What is known of its runs.
     pub evidence: Evidence,
+    /// How many runs of its line were by another table.
+    pub refused: u64,
 }
 
 impl JobEvidence {
@@ -20,6 +22,9 @@ impl JobEvidence {
     {
         if self.job.is_of(line) {
             self.evidence.add(ran);
+        }
+        if self.job.is_of_other(line) {
+            self.refused = self.refused.saturating_add(1);
         }
     }
 }

@@ -37,7 +37,11 @@ fn unknown_on(alloc: Global, places: &[Place], line: &Line) -> Result<JobEvidenc
 {
     let job = job_on(alloc, places, line)?;
     let evidence = Evidence::new(alloc)?;
-    Ok(JobEvidence { job, evidence })
+    Ok(JobEvidence {
+        job,
+        evidence,
+        refused: 0,
+    })
 }
 
 /// Returns the jobs of a crontab's lines, each with its user where its place tells, and of each that

@@ -1,10 +1,11 @@
 //! What is known behind the lines of a log.
 ghost use Rattle.std.specs.Prelude.{◌≡◌, [], ◌∷◌, ◌++◌, ℕ, List, IfOk, OnOk, length};
 ghost use Rattle.cs_learn.specs.Runs.{ended};
-ghost use Rattle.cs_learn.specs.Learning.{behind_begin, behind_end, behind_sign, learned, listed, some_unended, told_by};
+ghost use Rattle.cs_learn.specs.Learning.{behind_begin, behind_end, behind_other, behind_run, learned, listed, some_unended, told_by};
 
 use crate::limits::MAX_LINE;
 use crate::line::read_line;
+use crate::listing::Listing;
 use crate::log_line::{LogLine, Sign};
 use crate::open_runs::{Ending, OpenRuns, without_end};
 use crate::tally::Tally;
@@ -12,11 +13,13 @@ use cs_retrace::Moment;
 use std::alloc::{AllocError, Global};
 use std::marker::Model;
 
-/// Reads the lines of a log one by one, in memory that grows with the number of open runs alone.
+/// Reads the lines of a log one by one, in memory that grows with the number of open runs and the
+/// commands of one table alone.
 #[derive(Drop)]
 pub struct Learning {
     runs: OpenRuns,
     last: Moment,
+    listing: Listing,
     counts: Tally,
 }
 
@@ -25,7 +28,12 @@ impl Model for Learning {
 
     ghost Value = { State };
 
-    ghost view = { λ l. record { opens = l.runs; last = l.last; tally = l.counts } };
+    ghost view = { λ l. record {
+      opens = l.runs;
+      last = l.last;
+      commands = l.listing;
+      tally = l.counts;
+    } };
 }
 
 impl Learning {
@@ -37,6 +45,7 @@ impl Learning {
         Learning {
             runs: OpenRuns::new(alloc),
             last: Moment::Universal(0),
+            listing: Listing::new(alloc),
             counts: Tally {
                 begun: 0,
                 runs: 0,
@@ -107,14 +116,21 @@ impl Learning {
     }
 
     fn take(&mut self, line: LogLine) -> Result<Option<(LogLine, Ending)>, AllocError>
-        ensures state { OnOk result (self.new ≡ (behind_sign self.old line line.sign).0) }
-        ensures told { IfOk result (λ told. told ≡ (behind_sign self.old line line.sign).1) }
+        ensures state { OnOk result (self.new ≡ (behind_run self.old line).0) }
+        ensures told { IfOk result (λ told. told ≡ (behind_run self.old line).1) }
     {
         match line.sign {
             Sign::Begin => self.begin(line),
             Sign::End => Ok(Some(self.end(line))),
             Sign::EndByParent => Ok(Some(self.end(line))),
         }
+    }
+
+    fn other(&mut self, alloc: Global, text: &[u8]) -> Result<(), AllocError>
+        ensures { OnOk result (self.new ≡ behind_other self.old text.now) }
+    {
+        self.counts.count_other();
+        self.listing.line(alloc, text)
     }
 
     #[tactic(auto, unfolding(crate::specs::Learning::learned))]
@@ -127,9 +143,12 @@ impl Learning {
             return Ok(None);
         }
         match read_line(alloc, text)? {
-            Some(line) => self.take(line),
+            Some(line) => {
+                let line = self.listing.called(alloc, line)?;
+                self.take(line)
+            }
             None => {
-                self.counts.count_other();
+                self.other(alloc, text)?;
                 Ok(None)
             }
         }

@@ -13,6 +13,7 @@ mod journal;
 mod learning;
 mod limits;
 mod line;
+mod listing;
 mod log;
 mod log_line;
 mod logged_text;

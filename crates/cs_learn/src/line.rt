@@ -40,6 +40,7 @@ fn of_own(alloc: Global, at: Moment, parts: (Sign, RunName)) -> LogLine
         name: parts.1,
         user: Bytes::new(alloc),
         command: Bytes::new(alloc),
+        is_listed: false,
     }
 }
 

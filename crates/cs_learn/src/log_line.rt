@@ -34,4 +34,6 @@ pub struct LogLine {
     pub user: Bytes,
     /// Its command as the log has it, empty where the log doesn't tell.
     pub command: Bytes,
+    /// Whether it is a line of this program's log, which lists the commands of its table.
+    pub is_listed: bool,
 }

@@ -1,9 +1,9 @@
 //! Declarations with the longest times that logs give.
-ghost use Rattle.std.specs.Prelude.{◌≡◌, ◌≤◌, IfOk, IfSome, IsTrue, Ok, map, option_map, position};
+ghost use Rattle.std.specs.Prelude.{◌≡◌, ◌≤◌, IfOk, IfSome, IsTrue, Ok, option_map, position};
 ghost use Rattle.std.specs.List.{find};
 ghost use Rattle.cs_decl.specs.Meaning.{declared_by};
 ghost use Rattle.cs_decl.specs.Join.{is_named};
-ghost use Rattle.cs_learn.specs.Maxes.{AreMaxes, HasMaxes, HaveMaxes, IsMaxOf, IsSameRest};
+ghost use Rattle.cs_learn.specs.Maxes.{AreEach, AreMaxes, HasMax, HasMaxes, HaveMaxes, IsMaxOf, IsSameRest};
 ghost use Rattle.cs_learn.specs.Maxes.{allowed, greater, jobs_of, max_at, max_of, minute_more, seconds_since, with_max};
 
 use crate::anacron::with_jobs;
@@ -17,7 +17,8 @@ use crate::same::{
 use crate::spliced::spliced;
 use cs_crontab::Line;
 use cs_decl::{
-    AnacronEntry, CronEntry, DeclError, Declarations, Entries, LineName, read_declarations,
+    AnacronEntry, CronEntry, DeclError, Declarations, Entries, LineName, is_named,
+    read_declarations,
 };
 use cs_draft::time_limit;
 use cs_history::Mode;
@@ -55,18 +56,6 @@ pub fn maxes_of(
         maxes.push(max_of_job(&job.evidence, factor))?;
     }
     Ok(maxes)
-}
-
-pub(crate) fn is_named(name: &LineName, line: &Line) -> bool
-    ensures { result ≡ is_named name.now line.now }
-{
-    match name.number {
-        Some(number) => number == i128::from(line.number()),
-        None => match &name.command {
-            Some(told) => told.as_slice() == line.command(),
-            None => false,
-        },
-    }
 }
 
 /// The place of the first line that an entry names.
@@ -133,46 +122,53 @@ pub(crate) fn max_of(
     }
 }
 
-/// The longest time of an entry: what is learned of its line, where it has no parts and may have
-/// that.
-pub(crate) fn new_max(old: &CronEntry, max: Option<u64>) -> i128
-    ensures { result ≡ (with_max old.now max).max }
+/// The longest time of an entry, and whether it is a guess: what is learned of its line, where it has
+/// no parts and may have that.
+pub(crate) fn new_max(old: &CronEntry, max: Option<u64>) -> (i128, bool)
+    ensures max { result.0 ≡ (with_max old.now max).max }
+    ensures guess { result.1 ≡ (with_max old.now max).guess }
 {
     match max {
-        Some(max) if old.parts.is_empty() && max <= LONGEST_MAX => i128::from(max),
-        _ => old.max,
+        Some(max) if old.parts.is_empty() && max <= LONGEST_MAX => (i128::from(max), false),
+        _ => (old.max, old.guess),
     }
 }
 
-/// Whether the new entry is the old one with that longest time, where there is one.
-fn has_max(old: &CronEntry, new: &CronEntry, max: Option<u64>) -> bool
-    ensures { IsTrue result → new.now ≡ with_max old.now max }
+/// Whether the new entry is the old one but for the name, with that longest time, where there is one.
+fn is_with_max(old: &CronEntry, new: &CronEntry, max: Option<u64>) -> bool
+    ensures { IsTrue result → new.now ≡ record (with_max old.now max) { name = new.now.name } }
 {
-    is_same_name(&old.name, &new.name)
-        && new.max == new_max(old, max)
+    let (max, is_guess) = new_max(old, max);
+    new.max == max
+        && new.guess == is_guess
         && old.weight == new.weight
         && is_same_text(&old.group, &new.group)
         && old.mode == new.mode
         && are_same_parts(old.parts.as_slice(), new.parts.as_slice())
 }
 
-fn have_maxes(lines: &[Line], maxes: &[Option<u64>], old: &[CronEntry], new: &[CronEntry]) -> bool
-    ensures { IsTrue result
-        → new.now ≡ map (λ e. with_max e (max_of lines.now maxes.now e.mode e.name)) old.now }
+fn has_max(lines: &[Line], maxes: &[Option<u64>], old: &CronEntry, new: &CronEntry) -> bool
+    ensures { IsTrue result → HasMax lines.now maxes.now old.now new.now }
 {
-    if new.len() != old.len() {
-        return false;
-    }
-    for i in 0..old.len() {
-        if !has_max(
-            &old[i],
-            &new[i],
-            max_of(lines, maxes, old[i].mode, &old[i].name),
-        ) {
+    is_same_name(&old.name, &new.name)
+        && is_with_max(old, new, max_of(lines, maxes, old.mode, &old.name))
+}
+
+fn have_maxes(lines: &[Line], maxes: &[Option<u64>], old: &[CronEntry], new: &[CronEntry]) -> bool
+    ensures { IsTrue result → AreEach (HasMax lines.now maxes.now) old.now new.now }
+{
+    let (mut olds, mut news) = (old, new);
+    while let [old, olds_behind @ ..] = olds {
+        let [new, news_behind @ ..] = news else {
+            return false;
+        };
+        if !has_max(lines, maxes, old, new) {
             return false;
         }
+        olds = olds_behind;
+        news = news_behind;
     }
-    true
+    news.is_empty()
 }
 
 fn are_same_terms(old: &Entries, new: &Entries) -> bool

@@ -1,8 +1,10 @@
 //! Whether two declarations declare the same.
 ghost use Rattle.std.specs.Prelude.{◌≡◌, IsTrue};
+ghost use Rattle.cs_learn.specs.Maxes.{AreEach, IsSameName, tell_one};
 
 use cs_civil::Bytes;
-use cs_decl::{AnacronEntry, DefaultEntry, GroupEntry, LineName, PartEntry};
+use cs_crontab::When;
+use cs_decl::{AnacronEntry, DefaultEntry, GroupEntry, LineName, PartEntry, is_told_when};
 
 pub(crate) fn is_same_text(old: &Option<Bytes>, new: &Option<Bytes>) -> bool
     ensures { IsTrue result → new.now ≡ old.now }
@@ -14,24 +16,38 @@ pub(crate) fn is_same_text(old: &Option<Bytes>, new: &Option<Bytes>) -> bool
     }
 }
 
-pub(crate) fn is_same_name(old: &LineName, new: &LineName) -> bool
-    ensures { IsTrue result → new.now ≡ old.now }
+fn tell_one(old: &Option<When>, new: &Option<When>) -> bool
+    ensures { result ≡ tell_one old.now new.now }
 {
-    old.number == new.number && is_same_text(&old.command, &new.command)
+    match new {
+        Some(when) => old.is_some() && is_told_when(old, when),
+        None => old.is_none(),
+    }
+}
+
+pub(crate) fn is_same_name(old: &LineName, new: &LineName) -> bool
+    ensures { IsTrue result → IsSameName old.now new.now }
+{
+    old.number == new.number
+        && is_same_text(&old.command, &new.command)
+        && tell_one(&old.when, &new.when)
 }
 
 pub(crate) fn are_same_names(old: &[LineName], new: &[LineName]) -> bool
-    ensures { IsTrue result → new.now ≡ old.now }
+    ensures { IsTrue result → AreEach IsSameName old.now new.now }
 {
-    if new.len() != old.len() {
-        return false;
-    }
-    for i in 0..old.len() {
-        if !is_same_name(&old[i], &new[i]) {
+    let (mut olds, mut news) = (old, new);
+    while let [old, olds_behind @ ..] = olds {
+        let [new, news_behind @ ..] = news else {
+            return false;
+        };
+        if !is_same_name(old, new) {
             return false;
         }
+        olds = olds_behind;
+        news = news_behind;
     }
-    true
+    news.is_empty()
 }
 
 fn is_same_part(old: &PartEntry, new: &PartEntry) -> bool
@@ -82,6 +98,7 @@ fn is_same_job(old: &AnacronEntry, new: &AnacronEntry) -> bool
         && old.weight == new.weight
         && is_same_text(&old.group, &new.group)
         && old.has_mode == new.has_mode
+        && old.guess == new.guess
 }
 
 pub(crate) fn are_same_jobs(old: &[AnacronEntry], new: &[AnacronEntry]) -> bool

@@ -23,25 +23,30 @@ fn entries_in<'v>(
     }
 }
 
-/// Where the longest time of an entry stands, if it is there. The only error is out of memory.
+/// Where the longest time of an entry stands, if it is there; and where the mark of a guess behind it
+/// ends, if there is one. The only error is out of memory.
 fn span_of_max(
     alloc: Global,
     bytes: &[u8],
     entry: (&Value, Span),
-) -> Result<Option<Span>, AllocError> {
-    match Object::new(alloc, bytes, entry)?.whole("max") {
-        Some((_, span)) => Ok(Some(span)),
-        None => Ok(None),
+) -> Result<Option<(Span, usize)>, AllocError> {
+    let object = Object::new(alloc, bytes, entry)?;
+    let Some((_, span)) = object.whole("max") else {
+        return Ok(None);
+    };
+    match object.member("guess") {
+        Some((_, guess)) => Ok(Some((span, guess.to))),
+        None => Ok(Some((span, span.to))),
     }
 }
 
-/// Where the longest time of each entry of a list stands. The only error is out of memory.
+/// Where that is of each entry of a list. The only error is out of memory.
 fn spans_in(
     alloc: Global,
     bytes: &[u8],
     list: &[Value],
     span: Span,
-) -> Result<Vec<Option<Span>>, AllocError> {
+) -> Result<Vec<Option<(Span, usize)>>, AllocError> {
     let mut spans = Vec::new(alloc);
     for (entry, part) in list.iter().zip(parts(alloc, bytes, span)?.iter()) {
         spans.push(span_of_max(alloc, bytes, (entry, part.value))?)?;
@@ -49,8 +54,8 @@ fn spans_in(
     Ok(spans)
 }
 
-/// Where the longest time of each entry stands, if it is there. The only error is out of memory.
-fn spans_of_maxes(alloc: Global, bytes: &[u8]) -> Result<Vec<Option<Span>>, AllocError> {
+/// Where that is of each entry. The only error is out of memory.
+fn spans_of_maxes(alloc: Global, bytes: &[u8]) -> Result<Vec<Option<(Span, usize)>>, AllocError> {
     let Ok(value) = parsed(alloc, bytes)? else {
         return Ok(Vec::new(alloc));
     };
@@ -73,11 +78,12 @@ pub(crate) fn spliced(
     let mut copied = 0usize;
     let spans = spans_of_maxes(alloc, bytes)?;
     for (entry, span) in entries.cron.as_slice().iter().zip(spans.iter()) {
-        if let Some(span) = span {
-            let max = new_max(entry, max_of(lines, maxes, entry.mode, &entry.name));
+        if let Some((span, behind_guess)) = span {
+            let learned = max_of(lines, maxes, entry.mode, &entry.name);
+            let (max, is_guess) = new_max(entry, learned);
             text.extend_from_slice(Span::between(copied, span.from).bytes(bytes))?;
             text.extend_from_slice(format!(in alloc; "{max}")?.as_bytes())?;
-            copied = span.to;
+            copied = if is_guess { span.to } else { *behind_guess };
         }
     }
     text.extend_from_slice(Span::between(copied, bytes.len()).bytes(bytes))?;

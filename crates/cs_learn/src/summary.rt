@@ -5,11 +5,11 @@ use crate::job_evidence::JobEvidence;
 use crate::limits::FEW_RUNS;
 use crate::log::Log;
 use crate::max::LONGEST_MAX;
-use crate::maxes::{Remaxed, is_named};
+use crate::maxes::Remaxed;
 use crate::tally::Tally;
 use cs_civil::push_number;
 use cs_crontab::{Line, When};
-use cs_decl::CronEntry;
+use cs_decl::{CronEntry, is_named};
 use cs_gap::least_gap;
 use cs_gather::{Place, place_of, push_place_text};
 use std::alloc::{AllocError, Global};
@@ -180,6 +180,16 @@ fn push_unended(alloc: Global, text: &mut Vec<u8>, line: &Line, evidence: &Evide
     text.extend_from_slice(b"\n")
 }
 
+/// Tells that runs of the line were by another table.
+fn push_refused(alloc: Global, text: &mut Vec<u8>, line: &Line, refused: u64) -> Done {
+    if refused == 0 {
+        return Ok(());
+    }
+    push_note(alloc, text, line)?;
+    push_runs(alloc, text, refused)?;
+    text.extend_from_slice(b" left out, since the log lists another command for it, or none\n")
+}
+
 /// Whether runs of the line have ended, and its entry doesn't have the max that they make.
 fn is_too_long(evidence: &Evidence, max: Option<u64>, entry: Option<&CronEntry>) -> bool {
     match (max, entry) {
@@ -200,6 +210,32 @@ fn push_too_long(alloc: Global, text: &mut Vec<u8>, line: &Line, evidence: &Evid
     push_note(alloc, text, line)?;
     text.extend_from_slice(what)?;
     text.extend_from_slice(b" more than 4320 min, so its max isn't learned\n")
+}
+
+/// Warns where a run without an end may have taken longer than the max that its line has.
+fn push_below(
+    alloc: Global,
+    text: &mut Vec<u8>,
+    line: &Line,
+    start: Option<Ran>,
+    entry: Option<&CronEntry>,
+) -> Done {
+    let (Some(start), Some(entry)) = (start, entry) else {
+        return Ok(());
+    };
+    if entry.max > i128::from(start.seconds / 60) {
+        return Ok(());
+    }
+    let max = entry.max;
+    push_count(
+        alloc,
+        text,
+        b"warning: line ",
+        u64::from(line.number()),
+        b": ",
+    )?;
+    text.extend_from_slice(b"a run without an end may have taken longer than ")?;
+    text.extend_from_slice(format!(in alloc; "its max of {max} min\n")?.as_bytes())
 }
 
 /// Tells that two lines have one command.
@@ -273,13 +309,17 @@ fn push_notes(
     for (place, line) in lines.iter().enumerate() {
         if let (Some(known), Some(max)) = (jobs.get(place), maxes.get(place)) {
             let evidence = &known.evidence;
+            let entry = entry_of(entries, line);
             if !log.tally().has_no_ends() {
                 push_unended(alloc, text, line, evidence)?;
             }
-            if is_too_long(evidence, *max, entry_of(entries, line)) {
+            if is_too_long(evidence, *max, entry) {
                 push_too_long(alloc, text, line, evidence)?;
+            } else if !log.tally().has_no_ends() {
+                push_below(alloc, text, line, evidence.longest_open(), entry)?;
             }
             push_overrun(alloc, text, line, evidence)?;
+            push_refused(alloc, text, line, known.refused)?;
             push_alike(alloc, text, lines, jobs, place)?;
         }
     }

@@ -69,6 +69,7 @@ fn of_cron(
         name: process(number),
         user: Bytes::from_slice(alloc, user)?,
         command: Bytes::from_slice(alloc, command)?,
+        is_listed: false,
     })
 }
 

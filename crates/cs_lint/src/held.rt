@@ -42,7 +42,7 @@ fn own_lock(alloc: Global, command: &[u8]) -> Result<(Option<(Bytes, Mode)>, boo
     match lock_of(alloc, command)? {
         Lock::Of(file, mode) => Ok((Some((file, mode)), false)),
         Lock::Absent => Ok((None, true)),
-        Lock::Unlike => Ok((None, false)),
+        Lock::Unread => Ok((None, false)),
     }
 }
 

@@ -20,6 +20,8 @@ pub(crate) struct Name<'v> {
     command: Option<(&'v str, Span)>,
     /// Whether it tells a command, of whatever type.
     is_bound: bool,
+    /// Whether it tells a schedule, of whatever type.
+    tells_when: bool,
     /// The longest time of its runs, where they take no lock.
     max: Option<(i128, Span)>,
     /// Which of the parts of all entries are its own.
@@ -40,6 +42,7 @@ impl<'v> Name<'v> {
             number: entry.whole("line"),
             command: entry.text("command"),
             is_bound: entry.has("command"),
+            tells_when: entry.has("when"),
             max: max.filter(|_| tell.kind == Kind::Cron && !takes_lock),
             parts,
         }
@@ -255,6 +258,9 @@ impl<'v> Declared<'v> {
         match table.lines_of(told) {
             Some((first, last)) if first < last => {
                 self.has_all_lines = false;
+                if name.tells_when {
+                    return Ok(());
+                }
                 let advice = "add the \"line\" that is meant";
                 let why = format_args!("lines {first} and {last} have it: {advice}");
                 self.tell.fault(span, DeclFault::AmbiguousCommand, why)

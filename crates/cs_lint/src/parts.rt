@@ -121,21 +121,21 @@ impl<'v> Parts<'v> {
         tell.twice(span, format_args!("the part {text}"))
     }
 
-    /// Adds that they take another time together than the entry has.
+    /// Adds that they take more time together than the entry has.
     fn find_sum(&self, tell: &mut Tell<'_>, entry: &Object<'v>) -> Done {
         let (Some(minutes), Some((max, span))) = (self.minutes, entry.whole("max")) else {
             return Ok(());
         };
         let fault = DeclFault::BadParts;
         let sum = format_args!("the parts add up to {minutes}");
-        if minutes == max {
+        if minutes <= max {
             return Ok(());
         }
         if minutes > i128::from(MAX_MINUTES) {
             let why = format_args!("{sum}, and \"max\" is at most {MAX_MINUTES}: lower theirs");
             return tell.fault(span, fault, why);
         }
-        let why = format_args!("{sum}: set \"max\" to {minutes}, or correct a part");
+        let why = format_args!("{sum}: set \"max\" to at least {minutes}, or correct a part");
         tell.fault(span, fault, why)
     }
 

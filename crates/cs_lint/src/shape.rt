@@ -16,10 +16,10 @@ fn names_of(kind: Kind) -> &'static str {
     match kind {
         Kind::Whole => "anacron capacity cron default groups hours left_out note offset pass",
         Kind::Group => "exclusive name note",
-        Kind::Cron => "command group line max mode note parts weight",
+        Kind::Cron => "command group guess line max mode note parts weight when",
         Kind::Part => "max name note",
-        Kind::Anacron => "group id max note weight",
-        Kind::LeftOut => "command line note",
+        Kind::Anacron => "group guess id max note weight",
+        Kind::LeftOut => "command line note when",
         Kind::Default => "max note weight",
     }
 }
@@ -56,10 +56,10 @@ fn find_in_value(tell: &mut Tell<'_>, name: &str, value: &Value, span: Span) -> 
     let (is_so, wanted) = match name {
         "anacron" | "cron" | "groups" | "left_out" | "parts" => (value.is_array(), "a list, [..]"),
         "default" => (value.is_object(), "an object, {..}"),
-        "exclusive" => (value.is_boolean(), "true or false"),
+        "exclusive" | "guess" => (value.is_boolean(), "true or false"),
         "hours" => (are_hours(value).is_some(), HOURS),
         "mode" => (value.is_string(), MODE),
-        "command" | "group" | "id" | "name" | "note" => (value.is_string(), TEXT),
+        "command" | "group" | "id" | "name" | "note" | "when" => (value.is_string(), TEXT),
         _ => (whole(value).is_some(), WHOLE),
     };
     if !is_so {

@@ -73,7 +73,7 @@ fn may_take(alloc: Global, all: &[Held], command: &[u8]) -> Result<bool, AllocEr
 {
     match lock_of(alloc, command)? {
         Lock::Of(file, _) => Ok(any_locks_file(file.as_slice(), all)),
-        Lock::Unlike => Ok(any_is_locked(all)),
+        Lock::Unread => Ok(any_is_locked(all)),
         Lock::Absent => Ok(false),
     }
 }

@@ -1,5 +1,4 @@
 //! What the windows of a stretch break, and the civil minute of that.
-use crate::held::{first_clash, first_skip};
 use crate::search::Search;
 use cs_civil::MINUTES_OF_DAY;
 use cs_overlap::Quiet;
@@ -25,7 +24,7 @@ pub(crate) fn broken_by(
     windows: &[Window],
 ) -> Result<Option<Found>, AllocError> {
     if !quiet.is_apart {
-        if let Some(minute) = first_clash(alloc, search, windows)? {
+        if let Some((minute, _, _)) = search.roles.collision(alloc, windows)? {
             let rule = Rule::Collision;
             return Ok(Some(Found { rule, minute }));
         }
@@ -37,8 +36,8 @@ pub(crate) fn broken_by(
         }
     }
     if !quiet.is_free {
-        if let Some((minute, skip)) = first_skip(alloc, search, windows)? {
-            let rule = Rule::SkipBlocked { skip };
+        if let Some((minute, skip, _)) = search.roles.blocked(alloc, windows)? {
+            let rule = Rule::SkipBlocked { skip: skip.job };
             return Ok(Some(Found { rule, minute }));
         }
     }

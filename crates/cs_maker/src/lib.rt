@@ -4,7 +4,6 @@
 
 mod breaches;
 mod exact;
-mod held;
 mod listed;
 mod maker;
 mod reason;

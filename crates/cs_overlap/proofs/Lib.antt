@@ -1,3 +1,4 @@
+pub mod FoundLemmas
 pub mod HolderLemmas
 pub mod KeptWindows
 pub mod MostWeights

@@ -83,12 +83,12 @@ module _ (p : Plan) (roles : List Role) (are : AreRoles p roles) where
 
   -- ---- the sums
 
-  pub apart_from_sums : (ws : List Window) → AreApartBy roles ws → AreApart p ws
+  pub apart_from_sums : (ws : List Window) → AreApartBy 1440 roles ws → AreApart p ws
   apart_from_sums ws by m lt = pairs_map (λ w. w ≡ w) (λ v w. roles_clash (role_at roles v.job) (role_at roles w.job) ≡ false) (λ v w. clash p v.job w.job ≡ false) (holders m ws) (λ v w a b e. sym (clash_by p roles v w (are v.job) (are w.job)) ∙ e) (all_any (λ w. w ≡ w) (holders m ws) (λ w. refl)) (by m lt)
 
-  pub within_from_sums : (n : ℕ) (ws : List Window) → AreWithinBy roles p.groups p.capacity ws → AreWithin p n ws
+  pub within_from_sums : (n : ℕ) (ws : List Window) → AreWithinBy 1440 roles p.groups p.capacity ws → AreWithin p n ws
   within_from_sums n ws by m lt = omega (arith, load_is p roles (holders m ws) are, load_jobs_same p (run_in n) (run_in 2) (holders m ws) (λ w. refl), by m lt)
 
-  pub free_from_sums : (ws : List Window) → AreFreeBy roles ws → AreFree p ws
+  pub free_from_sums : (ws : List Window) → AreFreeBy 1440 roles ws → AreFree p ws
   free_from_sums ws by m lt = all_map (λ v. AllByRecursion (λ w. role_blocks roles m v w ≡ false) (holders m ws)) (λ v. AllByRecursion (λ w. blocks p m v w ≡ false) (holders m ws)) (holders m ws)
       (λ v all. all_map (λ w. role_blocks roles m v w ≡ false) (λ w. blocks p m v w ≡ false) (holders m ws) (λ w e. sym (blocks_is m v w) ∙ e) all) (by m lt)

@@ -22,14 +22,14 @@ within_rule p n r ws is meet =
     let own : MeetLightBy r.jobs p.groups p.capacity ws = subst (λ (k : ℕ). MeetLightBy r.jobs k p.capacity ws) (sym is.groups) (subst (λ (k : ℕ). MeetLightBy r.jobs r.groups k ws) (sym is.capacity) meet) in
     within p n ws (meet_light p r.jobs is.jobs ws own)
 
-pub apart_sums : (p : Plan) (r : PlanRoles) (ws : List Window) → IsOf p r → AreApartBy r.jobs ws → AreApart p ws
+pub apart_sums : (p : Plan) (r : PlanRoles) (ws : List Window) → IsOf p r → AreApartBy 1440 r.jobs ws → AreApart p ws
 apart_sums p r ws is by = apart_from_sums p r.jobs is.jobs ws by
 
-pub free_sums : (p : Plan) (r : PlanRoles) (ws : List Window) → IsOf p r → AreFreeBy r.jobs ws → AreFree p ws
+pub free_sums : (p : Plan) (r : PlanRoles) (ws : List Window) → IsOf p r → AreFreeBy 1440 r.jobs ws → AreFree p ws
 free_sums p r ws is by = free_from_sums p r.jobs is.jobs ws by
 
-pub within_sums : (p : Plan) (n : ℕ) (r : PlanRoles) (ws : List Window) → IsOf p r → AreWithinBy r.jobs r.groups r.capacity ws → AreWithin p n ws
-within_sums p n r ws is by = within_from_sums p r.jobs is.jobs n ws (subst (λ (k : ℕ). AreWithinBy r.jobs k p.capacity ws) (sym is.groups) (subst (λ (k : ℕ). AreWithinBy r.jobs r.groups k ws) (sym is.capacity) by))
+pub within_sums : (p : Plan) (n : ℕ) (r : PlanRoles) (ws : List Window) → IsOf p r → AreWithinBy 1440 r.jobs r.groups r.capacity ws → AreWithin p n ws
+within_sums p n r ws is by = within_from_sums p r.jobs is.jobs n ws (subst (λ (k : ℕ). AreWithinBy 1440 r.jobs k p.capacity ws) (sym is.groups) (subst (λ (k : ℕ). AreWithinBy 1440 r.jobs r.groups k ws) (sym is.capacity) by))
 
 pub collision_rules : (p : Plan) (r : PlanRoles) (ws : List Window) → IsOf p r → collision_by r.jobs r.groups ws ≡ collision_in p ws
 collision_rules p r ws is = ap (λ (k : ℕ). collision_by r.jobs k ws) (sym is.groups) ∙ collision_is p r.jobs is.jobs ws

@@ -17,7 +17,7 @@ use Rattle.cs_overlap.specs.declared.role.Role.{Role}
 use Rattle.cs_overlap.specs.declared.table.Amount.TheVariants.{FreeWeight, CatchWeight, AloneWeight, SharedWeight, Run, PlainRun, CronRun, LockRun}
 use Rattle.cs_overlap.specs.Roles.{role_at, share_group, roles_clash, alone_weight, shared_weight, catch_weight, group_weight}
 use Rattle.cs_overlap.specs.Found.{role_blocks}
-use Rattle.cs_overlap.specs.Sums.{amount_in, is_of, AreGrouped, AreApartBy, AreFreeBy, AreWithinBy, has_group_or_catches, IsSum, IsGreatest, IsGreaterAdded, IsLone, IsLoad, IsAdded}
+use Rattle.cs_overlap.specs.Sums.{amount_in, is_of, AreGrouped, AreApartBy, AreFreeBy, has_group_or_catches, IsSum, IsGreatest, IsGreaterAdded, IsLone, IsLoad, IsAdded}
 use Rattle.cs_overlap.proofs.QuietLemmas.{same_itself, not_true, filter_within}
 use Rattle.cs_overlap.proofs.Weights.{total_below}
 
@@ -52,7 +52,7 @@ module _ {X : Type 0} (q : X → Bool) (f h : X → ℕ) (counts : (x : X) → f
   greatest_part [] = refl
   greatest_part (x ∷ xs) = greatest_step x xs (greatest_part xs) (q x) (counts x)
 
-pairs_of : {X : Type 0} (P : X → Type 0) (R : X → X → Type 0) (xs : List X) → ((x y : X) → P x → P y → R x y) → AllByRecursion P xs → EachPair R xs
+pub pairs_of : {X : Type 0} (P : X → Type 0) (R : X → X → Type 0) (xs : List X) → ((x y : X) → P x → P y → R x y) → AllByRecursion P xs → EachPair R xs
 pairs_of P R [] h a = tt
 pairs_of P R (x ∷ xs) h a = (all_map P (R x) xs (λ y p. h x y a.0 p) a.1, pairs_of P R xs h a.1)
 
@@ -163,7 +163,7 @@ module _ (roles : List Role) where
 
   -- ---- from each group to all windows
 
-  in_group : (one other : Role) (o : Option ℕ) → one.group ≡ o → share_group one other ≡ true → (g : ℕ) × (one.group ≡ Some g) × (is_group g other.group ≡ true)
+  pub in_group : (one other : Role) (o : Option ℕ) → one.group ≡ o → share_group one other ≡ true → (g : ℕ) × (one.group ≡ Some g) × (is_group g other.group ≡ true)
   in_group one other None e s = absurd (let f : share_group one other ≡ false = ap (λ (o : Option ℕ). elim o [ None ↦ false | Some g ↦ is_group g other.group ]) e in both_ways (share_group one other) f s)
   in_group one other (Some g) e s = (g, e, sym (ap (λ (o : Option ℕ). elim o [ None ↦ false | Some g ↦ is_group g other.group ]) e) ∙ s)
 
@@ -215,31 +215,33 @@ module _ (roles : List Role) where
 
   -- ---- the day looked at
 
-  pub apart_day : (ws : List Window) (runs plain cron : List ℕ) → IsSum (amount_in roles Run) ws runs → IsSum (amount_in roles PlainRun) ws plain → IsSum (amount_in roles CronRun) ws cron
-      → ((m : ℕ) → m < 1440 → (slice_index runs m ≤ 1) ⊎ ((slice_index plain m ≡ 0) ⊎ (slice_index cron m ≡ 0))) → AreApartBy roles ws
-  apart_day ws runs plain cron r p c each m lt = ⊎_elim (λ (h : slice_index runs m ≤ 1). apart_one (holders m ws) (omega (arith, h, r m lt)))
-      (λ (h : (slice_index plain m ≡ 0) ⊎ (slice_index cron m ≡ 0)). ⊎_elim (λ (k : slice_index plain m ≡ 0). apart_no_plain (holders m ws) (omega (arith, k, p m lt))) (λ (k : slice_index cron m ≡ 0). apart_no_cron (holders m ws) (omega (arith, k, c m lt))) h)
+  pub apart_day : (end : ℕ) (ws : List Window) (runs plain cron : List ℕ) → IsSum (amount_in roles Run) ws runs → IsSum (amount_in roles PlainRun) ws plain → IsSum (amount_in roles CronRun) ws cron → end ≤ 1440
+      → ((m : ℕ) → m < end → (slice_index runs m ≤ 1) ⊎ ((slice_index plain m ≡ 0) ⊎ (slice_index cron m ≡ 0))) → AreApartBy end roles ws
+  apart_day end ws runs plain cron r p c le each m lt =
+      let day : m < 1440 = omega (arith, lt, le) in
+      ⊎_elim (λ (h : slice_index runs m ≤ 1). apart_one (holders m ws) (omega (arith, h, r m day)))
+      (λ (h : (slice_index plain m ≡ 0) ⊎ (slice_index cron m ≡ 0)). ⊎_elim (λ (k : slice_index plain m ≡ 0). apart_no_plain (holders m ws) (omega (arith, k, p m day))) (λ (k : slice_index cron m ≡ 0). apart_no_cron (holders m ws) (omega (arith, k, c m day))) h)
       (each m lt)
 
-  pub apart_none : (ws : List Window) → AllByRecursion (λ w. (role_at roles w.job).is_exclusive ≡ false) ws → AreApartBy roles ws
-  apart_none ws all m lt = apart_not_exclusive (holders m ws) (all-filter (λ w. (role_at roles w.job).is_exclusive ≡ false) (λ w. touches w m (m + 1)) ws all)
+  pub apart_none : (end : ℕ) (ws : List Window) → AllByRecursion (λ w. (role_at roles w.job).is_exclusive ≡ false) ws → AreApartBy end roles ws
+  apart_none end ws all m lt = apart_not_exclusive (holders m ws) (all-filter (λ w. (role_at roles w.job).is_exclusive ≡ false) (λ w. touches w m (m + 1)) ws all)
 
-  pub apart_lockers : (ws : List Window) → AllByRecursion (λ w. takes (role_at roles w.job).mode ≡ true) ws → AreApartBy roles ws
-  apart_lockers ws all m lt = pairs_of (λ w. takes (role_at roles w.job).mode ≡ true) Apart (holders m ws) apart_takers (all-filter (λ w. takes (role_at roles w.job).mode ≡ true) (λ w. touches w m (m + 1)) ws all)
+  pub apart_lockers : (end : ℕ) (ws : List Window) → AllByRecursion (λ w. takes (role_at roles w.job).mode ≡ true) ws → AreApartBy end roles ws
+  apart_lockers end ws all m lt = pairs_of (λ w. takes (role_at roles w.job).mode ≡ true) Apart (holders m ws) apart_takers (all-filter (λ w. takes (role_at roles w.job).mode ≡ true) (λ w. touches w m (m + 1)) ws all)
 
   -- no skip job, none that finds its lock held
-  pub free_none : (ws : List Window) → AllByRecursion (λ w. is_skip (role_at roles w.job).mode ≡ false) ws → AreFreeBy roles ws
-  free_none ws all m lt = all_map (λ v. is_skip (role_at roles v.job).mode ≡ false) (λ v. AllByRecursion (λ w. role_blocks roles m v w ≡ false) (holders m ws)) (holders m ws)
+  pub free_none : (end : ℕ) (ws : List Window) → AllByRecursion (λ w. is_skip (role_at roles w.job).mode ≡ false) ws → AreFreeBy end roles ws
+  free_none end ws all m lt = all_map (λ v. is_skip (role_at roles v.job).mode ≡ false) (λ v. AllByRecursion (λ w. role_blocks roles m v w ≡ false) (holders m ws)) (holders m ws)
       (λ v e. all_any (λ w. role_blocks roles m v w ≡ false) (holders m ws) (λ w. ap (λ (b : Bool). (b && ((v.day_back == 0) && (v.from == m))) && (not (same_window v w) && (takes (role_at roles w.job).mode && share_group (role_at roles v.job) (role_at roles w.job)))) e))
       (all-filter (λ w. is_skip (role_at roles w.job).mode ≡ false) (λ w. touches w m (m + 1)) ws all)
 
-  pub free_day : (ws : List Window) (takers : List ℕ) → IsSum (amount_in roles LockRun) ws takers → AllByRecursion (IsLone roles takers) ws → AreFreeBy roles ws
-  free_day ws takers sum all m lt = free_at m (holders m ws) (λ v hv due.
+  pub free_day : (end : ℕ) (ws : List Window) (takers : List ℕ) → IsSum (amount_in roles LockRun) ws takers → end ≤ 1440 → AllByRecursion (IsLone end roles takers) ws → AreFreeBy end roles ws
+  free_day end ws takers sum le all m lt = free_at m (holders m ws) (λ v hv due.
       let s = and_parts (is_skip (role_at roles v.job).mode) ((v.day_back == 0) && (v.from == m)) due in
       let t = and_parts (v.day_back == 0) (v.from == m) s.1 in
       let at : v.from ≡ m = eqb-true v.from m t.1 in
-      let few : slice_index takers v.from ≤ 1 = all_has (IsLone roles takers) ws v all (filter_has (λ w. touches w m (m + 1)) ws v hv).0 s.0 (eqb-true v.day_back 0 t.0) (omega (arith, at, lt)) in
-      omega (arith, few, sum m lt, ap (λ (k : ℕ). slice_index takers k) at))
+      let few : slice_index takers v.from ≤ 1 = all_has (IsLone end roles takers) ws v all (filter_has (λ w. touches w m (m + 1)) ws v hv).0 s.0 (eqb-true v.day_back 0 t.0) (omega (arith, at, lt)) in
+      omega (arith, few, sum m (omega (arith, lt, le)), ap (λ (k : ℕ). slice_index takers k) at))
 
   swapped : (g m : ℕ) (ws : List Window) → holders m (filter (is_of roles g) ws) ≡ filter (is_of roles g) (holders m ws)
   swapped g m ws = filter_swap (λ w. touches w m (m + 1)) (is_of roles g) ws
@@ -258,11 +260,11 @@ module _ (roles : List Role) where
       → IsGreaterAdded catch catch free load → IsLoad roles ws 0 load
   free_from ws free catch load f c added m lt = omega (arith, f m lt, c m lt, added m lt, catch_among m ws)
 
-  pub apart_groups : (n : ℕ) (ws : List Window) → AreGrouped roles n → ((g : ℕ) → g < n → AreApartBy roles (filter (is_of roles g) ws)) → AreApartBy roles ws
-  apart_groups n ws grouped each m lt = apart_all n (holders m ws) grouped (λ g gl. subst (λ (xs : List Window). EachPair Apart xs) (swapped g m ws) (each g gl m lt))
+  pub apart_groups : (end n : ℕ) (ws : List Window) → AreGrouped roles n → ((g : ℕ) → g < n → AreApartBy end roles (filter (is_of roles g) ws)) → AreApartBy end roles ws
+  apart_groups end n ws grouped each m lt = apart_all n (holders m ws) grouped (λ g gl. subst (λ (xs : List Window). EachPair Apart xs) (swapped g m ws) (each g gl m lt))
 
-  pub free_groups : (n : ℕ) (ws : List Window) → AreGrouped roles n → ((g : ℕ) → g < n → AreFreeBy roles (filter (is_of roles g) ws)) → AreFreeBy roles ws
-  free_groups n ws grouped each m lt = free_all n m (holders m ws) grouped (λ g gl. subst (λ (xs : List Window). AllByRecursion (λ v. AllByRecursion (λ w. role_blocks roles m v w ≡ false) xs) xs) (swapped g m ws) (each g gl m lt))
+  pub free_groups : (end n : ℕ) (ws : List Window) → AreGrouped roles n → ((g : ℕ) → g < n → AreFreeBy end roles (filter (is_of roles g) ws)) → AreFreeBy end roles ws
+  free_groups end n ws grouped each m lt = free_all n m (holders m ws) grouped (λ g gl. subst (λ (xs : List Window). AllByRecursion (λ v. AllByRecursion (λ w. role_blocks roles m v w ≡ false) xs) xs) (swapped g m ws) (each g gl m lt))
 
   pub load_on : (g : ℕ) (ws : List Window) (old new : List ℕ) → IsLoad roles ws g old → IsAdded roles (filter (is_of roles g) ws) old new → IsLoad roles ws (g + 1) new
   load_on g ws old new was added m lt =
@@ -271,6 +273,3 @@ module _ (roles : List Role) where
       let a = ap (greatest (amount_in roles AloneWeight)) (swapped g m ws) in
       let s = ap (total (amount_in roles SharedWeight)) (swapped g m ws) in
       omega (arith, total_below (group_weight roles held) g, here, a, s, was m lt, added m lt)
-
-  pub load_day : (n capacity : ℕ) (ws : List Window) (load : List ℕ) → capacity ≤ 255 → IsLoad roles ws n load → ((m : ℕ) → m < 1440 → slice_index load m ≤ capacity) → AreWithinBy roles n capacity ws
-  load_day n capacity ws load small is most m lt = omega (arith, small, is m lt, most m lt)

@@ -26,9 +26,13 @@ amount_of LockRun r = if takes r.mode then 1 else 0
 abbrev pub amount_in : List Role → Amount → Window → ℕ
 amount_in roles amount w = amount_of amount (role_at roles w.job)
 
+-- it holds at each minute before this one
+abbrev pub Until : ℕ → (ℕ → Type 0) → Type 0
+Until end P = (m : ℕ) → m < end → P m
+
 -- it holds at each minute of the day
 abbrev pub EachMinute : (ℕ → Type 0) → Type 0
-EachMinute P = (m : ℕ) → m < 1440 → P m
+EachMinute P = Until 1440 P
 
 -- of the minutes of the day the window holds those from one on, below another
 abbrev pub HoldsFrom : Window → ℕ → ℕ → Type 0
@@ -41,6 +45,11 @@ pub record IsChanged (w : Window) (change : ℕ → ℕ) (old new : List ℕ) : 
       → slice_index new m ≡ change (slice_index old m)
   pub other : (m : ℕ) → m < 1440 → touches w m (m + 1) ≡ false
       → slice_index new m ≡ slice_index old m
+
+-- from one minute on, below another, a table has at least so much
+abbrev pub IsReached : ℕ → ℕ → ℕ → List ℕ → Type 0
+IsReached number since until table =
+    (m : ℕ) → since ≤ m → m < until → number ≤ slice_index table m
 
 -- a sum as far as 16 bits go
 abbrev pub capped : ℕ → ℕ
@@ -63,22 +72,22 @@ abbrev pub has_group_or_catches : List Role → Window → Bool
 has_group_or_catches roles w =
     not (role_at roles w.job).is_cron || is_some (role_at roles w.job).group
 
--- ---- the three rules by the roles of jobs
+-- ---- the three rules by the roles of jobs, before a minute of the day
 
--- at no minute of the day do two windows clash
-abbrev pub AreApartBy : List Role → List Window → Type 0
-AreApartBy roles ws = EachMinute
+-- at no minute before do two windows clash
+abbrev pub AreApartBy : ℕ → List Role → List Window → Type 0
+AreApartBy end roles ws = Until end
     (λ m. EachPair (λ v w. roles_clash (role_at roles v.job) (role_at roles w.job) ≡ false)
     (holders m ws))
 
--- at each minute of the day the windows weigh at most the capacity
-abbrev pub AreWithinBy : List Role → ℕ → ℕ → List Window → Type 0
-AreWithinBy roles groups capacity ws =
-    EachMinute (λ m. load_by roles groups (holders m ws) ≤ capacity)
+-- at each minute before the windows weigh at most the capacity
+abbrev pub AreWithinBy : ℕ → List Role → ℕ → ℕ → List Window → Type 0
+AreWithinBy end roles groups capacity ws =
+    Until end (λ m. load_by roles groups (holders m ws) ≤ capacity)
 
--- at no due minute of a skip job does a window keep the lock from it
-abbrev pub AreFreeBy : List Role → List Window → Type 0
-AreFreeBy roles ws = EachMinute
+-- at no due minute of a skip job before does a window keep the lock from it
+abbrev pub AreFreeBy : ℕ → List Role → List Window → Type 0
+AreFreeBy end roles ws = Until end
     (λ m. AllByRecursion (λ v. AllByRecursion (λ w. role_blocks roles m v w ≡ false) (holders m ws))
     (holders m ws))
 
@@ -88,15 +97,15 @@ AreGrouped roles groups = (j g : ℕ) → (role_at roles j).group ≡ Some g →
 
 -- ---- tables for them
 
--- at each minute of the day one run at most, or none without the lock, or none of a cron job
-abbrev pub NoneClash : List ℕ → List ℕ → List ℕ → Type 0
-NoneClash runs plain cron = EachMinute
+-- at each minute before one run at most, or none without the lock, or none of a cron job
+abbrev pub NoneClash : ℕ → List ℕ → List ℕ → List ℕ → Type 0
+NoneClash end runs plain cron = Until end
     (λ m. (slice_index runs m ≤ 1) ⊎ ((slice_index plain m ≡ 0) ⊎ (slice_index cron m ≡ 0)))
 
--- where the window begins on the day looked at and is a skip job's, the table has one at most
-abbrev pub IsLone : List Role → List ℕ → Window → Type 0
-IsLone roles table w = is_skip (role_at roles w.job).mode ≡ true → w.day_back ≡ 0 → w.from < 1440
-    → slice_index table w.from ≤ 1
+-- where the window begins before that minute and is a skip job's, the table has one at most
+abbrev pub IsLone : ℕ → List Role → List ℕ → Window → Type 0
+IsLone end roles table w = is_skip (role_at roles w.job).mode ≡ true → w.day_back ≡ 0
+    → w.from < end → slice_index table w.from ≤ 1
 
 -- at each minute of the day what the windows that hold it weigh, of groups in the first so many
 abbrev pub IsLoad : List Role → List Window → ℕ → List ℕ → Type 0

@@ -1,13 +1,19 @@
-//! The slow finders: the first fault in the windows of one stretch, minute by minute.
-ghost use Rattle.std.specs.Prelude.{◌≡◌, ◌≤◌, ◌<◌, ℕ, IfOk, Some, find, not};
+//! The finders: the first fault in the windows of one stretch. Sums say up to which minute there is
+//! none; from there on each minute is looked at as the rules say.
+ghost use Rattle.std.specs.Prelude.{◌≡◌, ◌≤◌, ◌<◌, ◌&&◌, ◌==◌, ℕ, IfOk, Some, false, find, not, true};
+ghost use Rattle.std.specs.List.{AllByRecursion};
+ghost use Rattle.cs_history.specs.Plan.{is_skip, takes};
 ghost use Rattle.cs_theorem.specs.Faults.{first_of, first_pair, missing_in};
 ghost use Rattle.cs_windows.specs.Entries.{lists};
 ghost use Rattle.cs_windows.specs.Tree.{SplitsInside, tree_of};
 ghost use Rattle.cs_theorem.specs.Windows.{holders};
+ghost use Rattle.cs_overlap.specs.Roles.{role_at};
+ghost use Rattle.cs_overlap.specs.Sums.{AreGrouped, is_of};
 ghost use Rattle.cs_overlap.specs.Found.{blocked_at, blocked_by, blocked_of, clash_in, collision_at, collision_of, collision_by, missing_at, overload_at, overload_by, role_blocks};
 
 use crate::load::load;
 use crate::role::{Role, clash, role_of, share_group};
+use crate::sums::{is_of, kept_until};
 use cs_civil::MINUTES_OF_DAY;
 use cs_windows::{Entry, MinuteTree, Window, lists, touches};
 use std::alloc::{AllocError, Global};
@@ -30,18 +36,19 @@ fn holders(alloc: Global, windows: &[Window], minute: u16) -> Result<Vec<Window>
 fn clash_in(roles: &[Role], group: usize, one: &Window, other: &Window) -> bool
     ensures { result ≡ clash_in roles.now group one.now other.now }
 {
-    let role = role_of(roles, one);
-    let is_in_group = match role.group {
-        Some(number) => usize::from(number) == group,
-        None => false,
-    };
-    is_in_group && clash(role, role_of(roles, other))
+    is_of(roles, group, one) && clash(role_of(roles, one), role_of(roles, other))
 }
 
 /// The first of these windows that this one may not overlap.
 fn rival_of(roles: &[Role], group: usize, one: &Window, others: &[Window]) -> Option<Window>
     ensures { result ≡ find (clash_in roles.now group one.now) others.now }
 {
+    if !is_of(roles, group, one) {
+        return None;
+    }
+    if !role_of(roles, one).is_exclusive {
+        return None;
+    }
     for other in others {
         if clash_in(roles, group, one, other) {
             return Some(*other);
@@ -62,6 +69,19 @@ fn first_clash(roles: &[Role], group: usize, held: &[Window]) -> Option<(Window,
     None
 }
 
+/// Whether one of these windows is of this group and takes no lock.
+fn any_plain_of(roles: &[Role], group: usize, windows: &[Window]) -> bool
+    ensures { result ≡ false → AllByRecursion (λ w. is_of roles.now group w ≡ true
+        → takes (role_at roles.now w.job).mode ≡ true) windows.now }
+{
+    for window in windows {
+        if is_of(roles, group, window) && !role_of(roles, window).mode.takes_lock() {
+            return true;
+        }
+    }
+    false
+}
+
 /// The first two windows of this group that may not both hold this minute.
 fn collision_of(
     roles: &[Role],
@@ -71,6 +91,9 @@ fn collision_of(
 ) -> Option<(u16, Window, Window)>
     ensures { result ≡ collision_of roles.now minute held.now group }
 {
+    if !any_plain_of(roles, group, held) {
+        return None;
+    }
     let (one, other) = first_clash(roles, group, held)?;
     Some((minute, one, other))
 }
@@ -100,11 +123,14 @@ pub(crate) fn collision(
     alloc: Global,
     roles: &[Role],
     groups: usize,
+    capacity: u8,
     windows: &[Window],
 ) -> Result<Option<(u16, Window, Window)>, AllocError>
+    requires grouped { AreGrouped roles.now groups }
     ensures { IfOk result (λ found. found ≡ collision_by roles.now groups windows.now) }
 {
-    for minute in 0..MINUTES_OF_DAY {
+    let kept = kept_until(alloc, roles, groups, capacity, windows)?;
+    for minute in kept.apart..MINUTES_OF_DAY {
         if let Some(found) = collision_at(alloc, roles, groups, windows, minute)? {
             return Ok(Some(found));
         }
@@ -143,9 +169,11 @@ pub(crate) fn overload(
     windows: &[Window],
 ) -> Result<Option<(u16, u128)>, AllocError>
     requires few { groups ≤ 64 }
+    requires grouped { AreGrouped roles.now groups }
     ensures { IfOk result (λ found. found ≡ overload_by roles.now groups capacity windows.now) }
 {
-    for minute in 0..MINUTES_OF_DAY {
+    let kept = kept_until(alloc, roles, groups, capacity, windows)?;
+    for minute in kept.within..MINUTES_OF_DAY {
         if let Some(found) = overload_at(alloc, roles, groups, capacity, windows, minute)? {
             return Ok(Some(found));
         }
@@ -153,17 +181,24 @@ pub(crate) fn overload(
     Ok(None)
 }
 
+/// Whether a window is a skip job's that is due at this minute of the day looked at.
+fn is_due_skip(roles: &[Role], minute: u16, window: &Window) -> bool
+    ensures { result ≡ (is_skip (role_at roles.now window.now.job).mode
+        && ((window.now.day_back == 0) && (window.now.from == minute))) }
+{
+    role_of(roles, window).mode.is_skip() && (window.day_back == 0 && window.from == minute)
+}
+
 /// Whether a window keeps the lock from a skip job whose window begins at this minute.
 fn blocks(roles: &[Role], minute: u16, skip: &Window, other: &Window) -> bool
     ensures { result ≡ role_blocks roles.now minute skip.now other.now }
 {
-    let role = role_of(roles, skip);
     let holder = role_of(roles, other);
     let is_same = skip.job == other.job
         && skip.day_back == other.day_back
         && skip.from == other.from;
-    (role.mode.is_skip() && skip.day_back == 0 && skip.from == minute)
-        && (!is_same && holder.mode.takes_lock() && share_group(role, holder))
+    is_due_skip(roles, minute, skip)
+        && (!is_same && holder.mode.takes_lock() && share_group(role_of(roles, skip), holder))
 }
 
 /// The first of these windows that keeps the lock from a skip job.
@@ -187,6 +222,9 @@ fn blocked_by(
 ) -> Option<(u16, Window, Window)>
     ensures { result ≡ blocked_of roles.now minute held.now skip.now }
 {
+    if !is_due_skip(roles, minute, skip) {
+        return None;
+    }
     let other = blocker_of(roles, minute, skip, held)?;
     Some((minute, *skip, other))
 }
@@ -221,11 +259,15 @@ fn blocked_at(
 pub(crate) fn blocked(
     alloc: Global,
     roles: &[Role],
+    groups: usize,
+    capacity: u8,
     windows: &[Window],
 ) -> Result<Option<(u16, Window, Window)>, AllocError>
+    requires grouped { AreGrouped roles.now groups }
     ensures { IfOk result (λ found. found ≡ blocked_by roles.now windows.now) }
 {
-    for minute in 0..MINUTES_OF_DAY {
+    let kept = kept_until(alloc, roles, groups, capacity, windows)?;
+    for minute in kept.free..MINUTES_OF_DAY {
         if let Some(found) = blocked_at(alloc, roles, windows, minute)? {
             return Ok(Some(found));
         }

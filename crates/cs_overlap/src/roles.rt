@@ -128,7 +128,7 @@ impl Roles {
         ensures { IfOk result (λ found.
             (p : TheoryPlan) → IsOf p self.now → found ≡ collision_in p windows.now) }
     {
-        found::collision(alloc, self.jobs(), self.groups(), windows)
+        found::collision(alloc, self.jobs(), self.groups(), self.capacity(), windows)
     }
 
     /// Returns the first minute of the last day of a stretch at which the load exceeds the
@@ -154,6 +154,6 @@ impl Roles {
         ensures { IfOk result (λ found.
             (p : TheoryPlan) → IsOf p self.now → found ≡ blocked_in p windows.now) }
     {
-        found::blocked(alloc, self.jobs(), windows)
+        found::blocked(alloc, self.jobs(), self.groups(), self.capacity(), windows)
     }
 }

@@ -1,15 +1,17 @@
-//! A quick test of the windows of one stretch by sums over the minutes of the day looked at.
+//! How long the windows of one stretch keep each rule, by sums over the minutes of the day looked
+//! at.
 ghost use Rattle.std.specs.Prelude.{◌≡◌, ◌≤◌, IfOk, IsTrue, false, filter, slice_index, true};
 ghost use Rattle.std.specs.List.{AllByRecursion};
 ghost use Rattle.cs_history.specs.Plan.{takes, is_skip};
 ghost use Rattle.cs_overlap.specs.Roles.{role_at};
-ghost use Rattle.cs_overlap.specs.Sums.{AreApartBy, AreFreeBy, AreGrouped, AreWithinBy, EachMinute, IsAdded, IsDay, IsGreaterAdded, IsLoad, IsLone, IsSum, NoneClash, amount_in, has_group_or_catches, is_of};
+ghost use Rattle.cs_overlap.specs.Sums.{AreApartBy, AreFreeBy, AreGrouped, AreWithinBy, IsAdded, IsDay, IsGreaterAdded, IsLoad, IsLone, IsSum, NoneClash, Until, amount_in, has_group_or_catches, is_of};
 ghost use Rattle.cs_overlap.specs.declared.table.Amount.TheVariants.{FreeWeight};
 
 use crate::quiet::Quiet;
 use crate::role::{Role, role_of};
 use crate::split::free_and_others;
 use crate::table::{Amount, MINUTES, greatest, sums};
+use cs_civil::MINUTES_OF_DAY;
 use cs_windows::Window;
 use std::alloc::{AllocError, Global};
 
@@ -31,7 +33,8 @@ fn windows_of(
     Ok(found)
 }
 
-fn is_of(roles: &[Role], group: usize, window: &Window) -> bool
+/// Whether the job of a window is of this group.
+pub(crate) fn is_of(roles: &[Role], group: usize, window: &Window) -> bool
     ensures { result ≡ is_of roles.now group window.now }
 {
     match role_of(roles, window).group {
@@ -65,60 +68,71 @@ fn any_plain(roles: &[Role], windows: &[Window]) -> bool
     false
 }
 
-/// Whether each minute has at most one run, or none that takes no lock, or none of a cron job.
-fn none_clash(runs: &[u16], plain: &[u16], cron: &[u16]) -> bool
+/// The first minute with several runs, one without the lock, and one of a cron job; or the end of
+/// the day.
+fn first_clash(runs: &[u16], plain: &[u16], cron: &[u16]) -> u16
     requires { IsDay runs.now × IsDay plain.now × IsDay cron.now }
-    ensures { IsTrue result → NoneClash runs.now plain.now cron.now }
+    ensures range { result ≤ 1440 }
+    ensures none { NoneClash result runs.now plain.now cron.now }
 {
     for minute in 0..MINUTES {
         if runs[minute] > 1 && plain[minute] > 0 && cron[minute] > 0 {
-            return false;
+            return minute as u16;
         }
     }
-    true
+    MINUTES_OF_DAY
 }
 
-/// Whether no two windows of a group may be rivals at a minute.
-fn are_apart(roles: &[Role], windows: &[Window]) -> bool
-    ensures { IsTrue result → AreApartBy roles.now windows.now }
+/// A minute before which no two windows of a group may be rivals.
+fn apart_until(roles: &[Role], windows: &[Window]) -> u16
+    ensures range { result ≤ 1440 }
+    ensures apart { AreApartBy result roles.now windows.now }
 {
     if !any_exclusive(roles, windows) {
-        return true;
+        return MINUTES_OF_DAY;
     }
     if !any_plain(roles, windows) {
-        return true;
+        return MINUTES_OF_DAY;
     }
     let runs = sums(roles, Amount::Run, windows);
     let plain = sums(roles, Amount::PlainRun, windows);
     let cron = sums(roles, Amount::CronRun, windows);
-    none_clash(&runs, &plain, &cron)
+    first_clash(&runs, &plain, &cron)
 }
 
-/// Whether at most one run takes a lock at the minute at which this window begins, if it is of a
-/// skip job that is due on the day looked at.
-fn is_lone(roles: &[Role], takers: &[u16], window: &Window) -> bool
+/// The minute at which this window begins, if it is of a skip job that is due on the day looked at
+/// while several runs take a lock; or the end of the day.
+fn lone_until(roles: &[Role], takers: &[u16], window: &Window) -> u16
     requires { IsDay takers.now }
-    ensures { IsTrue result → IsLone roles.now takers.now window.now }
+    ensures range { result ≤ 1440 }
+    ensures lone { IsLone result roles.now takers.now window.now }
 {
     if !role_of(roles, window).mode.is_skip() || window.day_back > 0 {
-        return true;
+        return MINUTES_OF_DAY;
     }
     match takers.get(usize::from(window.from)) {
-        Some(number) => *number <= 1,
-        None => true,
+        Some(number) => {
+            if *number > 1 {
+                window.from
+            } else {
+                MINUTES_OF_DAY
+            }
+        }
+        None => MINUTES_OF_DAY,
     }
 }
 
-fn are_lone(roles: &[Role], takers: &[u16], windows: &[Window]) -> bool
+/// The first of those minutes.
+fn all_lone_until(roles: &[Role], takers: &[u16], windows: &[Window]) -> u16
     requires { IsDay takers.now }
-    ensures { IsTrue result → AllByRecursion (IsLone roles.now takers.now) windows.now }
+    ensures range { result ≤ 1440 }
+    ensures lone { AllByRecursion (IsLone result roles.now takers.now) windows.now }
 {
+    let mut end = MINUTES_OF_DAY;
     for window in windows {
-        if !is_lone(roles, takers, window) {
-            return false;
-        }
+        end = end.min(lone_until(roles, takers, window));
     }
-    true
+    end
 }
 
 fn any_skips(roles: &[Role], windows: &[Window]) -> bool
@@ -133,15 +147,16 @@ fn any_skips(roles: &[Role], windows: &[Window]) -> bool
     false
 }
 
-/// Whether no window of a group keeps the lock from a skip job.
-fn are_free(roles: &[Role], windows: &[Window]) -> bool
-    ensures { IsTrue result → AreFreeBy roles.now windows.now }
+/// A minute before which no window of a group keeps the lock from a skip job.
+fn free_until(roles: &[Role], windows: &[Window]) -> u16
+    ensures range { result ≤ 1440 }
+    ensures free { AreFreeBy result roles.now windows.now }
 {
     if !any_skips(roles, windows) {
-        return true;
+        return MINUTES_OF_DAY;
     }
     let takers = sums(roles, Amount::LockRun, windows);
-    are_lone(roles, &takers, windows)
+    all_lone_until(roles, &takers, windows)
 }
 
 /// Adds the greater of two tables at each minute, up to the greatest number of the type.
@@ -155,17 +170,18 @@ fn add_greater(load: &mut [u16], one: &[u16], other: &[u16])
     }
 }
 
-/// Whether no minute has more than the capacity.
-fn is_within(load: &[u16], capacity: u8) -> bool
+/// The first minute with more than the capacity, or the end of the day.
+fn first_over(load: &[u16], capacity: u8) -> u16
     requires { IsDay load.now }
-    ensures { IsTrue result → EachMinute (λ m. slice_index load.now m ≤ capacity) }
+    ensures range { result ≤ 1440 }
+    ensures within { Until result (λ m. slice_index load.now m ≤ capacity) }
 {
     for minute in 0..MINUTES {
         if load[minute] > u16::from(capacity) {
-            return false;
+            return minute as u16;
         }
     }
-    true
+    MINUTES_OF_DAY
 }
 
 /// Adds the weight of the catch-up windows at each minute, all of which are among the others, to
@@ -194,6 +210,50 @@ fn add_group(load: &mut [u16], roles: &[Role], windows: &[Window])
     add_greater(load, &alone, &shared);
 }
 
+/// Minutes before which the windows of a stretch keep each rule. At a minute before the end of the
+/// day a finder then looks first.
+#[derive(Clone, Copy)]
+pub(crate) struct KeptUntil {
+    pub(crate) apart: u16,
+    pub(crate) within: u16,
+    pub(crate) free: u16,
+}
+
+/// How long on the day looked at the windows of a stretch keep each rule.
+pub(crate) fn kept_until(
+    alloc: Global,
+    roles: &[Role],
+    groups: usize,
+    capacity: u8,
+    windows: &[Window],
+) -> Result<KeptUntil, AllocError>
+    requires grouped { AreGrouped roles.now groups }
+    ensures range { IfOk result (λ kept.
+        (kept.apart ≤ 1440) × (kept.within ≤ 1440) × (kept.free ≤ 1440)) }
+    ensures apart { IfOk result (λ kept. AreApartBy kept.apart roles.now windows.now) }
+    ensures within { IfOk result (λ kept.
+        AreWithinBy kept.within roles.now groups capacity windows.now) }
+    ensures free { IfOk result (λ kept. AreFreeBy kept.free roles.now windows.now) }
+{
+    let (mut load, others) = free_and_others(alloc, roles, windows)?;
+    let others = others.as_slice();
+    add_catch_up(&mut load, roles, windows, others);
+    let mut apart = MINUTES_OF_DAY;
+    let mut free = MINUTES_OF_DAY;
+    for group in 0..groups {
+        let found = windows_of(alloc, roles, group, others)?;
+        let found = found.as_slice();
+        add_group(&mut load, roles, found);
+        apart = apart.min(apart_until(roles, found));
+        free = free.min(free_until(roles, found));
+    }
+    Ok(KeptUntil {
+        apart,
+        within: first_over(&load, capacity),
+        free,
+    })
+}
+
 /// The rules that the windows of a stretch keep at each minute of the day looked at.
 pub(crate) fn quiet_by_sums(
     alloc: Global,
@@ -204,26 +264,16 @@ pub(crate) fn quiet_by_sums(
 ) -> Result<Quiet, AllocError>
     requires grouped { AreGrouped roles.now groups }
     ensures apart { IfOk result (λ quiet. IsTrue quiet.is_apart
-        → AreApartBy roles.now windows.now) }
+        → AreApartBy 1440 roles.now windows.now) }
     ensures within { IfOk result (λ quiet. IsTrue quiet.is_within
-        → AreWithinBy roles.now groups capacity windows.now) }
-    ensures free { IfOk result (λ quiet. IsTrue quiet.is_free → AreFreeBy roles.now windows.now) }
+        → AreWithinBy 1440 roles.now groups capacity windows.now) }
+    ensures free { IfOk result (λ quiet. IsTrue quiet.is_free
+        → AreFreeBy 1440 roles.now windows.now) }
 {
-    let (mut load, others) = free_and_others(alloc, roles, windows)?;
-    let others = others.as_slice();
-    add_catch_up(&mut load, roles, windows, others);
-    let mut is_apart = true;
-    let mut is_free = true;
-    for group in 0..groups {
-        let found = windows_of(alloc, roles, group, others)?;
-        let found = found.as_slice();
-        add_group(&mut load, roles, found);
-        is_apart = is_apart && are_apart(roles, found);
-        is_free = is_free && are_free(roles, found);
-    }
+    let kept = kept_until(alloc, roles, groups, capacity, windows)?;
     Ok(Quiet {
-        is_apart,
-        is_within: is_within(&load, capacity),
-        is_free,
+        is_apart: kept.apart == MINUTES_OF_DAY,
+        is_within: kept.within == MINUTES_OF_DAY,
+        is_free: kept.free == MINUTES_OF_DAY,
     })
 }

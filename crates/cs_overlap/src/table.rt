@@ -1,6 +1,6 @@
 //! Tables over the minutes of the day looked at: sums or maxima over the windows at a minute.
-ghost use Rattle.std.specs.Prelude.{◌≡◌, ◌+◌, ◌*◌, ◌<◌, ◌≤◌, ℕ, if◌then◌else◌, length, max, slice_index};
-ghost use Rattle.cs_overlap.specs.Sums.{AreAtMost, EachMinute, HoldsFrom, IsChanged, IsDay, IsGreatest, IsRaisedAt, IsRunning, IsSum, amount_in, amount_of, capped, up_to};
+ghost use Rattle.std.specs.Prelude.{◌≡◌, ◌+◌, ◌*◌, ◌<◌, ◌≤◌, ◌⊎◌, ℕ, if◌then◌else◌, length, max, slice_index};
+ghost use Rattle.cs_overlap.specs.Sums.{AreAtMost, EachMinute, HoldsFrom, IsChanged, IsDay, IsGreatest, IsRaisedAt, IsReached, IsRunning, IsSum, amount_in, amount_of, capped, up_to};
 
 use crate::quiet::day_start;
 use crate::role::{Role, role_of};
@@ -94,23 +94,56 @@ fn add(table: &mut [u16], window: &Window, number: u8)
     }
 }
 
-/// Raises each minute that the window holds to this number, if it is less.
-fn raise(table: &mut [u16], window: &Window, number: u8)
-    requires { IsDay table.old }
-    ensures { IsChanged window.now (λ n. max n number) table.old table.new }
+/// The first minute from this one on that isn't between `since` and `until`.
+fn first_unknown(first: usize, since: usize, until: usize) -> usize
+    ensures from { first ≤ result }
+    ensures known { (m : ℕ) → first ≤ m → m < result → (since ≤ m) × (m < until) }
 {
-    if number == 0 {
-        return;
+    if since <= first {
+        first.max(until)
+    } else {
+        first
     }
-    let (first, end) = minutes_held(window);
-    for minute in first..end {
+}
+
+/// Raises each minute from one on and below another to this number, if it is less. Those from
+/// `since` on and below `until` have it already.
+fn raise(table: &mut [u16], first: usize, end: usize, number: u8, since: usize, until: usize)
+    requires day { IsDay table.old }
+    requires inside { end ≤ 1440 }
+    requires known { IsReached number since until table.old }
+    ensures long { length table.new ≡ length table.old }
+    ensures held { (m : ℕ) → first ≤ m → m < end
+        → slice_index table.new m ≡ max (slice_index table.old m) number }
+    ensures other { (m : ℕ) → (first ≤ m → m < end → ⊥)
+        → slice_index table.new m ≡ slice_index table.old m }
+{
+    let start = first_unknown(first, since, until);
+    for minute in start..end {
         table[minute] = table[minute].max(u16::from(number));
     }
 }
 
-/// At each minute of the day looked at, the sum of this amount over the windows that hold it, at
-/// most the greatest number of the type.
-pub(crate) fn sums(roles: &[Role], amount: Amount, windows: &[Window]) -> [u16; MINUTES]
+/// Notes that a table has a number from one minute on and below another: together with the minutes
+/// noted before if they meet, else in their place.
+fn note(since: &mut [usize], until: &mut [usize], number: u8, first: usize, end: usize)
+    requires long { (length since.old ≡ 256) × (length until.old ≡ 256) }
+    ensures long { (length since.new ≡ 256) × (length until.new ≡ 256) }
+    ensures noted { (k m : ℕ) → slice_index since.new k ≤ m → m < slice_index until.new k
+        → ((slice_index since.old k ≤ m) × (m < slice_index until.old k))
+        ⊎ ((k ≡ number) × (first ≤ m) × (m < end)) }
+{
+    let place = usize::from(number);
+    if since[place] <= first && first <= until[place] {
+        until[place] = until[place].max(end);
+    } else {
+        since[place] = first;
+        until[place] = end;
+    }
+}
+
+/// The sums of `sums`, each window added at each minute that it holds.
+fn sums_by_minute(roles: &[Role], amount: Amount, windows: &[Window]) -> [u16; MINUTES]
     ensures day { IsDay result }
     ensures each { IsSum (amount_in roles.now amount) windows.now result }
 {
@@ -126,17 +159,20 @@ pub(crate) fn sums(roles: &[Role], amount: Amount, windows: &[Window]) -> [u16; 
 }
 
 /// At each minute of the day looked at, the greatest of this amount among the windows that hold it.
+/// Of windows in order of start each minute is looked at once for each amount.
 pub(crate) fn greatest(roles: &[Role], amount: Amount, windows: &[Window]) -> [u16; MINUTES]
     ensures day { IsDay result }
     ensures each { IsGreatest (amount_in roles.now amount) windows.now result }
 {
     let mut table = [0u16; MINUTES];
+    let mut since = [0usize; 256];
+    let mut until = [0usize; 256];
     for window in windows {
-        raise(
-            &mut table,
-            window,
-            amount_of(amount, role_of(roles, window)),
-        );
+        let number = amount_of(amount, role_of(roles, window));
+        let (first, end) = minutes_held(window);
+        let place = usize::from(number);
+        raise(&mut table, first, end, number, since[place], until[place]);
+        note(&mut since, &mut until, number, first, end);
     }
     table
 }
@@ -165,4 +201,25 @@ pub(crate) fn running(begun: &[u32], ended: &[u32]) -> [u16; MINUTES]
         table[minute] = open.min(u64::from(u16::MAX)) as u16;
     }
     table
+}
+
+/// At each minute of the day looked at, the sum of this amount over the windows that hold it, at
+/// most the greatest number of the type. Each amount is added where the window begins, and taken off
+/// where it ends, so that the cost doesn't grow with the minutes that windows hold.
+pub(crate) fn sums(roles: &[Role], amount: Amount, windows: &[Window]) -> [u16; MINUTES]
+    ensures day { IsDay result }
+    ensures each { IsSum (amount_in roles.now amount) windows.now result }
+{
+    if windows.len() > MOST_TALLIED {
+        return sums_by_minute(roles, amount, windows);
+    }
+    let mut begun = [0u32; PLACES];
+    let mut ended = [0u32; PLACES];
+    for window in windows {
+        let number = amount_of(amount, role_of(roles, window));
+        let (first, end) = minutes_held(window);
+        raise_at(&mut begun, first, number);
+        raise_at(&mut ended, end, number);
+    }
+    running(&begun, &ended)
 }

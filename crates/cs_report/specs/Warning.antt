@@ -1,12 +1,14 @@
 -- The warnings that come with two tables, and the notes that come with a plan.
-use Rattle.std.specs.Prelude.{ℕ, ◌==◌, Bool, not, ◌&&◌, ◌||◌, List, [], ◌∷◌, ◌++◌, Option, Some, None, codes}
-use Rattle.std.specs.Prelude.{if◌then◌else◌, length}
+use Rattle.std.specs.Prelude.{ℕ, ◌==◌, Bool, false, not, ◌&&◌, ◌||◌, List, [], ◌∷◌, ◌++◌, Option, Some, None, codes}
+use Rattle.std.specs.Prelude.{if◌then◌else◌, length, nat_le, nat_lt, sum_by}
 use Rattle.std.specs.Fmt.{decimal}
-use Rattle.std.specs.List.{filter, find, flat_map, list_all}
+use Rattle.std.specs.List.{count_by, filter, find, flat_map, list_all, list_any}
 use Rattle.std.specs.Str.{bytes_eq}
 use Rattle.cs_anacrontab.specs.Anacrontab.{Table as JobTable}
 use Rattle.cs_crontab.specs.Crontab.{CommandLine, Table}
-use Rattle.cs_decl.specs.Plan.{Declared}
+use Rattle.cs_decl.specs.Job.{DeclaredJob}
+use Rattle.cs_decl.specs.Plan.{Declared, as_plan}
+use Rattle.cs_history.specs.Plan.{exclusive_group, is_group, is_skip}
 use Rattle.cs_report.specs.User.{is_behind_user}
 use Rattle.cs_table.specs.Setting.{SettingLine}
 use Rattle.cs_table.specs.Text.{front, is_digit, is_solid}
@@ -88,6 +90,39 @@ default_note jobs =
     if jobs == 1 then codes "note: 1 job without an entry has the default\n"
     else codes "note: " ++ (decimal jobs ++ codes " jobs without an entry have the default\n"))
 
+-- `note: N longest times are a draft's guess` and a newline, of one `.. 1 longest time is ..`, and
+-- nothing where there is none
+abbrev pub guess_note : ℕ → List ℕ
+guess_note jobs =
+    if jobs == 0 then [] else (
+    if jobs == 1 then codes "note: 1 longest time is a draft's guess\n"
+    else codes "note: " ++ (decimal jobs ++ codes " longest times are a draft's guess\n"))
+
+-- the group is exclusive, and two jobs belong to it
+abbrev pub is_contended : Declared → Option ℕ → Bool
+is_contended d None = false
+is_contended d (Some g) = exclusive_group (as_plan d) (Some g)
+    && nat_lt 1 (count_by (λ job. is_group g job.group) d.jobs)
+
+-- the job may meet another one of its exclusive group, or be skipped against its promise
+abbrev pub is_at_stake : Declared → DeclaredJob → Bool
+is_at_stake d job = is_contended d job.group || is_skip job.mode
+
+-- no exclusive group has two jobs, no job has mode skip, and all jobs together weigh no more than
+-- the capacity
+unfoldable pub decides_nothing : Declared → Bool
+decides_nothing d = not (list_any (is_at_stake d) d.jobs)
+    && nat_le (sum_by (λ job. job.weight) d.jobs) d.capacity
+
+unfoldable pub nothing_text : List ℕ
+nothing_text =
+    codes "note: no two jobs can conflict, unless one still runs when it starts again: no exclusive"
+    ++ codes " group has two jobs, no job has mode skip, and all together fit into the capacity\n"
+
+-- of a plan of which `safe` says hardly anything
+abbrev pub nothing_note : Declared → List ℕ
+nothing_note d = if decides_nothing d then nothing_text else []
+
 -- `warning: an object of the declarations has NAME twice, and the last one counts` and a newline, and
 -- nothing where none has one
 abbrev pub doubled_warning : Option (List ℕ) → List ℕ
@@ -96,8 +131,10 @@ doubled_warning (Some name) = codes "warning: an object of the declarations has 
     ++ (name ++ codes " twice, and the last one counts\n")
 
 -- that of a member that stands twice, those of the lines that a plan leaves out, in their order, that
--- it has no job, and how many of its jobs have the default
+-- it has no job, how many of its jobs have the default, how many longest times are guesses, and that
+-- hardly anything is decided
 abbrev pub plan_notes : Declared → List ℕ
 plan_notes d = doubled_warning d.doubled
     ++ (flat_map left_out_note d.left_out
-    ++ (no_job_note d.left_out (length d.jobs) ++ default_note d.defaulted))
+    ++ (no_job_note d.left_out (length d.jobs)
+    ++ (default_note d.defaulted ++ (guess_note d.guessed ++ nothing_note d))))

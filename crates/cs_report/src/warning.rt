@@ -1,19 +1,22 @@
-ghost use Rattle.std.specs.Prelude.{◌≡◌, ◌==◌, ◌&&◌, ◌++◌, IfOk, OnOk, length, not};
+ghost use Rattle.std.specs.Prelude.{◌≡◌, ◌==◌, ◌&&◌, ◌++◌, IfOk, OnOk, length, nat_le, not, sum_by};
 ghost use Rattle.std.specs.Fmt.{decimal};
-ghost use Rattle.std.specs.List.{find, flat_map, list_all};
+ghost use Rattle.std.specs.List.{count_by, find, flat_map, list_all, list_any};
 ghost use Rattle.cs_table.specs.Text.{is_digit};
 ghost use Rattle.std.specs.Option.{option_map};
+ghost use Rattle.cs_history.specs.Plan.{is_group};
 ghost use Rattle.cs_report.specs.User.{is_behind_user};
 ghost use Rattle.cs_report.specs.Warning.{begins_with_number, number_warning, number_warning_of};
 ghost use Rattle.cs_report.specs.Warning.{default_note, doubled_warning, is_unheeded, left_out_note};
-ghost use Rattle.cs_report.specs.Warning.{no_job_note, plan_notes, user_warning, user_warning_of};
+ghost use Rattle.cs_report.specs.Warning.{decides_nothing, guess_note, is_at_stake, is_contended};
+ghost use Rattle.cs_report.specs.Warning.{no_job_note, nothing_note, nothing_text, plan_notes};
+ghost use Rattle.cs_report.specs.Warning.{user_warning, user_warning_of};
 ghost use Rattle.cs_report.specs.Warning.{warning, warnings, warnings_of};
 
 use crate::user::first_behind_user;
 use cs_anacrontab::Anacrontab;
 use cs_civil::{Bytes, push_number};
 use cs_crontab::{Crontab, Line};
-use cs_decl::Plan;
+use cs_decl::{Job, Plan};
 use cs_table::Setting;
 use cs_table::text::word;
 use std::alloc::{AllocError, Global};
@@ -269,6 +272,109 @@ fn push_default(alloc: Global, text: &mut Vec<u8>, jobs: usize) -> Result<(), Al
     }
 }
 
+/// Writes behind the text how many longest times are guesses.
+fn push_guess(alloc: Global, text: &mut Vec<u8>, jobs: usize) -> Result<(), AllocError>
+    ensures { OnOk result (text.new.items ≡ text.old.items ++ guess_note jobs) }
+{
+    match jobs {
+        0 => Ok(()),
+        1 => text.extend_from_slice(b"note: 1 longest time is a draft's guess\n"),
+        _ => push_numbered(
+            alloc,
+            text,
+            b"note: ",
+            jobs as u128,
+            b" longest times are a draft's guess\n",
+        ),
+    }
+}
+
+fn is_in(job: &Job, group: u8) -> bool
+    ensures { result ≡ is_group group job.now.group }
+{
+    match job.group() {
+        Some(number) => group == number,
+        None => false,
+    }
+}
+
+/// How many jobs belong to the group.
+fn count_in(jobs: &[Job], group: u8) -> usize
+    ensures { result ≡ count_by (λ job. is_group group job.group) jobs.now }
+{
+    jobs.iter().filter(|job| is_in(job, group)).count()
+}
+
+/// Whether the group is exclusive, and two jobs belong to it.
+fn is_contended(plan: &Plan, group: Option<u8>) -> bool
+    ensures { result ≡ is_contended plan.now group }
+{
+    match group {
+        None => false,
+        Some(number) => plan.is_exclusive(group) && count_in(plan.jobs(), number) > 1,
+    }
+}
+
+/// Whether a job may meet another one of its exclusive group, or be skipped against its promise.
+fn are_at_stake(plan: &Plan) -> bool
+    ensures { result ≡ list_any (is_at_stake plan.now) plan.now.jobs }
+{
+    plan.jobs().iter().any(|job| is_contended(plan, job.group()) || job.mode().is_skip())
+}
+
+/// Whether all jobs together weigh no more than the capacity.
+fn fit_together(jobs: &[Job], capacity: u8) -> bool
+    ensures { result ≡ nat_le (sum_by (λ job. job.weight) jobs.now) capacity }
+{
+    let mut left = capacity;
+    for job in jobs {
+        if job.weight() > left {
+            return false;
+        }
+        left -= job.weight();
+    }
+    true
+}
+
+/// Whether `safe` says hardly anything of the plan.
+#[tactic(auto, unfolding(crate::specs::Warning::decides_nothing))]
+fn decides_nothing(plan: &Plan) -> bool
+    ensures { result ≡ decides_nothing plan.now }
+{
+    !are_at_stake(plan) && fit_together(plan.jobs(), plan.capacity())
+}
+
+/// Writes two texts behind the text.
+fn push_both(text: &mut Vec<u8>, front: &[u8], end: &[u8]) -> Result<(), AllocError>
+    ensures { OnOk result (text.new.items ≡ text.old.items ++ (front.now ++ end.now)) }
+{
+    text.extend_from_slice(front)?;
+    text.extend_from_slice(end)
+}
+
+/// Writes behind the text that hardly anything is decided.
+#[tactic(auto, unfolding(crate::specs::Warning::nothing_text))]
+fn push_nothing(text: &mut Vec<u8>) -> Result<(), AllocError>
+    ensures { OnOk result (text.new.items ≡ text.old.items ++ nothing_text) }
+{
+    push_both(
+        text,
+        b"note: no two jobs can conflict, unless one still runs when it starts again: no exclusive",
+        b" group has two jobs, no job has mode skip, and all together fit into the capacity\n",
+    )
+}
+
+/// Writes that where it is so.
+fn push_nothing_note(text: &mut Vec<u8>, plan: &Plan) -> Result<(), AllocError>
+    ensures { OnOk result (text.new.items ≡ text.old.items ++ nothing_note plan.now) }
+{
+    if decides_nothing(plan) {
+        push_nothing(text)
+    } else {
+        Ok(())
+    }
+}
+
 /// Writes the warning of a member that stands twice behind the text.
 fn push_doubled(text: &mut Vec<u8>, doubled: &Option<Bytes>) -> Result<(), AllocError>
     ensures { OnOk result (text.new.items ≡ text.old.items ++ doubled_warning doubled.now) }
@@ -289,7 +395,10 @@ fn push_doubled(text: &mut Vec<u8>, doubled: &Option<Bytes>) -> Result<(), Alloc
 /// `note: line 4 is left out of the plan`. Then, if lines are left out and no job is left in either
 /// table, `note: the plan has no job`. Then, if jobs have the default,
 /// `note: 12 jobs without an entry have the default` or `note: 1 job without an entry has the default`.
-/// Each line has a newline. The only error is want of memory.
+/// Then, if longest times are guesses of a draft, `note: 3 longest times are a draft's guess` or
+/// `note: 1 longest time is a draft's guess`. Then, if no exclusive group has two jobs, no job has mode
+/// skip and all jobs together weigh no more than the capacity, that no two jobs can conflict. Each line
+/// has a newline. The only error is want of memory.
 pub fn plan_notes(alloc: Global, plan: &Plan) -> Result<Bytes, AllocError>
     ensures { IfOk result (λ text. text ≡ plan_notes plan.now) }
 {
@@ -298,5 +407,7 @@ pub fn plan_notes(alloc: Global, plan: &Plan) -> Result<Bytes, AllocError>
     push_all_left_out(alloc, &mut text, plan.left_out())?;
     push_no_job(&mut text, plan.left_out(), plan.jobs().len())?;
     push_default(alloc, &mut text, plan.defaulted())?;
+    push_guess(alloc, &mut text, plan.guessed())?;
+    push_nothing_note(&mut text, plan)?;
     Ok(Bytes::from_vec(text))
 }

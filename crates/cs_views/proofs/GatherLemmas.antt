@@ -15,6 +15,7 @@ use Rattle.cs_system.specs.Faults.{system}
 use Rattle.cs_gather.specs.Gathered.{GatheredCommand}
 use Rattle.cs_gather.specs.declared.programs.Parts.{Parts}
 use Rattle.cs_io.specs.Files.{AreReadInTurn, Failed, IsFresh, IsUpTo, Reads}
+use Rattle.cs_io.specs.Folders.{Tree}
 use Rattle.cs_io.specs.declared.reason.Reason.{Reason}
 use Rattle.cs_args.specs.CommandLine.{AskedGather}
 use Rattle.cs_files.specs.Reads.{IsRead, IsUnreadAt}
@@ -25,10 +26,8 @@ use Rattle.cs_files.specs.declared.fault.Fault.{Fault}
 use Rattle.cs_files.proofs.TroubleLemmas.{some_is}
 use Rattle.cs_files.proofs.TurnLemmas.{some_read, then_read}
 use Rattle.cs_views.specs.GatherTables.{AreFound, AreNamed, Given, IsUserFile, system_table}
-use Rattle.cs_views.specs.GatherAnswer.{Adds, AddsAs, AreParts, EndsFor, FaultsAs, GathersAll, ShowsGathered, Stops}
-use Rattle.cs_views.specs.Listing.{IsHonestStop, IsUnlisted, stop_trouble, unlisted_trouble}
-use Rattle.cs_views.specs.declared.gather_stop.Stop.{Stop}
-use Rattle.cs_views.specs.declared.gather_stop.Stop.TheVariants.{AtParts}
+use Rattle.cs_views.specs.GatherAnswer.{Adds, AddsAs, AreParts, EndsFor, FaultsAs, GathersAll, HaveWorked, ShowsGathered, Stops}
+use Rattle.cs_views.specs.Listing.{IsUnlisted, unlisted_trouble}
 use Rattle.cs_views.specs.declared.gather_below.Unlisted.{Unlisted}
 use Rattle.cs_views.specs.declared.gather_below.Unlisted.TheVariants.{CannotRead, OutOfMemory as NoMemory}
 
@@ -81,11 +80,11 @@ faults_read looks files left given bytes parts old fault fresh read are faults =
 
 -- a table with a fault stops the call
 pub stops_read : (looks : Bool) (files left : List ℕ → Option (List ℕ)) (before after : Failed) (given : Given) (bytes : List ℕ) (parts : List Parts) (old : List GatheredCommand) (fault : TableFault SystemFault)
-    → IsFresh files left → after ≡ before → IsRead MAX_TABLE given.path left bytes → AreParts looks parts → FaultsAs given.user given.path bytes parts old fault
+    → IsFresh files left → HaveWorked looks before after → IsRead MAX_TABLE given.path left bytes → AreParts looks parts → FaultsAs given.user given.path bytes parts old fault
     → IfSome (gathered_trouble given.path fault) (Stops looks files before after given old)
 stops_read looks files left before after given bytes parts old OutOfMemory fresh works read are faults = tt
 stops_read looks files left before after given bytes parts old (At line column size fault) fresh works read are faults =
-    inr (inl (works, (record { line = line; column = column; size = size; fault = fault }, refl, faults_read looks files left given bytes parts old (At line column size fault) fresh read are faults)))
+    inr (works, (record { line = line; column = column; size = size; fault = fault }, refl, faults_read looks files left given bytes parts old (At line column size fault) fresh read are faults))
 
 -- and so does one that can't be read
 pub stops_unread : (looks : Bool) (files : List ℕ → Option (List ℕ)) (before after : Failed) (given : Given) (old : List GatheredCommand) (e : Fault) → IsUnreadAt given.path after e → IfSome (trouble e) (Stops looks files before after given old)
@@ -94,16 +93,6 @@ stops_unread looks files before after given old e = by_trouble (trouble e)
     by_trouble : (o : Option Trouble) → IfSome o (λ t. (after given.path ≡ true) × TellsPath given.path t) → IfSome o (Stops looks files before after given old)
     by_trouble None h = h
     by_trouble (Some t) h = inl h
-
--- and parts that can't be listed
-pub stops_unlisted : (looks : Bool) (files : List ℕ → Option (List ℕ)) (before after : Failed) (given : Given) (old : List GatheredCommand) (u : Unlisted) → looks ≡ true
-    → IfSome (unlisted_trouble u) (Stops looks files before after given old)
-stops_unlisted looks files before after given old (CannotRead path reason) asked = inr (inr (asked, (string_bytes path, (reason, refl))))
-stops_unlisted looks files before after given old NoMemory asked = tt
-
-pub honest_parts : (failed : Failed) (reads : Reads) (u : Unlisted) → IsUnlisted failed reads u → IsHonestStop failed reads (AtParts u)
-honest_parts failed reads (CannotRead path reason) unread = λ six. (string_bytes path, unread, (reason, refl))
-honest_parts failed reads NoMemory unread = tt
 
 -- a fault of a table is no failure of a device
 pub honest_gathered : (failed : Failed) (reads : Reads) (path : Text) (fault : TableFault SystemFault) → IfSome (gathered_trouble path fault) (λ t. trouble_status t ≡ 6 → (p : Text) × IsUnread p failed reads × TellsPath p t)
@@ -122,25 +111,16 @@ pub ends_for : (P : Trouble → Type 0) (notes : List ℕ) (o : Option Trouble) 
 ends_for P notes None r h is = absurd (cc)
 ends_for P notes (Some t) r h is = (t, h, (notes, sym (some_is (ends notes t) r is)))
 
-pub honest_stop : (failed : Failed) (reads : Reads) (notes : List ℕ) (stop : Stop) (r : Ending) → IsHonestStop failed reads stop → option_map (ends notes) (stop_trouble stop) ≡ Some r → IsHonest failed reads r
-honest_stop failed reads notes stop r = by_trouble (stop_trouble stop)
-  where
-    by_trouble : (o : Option Trouble) → IfSome o (λ t. trouble_status t ≡ 6 → (path : Text) × IsUnread path failed reads × TellsPath path t) → option_map (ends notes) o ≡ Some r → IsHonest failed reads r
-    by_trouble None h is = absurd (cc)
-    by_trouble (Some t) h is = λ six.
-        let same : ends notes t ≡ r = some_is (ends notes t) r is in
-        let (path, unread, (reason, told)) = h (ap (λ (x : Ending). x.status) same ∙ six) in
-        record { path = path; unread = unread; warnings = notes; reason = reason; told = sym same ∙ ap (ends notes) told }
-
 -- a gathered table, or one that isn't, is no failure of a device
 pub honest_shown : (failed : Failed) (reads : Reads) (commands : List GatheredCommand) (r : Ending) → ShowsGathered commands r → IsHonest failed reads r
 honest_shown failed reads commands r (inl (done, gathers)) = λ six. absurd (let e = sym done ∙ six in cc)
 honest_shown failed reads commands r (inr (notes, is)) = λ six. absurd (let e = sym (ap (λ (x : Ending). x.status) is) ∙ six in cc)
 
--- the same where nothing has failed yet
-pub stops_same : (looks : Bool) (files whole : List ℕ → Option (List ℕ)) (before mid after : Failed) (given : Given) (old : List GatheredCommand) (t : Trouble) → whole ≡ files → mid ≡ before → Stops looks whole mid after given old t → Stops looks files before after given old t
-stops_same looks files whole before mid after given old t same works stops =
-    subst (λ (w : List ℕ → Option (List ℕ)). Stops looks w before after given old t) same (subst (λ (f : Failed). Stops looks whole f after given old t) works stops)
+-- the same where no read of a table has failed yet
+pub stops_same : (looks : Bool) (files whole : List ℕ → Option (List ℕ)) (before mid after : Failed) (given : Given) (old : List GatheredCommand) (t : Trouble) → whole ≡ files → HaveWorked looks before mid → Stops looks whole mid after given old t → Stops looks files before after given old t
+stops_same looks files whole before mid after given old t same worked (inl unread) = inl unread
+stops_same looks files whole before mid after given old t same worked (inr (works, (fault, is, faults))) =
+    inr (λ no. works no ∙ worked no, (fault, is, subst (λ (w : List ℕ → Option (List ℕ)). IfSome (w given.path) (λ text. (parts : List Parts) × AreParts looks parts × FaultsAs given.user given.path text parts old (as_error fault))) same faults))
 
 pub err_so : {T E : Type 0} (P Q : E → Type 0) (r : Result T E) → ((e : E) → P e → Q e) → IsErrAnd r P → IfErr r Q
 err_so P Q (Ok x) so h = absurd h
@@ -161,7 +141,9 @@ tells_unlisted (CannotRead path reason) notes r is =
 tells_unlisted NoMemory notes r is = absurd (cc)
 
 pub honest_unlisted : (failed : Failed) (reads : Reads) (u : Unlisted) (notes : List ℕ) (r : Ending) → IsUnlisted failed reads u → option_map (ends notes) (unlisted_trouble u) ≡ Some r → IsHonest failed reads r
-honest_unlisted failed reads u notes r unread is = honest_stop failed reads notes (AtParts u) r (honest_parts failed reads u unread) is
+honest_unlisted failed reads (CannotRead path reason) notes r unread is = λ six.
+    record { path = string_bytes path; unread = unread; warnings = notes; reason = reason; told = sym (some_is (ends notes (Unread (string_bytes path) reason)) r is) }
+honest_unlisted failed reads NoMemory notes r unread is = absurd (cc)
 
 -- ---- which files are read
 
@@ -181,19 +163,19 @@ named_paths a named (users, are, is) =
     let path_of = λ (given : Given). given.path in
     ap (map path_of) is ∙ map-append path_of (map system_table a.system) users ∙ ap (λ (ps : List Text). ps ++ map path_of users) (system_paths a.system) ∙ ap (λ (ps : List Text). a.system ++ ps) (user_paths a.user users are)
 
-none_found : (root : Option Text) (found : List Given) → root ≡ None → AreFound root found → found ≡ []
-none_found None found none are = are
-none_found (Some root) found none are = absurd (cc)
+none_found : (tree : Tree) (root : Option Text) (found : List Given) → root ≡ None → AreFound tree root found → found ≡ []
+none_found tree None found none are = are
+none_found tree (Some root) found none are = absurd (cc)
 
 -- the root, the tables below it and those that the words name
-pub all_read : (a : AskedGather) (paths : List Text) (found named tables : List Given) (old mid new : Reads)
-    → (a.root ≡ None → paths ≡ []) → AreReadInTurn paths old mid → AreFound a.root found → AreNamed a named → tables ≡ found ++ named
+pub all_read : (a : AskedGather) (tree : Tree) (paths : List Text) (found named tables : List Given) (old mid new : Reads)
+    → (a.root ≡ None → paths ≡ []) → AreReadInTurn paths old mid → AreFound tree a.root found → AreNamed a named → tables ≡ found ++ named
     → AreReadInTurn (map (λ given. given.path) tables) mid new → AreReadToGather a old new
-all_read a paths found named tables old mid new none root are_found are_named is turn =
+all_read a tree paths found named tables old mid new none root are_found are_named is turn =
     let path_of = λ (given : Given). given.path in
     let same : map path_of tables ≡ map path_of found ++ gather_paths a = ap (map path_of) is ∙ map-append path_of found named ∙ ap (λ (ps : List Text). map path_of found ++ ps) (named_paths a named are_named) in
     let all = then_read paths (map path_of found ++ gather_paths a) old mid new root (subst (λ (ps : List Text). AreReadInTurn ps mid new) same turn) in
-    let nothing : a.root ≡ None → paths ++ map path_of found ≡ [] = λ no. ap (λ (ps : List Text). ps ++ map path_of found) (none no) ∙ ap (map path_of) (none_found a.root found no are_found) in
+    let nothing : a.root ≡ None → paths ++ map path_of found ≡ [] = λ no. ap (λ (ps : List Text). ps ++ map path_of found) (none no) ∙ ap (map path_of) (none_found tree a.root found no are_found) in
     (paths ++ map path_of found, nothing, subst (λ (ps : List Text). AreReadInTurn ps old new) (sym (append_assoc paths (map path_of found) (gather_paths a))) all)
 
 -- the root alone

@@ -7,7 +7,6 @@ use Rattle.cs_gather.specs.declared.places.Place.{Place}
 use Rattle.cs_decl.specs.Plain.{is_possible_max}
 use Rattle.cs_decl.specs.declared.entries.Entries.{Entries}
 use Rattle.cs_draft.specs.Draft.{IsDraft, IsUpdate}
-use Rattle.cs_draft.specs.Notices.{Warn, WarnOfNew}
 use Rattle.cs_args.specs.CommandLine.{AskedDraft}
 use Rattle.cs_args.specs.declared.question.WordFault.TheVariants.{BadMax}
 use Rattle.cs_io.specs.Files.{Failed}
@@ -20,17 +19,13 @@ abbrev pub IsPrinted : (List ℕ → Type 0) → Ending → Type 0
 IsPrinted Is ending =
     ((ending.status ≡ 0) × Is ending.out) ⊎ ((ending.status ≡ 2) × (ending.out ≡ []))
 
--- so is a draft, and its warnings are told
+-- so is a draft
 abbrev pub PrintsDraft : Table → JobTable → List Place → ℕ → ℤ → Ending → Type 0
-PrintsDraft table jobs places max offset ending =
-    IsPrinted (λ text. IsDraft table jobs places max offset text × Warn table jobs text ending.err)
-    ending
+PrintsDraft table jobs places max offset = IsPrinted (IsDraft table jobs places max offset)
 
 -- .. or an update of old declarations
 abbrev pub PrintsUpdate : Table → JobTable → List Place → Entries → ℕ → Ending → Type 0
-PrintsUpdate table jobs places old max ending =
-    IsPrinted (λ text. IsUpdate table jobs places old max text
-    × WarnOfNew table jobs old text ending.err) ending
+PrintsUpdate table jobs places old max = IsPrinted (IsUpdate table jobs places old max)
 
 -- and so with the places of the table at a path
 abbrev pub IsPrintedAt : (List ℕ → Option (List ℕ)) → Text → Table → (List Place → Ending → Type 0)

@@ -9,6 +9,7 @@ use Rattle.cs_gather.specs.Gathered.{GatheredCommand}
 use Rattle.cs_gather.specs.Places.{is_part_name}
 use Rattle.cs_gather.specs.declared.programs.Parts.{Parts}
 use Rattle.cs_io.specs.Files.{Failed}
+use Rattle.cs_io.specs.Folders.{Tree}
 use Rattle.cs_args.specs.CommandLine.{AskedGather}
 use Rattle.cs_files.specs.Response.{Ending, complaint}
 use Rattle.cs_files.specs.Trouble.{InGathered, TellsPath, Trouble, ends}
@@ -58,16 +59,19 @@ AllAdded looks files (given ∷ later) old more =
     (between : List GatheredCommand) × Adds looks files given old between
     × AllAdded looks files later between more
 
--- a table can't be read, or its bytes have a fault behind the commands so far, or some folder of
--- parts, or something in it, can't be read
+-- no read has failed; where parts are looked for, one of theirs may have
+abbrev pub HaveWorked : Bool → Failed → Failed → Type 0
+HaveWorked looks before after = looks ≡ false → after ≡ before
+
+-- a table can't be read, or its bytes have a fault behind the commands so far
 abbrev pub Stops : Bool → (List ℕ → Option (List ℕ)) → Failed → Failed → Given
     → List GatheredCommand → Trouble → Type 0
 Stops looks files before after given old t =
     ((after given.path ≡ true) × TellsPath given.path t)
-    ⊎ (((after ≡ before) × ((fault : Found SystemFault) × (t ≡ InGathered given.path fault)
+    ⊎ (HaveWorked looks before after
+    × ((fault : Found SystemFault) × (t ≡ InGathered given.path fault)
     × IfSome (files given.path) (λ text. (parts : List Parts) × AreParts looks parts
     × FaultsAs given.user given.path text parts old (as_error fault))))
-    ⊎ ((looks ≡ true) × ((path : Text) × TellsPath path t)))
 
 -- all tables before one add theirs, and it stops the call
 abbrev pub FirstStops : Bool → (List ℕ → Option (List ℕ)) → Failed → Failed → List Given
@@ -102,14 +106,24 @@ abbrev pub GathersAll : Bool → (List ℕ → Option (List ℕ)) → Failed →
     → Type 0
 GathersAll looks files before after tables ending =
     ((commands : List GatheredCommand) × AllAdded looks files tables [] commands
-    × (after ≡ before) × ShowsGathered commands ending)
+    × HaveWorked looks before after × ShowsGathered commands ending)
     ⊎ ((t : Trouble) × FirstStops looks files before after tables [] t × EndsFor t ending)
 
+-- no tables are below the root folder
+abbrev pub IsBare : Option Text → List Given → Type 0
+IsBare root found = IsSome root × (found ≡ [])
+
+-- nothing is gathered
+abbrev pub GathersNone : Failed → Failed → Ending → Type 0
+GathersNone before after ending = (after ≡ before) × (ending.status ≡ 1) × (ending.out ≡ [])
+
 -- the tables below the root and then those that the words name are gathered, with their parts where
--- a root is asked; or the folder, or something in it, can't be read
-abbrev pub AnswersGather : AskedGather → (List ℕ → Option (List ℕ)) → Failed → Failed → Ending
-    → Type 0
-AnswersGather a files before after ending =
-    ((found named : List Given) × AreFound a.root found × AreNamed a named
-    × GathersAll (is_some a.root) files before after (found ++ named) ending)
+-- a root is asked, unless there are none below it; or the folder, or something in it, can't be read
+abbrev pub AnswersGather : AskedGather → Tree → (List ℕ → Option (List ℕ)) → Failed → Failed
+    → Ending → Type 0
+AnswersGather a tree files before after ending =
+    ((found : List Given) × AreFound tree a.root found
+    × ((IsBare a.root found × GathersNone before after ending)
+    ⊎ (¬ (IsBare a.root found) × ((named : List Given) × AreNamed a named
+    × GathersAll (is_some a.root) files before after (found ++ named) ending))))
     ⊎ (IsSome a.root × ((path : Text) × (t : Trouble) × TellsPath path t × EndsFor t ending))

@@ -1,7 +1,11 @@
 -- Which tables `gather` is to read.
-use Rattle.std.specs.Prelude.{◌≡◌, ◌⊎◌, ◌==◌, All, true, false, List, [], ◌∷◌, ◌++◌, Option, Some, None, codes, map}
-use Rattle.std.specs.List.{AllZip, list_any}
+use Rattle.std.specs.Prelude.{◌≡◌, ◌⊎◌, ◌==◌, All, Contains, true, false, List, [], ◌∷◌, ◌++◌, Option, Some, None, codes, map, nat_eq, ⊤}
+use Rattle.std.specs.List.{AllZip, list_any, starts_with}
+use Rattle.std.specs.Str.{IsUtf8}
 use Rattle.clap.specs.Words.{Text}
+use Rattle.cs_io.specs.Folders.{Tree}
+use Rattle.cs_io.specs.declared.folders.FileKind.{FileKind}
+use Rattle.cs_io.specs.declared.folders.FileKind.TheVariants.{Program, Regular}
 use Rattle.cs_gather.specs.Places.{is_part_name}
 use Rattle.cs_args.specs.CommandLine.{AskedGather}
 
@@ -40,16 +44,42 @@ abbrev pub IsFront : Text → Text → Type 0
 IsFront root front = (root ≡ front ++ (47 ∷ [])) ⊎ ((root ≡ front)
     ⊎ ((root ≡ codes "-") × (front ≡ codes "./-")))
 
--- the table of the machine, a table in a folder of system tables, or one in that of users' tables
-abbrev pub IsBelow : Text → Given → Type 0
-IsBelow front given =
+-- the name of a user's table: a text without a dot at its front
+abbrev pub IsUserName : Text → Type 0
+IsUserName name = IsUtf8 name × (starts_with nat_eq name (46 ∷ []) ≡ false)
+
+-- the table of the machine, one in the folder of system tables, or one in that of users' tables,
+-- where this is so of the folder and the name
+abbrev pub IsTableBelow : Text → (Text → Text → Type 0) → Given → Type 0
+IsTableBelow front IsSo given =
     (given ≡ system_table (front ++ codes "/etc/crontab"))
-    ⊎ (((name : Text) × (is_part_name name ≡ true)
+    ⊎ (((name : Text) × (is_part_name name ≡ true) × IsSo (front ++ codes "/etc/cron.d/") name
     × (given ≡ system_table ((front ++ codes "/etc/cron.d/") ++ name)))
-    ⊎ ((name : Text)
+    ⊎ ((name : Text) × IsUserName name × IsSo (front ++ codes "/var/spool/cron/crontabs/") name
     × (given ≡ user_table ((front ++ codes "/var/spool/cron/crontabs/") ++ name) name)))
 
--- tables below the root folder; none where no root is asked
-abbrev pub AreFound : Option Text → List Given → Type 0
-AreFound None found = found ≡ []
-AreFound (Some root) found = (front : Text) × IsFront root front × All (IsBelow front) found
+abbrev pub IsBelow : Text → Given → Type 0
+IsBelow front = IsTableBelow front (λ folder name. ⊤)
+
+-- a regular file, whoever may execute it; one without bytes has no table
+abbrev pub IsFile : Option FileKind → Type 0
+IsFile kind = (kind ≡ Some Regular) ⊎ (kind ≡ Some Program)
+
+abbrev pub IsFileAt : Tree → Text → Type 0
+IsFileAt tree path = (kind : Option FileKind) × (tree.kind path ≡ Some kind) × IsFile kind
+
+-- this name is in a folder
+abbrev pub IsIn : Tree → Text → Text → Type 0
+IsIn tree folder name =
+    (names : List Text) × (tree.names folder ≡ Some (Some names)) × Contains names name
+
+-- cron(8) reads this table, as far as its folders and files are known
+abbrev pub IsReadByCron : Tree → Text → Given → Type 0
+IsReadByCron tree front given = IsFileAt tree given.path × IsTableBelow front (IsIn tree) given
+
+-- tables below the root folder, with all that cron(8) reads there; none where no root is asked
+abbrev pub AreFound : Tree → Option Text → List Given → Type 0
+AreFound tree None found = found ≡ []
+AreFound tree (Some root) found = (front : Text) × IsFront root front
+    × All (IsBelow front) found
+    × ((given : Given) → IsReadByCron tree front given → Contains found given)

@@ -1,15 +1,14 @@
 -- What is found below a root folder, folder by folder.
-use Rattle.std.specs.Prelude.{◌≡◌, ℕ, true, List, Option, Some, None, IfSome, codes}
+use Rattle.std.specs.Prelude.{◌≡◌, ◌++◌, true, Contains, List, Option, Some, None, codes}
 use Rattle.std.specs.Prelude.{string_bytes}
 use Rattle.clap.specs.Words.{Text}
 use Rattle.cs_io.specs.Files.{AreReadInTurn, Failed, Reads}
+use Rattle.cs_io.specs.Folders.{Tree}
 use Rattle.cs_gather.specs.Places.{is_part_name}
-use Rattle.cs_files.specs.Trouble.{IsUnread, TellsPath, Trouble, Unread, trouble, trouble_status}
-use Rattle.cs_views.specs.GatherTables.{Given, system_table, user_table}
+use Rattle.cs_files.specs.Trouble.{IsUnread, Trouble, Unread}
+use Rattle.cs_views.specs.GatherTables.{Given, IsFileAt, IsIn, IsUserName, system_table, user_table}
 use Rattle.cs_views.specs.declared.gather_below.Shelf.{Shelf}
 use Rattle.cs_views.specs.declared.gather_below.Shelf.TheVariants.{CronD, Crontabs}
-use Rattle.cs_views.specs.declared.gather_stop.Stop.{Stop}
-use Rattle.cs_views.specs.declared.gather_stop.Stop.TheVariants.{AtParts, AtTable}
 use Rattle.cs_views.specs.declared.gather_below.Unlisted.{Unlisted}
 use Rattle.cs_views.specs.declared.gather_below.Unlisted.TheVariants.{CannotRead, OutOfMemory}
 
@@ -18,15 +17,29 @@ abbrev pub place_of : Shelf → Text
 place_of CronD = codes "/etc/cron.d/"
 place_of Crontabs = codes "/var/spool/cron/crontabs/"
 
--- a system table has such a name
+-- the name of a table in it
 abbrev pub HasName : Shelf → Text → Type 0
 HasName CronD name = is_part_name name ≡ true
-HasName Crontabs name = Unit {0}
+HasName Crontabs name = IsUserName name
 
 -- a table in a folder of tables
 abbrev pub given_in : Shelf → Text → Text → Given
 given_in CronD path name = system_table path
 given_in Crontabs path name = user_table path name
+
+-- the table of this name is found, if it is one of a file
+abbrev pub FindsNamed : Tree → Text → Shelf → List Given → Text → Type 0
+FindsNamed tree folder shelf found name = HasName shelf name → IsFileAt tree (folder ++ name)
+    → Contains found (given_in shelf (folder ++ name) name)
+
+-- and so of each name in a folder of tables
+abbrev pub FindsAllOn : Tree → Text → Shelf → List Given → Type 0
+FindsAllOn tree front shelf found = (name : Text) → IsIn tree (front ++ place_of shelf) name
+    → FindsNamed tree (front ++ place_of shelf) shelf found name
+
+-- all of these are among those
+abbrev pub AreAmong : List Given → List Given → Type 0
+AreAmong some all = (given : Given) → Contains some given → Contains all given
 
 -- the path that is told was unread
 abbrev pub IsUnlisted : Failed → Reads → Unlisted → Type 0
@@ -37,15 +50,6 @@ IsUnlisted failed reads OutOfMemory = Unit {0}
 abbrev pub unlisted_trouble : Unlisted → Option Trouble
 unlisted_trouble (CannotRead path reason) = Some (Unread (string_bytes path) reason)
 unlisted_trouble OutOfMemory = None
-
-abbrev pub stop_trouble : Stop → Option Trouble
-stop_trouble (AtTable fault) = trouble fault
-stop_trouble (AtParts unlisted) = unlisted_trouble unlisted
-
--- a call that ends so with the status of a failed device tells which path was unread
-abbrev pub IsHonestStop : Failed → Reads → Stop → Type 0
-IsHonestStop failed reads stop = IfSome (stop_trouble stop)
-    (λ t. trouble_status t ≡ 6 → (path : Text) × IsUnread path failed reads × TellsPath path t)
 
 -- some paths were read, one after the other
 abbrev pub AreSomeRead : Reads → Reads → Type 0

@@ -41,8 +41,7 @@ fn nothing_drawn(alloc: Global) -> Result<Response, AllocError>
 fn printed(draft: Draft) -> Response
     ensures { result ≡ done draft.text draft.warnings }
 {
-    let (text, warnings) = draft.into_parts();
-    Response::done(text.into_vec(), warnings)
+    Response::done(draft.text.into_vec(), draft.warnings)
 }
 
 /// What is answered of both tables and the places of the lines, where a job may declare this longest time.

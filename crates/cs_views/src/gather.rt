@@ -1,18 +1,16 @@
 //! The subcommand `gather`.
-ghost use Rattle.std.specs.Prelude.{◌≡◌, IfErr, IfOk, IfSome, None, OnOk, is_some, map};
+ghost use Rattle.std.specs.Prelude.{◌≡◌, IfErr, IfOk, IfSome, None, OnOk, false, is_some, map, option_map, true};
 ghost use Rattle.cs_args.specs.Asked.{asked_gather};
 ghost use Rattle.cs_io.specs.Files.{AreReadInTurn, IsFresh, IsReadAlone};
-ghost use Rattle.cs_files.specs.Trouble.{IsHonest};
+ghost use Rattle.cs_files.specs.Trouble.{IsHonest, IsHonestOf, trouble};
 ghost use Rattle.cs_files.specs.Turn.{AreReadToGather};
 ghost use Rattle.cs_views.specs.GatherAnswer.{Adds, AllAdded, AnswersGather, FirstStops};
-ghost use Rattle.cs_views.specs.GatherAnswer.{GathersAll, ShowsGathered, Stops};
-ghost use Rattle.cs_views.specs.Listing.{IsHonestStop, stop_trouble};
+ghost use Rattle.cs_views.specs.GatherAnswer.{GathersAll, HaveWorked, IsBare, ShowsGathered, Stops};
 
 use crate::gather_given::{Given, push_named};
 use crate::gather_note::push_warnings;
 use crate::gather_parts::parts_asked;
 use crate::gather_root::{found_tables, front_asked};
-use crate::gather_stop::{Stop, tell};
 use cs_args::GatherWords;
 use cs_civil::Bytes;
 use cs_files::{Fault, RanOut, Response, Status, bytes_at};
@@ -30,18 +28,19 @@ fn add_table<'a, I: Folders>(
     given: &'a Given,
     gathering: &mut Gathering,
     notes: &mut Vec<u8>,
-) -> Result<(), Stop<'a>>
+) -> Result<(), Fault<'a>>
     ensures adds { IsFresh (I.whole inputs.old) (I.left inputs.old) → OnOk result
         (Adds (is_some front.entry) (I.whole inputs.old) given.now gathering.old gathering.new) }
     ensures stops { IsFresh (I.whole inputs.old) (I.left inputs.old)
-        → IfErr result (λ e. IfSome (stop_trouble e) (Stops (is_some front.entry)
+        → IfErr result (λ e. IfSome (trouble e) (Stops (is_some front.entry)
         (I.whole inputs.old) (I.failed inputs.old) (I.failed inputs.new)
         given.now gathering.old)) }
-    ensures works { OnOk result (I.failed inputs.new ≡ I.failed inputs.old) }
+    ensures works { OnOk result
+        (HaveWorked (is_some front.entry) (I.failed inputs.old) (I.failed inputs.new)) }
     ensures whole { I.whole inputs.new ≡ I.whole inputs.old }
     ensures fresh { OnOk result (IsFresh (I.whole inputs.old) (I.left inputs.old)
         → IsFresh (I.whole inputs.new) (I.left inputs.new)) }
-    ensures status { IfErr result (IsHonestStop (I.failed inputs.new) (I.reads inputs.new)) }
+    ensures status { IfErr result (IsHonestOf (I.failed inputs.new) (I.reads inputs.new)) }
     ensures alone { IsReadAlone given.now.path (I.reads inputs.old) (I.reads inputs.new) }
 {
     let path = given.path();
@@ -49,7 +48,7 @@ fn add_table<'a, I: Folders>(
     let parts = parts_asked(alloc, inputs, front, given, bytes.as_slice(), notes)?;
     match given.add(alloc, gathering, bytes.as_slice(), parts.as_slice()) {
         Ok(()) => Ok(push_warnings(alloc, notes, given, bytes.as_slice())?),
-        Err(fault) => Err(Stop::AtTable(Fault::Gathered(path, fault))),
+        Err(fault) => Err(Fault::Gathered(path, fault)),
     }
 }
 
@@ -61,15 +60,16 @@ fn add_tables<'a, I: Folders>(
     tables: &'a [Given],
     gathering: &mut Gathering,
     notes: &mut Vec<u8>,
-) -> Result<(), Stop<'a>>
+) -> Result<(), Fault<'a>>
     ensures adds { IsFresh (I.whole inputs.old) (I.left inputs.old) → OnOk result (AllAdded
         (is_some front.entry) (I.whole inputs.old) tables.now gathering.old gathering.new) }
     ensures stops { IsFresh (I.whole inputs.old) (I.left inputs.old)
-        → IfErr result (λ e. IfSome (stop_trouble e) (FirstStops (is_some front.entry)
+        → IfErr result (λ e. IfSome (trouble e) (FirstStops (is_some front.entry)
         (I.whole inputs.old) (I.failed inputs.old) (I.failed inputs.new)
         tables.now gathering.old)) }
-    ensures works { OnOk result (I.failed inputs.new ≡ I.failed inputs.old) }
-    ensures status { IfErr result (IsHonestStop (I.failed inputs.new) (I.reads inputs.new)) }
+    ensures works { OnOk result
+        (HaveWorked (is_some front.entry) (I.failed inputs.old) (I.failed inputs.new)) }
+    ensures status { IfErr result (IsHonestOf (I.failed inputs.new) (I.reads inputs.new)) }
     ensures turn { AreReadInTurn (map (λ given. given.path) tables.now)
         (I.reads inputs.old) (I.reads inputs.new) }
 {
@@ -114,8 +114,18 @@ fn gather<I: Folders>(
     let mut gathering = Gathering::new(alloc);
     match add_tables(alloc, inputs, front, tables, &mut gathering, &mut notes) {
         Ok(()) => show(alloc, gathering, notes),
-        Err(stop) => stop.response(alloc, notes.as_slice()),
+        Err(fault) => fault.response(alloc, notes.as_slice()),
     }
+}
+
+/// Whether a root folder is asked, below which no tables were found.
+fn is_bare(root: Option<&str>, found: &[Given]) -> bool
+    ensures bare { result ≡ true
+        → IsBare (option_map (λ root. root.now) root.entry) found.now }
+    ensures other { result ≡ false
+        → ¬ (IsBare (option_map (λ root. root.now) root.entry) found.now) }
+{
+    root.is_some() && found.is_empty()
 }
 
 /// The answer to `gather [--root DIR] [--system FILE].. [--user FILE]..`.
@@ -125,8 +135,8 @@ pub fn answer_gather<I: Folders>(
     inputs: &mut I,
 ) -> Result<Response, RanOut>
     ensures value { IsFresh (I.whole inputs.old) (I.left inputs.old)
-        → IfOk result (AnswersGather (asked_gather request.now) (I.whole inputs.old)
-        (I.failed inputs.old) (I.failed inputs.new)) }
+        → IfOk result (AnswersGather (asked_gather request.now) (I.tree inputs.old)
+        (I.whole inputs.old) (I.failed inputs.old) (I.failed inputs.new)) }
     ensures status { IfOk result (IsHonest (I.failed inputs.new) (I.reads inputs.new)) }
     ensures warned { IfErr result (λ e. e.warnings ≡ None) }
     ensures turn { AreReadToGather (asked_gather request.now)
@@ -135,8 +145,11 @@ pub fn answer_gather<I: Folders>(
     let mut notes = Vec::new(alloc);
     let mut tables = match found_tables(alloc, inputs, request.root, &mut notes) {
         Ok(found) => found,
-        Err(unlisted) => return Ok(tell(alloc, &unlisted, notes.as_slice())?),
+        Err(unlisted) => return Ok(unlisted.response(alloc, notes.as_slice())?),
     };
+    if is_bare(request.root, tables.as_slice()) {
+        return Ok(Response::refused(Vec::new(alloc), Bytes::from_vec(notes)));
+    }
     push_named(alloc, request, &mut tables)?;
     Ok(gather(
         alloc,

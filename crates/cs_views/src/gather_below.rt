@@ -1,12 +1,15 @@
 //! The tables below a root folder.
-ghost use Rattle.std.specs.Prelude.{◌≡◌, ◌⊎◌, ◌++◌, [], ◌∷◌, All, IfErr, IfOk, OnOk, string_bytes, true};
+ghost use Rattle.std.specs.Prelude.{◌≡◌, ◌⊎◌, ◌++◌, [], ◌∷◌, All, Contains, IfErr, IfOk, IfSome, OnErr, OnOk, Some, codes, option_map, string_bytes, true};
+ghost use Rattle.std.specs.Str.{IsUtf8};
+ghost use Rattle.cs_files.specs.Trouble.{ends};
 ghost use Rattle.cs_gather.specs.Places.{is_part_name};
-ghost use Rattle.cs_views.specs.GatherTables.{IsBelow};
-ghost use Rattle.cs_views.specs.Listing.{HasName, IsUnlisted, given_in, place_of};
+ghost use Rattle.cs_views.specs.GatherTables.{IsBelow, IsFile, IsFileAt, IsUserName, system_table};
+ghost use Rattle.cs_views.specs.Listing.{AreAmong, FindsAllOn, FindsNamed, HasName, IsUnlisted, given_in, place_of, unlisted_trouble};
 
 use crate::gather_given::Given;
 use crate::gather_note::push_passed_over;
 use cs_civil::{Bytes, Sequence};
+use cs_files::{Fault, Response};
 use cs_gather::is_part_name;
 use cs_io::{FileKind, Folders, ReadFault, Reason};
 use std::alloc::{AllocError, AllocFailed, Global};
@@ -41,9 +44,26 @@ impl<T: Drop> From<AllocFailed<T>> for Unlisted {
     }
 }
 
+impl Unlisted {
+    /// What is answered of it, behind notes.
+    pub(crate) fn response(&self, alloc: Global, notes: &[u8]) -> Result<Response, AllocError>
+        ensures { IfOk result
+            (λ r. option_map (ends notes.now) (unlisted_trouble self.now) ≡ Some r) }
+    {
+        match self {
+            Unlisted::CannotRead(path, reason) => {
+                Fault::CannotRead(path.as_str(), *reason).response(alloc, notes)
+            }
+            Unlisted::OutOfMemory => Err(AllocError),
+        }
+    }
+}
+
 /// A name as text, or why it is none.
 fn text_of(name: &[u8]) -> Result<&str, &'static str>
-    ensures { IfOk result (λ text. text.now ≡ name.now) }
+    ensures name { IfOk result (λ text. text.now ≡ name.now) }
+    ensures is { OnOk result (IsUtf8 name.now) }
+    ensures refused { OnErr result (¬ (IsUtf8 name.now)) }
 {
     match str::from_utf8(name) {
         Ok(text) => Ok(text),
@@ -55,16 +75,19 @@ fn text_of(name: &[u8]) -> Result<&str, &'static str>
 pub(crate) fn table_name(name: &[u8]) -> Result<&str, &'static str>
     ensures name { IfOk result (λ text. text.now ≡ name.now) }
     ensures signs { OnOk result (is_part_name name.now ≡ true) }
+    ensures refused { OnErr result (¬ (is_part_name name.now ≡ true)) }
 {
-    if !is_part_name(name) {
-        return Err("its name holds other signs than letters, digits, _ and -");
+    if is_part_name(name) {
+        return text_of(name);
     }
-    text_of(name)
+    Err("its name holds other signs than letters, digits, _ and -")
 }
 
 /// The name of a user's table, or why it is none.
 fn user_name(name: &[u8]) -> Result<&str, &'static str>
-    ensures { IfOk result (λ text. text.now ≡ name.now) }
+    ensures name { IfOk result (λ text. text.now ≡ name.now) }
+    ensures is { OnOk result (IsUserName name.now) }
+    ensures refused { OnErr result (¬ (IsUserName name.now)) }
 {
     if name.starts_with(b".".as_slice()) {
         return Err("its name begins with a dot");
@@ -96,6 +119,7 @@ impl Shelf {
     fn name(self, name: &[u8]) -> Result<&str, &'static str>
         ensures name { IfOk result (λ text. text.now ≡ name.now) }
         ensures signs { OnOk result (HasName self name.now) }
+        ensures refused { OnErr result (¬ (HasName self name.now)) }
     {
         match self {
             Shelf::CronD => table_name(name),
@@ -131,15 +155,19 @@ pub(crate) fn found_at<I: Folders>(
     name: &str,
 ) -> Result<(String, Option<FileKind>), Unlisted>
     ensures path { IfOk result (λ found. string_bytes found.0 ≡ front.now ++ name.now) }
+    ensures kind { IfOk result (λ found. IfSome ((I.tree inputs.old).kind (front.now ++ name.now))
+        (λ known. found.1 ≡ known)) }
     ensures stays { (I.whole inputs.new ≡ I.whole inputs.old)
         × (I.left inputs.new ≡ I.left inputs.old) × (I.reads inputs.new ≡ I.reads inputs.old) }
+    ensures tree { I.tree inputs.new ≡ I.tree inputs.old }
     ensures works { OnOk result (I.failed inputs.new ≡ I.failed inputs.old) }
     ensures fails { IfErr result (IsUnlisted (I.failed inputs.new) (I.reads inputs.new)) }
 {
     let path = joined(alloc, front, name)?;
     match inputs.kind_of(path.as_str()) {
         Ok(kind) => Ok((path, kind)),
-        Err(error) => Err(Unlisted::CannotRead(path, error.reason)),
+        Err(ReadFault::CannotRead(reason)) => Err(Unlisted::CannotRead(path, reason)),
+        Err(ReadFault::OutOfMemory) => Err(Unlisted::OutOfMemory),
     }
 }
 
@@ -149,8 +177,11 @@ pub(crate) fn names_at<I: Folders>(
     inputs: &mut I,
     path: &str,
 ) -> Result<Option<Sequence<Bytes>>, Unlisted>
+    ensures value { IfOk result (λ found. IfSome ((I.tree inputs.old).names path.now)
+        (λ known. found ≡ known)) }
     ensures stays { (I.whole inputs.new ≡ I.whole inputs.old)
         × (I.left inputs.new ≡ I.left inputs.old) × (I.reads inputs.new ≡ I.reads inputs.old) }
+    ensures tree { I.tree inputs.new ≡ I.tree inputs.old }
     ensures works { OnOk result (I.failed inputs.new ≡ I.failed inputs.old) }
     ensures fails { IfErr result (IsUnlisted (I.failed inputs.new) (I.reads inputs.new)) }
 {
@@ -170,14 +201,19 @@ fn push_found(
     found: &mut Vec<Given>,
     notes: &mut Vec<u8>,
 ) -> Result<(), AllocError>
-    ensures { OnOk result
+    ensures more { OnOk result
         ((found.new.items ≡ found.old.items) ⊎ (found.new.items ≡ found.old.items ++ given ∷ [])) }
+    ensures file { IsFile kind → OnOk result (found.new.items ≡ found.old.items ++ given ∷ []) }
 {
-    if let Some(FileKind::Regular | FileKind::Program) = kind {
-        found.push(given)?;
-        return Ok(());
-    }
-    push_passed_over(notes, given.path(), b"", "it is no regular file")
+    let why = match kind {
+        Some(FileKind::Regular | FileKind::Program) => {
+            found.push(given)?;
+            return Ok(());
+        }
+        Some(FileKind::Empty) => "it is empty",
+        _ => "it is no regular file",
+    };
+    push_passed_over(notes, given.path(), b"", why)
 }
 
 /// Adds the table of the machine, if there is one.
@@ -188,18 +224,23 @@ pub(crate) fn push_crontab<I: Folders>(
     found: &mut Vec<Given>,
     notes: &mut Vec<u8>,
 ) -> Result<(), Unlisted>
-    ensures found { OnOk result (All (IsBelow front.now) found.old.items
+    ensures below { OnOk result (All (IsBelow front.now) found.old.items
         → All (IsBelow front.now) found.new.items) }
+    ensures keeps { OnOk result (AreAmong found.old.items found.new.items) }
+    ensures finds { OnOk result
+        (IsFileAt (I.tree inputs.old) (front.now ++ codes "/etc/crontab")
+        → Contains found.new.items (system_table (front.now ++ codes "/etc/crontab"))) }
     ensures stays { (I.whole inputs.new ≡ I.whole inputs.old)
         × (I.left inputs.new ≡ I.left inputs.old) × (I.reads inputs.new ≡ I.reads inputs.old) }
+    ensures tree { I.tree inputs.new ≡ I.tree inputs.old }
     ensures works { OnOk result (I.failed inputs.new ≡ I.failed inputs.old) }
     ensures fails { IfErr result (IsUnlisted (I.failed inputs.new) (I.reads inputs.new)) }
 {
     let (path, kind) = found_at(alloc, inputs, front, "/etc/crontab")?;
-    if kind.is_some() {
-        push_found(kind, Given::system(path), found, notes)?;
+    match kind {
+        Some(_) => Ok(push_found(kind, Given::system(path), found, notes)?),
+        None => Ok(()),
     }
-    Ok(())
 }
 
 /// Adds the table of a name in a folder of tables, or passes it over.
@@ -212,10 +253,14 @@ fn push_named<I: Folders>(
     found: &mut Vec<Given>,
     notes: &mut Vec<u8>,
 ) -> Result<(), Unlisted>
-    ensures found { (front : _) → folder.now ≡ front ++ place_of shelf
+    ensures below { (front : _) → folder.now ≡ front ++ place_of shelf
         → OnOk result (All (IsBelow front) found.old.items → All (IsBelow front) found.new.items) }
+    ensures keeps { OnOk result (AreAmong found.old.items found.new.items) }
+    ensures finds { OnOk result
+        (FindsNamed (I.tree inputs.old) folder.now shelf found.new.items name.now) }
     ensures stays { (I.whole inputs.new ≡ I.whole inputs.old)
         × (I.left inputs.new ≡ I.left inputs.old) × (I.reads inputs.new ≡ I.reads inputs.old) }
+    ensures tree { I.tree inputs.new ≡ I.tree inputs.old }
     ensures works { OnOk result (I.failed inputs.new ≡ I.failed inputs.old) }
     ensures fails { IfErr result (IsUnlisted (I.failed inputs.new) (I.reads inputs.new)) }
 {
@@ -228,6 +273,33 @@ fn push_named<I: Folders>(
     Ok(push_found(kind, given, found, notes)?)
 }
 
+/// Adds the tables of these names in a folder of tables.
+fn push_names<I: Folders>(
+    alloc: Global,
+    inputs: &mut I,
+    folder: &str,
+    shelf: Shelf,
+    names: &[Bytes],
+    found: &mut Vec<Given>,
+    notes: &mut Vec<u8>,
+) -> Result<(), Unlisted>
+    ensures below { (front : _) → folder.now ≡ front ++ place_of shelf
+        → OnOk result (All (IsBelow front) found.old.items → All (IsBelow front) found.new.items) }
+    ensures keeps { OnOk result (AreAmong found.old.items found.new.items) }
+    ensures finds { OnOk result
+        (All (FindsNamed (I.tree inputs.old) folder.now shelf found.new.items) names.now) }
+    ensures stays { (I.whole inputs.new ≡ I.whole inputs.old)
+        × (I.left inputs.new ≡ I.left inputs.old) × (I.reads inputs.new ≡ I.reads inputs.old) }
+    ensures tree { I.tree inputs.new ≡ I.tree inputs.old }
+    ensures works { OnOk result (I.failed inputs.new ≡ I.failed inputs.old) }
+    ensures fails { IfErr result (IsUnlisted (I.failed inputs.new) (I.reads inputs.new)) }
+{
+    for name in names {
+        push_named(alloc, inputs, folder, shelf, name.as_slice(), found, notes)?;
+    }
+    Ok(())
+}
+
 /// Adds the tables in a folder of tables, in the order of their names.
 pub(crate) fn push_shelf<I: Folders>(
     alloc: Global,
@@ -237,27 +309,24 @@ pub(crate) fn push_shelf<I: Folders>(
     found: &mut Vec<Given>,
     notes: &mut Vec<u8>,
 ) -> Result<(), Unlisted>
-    ensures found { OnOk result (All (IsBelow front.now) found.old.items
+    ensures below { OnOk result (All (IsBelow front.now) found.old.items
         → All (IsBelow front.now) found.new.items) }
+    ensures keeps { OnOk result (AreAmong found.old.items found.new.items) }
+    ensures finds { OnOk result (FindsAllOn (I.tree inputs.old)
+        front.now shelf found.new.items) }
     ensures stays { (I.whole inputs.new ≡ I.whole inputs.old)
         × (I.left inputs.new ≡ I.left inputs.old) × (I.reads inputs.new ≡ I.reads inputs.old) }
+    ensures tree { I.tree inputs.new ≡ I.tree inputs.old }
     ensures works { OnOk result (I.failed inputs.new ≡ I.failed inputs.old) }
     ensures fails { IfErr result (IsUnlisted (I.failed inputs.new) (I.reads inputs.new)) }
 {
-    let folder = joined(alloc, front, shelf.place())?;
-    let Some(names) = names_at(alloc, inputs, folder.as_str())? else {
-        return Ok(());
-    };
-    for name in names.as_slice() {
-        push_named(
-            alloc,
-            inputs,
-            folder.as_str(),
-            shelf,
-            name.as_slice(),
-            found,
-            notes,
-        )?;
+    let path = joined(alloc, front, shelf.place())?;
+    let folder = path.as_str();
+    match names_at(alloc, inputs, folder)? {
+        Some(names) => {
+            push_names(alloc, inputs, folder, shelf, names.as_slice(), found, notes)?;
+            Ok(())
+        }
+        None => Ok(()),
     }
-    Ok(())
 }

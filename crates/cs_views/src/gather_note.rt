@@ -68,14 +68,16 @@ pub(crate) fn push_unknown_parts(
     text: &mut Vec<u8>,
     line: u32,
     path: &str,
-    why: &str,
+    why: &[&str],
 ) -> Result<(), AllocError> {
     let place = place_text(alloc, line, path)?;
-    let start = b"warning: the parts of the command".as_slice();
-    push_line(
-        text,
-        &[start, place.as_bytes(), b" aren't known: ", why.as_bytes()],
-    )
+    push_shown(text, b"warning: the parts of the command".as_slice())?;
+    push_shown(text, place.as_bytes())?;
+    push_shown(text, b" aren't known: ".as_slice())?;
+    for part in why {
+        push_shown(text, part.as_bytes())?;
+    }
+    text.extend_from_slice(b"\n")
 }
 
 /// Writes behind the text the warning of each setting that other daemons heed.

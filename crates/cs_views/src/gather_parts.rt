@@ -1,6 +1,6 @@
 //! The parts that the commands of tables run by run-parts(8).
-ghost use Rattle.std.specs.Prelude.{◌≡◌, ◌⊎◌, ◌++◌, [], ◌∷◌, All, IfErr, IfOk, IfSome, OnErr, OnOk, is_some, true};
-ghost use Rattle.cs_views.specs.GatherAnswer.{AreParts, HavePartNames, IsPart};
+ghost use Rattle.std.specs.Prelude.{◌≡◌, ◌⊎◌, ◌++◌, [], ◌∷◌, All, IfErr, IfOk, IfSome, OnOk, is_some};
+ghost use Rattle.cs_views.specs.GatherAnswer.{AreParts, HavePartNames, HaveWorked, IsPart};
 ghost use Rattle.cs_views.specs.Listing.{IsUnlisted};
 
 use crate::gather_below::{Unlisted, found_at, joined, names_at, table_name};
@@ -38,7 +38,7 @@ fn push_found(
             names.push(Bytes::from_slice(alloc, name.as_bytes())?)?;
             return Ok(());
         }
-        Some(FileKind::Regular) => "no one may execute it",
+        Some(FileKind::Regular | FileKind::Empty) => "no one may execute it",
         _ => "it is no regular file",
     };
     push_passed_over(notes, path, b"", why)
@@ -115,30 +115,35 @@ fn push_parts<I: Folders>(
     at: &Placed,
     parts: &mut Vec<Parts>,
     notes: &mut Vec<u8>,
-) -> Result<(), Unlisted>
+) -> Result<(), AllocError>
     ensures parts { OnOk result
         (All HavePartNames parts.old.items → All HavePartNames parts.new.items) }
     ensures stays { (I.whole inputs.new ≡ I.whole inputs.old)
         × (I.left inputs.new ≡ I.left inputs.old) × (I.reads inputs.new ≡ I.reads inputs.old) }
-    ensures works { OnOk result (I.failed inputs.new ≡ I.failed inputs.old) }
-    ensures fails { IfErr result (IsUnlisted (I.failed inputs.new) (I.reads inputs.new)) }
 {
     let (path, is_reversed) = match run_parts(at.command) {
         RunParts::Absent => return Ok(()),
         RunParts::Folder { path, is_reversed } => (path, is_reversed),
         RunParts::Unread(why) => {
-            return Ok(push_unknown_parts(alloc, notes, at.line, at.table, why)?);
+            return push_unknown_parts(alloc, notes, at.line, at.table, &[why]);
         }
     };
     let path = joined(alloc, at.front, path)?;
-    let Some(names) = names_in(alloc, inputs, path.as_str(), is_reversed, notes)? else {
-        return Ok(push_no_parts(alloc, notes, at.line, at.table, path.as_str())?);
-    };
-    parts.push(Parts {
-        line: at.line,
-        names: Sequence::from_vec(names),
-    })?;
-    Ok(())
+    match names_in(alloc, inputs, path.as_str(), is_reversed, notes) {
+        Ok(Some(names)) => {
+            parts.push(Parts {
+                line: at.line,
+                names: Sequence::from_vec(names),
+            })?;
+            Ok(())
+        }
+        Ok(None) => push_no_parts(alloc, notes, at.line, at.table, path.as_str()),
+        Err(Unlisted::CannotRead(path, reason)) => {
+            let why = ["can't read ", path.as_str(), reason.text()];
+            push_unknown_parts(alloc, notes, at.line, at.table, &why)
+        }
+        Err(Unlisted::OutOfMemory) => Err(AllocError),
+    }
 }
 
 /// The parts of these commands of a table.
@@ -149,12 +154,10 @@ fn parts_of_commands<I: Folders>(
     table: &str,
     commands: &[(u32, &[u8])],
     notes: &mut Vec<u8>,
-) -> Result<Vec<Parts>, Unlisted>
+) -> Result<Vec<Parts>, AllocError>
     ensures parts { IfOk result (λ parts. All HavePartNames parts.items) }
     ensures stays { (I.whole inputs.new ≡ I.whole inputs.old)
         × (I.left inputs.new ≡ I.left inputs.old) × (I.reads inputs.new ≡ I.reads inputs.old) }
-    ensures works { OnOk result (I.failed inputs.new ≡ I.failed inputs.old) }
-    ensures fails { IfErr result (IsUnlisted (I.failed inputs.new) (I.reads inputs.new)) }
 {
     let mut parts = Vec::new(alloc);
     for (line, command) in commands {
@@ -170,7 +173,8 @@ fn parts_of_commands<I: Folders>(
 }
 
 /// The parts of the commands of a table that its bytes say, if a root folder is asked, where paths
-/// begin so. A table with a fault has none.
+/// begin so. A table with a fault has none; nor has a command whose folder can't be read, which is
+/// told.
 pub(crate) fn parts_asked<I: Folders>(
     alloc: Global,
     inputs: &mut I,
@@ -178,13 +182,11 @@ pub(crate) fn parts_asked<I: Folders>(
     given: &Given,
     bytes: &[u8],
     notes: &mut Vec<u8>,
-) -> Result<Vec<Parts>, Unlisted>
+) -> Result<Vec<Parts>, AllocError>
     ensures parts { IfOk result (λ parts. AreParts (is_some front.entry) parts.items) }
-    ensures asked { OnErr result (is_some front.entry ≡ true) }
     ensures stays { (I.whole inputs.new ≡ I.whole inputs.old)
         × (I.left inputs.new ≡ I.left inputs.old) × (I.reads inputs.new ≡ I.reads inputs.old) }
-    ensures works { OnOk result (I.failed inputs.new ≡ I.failed inputs.old) }
-    ensures fails { IfErr result (IsUnlisted (I.failed inputs.new) (I.reads inputs.new)) }
+    ensures works { HaveWorked (is_some front.entry) (I.failed inputs.old) (I.failed inputs.new) }
 {
     let Some(front) = front else {
         return Ok(Vec::new(alloc));

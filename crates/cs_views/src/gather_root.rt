@@ -1,12 +1,10 @@
 //! The root folder of a machine's tables.
-ghost use Rattle.std.specs.Prelude.{◌≡◌, All, IfErr, IfOk, OnErr, OnOk, IsSome, None, Some, [], is_some, option_map};
+ghost use Rattle.std.specs.Prelude.{◌≡◌, All, Contains, IfErr, IfOk, OnErr, OnOk, IsSome, None, Some, [], is_some, option_map};
 ghost use Rattle.cs_io.specs.Files.{AreReadInTurn, IsFresh};
-ghost use Rattle.cs_io.specs.Reasons.{IsCannotRead};
-ghost use Rattle.cs_files.specs.Trouble.{IsUnread};
-ghost use Rattle.cs_views.specs.GatherTables.{AreFound, IsBelow, IsFront};
+ghost use Rattle.cs_views.specs.GatherTables.{AreFound, IsBelow, IsFront, IsReadByCron};
 ghost use Rattle.cs_views.specs.Listing.{AreSomeRead, IsUnlisted};
 
-use crate::gather_below::{Shelf, Unlisted, push_crontab, push_shelf};
+use crate::gather_below::{Shelf, Unlisted, names_at, push_crontab, push_shelf};
 use crate::gather_given::Given;
 use crate::gather_note::push_no_tables;
 use cs_io::{Folders, ReadFault, read_whole};
@@ -40,21 +38,30 @@ pub(crate) fn front_asked(root: Option<&str>) -> Option<&str>
     }
 }
 
-/// Whether a folder can be looked into.
-fn look_into<I: Folders>(alloc: Global, inputs: &mut I, root: &str) -> Result<(), ReadFault>
+/// Sees that there is a root folder: where there was none, a read says so.
+fn confirm<I: Folders>(
+    alloc: Global,
+    inputs: &mut I,
+    root: &str,
+    is_there: bool,
+) -> Result<(), Unlisted>
     ensures works { OnOk result (I.failed inputs.new ≡ I.failed inputs.old) }
     ensures whole { I.whole inputs.new ≡ I.whole inputs.old }
     ensures fresh { OnOk result (IsFresh (I.whole inputs.old) (I.left inputs.old)
         → IsFresh (I.whole inputs.new) (I.left inputs.new)) }
-    ensures fails { IfErr result (λ e. IsCannotRead e
-        → IsUnread root.now (I.failed inputs.new) (I.reads inputs.new)) }
+    ensures fails { IfErr result (IsUnlisted (I.failed inputs.new) (I.reads inputs.new)) }
     ensures turn { AreSomeRead (I.reads inputs.old) (I.reads inputs.new) }
 {
-    if inputs.names(alloc, root)?.is_none() {
-        // Nothing is there, and a read says so.
-        read_whole(alloc, inputs, root)?;
+    if is_there {
+        return Ok(());
     }
-    Ok(())
+    match read_whole(alloc, inputs, root) {
+        Ok(_) => Ok(()),
+        Err(ReadFault::CannotRead(reason)) => {
+            Err(Unlisted::CannotRead(String::from_str(alloc, root)?, reason))
+        }
+        Err(ReadFault::OutOfMemory) => Err(Unlisted::OutOfMemory),
+    }
 }
 
 /// Adds the tables below the front of paths.
@@ -65,8 +72,11 @@ fn push_all<I: Folders>(
     found: &mut Vec<Given>,
     notes: &mut Vec<u8>,
 ) -> Result<(), Unlisted>
-    ensures found { OnOk result (All (IsBelow front.now) found.old.items
+    ensures below { OnOk result (All (IsBelow front.now) found.old.items
         → All (IsBelow front.now) found.new.items) }
+    ensures finds { OnOk result ((given : _)
+        → IsReadByCron (I.tree inputs.old) front.now given
+        → Contains found.new.items given) }
     ensures stays { (I.whole inputs.new ≡ I.whole inputs.old)
         × (I.left inputs.new ≡ I.left inputs.old) × (I.reads inputs.new ≡ I.reads inputs.old) }
     ensures works { OnOk result (I.failed inputs.new ≡ I.failed inputs.old) }
@@ -74,7 +84,8 @@ fn push_all<I: Folders>(
 {
     push_crontab(alloc, inputs, front, found, notes)?;
     push_shelf(alloc, inputs, front, Shelf::CronD, found, notes)?;
-    push_shelf(alloc, inputs, front, Shelf::Crontabs, found, notes)
+    push_shelf(alloc, inputs, front, Shelf::Crontabs, found, notes)?;
+    Ok(())
 }
 
 /// The tables below a root folder, in the order in which they are gathered.
@@ -84,7 +95,8 @@ fn tables_below<I: Folders>(
     root: &str,
     notes: &mut Vec<u8>,
 ) -> Result<Vec<Given>, Unlisted>
-    ensures found { IfOk result (λ found. AreFound (Some root.now) found.items) }
+    ensures found { IfOk result (λ found. AreFound (I.tree inputs.old)
+        (Some root.now) found.items) }
     ensures works { OnOk result (I.failed inputs.new ≡ I.failed inputs.old) }
     ensures whole { I.whole inputs.new ≡ I.whole inputs.old }
     ensures fresh { OnOk result (IsFresh (I.whole inputs.old) (I.left inputs.old)
@@ -93,15 +105,12 @@ fn tables_below<I: Folders>(
     ensures turn { AreSomeRead (I.reads inputs.old) (I.reads inputs.new) }
 {
     let folder = folder(root);
-    match look_into(alloc, inputs, folder) {
-        Ok(()) => {}
-        Err(ReadFault::CannotRead(reason)) => {
-            return Err(Unlisted::CannotRead(String::from_str(alloc, folder)?, reason));
-        }
-        Err(ReadFault::OutOfMemory) => return Err(Unlisted::OutOfMemory),
-    }
+    let is_there = names_at(alloc, inputs, folder)?.is_some();
+    let front = front(root);
+    inputs.look_below(alloc, front)?;
     let mut found = Vec::new(alloc);
-    push_all(alloc, inputs, front(root), &mut found, notes)?;
+    push_all(alloc, inputs, front, &mut found, notes)?;
+    confirm(alloc, inputs, folder, is_there)?;
     if found.is_empty() {
         push_no_tables(notes, root)?;
     }
@@ -115,8 +124,8 @@ pub(crate) fn found_tables<I: Folders>(
     root: Option<&str>,
     notes: &mut Vec<u8>,
 ) -> Result<Vec<Given>, Unlisted>
-    ensures found { IfOk result
-        (λ found. AreFound (option_map (λ root. root.now) root.entry) found.items) }
+    ensures found { IfOk result (λ found. AreFound (I.tree inputs.old)
+        (option_map (λ root. root.now) root.entry) found.items) }
     ensures works { OnOk result (I.failed inputs.new ≡ I.failed inputs.old) }
     ensures whole { I.whole inputs.new ≡ I.whole inputs.old }
     ensures fresh { OnOk result (IsFresh (I.whole inputs.old) (I.left inputs.old)

@@ -12,7 +12,6 @@ mod gather_given;
 mod gather_note;
 mod gather_parts;
 mod gather_root;
-mod gather_stop;
 mod gather_table;
 mod learn;
 mod lint;

@@ -50,7 +50,7 @@ returns-in-Ok-ruling-clause-accepted g c = λ fresh.
     let a = asked_check c.args.request.now in
     let both = c.in-Ok.found.0 in
     let one = subst (λ (f : Failed). ReadsTables files a.table a.anacrontab before f (Ok both)) c.in-Ok.ensures.works (c.in-Ok.ensures.step fresh) in
-    let rest = moved (λ w f. IfOk c.in-Ok-ruling_on_files.found.0 (AreRead w a both f)) (g.I.Inputs.whole c.read_placed_tables-read.new.inputs) files (g.I.Inputs.failed c.read_placed_tables-read.new.inputs) before c.read_placed_tables-read.ensures.whole c.in-Ok.ensures.works (c.in-Ok-ruling_on_files.ensures.read (c.in-Ok.ensures.fresh fresh)) in
+    let rest = moved (λ w f. IfOk c.in-Ok-ruling_on_files.found.0 (AreRead w a both f)) (g.I.Inputs.whole c.read_placed_tables-read.new.inputs) files (g.I.Inputs.failed c.read_placed_tables-read.new.inputs) before c.read_placed_tables-read.ensures.whole c.in-Ok.ensures.works (c.in-Ok-ruling_on_files.ensures.read (c.in-Ok.ensures.fresh fresh) (placed_on a.table both c.in-Ok.found.1 c.as_slice-places.result.now (g.I.Inputs.whole c.read_placed_tables-read.new.inputs) files c.read_placed_tables-read.ensures.whole c.as_slice-places.ensures (c.in-Ok.ensures.places fresh))) in
     record {
       proof = record { tables = both; read = one; rest = subst (λ (r : Result Checked Ending). IfOk r (AreRead files a both before)) c.in-Ok-ruling.is rest };
       safe = subst (λ (r : Result Checked Ending). IfOk r IsSafe) c.in-Ok-ruling.is c.in-Ok-ruling_on_files.ensures.safe;

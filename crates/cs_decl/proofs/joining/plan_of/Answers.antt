@@ -17,6 +17,7 @@ new-requires c =
       c.hours_of.ensures,
       c.capacity_of.ensures,
       c.in_ok-doubled.ensures,
+      c.guessed.ensures,
       c.defaulted-defaulted.ensures,
       c.in_ok-groups.ensures,
       c.as_slice.ensures,

@@ -1,24 +1,20 @@
-use Rattle.cs_draft.proofs.Joins.{always, updates}
+use Rattle.std.proofs.Common.{◌≡◌, None, Ok, Option, subst}
+use Rattle.std.specs.Prelude.{IfSome}
+use Rattle.cs_decl.specs.Faults.{first_fault}
+use Rattle.cs_decl.specs.Join.{join_faults}
+use Rattle.cs_decl.specs.Meaning.{declared_by}
+use Rattle.cs_decl.specs.declared.entries.Entries.{Entries}
+use Rattle.cs_draft.specs.Draft.{IsUpdate}
+use Rattle.cs_draft.proofs.Joins.{fitting}
 use Rattle.cs_draft.proofs.confirm.is_update.Goals as goal
 
 pub returns-clause-update : goal.returns-clause-update
 returns-clause-update c =
+    let d : Entries = c.in-Some.declarations in
+    let declared = subst (λ (o : Option Entries). IfSome o (λ e. declared_by c.args.text.now ≡ Ok e)) c.in-Some.is c.in_ok-declarations.ensures in
     let sound = c.are_sound.ensures in
-    let kept = c.are_kept.ensures in
     let is-sound = c.if-not-are_sound.false in
-    let is-kept = c.if-not-are_kept.false in
-    let lines = c.in_ok-are_new_lines.ensures c.if-not-branch.false in
-    updates c.args.table.now c.args.jobs.now c.args.places.now c.args.old.now c.args.max c.in-Ok.declarations c.args.text.now (λ fits.
-    record {
-      entries = c.in-Ok.declarations;
-      sound = record { declared = c.in-Ok.ensures; once = rw c.entries-new.ensures.value at (sound.once is-sound); fits = fits; bound = rw (c.entries-new.ensures.value, c.lines-lines.ensures.value) at (sound.bound is-sound) };
-      lines = rw (c.entries-new.ensures.value, c.lines-lines.ensures.value) at (kept.lines is-kept);
-      jobs = rw (c.entries-new.ensures.value, c.lines-job_lines.ensures.value) at (kept.jobs is-kept);
-      terms = rw c.entries-new.ensures.value at (kept.terms is-kept);
-      new_lines = rw (c.entries-new.ensures.value, c.lines-lines.ensures.value) at lines;
-      new_jobs = rw (c.entries-new.ensures.value, c.lines-job_lines.ensures.value) at (c.are_new_jobs.ensures c.if-not-are_new_jobs.false);
-      new_groups = rw c.entries-new.ensures.value at (c.are_new_groups.ensures c.if-not-are_new_groups.false);
-    }) c.is_fitting.result c.is_fitting.ensures
-
-pub returns-clause-warned : goal.returns-clause-warned
-returns-clause-warned c = always c.is_fitting.result (c.in-Ok.declarations, c.in-Ok.ensures, rw c.entries-new.ensures.value at (c.in_ok-tell_new.ensures c.if-not-branch-2.false))
+    let kept = rw c.entries-new.ensures.value at (c.in_ok-are_updates.ensures c.if-not-branch.false) in
+    let is : first_fault (join_faults c.args.table.now c.args.jobs.now d) ≡ None → IsUpdate c.args.table.now c.args.jobs.now c.args.places.now c.args.old.now c.args.max c.args.text.now =
+    λ fits. (d, record { declared = declared; once = rw c.entries-new.ensures.value at (sound.once is-sound); fits = fits; bound = rw (c.entries-new.ensures.value, c.lines.ensures.value) at (sound.bound is-sound) }, kept) in
+    fitting c.is_fitting.result is c.is_fitting.ensures

@@ -1,4 +1,5 @@
 use Rattle.std.proofs.Common.{◌≡◌, Ok, subst}
+use Rattle.cs_decl.specs.Join.{joined}
 use Rattle.cs_decl.specs.Meaning.{declared_by}
 use Rattle.std.proofs.lemmas.Result.{err_from_is_err_and}
 use Rattle.cs_files.proofs.TroubleLemmas.{declared, plan_read, plan_unread}
@@ -7,7 +8,7 @@ use Rattle.cs_files.proofs.reads.declared_plan_and_text.Goals as goal
 pub returns-in_err-bytes-clause-step : goal.returns-in_err-bytes-clause-step
 returns-in_err-bytes-clause-step g c = λ fresh.
     let p = err_from_is_err_and c.from_residual.result c.from_residual.ensures.1 in
-    rw (p.1, p.2) (plan_unread (g.I.Inputs.whole c.args.inputs.now) (g.I.Inputs.left c.args.inputs.now) c.args.path.now (c.args.table, c.args.jobs) (g.I.Inputs.failed c.args.inputs.now) (g.I.Inputs.failed c.all_bytes_at.new.inputs)
+    rw (p.1, p.2) (plan_unread (joined c.args.table c.args.jobs) (g.I.Inputs.whole c.args.inputs.now) (g.I.Inputs.left c.args.inputs.now) c.args.path.now (g.I.Inputs.failed c.args.inputs.now) (g.I.Inputs.failed c.all_bytes_at.new.inputs)
     (g.I.Inputs.reads c.args.inputs.now) (g.I.Inputs.reads c.all_bytes_at.new.inputs) c.in_err-bytes.field-0.0 fresh c.in_err-bytes.ensures.fails)
 
 pub returns-clause-step : goal.returns-clause-step
@@ -15,7 +16,7 @@ returns-clause-step g c = λ fresh.
     let bytes = c.in_ok-bytes.bytes.items in
     let d = c.in_ok-declarations.declarations in
     let is = subst (λ b. declared_by b ≡ Ok d) c.as_slice.ensures.value c.in_ok-declarations.ensures in
-    plan_read (g.I.Inputs.whole c.args.inputs.now) (g.I.Inputs.left c.args.inputs.now) c.args.path.now bytes (c.args.table, c.args.jobs) d c.in_ok-plan.plan
+    plan_read (joined c.args.table c.args.jobs) (g.I.Inputs.whole c.args.inputs.now) (g.I.Inputs.left c.args.inputs.now) c.args.path.now bytes d c.in_ok-plan.plan
     (g.I.Inputs.failed c.args.inputs.now) (g.I.Inputs.failed c.all_bytes_at.new.inputs) c.in_ok-bytes.ensures.works fresh c.in_ok-bytes.ensures.bytes is c.in_ok-plan.ensures
 
 pub returns-clause-text : goal.returns-clause-text

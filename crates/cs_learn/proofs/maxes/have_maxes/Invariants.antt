@@ -1,7 +1,10 @@
-use Rattle.std.proofs.Common.{◌≡◌, map, take}
-use Rattle.cs_learn.specs.Maxes.{max_of, with_max}
+use Rattle.std.proofs.Common.{length}
+use Rattle.cs_learn.specs.Maxes.{AreEach, HasMax}
 use Rattle.cs_learn.proofs.maxes.have_maxes.Given as goal
 
--- those so far have them
-abbrev pub invariant-loop-i : goal.invariant-loop-i
-invariant-loop-i l = take l.i l.new ≡ map (λ e. with_max e (max_of l.lines l.maxes e.mode e.name)) (take l.i l.old)
+-- those so far have them, if those that are left do
+abbrev pub invariant-loop-olds : goal.invariant-loop-olds
+invariant-loop-olds l = AreEach (HasMax l.lines l.maxes) l.olds l.news → AreEach (HasMax l.lines l.maxes) l.old l.new
+
+abbrev pub decreases-loop-olds : goal.decreases-loop-olds
+decreases-loop-olds l = length l.olds

@@ -1,6 +1,10 @@
-use Rattle.std.proofs.Common.{◌≡◌, take}
+use Rattle.std.proofs.Common.{length}
+use Rattle.cs_learn.specs.Maxes.{AreEach, IsSameName}
 use Rattle.cs_learn.proofs.same.are_same_names.Given as goal
 
--- those so far are the same
-abbrev pub invariant-loop-i : goal.invariant-loop-i
-invariant-loop-i l = take l.i l.new ≡ take l.i l.old
+-- those so far are the same, if those that are left are
+abbrev pub invariant-loop-olds : goal.invariant-loop-olds
+invariant-loop-olds l = AreEach IsSameName l.olds l.news → AreEach IsSameName l.old l.new
+
+abbrev pub decreases-loop-olds : goal.decreases-loop-olds
+decreases-loop-olds l = length l.olds

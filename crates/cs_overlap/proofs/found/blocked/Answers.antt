@@ -1,7 +1,11 @@
 use Rattle.std.proofs.Common.{sym, ◌∙◌, arith}
 use Rattle.cs_overlap.specs.Found.{blocked_at}
 use Rattle.cs_theorem.proofs.Firsts.{minute-found, minutes-none, first_of-more}
+use Rattle.cs_overlap.proofs.FoundLemmas.{blocked_none}
 use Rattle.cs_overlap.proofs.found.blocked.Goals as goal
+
+pub loop-minute-init : goal.loop-minute-init
+loop-minute-init c = blocked_none c.args.roles.now c.in_ok-kept.kept.free c.args.windows.now c.in_ok-kept.ensures.free
 
 pub returns-in-Some : goal.returns-in-Some
 returns-in-Some c = sym (minute-found (blocked_at c.args.roles.now c.args.windows.now) c.loop-minute.minute c.in-Some.found (omega arith) c.loop-minute.invariant (sym c.in_ok-found.ensures ∙ c.in-Some.is))
@@ -10,4 +14,4 @@ pub loop-minute-preserved : goal.loop-minute-preserved
 loop-minute-preserved c = first_of-more (blocked_at c.args.roles.now c.args.windows.now) c.loop-minute.minute c.loop-minute.invariant (sym c.in_ok-found.ensures ∙ c.in_default.is)
 
 pub returns : goal.returns
-returns c = sym (minutes-none (blocked_at c.args.roles.now c.args.windows.now) c.loop-minute.minute (omega arith) c.loop-minute.invariant)
+returns c = sym (minutes-none (blocked_at c.args.roles.now c.args.windows.now) c.loop-minute.minute (omega (arith, c.in_ok-kept.ensures.range.2)) c.loop-minute.invariant)

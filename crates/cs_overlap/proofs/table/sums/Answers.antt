@@ -1,12 +1,18 @@
-use Rattle.std.proofs.Common.{refl, List, ℕ, ◌≡◌, ap, ◌∙◌, get_or, arith}
+use Rattle.std.proofs.Common.{arith, refl, List, ℕ, ◌+◌, ◌*◌, ◌≡◌, ap, ◌∙◌, get_or, subst}
 use Rattle.cs_windows.specs.declared.window.Window.{Window}
 use Rattle.cs_overlap.specs.declared.role.Role.{Role}
-use Rattle.cs_overlap.specs.Sums.{amount_in, amount_of}
-use Rattle.cs_overlap.proofs.HolderLemmas.{none, sum_step}
+use Rattle.cs_overlap.specs.Sums.{AreAtMost, amount_in, amount_of}
+use Rattle.cs_overlap.proofs.TallyLemmas.{tally_step, none_at, none_up_to}
 use Rattle.cs_overlap.proofs.table.sums.Goals as goal
 
 pub loop-window-init : goal.loop-window-init
-loop-window-init c = (refl, none)
+loop-window-init c = record {
+  begun_long = refl;
+  ended_long = refl;
+  begun_small = λ k. omega (arith, none_at 1441 k);
+  ended_small = λ k. omega (arith, none_at 1441 k);
+  tally = λ m lt. omega (arith, none_up_to 1441 (m + 1));
+}
 
 pub loop-window-preserved : goal.loop-window-preserved
 loop-window-preserved c =
@@ -14,7 +20,17 @@ loop-window-preserved c =
     let ws : List Window = c.args.windows.now in
     let d : Window = record { job = 0; day_back = 0; from = 0; reach = 0 } in
     let f = amount_in c.args.roles.now c.args.amount in
-    let old : List ℕ = c.loop-window.table in
-    let new = c.add.new.table in
-    let number : c.amount_of.result ≡ f (get_or ws i d) = c.amount_of.ensures ∙ ap (λ (r : Role). amount_of c.args.amount r) c.role_of.ensures in
-    (omega (arith, c.add.ensures.long), sum_step f ws i d c.loop-window-test.true old new c.loop-window.invariant.1 (λ m l t. omega (arith, c.add.ensures.held m l t, number)) (λ m l t. c.add.ensures.other m l t))
+    let first = c.minutes_held-first.result.0 in
+    let end = c.minutes_held-first.result.1 in
+    let number : c.amount_of-number.result ≡ f (get_or ws i d) = c.amount_of-number.ensures ∙ ap (λ (r : Role). amount_of c.args.amount r) c.role_of.ensures in
+    let begins = c.raise_at.ensures.raised in
+    let ends = c.raise_at-in-loop-window.ensures.raised in
+    let next : 255 * i + 255 ≡ 255 * (i + 1) = omega arith in
+    record {
+      begun_long = begins.long ∙ c.loop-window.invariant.begun_long;
+      ended_long = ends.long ∙ c.loop-window.invariant.ended_long;
+      begun_small = subst (λ (most : ℕ). AreAtMost most c.raise_at.new.table) next (c.raise_at.ensures.bound (255 * i) c.loop-window.invariant.begun_small);
+      ended_small = subst (λ (most : ℕ). AreAtMost most c.raise_at-in-loop-window.new.table) next (c.raise_at-in-loop-window.ensures.bound (255 * i) c.loop-window.invariant.ended_small);
+      tally = tally_step f ws i d c.loop-window-test.true first end c.amount_of-number.result c.minutes_held-first.ensures.range.0 c.minutes_held-first.ensures.held number
+          c.loop-window.begun c.loop-window.ended c.raise_at.new.table c.raise_at-in-loop-window.new.table begins ends c.loop-window.invariant.tally;
+    }

@@ -3,8 +3,8 @@ use Rattle.cs_io.specs.Files.{AreReadInTurn, IsFresh}
 use Rattle.cs_files.proofs.TurnLemmas.{first_read}
 use Rattle.cs_views.specs.GatherTables.{Given}
 use Rattle.cs_views.specs.GatherAnswer.{Adds, AllAdded, FirstStops, Stops}
-use Rattle.cs_views.specs.Listing.{stop_trouble}
-use Rattle.cs_views.specs.declared.gather_stop.Stop.{Stop}
+use Rattle.cs_files.specs.Trouble.{trouble}
+use Rattle.cs_files.specs.declared.fault.Fault.{Fault}
 use Rattle.cs_views.proofs.GatherLemmas.{err_so, some_so, stops_same}
 use Rattle.cs_views.proofs.PathLemmas.{cut_first}
 use Rattle.cs_views.proofs.gather.add_tables.Goals as goal
@@ -30,7 +30,7 @@ loop-rest-preserved g c =
     let so_far = c.loop-rest.invariant in
     let one = λ (fresh : IsFresh files (g.I.Inputs.left c.args.inputs.now)). subst (λ (w : List ℕ → Option (List ℕ)). Adds (is_some c.args.front) w given old mid) so_far.whole (c.in_ok-add_table.ensures.adds (so_far.fresh fresh)) in
     record {
-      works = c.in_ok-add_table.ensures.works ∙ so_far.works;
+      works = λ no. c.in_ok-add_table.ensures.works no ∙ so_far.works no;
       whole = c.add_table.ensures.whole ∙ so_far.whole;
       fresh = λ fresh. c.in_ok-add_table.ensures.fresh (so_far.fresh fresh);
       adds = λ fresh more h. so_far.adds fresh more (subst (λ (gs : List Given). AllAdded (is_some c.args.front) files gs old more) (sym whole) (mid, one fresh, h));
@@ -51,5 +51,5 @@ returns-in_err-add_table-clause-stops g c = λ fresh.
     let fault = c.in_err-add_table.field-0.0 in
     let here = Stops (is_some c.args.front) (g.I.Inputs.whole c.loop-rest.inputs) (g.I.Inputs.failed c.loop-rest.inputs) after given c.loop-rest.gathering in
     let whole = cut_first rest given c.in-len1-up.len_at_least c.given-item.is in
-    let first = some_so here (FirstStops (is_some c.args.front) files before after tables old) (stop_trouble fault) (λ t stops. so_far.stops fresh after t (subst (λ (gs : List Given). FirstStops (is_some c.args.front) files before after gs c.loop-rest.gathering t) (sym whole) (inl (stops_same (is_some c.args.front) files _ before _ after given c.loop-rest.gathering t so_far.whole so_far.works stops)))) (c.in_err-add_table.ensures.stops (so_far.fresh fresh)) in
-    err_so (λ (e : Stop). e ≡ fault) (λ (e : Stop). IfSome (stop_trouble e) (FirstStops (is_some c.args.front) files before after tables old)) c.from_residual.result (λ e same. subst (λ (f : Stop). IfSome (stop_trouble f) (FirstStops (is_some c.args.front) files before after tables old)) (sym same) first) c.from_residual.ensures.1
+    let first = some_so here (FirstStops (is_some c.args.front) files before after tables old) (trouble fault) (λ t stops. so_far.stops fresh after t (subst (λ (gs : List Given). FirstStops (is_some c.args.front) files before after gs c.loop-rest.gathering t) (sym whole) (inl (stops_same (is_some c.args.front) files _ before _ after given c.loop-rest.gathering t so_far.whole so_far.works stops)))) (c.in_err-add_table.ensures.stops (so_far.fresh fresh)) in
+    err_so (λ (e : Fault). e ≡ fault) (λ (e : Fault). IfSome (trouble e) (FirstStops (is_some c.args.front) files before after tables old)) c.from_residual.result (λ e same. subst (λ (f : Fault). IfSome (trouble f) (FirstStops (is_some c.args.front) files before after tables old)) (sym same) first) c.from_residual.ensures.1

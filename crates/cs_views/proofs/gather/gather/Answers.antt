@@ -1,10 +1,10 @@
 use Rattle.std.proofs.Common.{◌≡◌, [], List, IfSome, Some, inr, is_some, option_map, subst}
 use Rattle.cs_gather.specs.Gathered.{GatheredCommand}
 use Rattle.cs_files.specs.Response.{Ending}
-use Rattle.cs_files.specs.Trouble.{IsHonest, ends}
+use Rattle.cs_files.specs.Trouble.{IsHonest, ends, trouble}
+use Rattle.cs_files.proofs.TroubleLemmas.{honest_fault}
 use Rattle.cs_views.specs.GatherAnswer.{FirstStops, GathersAll}
-use Rattle.cs_views.specs.Listing.{stop_trouble}
-use Rattle.cs_views.proofs.GatherLemmas.{ends_for, honest_stop, if_ok}
+use Rattle.cs_views.proofs.GatherLemmas.{ends_for, if_ok}
 use Rattle.cs_views.proofs.gather.gather.Goals as goal
 
 pub returns-in-Err-clause-value : goal.returns-in-Err-clause-value
@@ -14,15 +14,15 @@ returns-in-Err-clause-value g c = λ fresh.
     let before = g.I.Inputs.failed c.args.inputs.now in
     let after = g.I.Inputs.failed c.add_tables.new.inputs in
     let tables = c.args.tables.now in
-    let stop = c.in-Err.stop in
+    let fault = c.in-Err.fault in
     let notes = c.as_slice.result.now in
-    let told = λ (r : Ending). option_map (ends notes) (stop_trouble stop) ≡ Some r in
-    let first = subst (λ (old : List GatheredCommand). IfSome (stop_trouble stop) (FirstStops looks files before after tables old)) c.new-gathering.ensures (c.in-Err.ensures.stops fresh) in
-    if_ok told (GathersAll looks files before after tables) c.response.result (λ r is. inr (ends_for (FirstStops looks files before after tables []) notes (stop_trouble stop) r first is)) c.response.ensures
+    let told = λ (r : Ending). option_map (ends notes) (trouble fault) ≡ Some r in
+    let first = subst (λ (old : List GatheredCommand). IfSome (trouble fault) (FirstStops looks files before after tables old)) c.new-gathering.ensures (c.in-Err.ensures.stops fresh) in
+    if_ok told (GathersAll looks files before after tables) c.response.result (λ r is. inr (ends_for (FirstStops looks files before after tables []) notes (trouble fault) r first is)) c.response.ensures
 
 pub returns-in-Err-clause-status : goal.returns-in-Err-clause-status
 returns-in-Err-clause-status g c =
     let failed = g.I.Inputs.failed c.add_tables.new.inputs in
     let reads = g.I.Inputs.reads c.add_tables.new.inputs in
-    let told = λ (r : Ending). option_map (ends c.as_slice.result.now) (stop_trouble c.in-Err.stop) ≡ Some r in
-    if_ok told (IsHonest failed reads) c.response.result (λ r is. honest_stop failed reads c.as_slice.result.now c.in-Err.stop r c.in-Err.ensures.status is) c.response.ensures
+    let told = λ (r : Ending). option_map (ends c.as_slice.result.now) (trouble c.in-Err.fault) ≡ Some r in
+    if_ok told (IsHonest failed reads) c.response.result (λ r is. honest_fault failed reads c.as_slice.result.now c.in-Err.fault r c.in-Err.ensures.status is) c.response.ensures

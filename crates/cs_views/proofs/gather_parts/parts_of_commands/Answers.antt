@@ -11,7 +11,6 @@ loop-line-init g c =
       whole = refl;
       left = refl;
       reads = refl;
-      works = refl;
     }
 
 pub loop-line-preserved : goal.loop-line-preserved
@@ -22,5 +21,4 @@ loop-line-preserved g c =
       whole = whole ∙ c.loop-line.invariant.whole;
       left = left ∙ c.loop-line.invariant.left;
       reads = reads ∙ c.loop-line.invariant.reads;
-      works = c.in_ok-push_parts.ensures.works ∙ c.loop-line.invariant.works;
     }

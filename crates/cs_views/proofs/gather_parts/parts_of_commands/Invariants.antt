@@ -7,7 +7,6 @@ pub record Finding (g : goal.Over) (l : goal.Live-loop-line g) : Type 0 where
   pub whole : g.I.Inputs.whole l.inputs ≡ g.I.Inputs.whole l.initial.inputs
   pub left : g.I.Inputs.left l.inputs ≡ g.I.Inputs.left l.initial.inputs
   pub reads : g.I.Inputs.reads l.inputs ≡ g.I.Inputs.reads l.initial.inputs
-  pub works : g.I.Inputs.failed l.inputs ≡ g.I.Inputs.failed l.initial.inputs
 
 abbrev pub invariant-loop-line : goal.invariant-loop-line
 invariant-loop-line g l = Finding g l

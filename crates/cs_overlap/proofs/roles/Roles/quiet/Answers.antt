@@ -36,15 +36,15 @@ returns-else-windows-lt-MANY_WINDOWS c =
     let ws : List Window = c.args.windows.now in
     record {
       apart = IfOk-weaker c.quiet_by_sums.result
-          (λ quiet. IsTrue quiet.is_apart → AreApartBy jobs.result.now ws)
+          (λ quiet. IsTrue quiet.is_apart → AreApartBy 1440 jobs.result.now ws)
           (λ quiet. IsTrue quiet.is_apart → (p : Plan) → IsOf p r → AreApart p ws)
-          (λ quiet e true p is. apart_sums p r ws is (subst (λ (roles : List Role). AreApartBy roles ws) jobs.ensures.value (e true))) c.quiet_by_sums.ensures.apart;
+          (λ quiet e true p is. apart_sums p r ws is (subst (λ (roles : List Role). AreApartBy 1440 roles ws) jobs.ensures.value (e true))) c.quiet_by_sums.ensures.apart;
       within = IfOk-weaker c.quiet_by_sums.result
-          (λ quiet. IsTrue quiet.is_within → AreWithinBy jobs.result.now groups.result capacity.result ws)
+          (λ quiet. IsTrue quiet.is_within → AreWithinBy 1440 jobs.result.now groups.result capacity.result ws)
           (λ quiet. IsTrue quiet.is_within → (p : Plan) (n : ℕ) → IsOf p r → AreWithin p n ws)
-          (λ quiet e true p n is. within_sums p n r ws is (subst (λ (roles : List Role). AreWithinBy roles r.groups r.capacity ws) jobs.ensures.value (subst (λ (k : ℕ). AreWithinBy jobs.result.now k r.capacity ws) groups.ensures.value (subst (λ (k : ℕ). AreWithinBy jobs.result.now groups.result k ws) capacity.ensures (e true))))) c.quiet_by_sums.ensures.within;
+          (λ quiet e true p n is. within_sums p n r ws is (subst (λ (roles : List Role). AreWithinBy 1440 roles r.groups r.capacity ws) jobs.ensures.value (subst (λ (k : ℕ). AreWithinBy 1440 jobs.result.now k r.capacity ws) groups.ensures.value (subst (λ (k : ℕ). AreWithinBy 1440 jobs.result.now groups.result k ws) capacity.ensures (e true))))) c.quiet_by_sums.ensures.within;
       free = IfOk-weaker c.quiet_by_sums.result
-          (λ quiet. IsTrue quiet.is_free → AreFreeBy jobs.result.now ws)
+          (λ quiet. IsTrue quiet.is_free → AreFreeBy 1440 jobs.result.now ws)
           (λ quiet. IsTrue quiet.is_free → (p : Plan) → IsOf p r → AreFree p ws)
-          (λ quiet e true p is. free_sums p r ws is (subst (λ (roles : List Role). AreFreeBy roles ws) jobs.ensures.value (e true))) c.quiet_by_sums.ensures.free;
+          (λ quiet e true p is. free_sums p r ws is (subst (λ (roles : List Role). AreFreeBy 1440 roles ws) jobs.ensures.value (e true))) c.quiet_by_sums.ensures.free;
     }

@@ -46,7 +46,7 @@ HELP = (b"help", b"-h", b"--help")
 # What `lint` calls odd by name.
 ODD = b"""EachMinute UnevenStep BothDays PercentSign LongCommand Background Unexpanded TimeZone
 ValueComment Backslash CarriageReturn SameLine NoNewline UnusedGroup OtherLock MixedLocks NoOwnLock
-RebootLock ShortMax SummerTime CommandComment""".lower().split()
+RebootLock ShortMax NoWhen SummerTime CommandComment""".lower().split()
 # Settings that other programs know and this one passes over.
 WITHOUT_EFFECT = (b"CRON_TZ", b"RANDOM_DELAY", b"START_HOURS_RANGE")
 
@@ -214,8 +214,9 @@ def warnings_of(table, jobs):
 
 
 def notes_of(plan):
-    """Returns what is told of a plan that is judged: what its declarations have twice, what it leaves
-    out, what has the default, what is a guess, and that hardly anything is decided.
+    """Returns what is told of a plan that is judged: what its declarations have twice, which entry
+    lacks a schedule, what it leaves out, what has the default, what is a guess, and that hardly
+    anything is decided.
     """
     told = []
     if plan.doubled is not None:
@@ -223,6 +224,9 @@ def notes_of(plan):
         told.append(
             b"warning: an object of the declarations has %s twice, and the last one counts\n" % name
         )
+    if plan.untimed is not None:
+        of_line = b"warning: another line has the command of line %d: " % plan.untimed
+        told.append(of_line + b'add "when" to its entry, as cronsafe draft does\n')
     told += [b"note: line %d is left out of the plan\n" % it for it in plan.left_out]
     if plan.left_out and not plan.jobs:
         told.append(b"note: the plan has no job\n")

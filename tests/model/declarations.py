@@ -32,12 +32,12 @@ Entry = namedtuple("Entry", "job max weight group guess mode parts", defaults=[(
 Part = namedtuple("Part", "name max")
 # Tables without the lines that are left out, whose numbers rise; the jobs of a plan, of which so
 # many have the default, are those of the crontab first; a member that an object has twice; how many
-# entries are a guess.
+# entries are a guess; the first line whose command others have too, and whose entry tells no schedule.
 Plan = namedtuple(
     "Plan",
     "crontab anacrontab jobs groups capacity hours pass_minute offset left_out defaulted doubled"
-    " guessed",
-    defaults=[[], 0, None, 0],
+    " guessed untimed",
+    defaults=[[], 0, None, 0, None],
 )
 
 
@@ -312,7 +312,17 @@ def joined(declared, crontab, anacrontab):
     more = declared.groups, declared.capacity, declared.hours, declared.pass_minute
     guessed = sum(it.guess for it in [*declared.cron, *declared.anacron])
     plan = Plan(rest, anacrontab, jobs, *more, declared.offset, left_out, defaulted)
-    return plan._replace(guessed=guessed)
+    return plan._replace(guessed=guessed, untimed=untimed(declared, crontab))
+
+
+def untimed(declared, crontab):
+    """Returns the first line with an entry that tells its command alone, where others have it too."""
+    names = [it.job for it in declared.cron] + declared.left_out
+    alone = [it for it in names if it.command is not None and it.when is None]
+    lines = {line for it in alone for line in lines_named(it, crontab)}
+    texts = [it.text for it in crontab.commands]
+    shared = [it.line for it in crontab.commands if texts.count(it.text) > 1]
+    return next((it for it in shared if it in lines), None)
 
 
 def tell_first(faults):

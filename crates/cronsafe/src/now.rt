@@ -1,10 +1,12 @@
 //! What time it is.
 use cs_table::MAX_TABLE;
-use jiff_core::Timestamp;
+use jiff_core::{Error, Timestamp};
 use jiff_tz::{TimeZone, Tzif, posix};
+use std::alloc::AllocError;
+use std::io::ErrorKind;
 use std::rt::{Clock, Env, Files};
 use std::time::SystemTime;
-use std::{env, fs};
+use std::{env, fs, io};
 
 /// What time it is.
 #[derive(Clone, Copy, Debug)]
@@ -24,61 +26,94 @@ pub(crate) fn read_clock<R: Clock>(rt: &R) -> Option<Timestamp> {
 
 /// The minutes by which local time is ahead of UTC at an instant: by `TZ`, which the C library reads
 /// so too (`tzset(3)`), or else by `/etc/localtime`, or else 0. None where `TZ` is set and names no
-/// time zone.
-pub(crate) fn local_offset<R: Env + Files + AllocGlobal>(rt: &R, at: Timestamp) -> Option<i16> {
+/// time zone. The only error is out of memory.
+pub(crate) fn local_offset<R: Env + Files + AllocGlobal>(
+    rt: &R,
+    at: Timestamp,
+) -> Result<Option<i16>, AllocError> {
     match env::var(rt, "TZ") {
         Ok(value) => named_offset(rt, value.as_str(), at),
-        Err(env::VarError::NotPresent) => {
-            Some(file_offset(rt, "/etc/localtime", at).unwrap_or(0))
-        }
-        Err(_) => None,
+        Err(env::VarError::NotPresent) => match file_offset(rt, "/etc/localtime", at)? {
+            Some(offset) => Ok(Some(offset)),
+            None => Ok(Some(0)),
+        },
+        Err(env::VarError::NotUnicode) => Ok(None),
+        Err(env::VarError::OutOfMemory) => Err(AllocError),
     }
 }
 
 /// The offset of the time zone that a value of `TZ` names, with or without a colon in front: of a
 /// file of the machine, or else of a POSIX rule. An empty name is UTC too.
-fn named_offset<R: Env + Files + AllocGlobal>(rt: &R, value: &str, at: Timestamp) -> Option<i16> {
+fn named_offset<R: Env + Files + AllocGlobal>(
+    rt: &R,
+    value: &str,
+    at: Timestamp,
+) -> Result<Option<i16>, AllocError> {
     let name = value.strip_prefix(':').unwrap_or(value);
     if name.is_empty() || name == "UTC" {
-        return Some(0);
+        return Ok(Some(0));
     }
-    if let Some(path) = zone_path(rt, name) {
-        if let Some(offset) = file_offset(rt, path.as_str(), at) {
-            return Some(offset);
+    if let Some(path) = zone_path(rt, name)? {
+        if let Some(offset) = file_offset(rt, path.as_str(), at)? {
+            return Ok(Some(offset));
         }
     }
-    let rule = posix::TimeZone::parse(name.as_bytes()).ok()?;
-    offset_minutes(TimeZone::Posix(rule), at)
+    match posix::TimeZone::parse(name.as_bytes()) {
+        Ok(rule) => Ok(offset_minutes(TimeZone::Posix(rule), at)),
+        Err(_) => Ok(None),
+    }
 }
 
 /// The path of the file of a time zone: its name if that is a path from the root, or else the name
 /// below the folder that `TZDIR` names, or `/usr/share/zoneinfo`. A name with `..` has none.
-fn zone_path<R: Env + AllocGlobal>(rt: &R, name: &str) -> Option<String> {
+fn zone_path<R: Env + AllocGlobal>(rt: &R, name: &str) -> Result<Option<String>, AllocError> {
     if name.starts_with('/') {
-        return String::from_str(rt.alloc(), name).ok();
+        return Ok(Some(String::from_str(rt.alloc(), name)?));
     }
     if name.contains("..") {
-        return None;
+        return Ok(None);
     }
     let mut path = match env::var(rt, "TZDIR") {
         Ok(folder) if !folder.is_empty() => folder,
-        _ => String::from_str(rt.alloc(), "/usr/share/zoneinfo").ok()?,
+        Err(env::VarError::OutOfMemory) => return Err(AllocError),
+        _ => String::from_str(rt.alloc(), "/usr/share/zoneinfo")?,
     };
-    path.push('/').ok()?;
-    path.push_str(name).ok()?;
-    Some(path)
+    path.push('/')?;
+    path.push_str(name)?;
+    Ok(Some(path))
+}
+
+/// What is known of a file that can't be read: nothing, unless memory ran out.
+fn unread(error: &io::Error) -> Result<Option<i16>, AllocError> {
+    match error.kind() {
+        ErrorKind::OutOfMemory => Err(AllocError),
+        _ => Ok(None),
+    }
 }
 
 /// The offset of the time zone of a file (TZif, RFC 9636), if there is such a file. Of no bytes are
 /// files of the kernel too, a read of which may never end.
-fn file_offset<R: Files + AllocGlobal>(rt: &R, path: &str, at: Timestamp) -> Option<i16> {
-    let found = fs::metadata(rt, path).ok()?;
+fn file_offset<R: Files + AllocGlobal>(
+    rt: &R,
+    path: &str,
+    at: Timestamp,
+) -> Result<Option<i16>, AllocError> {
+    let found = match fs::metadata(rt, path) {
+        Ok(found) => found,
+        Err(error) => return unread(&error),
+    };
     if !found.is_file() || found.len() == 0 || found.len() > MAX_TABLE as u64 {
-        return None;
+        return Ok(None);
     }
-    let bytes = fs::read(rt, path).ok()?;
-    let zone = Tzif::parse(rt.alloc(), None, bytes.as_slice()).ok()?;
-    offset_minutes(TimeZone::Tzif(&zone), at)
+    let bytes = match fs::read(rt, path) {
+        Ok(bytes) => bytes,
+        Err(error) => return unread(&error),
+    };
+    match Tzif::parse(rt.alloc(), None, bytes.as_slice()) {
+        Ok(zone) => Ok(offset_minutes(TimeZone::Tzif(&zone), at)),
+        Err(Error::OutOfMemory) => Err(AllocError),
+        Err(_) => Ok(None),
+    }
 }
 
 /// The minutes by which a time zone is ahead of UTC at an instant.

@@ -61,30 +61,31 @@ fn warn_of_zone<E: Output>(alloc: Global, words: &[String], err: &mut E) {
     }
 }
 
-/// What time it is. Where it isn't known and isn't asked for, it is 1970-01-01 00:00 UTC. A time zone
-/// that isn't known is UTC.
+/// What time it is, or why there is no answer. Where it isn't known and isn't asked for, it is
+/// 1970-01-01 00:00 UTC. A time zone that isn't known is UTC.
 fn time_for<R: Clock + Env + Files + AllocGlobal, E: Output>(
     rt: &R,
     words: &[String],
     err: &mut E,
-) -> Option<Now> {
+) -> Result<Now, Cause> {
     let Some(instant) = read_clock(rt) else {
         if asks_time(rt.alloc(), words) {
-            return None;
+            return Err(Cause::ClockFailed);
         }
-        return Some(Now {
+        return Ok(Now {
             offset: 0,
             instant: Timestamp::UNIX_EPOCH,
         });
     };
     let offset = match local_offset(rt, instant) {
-        Some(offset) => offset,
-        None => {
+        Ok(Some(offset)) => offset,
+        Ok(None) => {
             warn_of_zone(rt.alloc(), words, err);
             0
         }
+        Err(_) => return Err(Cause::NoMemory),
     };
-    Some(Now { offset, instant })
+    Ok(Now { offset, instant })
 }
 
 /// Runs the program on the machine's words, files and clock, with these two outputs, the second of
@@ -119,9 +120,12 @@ pub(crate) fn run_program<
     if is_watched {
         announce(alloc, words, err);
     }
-    let Some(now) = time_for(rt, words, err) else {
-        let _ = err.print(farewell(Cause::ClockFailed).as_bytes());
-        return ExitCode::from(status_for(Cause::ClockFailed).code());
+    let now = match time_for(rt, words, err) {
+        Ok(now) => now,
+        Err(cause) => {
+            let _ = err.print(farewell(cause).as_bytes());
+            return ExitCode::from(status_for(cause).code());
+        }
     };
     ExitCode::from(run_words(
         rt,

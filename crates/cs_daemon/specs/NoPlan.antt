@@ -17,5 +17,6 @@ no_plan = record {
   left_out = [];
   defaulted = 0;
   guessed = 0;
+  untimed = None;
   doubled = None;
 }

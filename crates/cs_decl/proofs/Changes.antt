@@ -1,17 +1,15 @@
 -- A plan stays whole where one declaration changes.
 use Rattle.std.proofs.Common.{◌≡◌, ℕ, ◌+◌, ◌-◌, ◌<◌, ◌≤◌, List, drop, length, set, inl, inr, refl, sym, ap, subst, ◌∙◌, arith}
-use Rattle.std.specs.Prelude.{All, IfSome, IsSome, true}
+use Rattle.std.specs.Prelude.{All, IfSome}
 use Rattle.std.proofs.Math.Seq.{map-set_same}
 use Rattle.std.proofs.lemmas.List.{drop-set-lt, drop-set-add}
 use Rattle.std.proofs.lemmas.List.Elements.{All-set}
 use Rattle.std.proofs.lemmas.Bool.{cases_lt}
-use Rattle.cs_history.specs.declared.mode.Mode.{Mode}
 use Rattle.cs_history.specs.declared.mode.Mode.TheVariants.{Plain}
-use Rattle.cs_history.specs.Plan.{takes}
 use Rattle.cs_decl.specs.declared.limits.TheConstants.{MAX_MINUTES}
 use Rattle.cs_decl.specs.Job.{DeclaredJob, IsPossible}
 use Rattle.cs_decl.specs.Plan.{Declared, IsWhole, IsListed, crons, job_at, no_job}
-use Rattle.cs_decl.specs.Changed.{job_with_max, job_with_mode, with_jobs, with_max, with_mode}
+use Rattle.cs_decl.specs.Changed.{job_with_max, with_max}
 use Rattle.cs_decl.proofs.Plans.{at_or, plain_at, possible}
 
 -- what holds of each past a place still does where an element changes to one of which it holds, if
@@ -27,7 +25,7 @@ all_behind P n xs j x each new = elim (cases_lt j n) [
 -- a plan with another declaration of one job, of the same line and in range
 pub changed : (d : Declared) → IsWhole d → (j : ℕ) (job : DeclaredJob)
     → job.place ≡ (job_at d j).place → IsPossible job → IsListed (length d.groups) job → (crons d ≤ j → job.mode ≡ Plain)
-    → IsWhole (with_jobs d (set d.jobs j job))
+    → IsWhole (record d { jobs = set d.jobs j job })
 changed d w j job place valid listed plain = record {
   few_commands = w.few_commands;
   few_lines = w.few_lines;
@@ -52,8 +50,3 @@ pub with_max_whole : (d : Declared) → IsWhole d → (j max : ℕ) → (1 ≤ m
 with_max_whole d w j max range = changed d w j (job_with_max (job_at d j) max) refl
     (record { max = range; weight = (possible d w j).weight; lock = (possible d w j).lock })
     (listed_at d w j) (λ behind. plain_at d w j behind)
-
-pub with_mode_whole : (d : Declared) → IsWhole d → (j : ℕ) (mode : Mode) → j < crons d → (takes mode ≡ true → IsSome (job_at d j).group) → IsWhole (with_mode d j mode)
-with_mode_whole d w j mode cron lock = changed d w j (job_with_mode (job_at d j) mode) refl
-    (record { max = (possible d w j).max; weight = (possible d w j).weight; lock = lock })
-    (listed_at d w j) (λ behind. absurd (omega arith))

@@ -14,7 +14,7 @@ use Rattle.cs_decl.specs.declared.entries.Entries.{Entries}
 use Rattle.cs_decl.specs.Plan.{Declared}
 use Rattle.cs_decl.specs.Faults.{Fault, first_fault, same_number}
 use Rattle.cs_decl.specs.Meaning.{unless}
-use Rattle.cs_decl.specs.Join.{is_named, names_line, is_unlike, has_other_schedule, has_no_line, has_other_command, is_ambiguous, number_of, cron_numbers, rest, lines_left_out, naming_faults, undeclared, mistimed, plan_of, joined}
+use Rattle.cs_decl.specs.Join.{is_named, names_line, is_unlike, has_other_schedule, has_no_line, has_other_command, is_ambiguous, number_of, cron_numbers, rest, lines_left_out, untimed, naming_faults, undeclared, mistimed, plan_of, joined}
 use Rattle.cs_decl.specs.Lines.{names_of, TellsOf, is_told, IsLeftOut, HasNoEntry}
 use Rattle.cs_decl.specs.When.{is_told_when}
 use Rattle.cs_decl.proofs.Positions.{position_none}
@@ -31,7 +31,7 @@ no_fault x y (Some f) h = absurd cc
 module _ (c : Crontab) (a : Anacrontab) (d : Entries) (plan : Declared) (made : joined c a d ≡ Ok plan) where
   parted : (first_fault (naming_faults c.lines a.lines d) ≡ None) × (first_fault (undeclared (rest d c).lines a.lines d ++ mistimed c.lines d) ≡ None)
   unfolding joined
-  parted = no_part (naming_faults c.lines a.lines d) (undeclared (rest d c).lines a.lines d ++ mistimed c.lines d) (no_fault (plan_of (rest d c) (lines_left_out d c) a d) plan _ made).0
+  parted = no_part (naming_faults c.lines a.lines d) (undeclared (rest d c).lines a.lines d ++ mistimed c.lines d) (no_fault (plan_of (rest d c) (lines_left_out d c) (untimed d c.lines) a d) plan _ made).0
 
   pub named_right : NamesAreRight c.lines a.lines d
   named_right = names_are_right c.lines a.lines d parted.0
@@ -42,9 +42,9 @@ module _ (c : Crontab) (a : Anacrontab) (d : Entries) (plan : Declared) (made : 
   pub timed_right : SchedulesAreRight c.lines d
   timed_right = schedules_are_right c.lines d (no_part (undeclared (rest d c).lines a.lines d) (mistimed c.lines d) parted.1).1
 
-  pub plan_is : plan_of (rest d c) (lines_left_out d c) a d ≡ plan
+  pub plan_is : plan_of (rest d c) (lines_left_out d c) (untimed d c.lines) a d ≡ plan
   unfolding joined
-  plan_is = (no_fault (plan_of (rest d c) (lines_left_out d c) a d) plan _ made).1
+  plan_is = (no_fault (plan_of (rest d c) (lines_left_out d c) (untimed d c.lines) a d) plan _ made).1
 
 -- what holds of the name of each entry of `cron` and of `left_out` holds of all names
 all_names : (d : Entries) (P : LineName → Type 0) → All (λ e. P e.name) d.cron → All P d.left_out → All P (names_of d)

@@ -10,7 +10,7 @@ use Rattle.cs_decl.specs.declared.entries.DefaultEntry.{DefaultEntry}
 use Rattle.cs_decl.specs.declared.entries.Entries.{Entries}
 use Rattle.cs_decl.specs.Job.{DeclaredJob}
 use Rattle.cs_decl.specs.Plan.{Declared, crons, places_of, no_job, no_command, job_at, command_of}
-use Rattle.cs_decl.specs.Join.{is_named, is_reboot, has_entry, has_job_entry, is_undeclared, is_undeclared_job, default_terms, cron_terms, cron_job, anacron_job, jobs_from, rest, lines_left_out, plan_of, joined}
+use Rattle.cs_decl.specs.Join.{is_named, is_reboot, has_entry, has_job_entry, is_undeclared, is_undeclared_job, default_terms, cron_terms, cron_job, anacron_job, jobs_from, rest, lines_left_out, untimed, plan_of, joined}
 use Rattle.cs_decl.specs.Lines.{AreParted, HasDefault, IsDeclared}
 use Rattle.cs_decl.proofs.Positions.{find_none}
 use Rattle.cs_decl.proofs.Validity.{locked}
@@ -50,7 +50,7 @@ no_default (Some x) e = cc
 
 module _ (c : Crontab) (a : Anacrontab) (d : Entries) (plan : Declared) (made : joined c a d ≡ Ok plan) where
   abbrev the_plan : Declared
-  the_plan = plan_of (rest d c) (lines_left_out d c) a d
+  the_plan = plan_of (rest d c) (lines_left_out d c) (untimed d c.lines) a d
 
   pub lines : AreParted d c.lines plan.crontab.lines plan.left_out
   unfolding plan_of
@@ -60,7 +60,7 @@ module _ (c : Crontab) (a : Anacrontab) (d : Entries) (plan : Declared) (made : 
   unfolding plan_of
   jobs =
       subst (λ (p : Declared). (p.anacrontab ≡ a) × (map (λ job. job.place) p.jobs ≡ places_of p.crontab.lines ++ places_of p.anacrontab.lines)) (plan_is c a d plan made)
-      (refl, plan_places (rest d c) (lines_left_out d c) a d)
+      (refl, plan_places (rest d c) (lines_left_out d c) (untimed d c.lines) a d)
 
   declared_at : (j : ℕ) → j < crons the_plan → IsDeclared d (command_of the_plan j) (job_at the_plan j)
   unfolding plan_of

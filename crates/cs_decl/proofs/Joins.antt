@@ -8,7 +8,7 @@ use Rattle.cs_decl.specs.declared.fault.DeclFault.TheVariants as faults
 use Rattle.cs_decl.specs.declared.fault.Place.TheVariants.{LeftOut, Line}
 use Rattle.cs_decl.specs.declared.entries.Entries.{Entries}
 use Rattle.cs_decl.specs.Faults.{first_again, first_twice, same_number, Fault, first_fault, at_anacron, at_left_out}
-use Rattle.cs_decl.specs.Join.{has_no_line, has_no_job, has_other_command, is_ambiguous, cron_numbers, left_out_numbers, is_undeclared, is_undeclared_job, is_reboot, reboot_fault, lineless, misquoted, ambiguous, named_twice, naming_faults, undeclared, has_other_schedule, mistimed, rest, lines_left_out, plan_of, joined}
+use Rattle.cs_decl.specs.Join.{has_no_line, has_no_job, has_other_command, is_ambiguous, cron_numbers, left_out_numbers, is_undeclared, is_undeclared_job, is_reboot, reboot_fault, lineless, misquoted, ambiguous, named_twice, naming_faults, undeclared, has_other_schedule, mistimed, rest, lines_left_out, untimed, plan_of, joined}
 use Rattle.cs_decl.specs.Meaning.{unless}
 use Rattle.cs_decl.proofs.Validity.{no_row, no_part, mapped_none}
 use Rattle.cs_decl.proofs.Order.{in_front, behind}
@@ -82,14 +82,14 @@ schedules_are_right lines d e =
 
 -- ---- what is wrong with names comes first
 
-pub past_names : (c : Crontab) (a : Anacrontab) (d : Entries) → first_fault (naming_faults c.lines a.lines d) ≡ None → joined c a d ≡ unless (plan_of (rest d c) (lines_left_out d c) a d) (first_fault (undeclared (rest d c).lines a.lines d ++ mistimed c.lines d))
+pub past_names : (c : Crontab) (a : Anacrontab) (d : Entries) → first_fault (naming_faults c.lines a.lines d) ≡ None → joined c a d ≡ unless (plan_of (rest d c) (lines_left_out d c) (untimed d c.lines) a d) (first_fault (undeclared (rest d c).lines a.lines d ++ mistimed c.lines d))
 unfolding joined
-past_names c a d e = ap (unless (plan_of (rest d c) (lines_left_out d c) a d)) (behind (naming_faults c.lines a.lines d) (undeclared (rest d c).lines a.lines d ++ mistimed c.lines d) e)
+past_names c a d e = ap (unless (plan_of (rest d c) (lines_left_out d c) (untimed d c.lines) a d)) (behind (naming_faults c.lines a.lines d) (undeclared (rest d c).lines a.lines d ++ mistimed c.lines d) e)
 
 pub wrong_name : (c : Crontab) (a : Anacrontab) (d : Entries) (f : Fault) → first_fault (naming_faults c.lines a.lines d) ≡ Some f → joined c a d ≡ Err f
 unfolding joined
-wrong_name c a d f e = ap (unless (plan_of (rest d c) (lines_left_out d c) a d)) (in_front (naming_faults c.lines a.lines d) (undeclared (rest d c).lines a.lines d ++ mistimed c.lines d) f e)
+wrong_name c a d f e = ap (unless (plan_of (rest d c) (lines_left_out d c) (untimed d c.lines) a d)) (in_front (naming_faults c.lines a.lines d) (undeclared (rest d c).lines a.lines d ++ mistimed c.lines d) f e)
 
 pub wrong_job : (c : Crontab) (a : Anacrontab) (d : Entries) (f : Fault) → first_fault (undeclared (rest d c).lines a.lines d) ≡ Some f
-    → unless (plan_of (rest d c) (lines_left_out d c) a d) (first_fault (undeclared (rest d c).lines a.lines d ++ mistimed c.lines d)) ≡ Err f
-wrong_job c a d f e = ap (unless (plan_of (rest d c) (lines_left_out d c) a d)) (in_front (undeclared (rest d c).lines a.lines d) (mistimed c.lines d) f e)
+    → unless (plan_of (rest d c) (lines_left_out d c) (untimed d c.lines) a d) (first_fault (undeclared (rest d c).lines a.lines d ++ mistimed c.lines d)) ≡ Err f
+wrong_job c a d f e = ap (unless (plan_of (rest d c) (lines_left_out d c) (untimed d c.lines) a d)) (in_front (undeclared (rest d c).lines a.lines d) (mistimed c.lines d) f e)

@@ -130,22 +130,22 @@ module _ (d : Entries) where
       plain_anacron (Some e) = refl
 
 -- each line has its job
-pub plan_places : (c : Crontab) (left_out : List ℕ) (a : Anacrontab) (d : Entries) → map (λ j. j.place) (plan_of c left_out a d).jobs ≡ places_of c.lines ++ places_of a.lines
+pub plan_places : (c : Crontab) (left_out : List ℕ) (untimed : Option ℕ) (a : Anacrontab) (d : Entries) → map (λ j. j.place) (plan_of c left_out untimed a d).jobs ≡ places_of c.lines ++ places_of a.lines
 unfolding plan_of
-plan_places c left_out a d =
+plan_places c left_out untimed a d =
     map_append (λ j. j.place) (jobs_from (cron_job d) 0 c.lines) (jobs_from (anacron_job d) 0 a.lines)
     ∙ rw (places_from (cron_job d) (cron_place d) 0 c.lines, places_from (anacron_job d) (anacron_place d) 0 a.lines) refl
 
 -- ---- the whole plan
 
-pub whole : (c : Crontab) (left_out : List ℕ) (a : Anacrontab) (d : Entries) → IsValid d → length c.lines ≤ MAX_COMMANDS → length a.lines ≤ MAX_JOBS → All IsPossibleLine a.lines → find (λ line. is_reboot line.when) c.lines ≡ None → IsWhole (plan_of c left_out a d)
+pub whole : (c : Crontab) (left_out : List ℕ) (untimed : Option ℕ) (a : Anacrontab) (d : Entries) → IsValid d → length c.lines ≤ MAX_COMMANDS → length a.lines ≤ MAX_JOBS → All IsPossibleLine a.lines → find (λ line. is_reboot line.when) c.lines ≡ None → IsWhole (plan_of c left_out untimed a d)
 unfolding plan_of
-whole c left_out a d v few_commands few_lines lines no_reboot = record {
+whole c left_out untimed a d v few_commands few_lines lines no_reboot = record {
   few_commands = few_commands;
   few_lines = few_lines;
   timed = timed c.lines no_reboot;
   lines = lines;
-  places = plan_places c left_out a d;
+  places = plan_places c left_out untimed a d;
   possible =
       All-append IsPossible (jobs_from (cron_job d) 0 c.lines) (jobs_from (anacron_job d) 0 a.lines)
       (all_from (cron_job d) IsPossible (λ k l. cron_possible d v k _ _ refl) 0 c.lines)

@@ -1,5 +1,5 @@
 -- From two tables and declarations to a plan.
-use Rattle.std.specs.Prelude.{ℕ, ℤ, ◌+◌, pos, unsigned_abs, List, [], ◌∷◌, ◌++◌, map, Option, None, Some, option_map, option_and_then, is_none, Bool, true, false, not, ◌&&◌, nat_lt, bytes_eq, Result, position}
+use Rattle.std.specs.Prelude.{ℕ, ℤ, ◌+◌, pos, unsigned_abs, List, [], ◌∷◌, ◌++◌, map, Option, None, Some, option_map, option_and_then, is_none, is_some, Bool, true, false, not, ◌&&◌, ◌||◌, nat_lt, bytes_eq, Result, position}
 use Rattle.std.specs.Ordering.{int_eq}
 use Rattle.std.specs.List.{list_any, find, filter, count_by}
 use Rattle.cs_crontab.specs.Crontab.{Table as Crontab, CommandLine}
@@ -246,9 +246,24 @@ defaulted d lines jobs =
 abbrev pub guessed : Entries → ℕ
 guessed d = count_by (λ e. e.guess) d.cron + count_by (λ e. e.guess) d.anacron
 
+-- it tells a command without a schedule
+abbrev pub is_untimed_name : LineName → Bool
+is_untimed_name name = is_some name.command && is_none name.when
+
+-- another line has the command of this one too, and the entry of this one tells no schedule
+abbrev pub is_untimed : Entries → List CommandLine → CommandLine → Bool
+is_untimed d lines line =
+    (list_any (λ e. is_named e.name line && is_untimed_name e.name) d.cron
+    || list_any (λ name. is_named name line && is_untimed_name name) d.left_out)
+    && nat_lt 1 (count_by (λ other. bytes_eq other.command line.command) lines)
+
+-- the number of the first such line
+abbrev pub untimed : Entries → List CommandLine → Option ℕ
+untimed d lines = option_map (λ line. line.number) (find (is_untimed d lines) lines)
+
 -- the plan of the rest of a crontab, and the numbers of the lines that are left out of it
-unfoldable pub plan_of : Crontab → List ℕ → Anacrontab → Entries → Declared
-plan_of crontab left_out anacrontab d = record {
+unfoldable pub plan_of : Crontab → List ℕ → Option ℕ → Anacrontab → Entries → Declared
+plan_of crontab left_out untimed anacrontab d = record {
   crontab = crontab;
   anacrontab = anacrontab;
   jobs = jobs_from (cron_job d) 0 crontab.lines ++ jobs_from (anacron_job d) 0 anacrontab.lines;
@@ -260,11 +275,13 @@ plan_of crontab left_out anacrontab d = record {
   left_out = left_out;
   defaulted = defaulted d crontab.lines anacrontab.lines;
   guessed = guessed d;
+  untimed = untimed;
   doubled = d.doubled;
 }
 
 -- the plan of the tables and the declarations, or their first fault
 unfoldable pub joined : Crontab → Anacrontab → Entries → Result Declared Fault
 joined crontab anacrontab d =
-    unless (plan_of (rest d crontab) (lines_left_out d crontab) anacrontab d)
+    unless (plan_of (rest d crontab) (lines_left_out d crontab) (untimed d crontab.lines) anacrontab
+    d)
     (first_fault (join_faults crontab anacrontab d))

@@ -31,6 +31,7 @@ plain_plan crontab anacrontab max = record {
   left_out = [];
   defaulted = 0;
   guessed = 0;
+  untimed = None;
   doubled = None;
 }
 

@@ -26,7 +26,8 @@ pub record DeclaredGroup : Type 0 where
 -- The jobs are those of the crontab and then those of the anacrontab, each in order of line. The
 -- pass minute is one of the day, the offset counts minutes to the east of UTC. The crontab is
 -- without the lines of the numbers that are left out; so many jobs have the default, and so many
--- entries are a guess. One member may stand twice in an object of the declarations' text.
+-- entries are a guess. One line may have an entry with its command and no schedule while another
+-- has that command too. One member may stand twice in an object of the declarations' text.
 pub record Declared : Type 0 where
   pub crontab : Crontab
   pub anacrontab : Anacrontab
@@ -39,6 +40,7 @@ pub record Declared : Type 0 where
   pub left_out : List ℕ
   pub defaulted : ℕ
   pub guessed : ℕ
+  pub untimed : Option ℕ
   pub doubled : Option (List ℕ)
 
 -- how many of the jobs are cron jobs

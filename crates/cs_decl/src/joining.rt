@@ -4,13 +4,13 @@ ghost use Rattle.std.specs.List.{find};
 ghost use Rattle.cs_decl.specs.Faults.{Fault, first_fault};
 ghost use Rattle.cs_decl.specs.Meaning.{Answers, IsValid, unless};
 ghost use Rattle.cs_decl.specs.Join.{is_reboot, undeclared, rest, lines_left_out, declared_hours};
-ghost use Rattle.cs_decl.specs.Join.{mistimed, plan_of, joined};
+ghost use Rattle.cs_decl.specs.Join.{mistimed, plan_of, joined, untimed};
 
 use crate::declarations::Declarations;
 use crate::entries::Entries;
 use crate::fault::{DeclError, DeclFault};
 use crate::join_rows::{mistimed_fault, naming_fault, undeclared_fault};
-use crate::lookups::{defaulted, guessed, lines_left_out};
+use crate::lookups::{defaulted, guessed, lines_left_out, untimed};
 use crate::plan::{Plan, copy_name};
 use crate::terms::{groups_of, jobs_of, small, smaller};
 use cs_anacrontab::Anacrontab;
@@ -60,12 +60,13 @@ fn plan_of(
     alloc: Global,
     crontab: Crontab,
     left_out: Sequence<u32>,
+    untimed: Option<u32>,
     anacrontab: Anacrontab,
     entries: &Entries,
 ) -> Result<Plan, AllocError>
     requires valid { IsValid entries.now }
     requires timed { find (λ line. is_reboot line.when) crontab.lines ≡ None }
-    ensures { IfOk result (λ plan. plan ≡ plan_of crontab left_out anacrontab entries.now) }
+    ensures { IfOk result (λ plan. plan ≡ plan_of crontab left_out untimed anacrontab entries.now) }
 {
     let jobs = jobs_of(alloc, crontab.lines(), anacrontab.lines(), entries)?;
     let groups = groups_of(alloc, entries.groups.as_slice())?;
@@ -83,6 +84,7 @@ fn plan_of(
         left_out,
         defaulted,
         guessed(entries),
+        untimed,
         doubled,
     ))
 }
@@ -112,15 +114,16 @@ fn joined_rest(
 ) -> Result<Plan, DeclError>
     requires { IsValid entries.now }
     ensures { Answers (λ plan. plan)
-        (unless (plan_of (rest entries.now crontab) (lines_left_out entries.now crontab) anacrontab
-        entries.now) (first_fault (undeclared (rest entries.now crontab).lines anacrontab.lines
+        (unless (plan_of (rest entries.now crontab) (lines_left_out entries.now crontab)
+        (untimed entries.now crontab.lines) anacrontab entries.now) (first_fault (undeclared (rest entries.now crontab).lines anacrontab.lines
         entries.now ++ mistimed crontab.lines entries.now))) result }
 {
     let late = mistimed_fault(crontab.lines(), entries);
+    let untimed = untimed(entries, crontab.lines());
     let (rest, left_out) = rest_of(alloc, crontab, entries)?;
     match undeclared_fault(alloc, rest.lines(), anacrontab.lines(), entries)? {
         None => match late {
-            None => Ok(plan_of(alloc, rest, left_out, anacrontab, entries)?),
+            None => Ok(plan_of(alloc, rest, left_out, untimed, anacrontab, entries)?),
             Some((fault, place)) => Err(DeclError::At { fault, place }),
         },
         Some((fault, place)) => Err(DeclError::At { fault, place }),

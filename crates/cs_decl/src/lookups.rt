@@ -1,13 +1,14 @@
 //! Lines that are left out, jobs without an entry, and entries without a job.
-ghost use Rattle.std.specs.Prelude.{◌≡◌, ◌≤◌, ◌+◌, not, length, map, option_map, position, IfOk};
+ghost use Rattle.std.specs.Prelude.{◌≡◌, ◌≤◌, ◌+◌, ◌&&◌, not, nat_lt, bytes_eq, length, map, option_map, position};
+ghost use Rattle.std.specs.Prelude.{IfOk};
 ghost use Rattle.std.specs.List.{find, filter, list_any, count_by};
 ghost use Rattle.cs_crontab.specs.declared.limits.TheConstants.{MAX_COMMANDS};
 ghost use Rattle.cs_anacrontab.specs.declared.limits.TheConstants.{MAX_JOBS};
 ghost use Rattle.cs_decl.specs.Join.{is_of_job, has_no_job, is_reboot, is_left_out, has_entry};
 ghost use Rattle.cs_decl.specs.Join.{has_job_entry, is_undeclared, is_undeclared_job, defaulted};
-ghost use Rattle.cs_decl.specs.Join.{guessed};
+ghost use Rattle.cs_decl.specs.Join.{guessed, is_named, is_untimed, is_untimed_name, untimed};
 
-use crate::entries::{AnacronEntry, CronEntry, Entries};
+use crate::entries::{AnacronEntry, CronEntry, Entries, LineName};
 use crate::naming::is_named;
 use cs_anacrontab::Job as JobLine;
 use cs_civil::Sequence;
@@ -165,4 +166,69 @@ pub(crate) fn guessed(entries: &Entries) -> usize
     ensures { result ≡ guessed entries.now }
 {
     count_guesses(entries.cron.as_slice()) + count_guesses_of_jobs(entries.anacron.as_slice())
+}
+
+fn is_untimed_name(name: &LineName) -> bool
+    ensures { result ≡ is_untimed_name name.now }
+{
+    match &name.when {
+        Some(_) => false,
+        None => match &name.command {
+            Some(_) => true,
+            None => false,
+        },
+    }
+}
+
+fn has_untimed_entry(entries: &[CronEntry], line: &Line) -> bool
+    ensures { result
+        ≡ list_any (λ e. is_named e.name line.now && is_untimed_name e.name) entries.now }
+{
+    entries.iter().any(|entry| is_named(&entry.name, line) && is_untimed_name(&entry.name))
+}
+
+fn has_untimed_name(names: &[LineName], line: &Line) -> bool
+    ensures { result
+        ≡ list_any (λ name. is_named name line.now && is_untimed_name name) names.now }
+{
+    names
+        .iter()
+        .any(|name| is_named(name, line) && is_untimed_name(name))
+}
+
+/// Whether several lines have the command.
+fn is_shared(lines: &[Line], line: &Line) -> bool
+    ensures { result
+        ≡ nat_lt 1 (count_by (λ other. bytes_eq other.command line.now.command) lines.now) }
+{
+    lines
+        .iter()
+        .filter(|other| other.command() == line.command())
+        .count()
+        > 1
+}
+
+fn is_untimed(entries: &Entries, lines: &[Line], line: &Line) -> bool
+    ensures { result ≡ is_untimed entries.now lines.now line.now }
+{
+    (has_untimed_entry(entries.cron.as_slice(), line)
+        || has_untimed_name(entries.left_out.as_slice(), line))
+        && is_shared(lines, line)
+}
+
+fn first_untimed<'l>(entries: &Entries, lines: &'l [Line]) -> Option<&'l Line>
+    ensures { option_map (λ l. l.now) result ≡ find (is_untimed entries.now lines.now) lines.now }
+{
+    lines.iter().find(|line| is_untimed(entries, lines, line))
+}
+
+/// The number of the first line whose entry tells its command and no schedule, while another line
+/// has that command too.
+pub(crate) fn untimed(entries: &Entries, lines: &[Line]) -> Option<u32>
+    ensures { result ≡ untimed entries.now lines.now }
+{
+    match first_untimed(entries, lines) {
+        Some(line) => Some(line.number()),
+        None => None,
+    }
 }

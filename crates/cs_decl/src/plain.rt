@@ -80,6 +80,7 @@ fn plain_plan(
         0,
         0,
         None,
+        None,
     ))
 }
 

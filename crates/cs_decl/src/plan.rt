@@ -1,6 +1,6 @@
 ghost use Rattle.std.specs.Prelude.{All, ◌≡◌, ℕ, ◌+◌, ◌<◌, ◌≤◌, length, false, Some, IfOk, IfSome};
-ghost use Rattle.std.specs.Prelude.{IsSome, set, true, unsigned_abs};
-ghost use Rattle.cs_history.specs.Plan.{IsPlan, exclusive_group, takes};
+ghost use Rattle.std.specs.Prelude.{set, unsigned_abs};
+ghost use Rattle.cs_history.specs.Plan.{IsPlan, exclusive_group};
 ghost use Rattle.cs_civil.specs.declared.minute.TheConstants.{MINUTES_OF_DAY};
 ghost use Rattle.cs_decl.specs.declared.limits.TheConstants.{MAX_MINUTES, MAX_CAPACITY, MAX_OFFSET};
 ghost use Rattle.cs_decl.specs.declared.limits.TheConstants.{MAX_GROUPS};
@@ -32,6 +32,7 @@ pub struct Plan {
     left_out: Sequence<u32>,
     defaulted: usize,
     guessed: usize,
+    untimed: Option<u32>,
     doubled: Option<Bytes>,
 }
 
@@ -52,6 +53,7 @@ impl Model for Plan {
       left_out = a.left_out;
       defaulted = a.defaulted;
       guessed = a.guessed;
+      untimed = a.untimed;
       doubled = a.doubled;
     } };
 
@@ -68,6 +70,7 @@ impl Model for Plan {
           left_out = a.left_out;
           defaulted = a.defaulted;
           guessed = a.guessed;
+          untimed = a.untimed;
           doubled = a.doubled;
         }) };
 }
@@ -108,7 +111,7 @@ fn with_job_at(
 }
 
 impl Plan {
-    ghost use Rattle.cs_decl.specs.Changed.{with_capacity, with_hours, with_jobs, with_max, with_mode};
+    ghost use Rattle.cs_decl.specs.Changed.{with_max};
     ghost use Rattle.cs_decl.specs.Plan.{IsTimed, IsWhole, crons, as_plan, job_at};
 
     pub(crate) fn new(
@@ -123,6 +126,7 @@ impl Plan {
         left_out: Sequence<u32>,
         defaulted: usize,
         guessed: usize,
+        untimed: Option<u32>,
         doubled: Option<Bytes>,
     ) -> Plan
         requires { IsWhole (record {
@@ -137,6 +141,7 @@ impl Plan {
           left_out = left_out;
           defaulted = defaulted;
           guessed = guessed;
+          untimed = untimed;
           doubled = doubled;
         }) }
         ensures { result
@@ -152,6 +157,7 @@ impl Plan {
               left_out = left_out;
               defaulted = defaulted;
               guessed = guessed;
+              untimed = untimed;
               doubled = doubled;
             } }
     {
@@ -167,6 +173,7 @@ impl Plan {
             left_out,
             defaulted,
             guessed,
+            untimed,
             doubled,
         }
     }
@@ -187,6 +194,7 @@ impl Plan {
             left_out: Sequence::from_slice(alloc, self.left_out.as_slice())?,
             defaulted: self.defaulted,
             guessed: self.guessed,
+            untimed: self.untimed,
             doubled: copy_name(alloc, &self.doubled)?,
         })
     }
@@ -204,45 +212,12 @@ impl Plan {
         self.with_jobs(alloc, jobs)
     }
 
-    /// Copies the plan with another mode of one of its cron jobs, which has a group if that mode
-    /// takes a lock. The only error is out of memory.
-    pub fn with_mode(&self, alloc: Global, number: u16, mode: Mode) -> Result<Plan, AllocError>
-        requires cron { number < crons self.now }
-        requires lock { takes mode ≡ true → IsSome (job_at self.now number).group }
-        ensures { IfOk result (λ plan. plan ≡ with_mode self.now number mode) }
-    {
-        let job = self.job_at(number);
-        let changed = Job::new(job.place(), job.max(), job.weight(), job.group(), mode);
-        let jobs = with_job_at(alloc, self.jobs(), usize::from(number), changed)?;
-        self.with_jobs(alloc, jobs)
-    }
-
     fn with_jobs(&self, alloc: Global, jobs: Sequence<Job>) -> Result<Plan, AllocError>
-        requires { IsWhole (with_jobs self.now jobs) }
-        ensures { IfOk result (λ plan. plan ≡ with_jobs self.now jobs) }
+        requires { IsWhole (record self.now { jobs = jobs }) }
+        ensures { IfOk result (λ plan. plan ≡ record self.now { jobs = jobs }) }
     {
         let mut plan = self.copy(alloc)?;
         plan.jobs = jobs;
-        Ok(plan)
-    }
-
-    /// Copies the plan with another capacity, from 1 to [`MAX_CAPACITY`](crate::MAX_CAPACITY). The
-    /// only error is out of memory.
-    pub fn with_capacity(&self, alloc: Global, capacity: u8) -> Result<Plan, AllocError>
-        requires { (1 ≤ capacity) × (capacity ≤ MAX_CAPACITY) }
-        ensures { IfOk result (λ plan. plan ≡ with_capacity self.now capacity) }
-    {
-        let mut plan = self.copy(alloc)?;
-        plan.capacity = capacity;
-        Ok(plan)
-    }
-
-    /// Copies the plan with other catch-up hours. The only error is out of memory.
-    pub fn with_hours(&self, alloc: Global, hours: Hours) -> Result<Plan, AllocError>
-        ensures { IfOk result (λ plan. plan ≡ with_hours self.now hours) }
-    {
-        let mut plan = self.copy(alloc)?;
-        plan.hours = hours;
         Ok(plan)
     }
 
@@ -368,6 +343,14 @@ impl Plan {
         ensures { result ≡ self.now.guessed }
     {
         self.guessed
+    }
+
+    /// Returns the number of the first line whose entry tells its command and no schedule, while
+    /// another line has that command too, if there is one.
+    pub fn untimed(&self) -> Option<u32>
+        ensures { result ≡ self.now.untimed }
+    {
+        self.untimed
     }
 
     /// Returns the first member that stands twice in one object of the declarations' text, if one

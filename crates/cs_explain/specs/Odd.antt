@@ -11,7 +11,7 @@ odd_names =
     codes "Unexpanded" ∷ codes "TimeZone" ∷ codes "ValueComment" ∷ codes "Backslash" ∷
     codes "CarriageReturn" ∷ codes "SameLine" ∷ codes "NoNewline" ∷ codes "UnusedGroup" ∷
     codes "OtherLock" ∷ codes "MixedLocks" ∷ codes "NoOwnLock" ∷ codes "RebootLock" ∷
-    codes "ShortMax" ∷ []
+    codes "ShortMax" ∷ codes "NoWhen" ∷ []
 
 -- the word is that name, but for the case of its letters
 abbrev pub is_alike : List ℕ → List ℕ → Bool

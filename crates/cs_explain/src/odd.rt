@@ -2,7 +2,7 @@
 use crate::meaning::Meaning;
 
 /// By what they are about: schedules, commands, settings, lines, the table, declarations.
-pub(crate) static MEANINGS: [Meaning; 21] = [
+pub(crate) static MEANINGS: [Meaning; 22] = [
     Meaning {
         name: "EachMinute",
         short: "the minute is *, and the hour one number",
@@ -240,5 +240,23 @@ wrong:
   30 23 * * * timeout 1h /usr/bin/backup
 right:
   30 23 * * * timeout 29m /usr/bin/backup"#,
+    },
+    Meaning {
+        name: "NoWhen",
+        short: "several lines have one command, and an entry of one has no when",
+        text: r#"The number of a line and its command are all that the entry tells. Where the
+lines change places, it declares the other one. Add the schedule of its line,
+as 'cronsafe draft' does.
+crontab:
+  0 3 * * * /usr/bin/sync
+  0 15 * * 6 /usr/bin/sync
+wrong declarations:
+  {"capacity": 1, "cron": [
+    {"line": 1, "max": 30, "command": "/usr/bin/sync"},
+    {"line": 2, "max": 90, "command": "/usr/bin/sync", "when": "0 15 * * 6"}]}
+right declarations:
+  {"capacity": 1, "cron": [
+    {"line": 1, "max": 30, "command": "/usr/bin/sync", "when": "0 3 * * *"},
+    {"line": 2, "max": 90, "command": "/usr/bin/sync", "when": "0 15 * * 6"}]}"#,
     },
 ];

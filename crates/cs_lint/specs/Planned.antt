@@ -14,14 +14,19 @@ use Rattle.cs_lint.specs.Wanted.{is_wanted}
 use Rattle.cs_lint.specs.declared.wanted.Wanted.{Wanted}
 use Rattle.cs_lint.specs.declared.held.Held.{Held}
 use Rattle.cs_lint.specs.declared.planned.PlanOddity.{PlanOddity}
-use Rattle.cs_lint.specs.declared.planned.PlanOddity.TheVariants.{MixedFiles, MixedGroups, NoGroup, NoLock, OtherMode, ShortMax}
+use Rattle.cs_lint.specs.declared.planned.PlanOddity.TheVariants.{MixedFiles, MixedGroups, NoGroup, NoLock, NoWhen, OtherMode, ShortMax}
 
 -- ---- the commands of a plan
 
--- the lock that a command takes itself, what is declared of it, and the minutes that its own
--- timeout allows it, or else those that are declared
-abbrev pub held_by : CommandLine → DeclaredJob → Held
-held_by line job = record {
+abbrev pub is_of_line : Option ℕ → CommandLine → Bool
+is_of_line None line = false
+is_of_line (Some number) line = number == line.number
+
+-- the lock that a command takes itself, what is declared of it, the minutes that its own timeout
+-- allows it, or else those that are declared, and whether it's the first whose entry tells a
+-- command of several lines and no schedule
+abbrev pub held_by : Option ℕ → CommandLine → DeclaredJob → Held
+held_by untimed line job = record {
   number = line.number;
   own = lock_of line.command;
   is_bare = is_none (lock_of line.command) && not (names_lock line.command);
@@ -29,13 +34,14 @@ held_by line job = record {
   mode = job.mode;
   max = job.max;
   allowed = asked_for job.max line.command;
+  is_untimed = is_of_line untimed line;
 }
 
 -- those of the lines, of which the first has the job of that number
 unfoldable pub held_from : Declared → ℕ → List CommandLine → List Held
 held_from plan number [] = []
 held_from plan number (line ∷ lines) =
-    held_by line (job_at plan number) ∷ held_from plan (number + 1) lines
+    held_by plan.untimed line (job_at plan number) ∷ held_from plan (number + 1) lines
 
 abbrev pub held_in : Declared → List Held
 held_in plan = held_from plan 0 plan.crontab.lines
@@ -104,10 +110,11 @@ is_odd_planned MixedGroups all held = list_any (is_met_above false true held) al
 is_odd_planned MixedFiles all held = list_any (is_met_above true false held) all
 is_odd_planned NoLock all held = has_no_lock held && list_any has_own all
 is_odd_planned ShortMax all held = has_short_max held
+is_odd_planned NoWhen all held = held.is_untimed
 
 -- all that may be odd, in the order in which it's told
 abbrev pub plan_oddities : List PlanOddity
-plan_oddities = NoGroup ∷ OtherMode ∷ MixedGroups ∷ MixedFiles ∷ NoLock ∷ ShortMax ∷ []
+plan_oddities = NoGroup ∷ OtherMode ∷ MixedGroups ∷ MixedFiles ∷ NoLock ∷ ShortMax ∷ NoWhen ∷ []
 
 -- what it is called
 unfoldable pub planned_name : PlanOddity → List ℕ
@@ -117,6 +124,7 @@ planned_name MixedGroups = codes "MixedLocks"
 planned_name MixedFiles = codes "MixedLocks"
 planned_name NoLock = codes "NoOwnLock"
 planned_name ShortMax = codes "ShortMax"
+planned_name NoWhen = codes "NoWhen"
 
 -- what is odd about a command among all
 abbrev pub oddities_about : List Held → Held → List PlanOddity

@@ -3,7 +3,7 @@ ghost use Rattle.std.specs.Prelude.{◌≡◌, ◌≤◌, ◌++◌, ◌&&◌, is
 ghost use Rattle.cs_crontab.specs.declared.limits.TheConstants.{MAX_COMMANDS};
 ghost use Rattle.cs_draft.specs.Locks.{lock_of};
 ghost use Rattle.cs_draft.specs.Named.{names_lock};
-ghost use Rattle.cs_lint.specs.Planned.{held_by, held_from, held_in};
+ghost use Rattle.cs_lint.specs.Planned.{held_by, held_from, held_in, is_of_line};
 
 use cs_civil::Bytes;
 use cs_crontab::Line;
@@ -30,6 +30,8 @@ pub(crate) struct Held {
     pub(crate) max: u16,
     /// The minutes that its own timeout(1) allows it; without one, the same.
     pub(crate) allowed: u64,
+    /// Whether it's the first whose entry tells a command of several lines and no schedule.
+    pub(crate) is_untimed: bool,
 }
 
 /// The lock that a command takes, and whether it takes none and names no program that locks files.
@@ -46,8 +48,22 @@ fn own_lock(alloc: Global, command: &[u8]) -> Result<(Option<(Bytes, Mode)>, boo
     }
 }
 
-fn held_by(alloc: Global, line: &Line, job: Job) -> Result<Held, AllocError>
-    ensures { IfOk result (λ held. held ≡ held_by line.now job) }
+fn is_of_line(number: Option<u32>, line: &Line) -> bool
+    ensures { result ≡ is_of_line number line.now }
+{
+    match number {
+        Some(number) => number == line.number(),
+        None => false,
+    }
+}
+
+fn held_by(
+    alloc: Global,
+    untimed: Option<u32>,
+    line: &Line,
+    job: Job,
+) -> Result<Held, AllocError>
+    ensures { IfOk result (λ held. held ≡ held_by untimed line.now job) }
 {
     let (own, is_bare) = own_lock(alloc, line.command())?;
     Ok(Held {
@@ -58,6 +74,7 @@ fn held_by(alloc: Global, line: &Line, job: Job) -> Result<Held, AllocError>
         mode: job.mode(),
         max: job.max(),
         allowed: asked_for(u64::from(job.max()), line.command()),
+        is_untimed: is_of_line(untimed, line),
     })
 }
 
@@ -70,7 +87,7 @@ fn push_held(alloc: Global, held: &mut Vec<Held>, plan: &Plan, lines: &[Line]) -
 {
     let mut number = 0u16;
     for line in lines {
-        held.push(held_by(alloc, line, plan.job_at(number))?)?;
+        held.push(held_by(alloc, plan.untimed(), line, plan.job_at(number))?)?;
         number += 1;
     }
     Ok(())

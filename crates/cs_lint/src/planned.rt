@@ -32,15 +32,18 @@ pub(crate) enum PlanOddity {
     NoLock,
     /// Its own timeout allows it more minutes than are declared.
     ShortMax,
+    /// Another line has its command, and its entry tells no schedule.
+    NoWhen,
 }
 
-const PLAN_ODDITIES: [PlanOddity; 6] = [
+const PLAN_ODDITIES: [PlanOddity; 7] = [
     PlanOddity::NoGroup,
     PlanOddity::OtherMode,
     PlanOddity::MixedGroups,
     PlanOddity::MixedFiles,
     PlanOddity::NoLock,
     PlanOddity::ShortMax,
+    PlanOddity::NoWhen,
 ];
 
 /// Whether a lock that is taken in the one mode is declared as the other.
@@ -146,6 +149,7 @@ impl PlanOddity {
             PlanOddity::MixedFiles => held.meets_any(true, false, all),
             PlanOddity::NoLock => held.has_no_lock() && any_has_own(all),
             PlanOddity::ShortMax => held.has_short_max(),
+            PlanOddity::NoWhen => held.is_untimed,
         }
     }
 
@@ -159,6 +163,7 @@ impl PlanOddity {
             PlanOddity::MixedGroups | PlanOddity::MixedFiles => "MixedLocks",
             PlanOddity::NoLock => "NoOwnLock",
             PlanOddity::ShortMax => "ShortMax",
+            PlanOddity::NoWhen => "NoWhen",
         }
     }
 
@@ -173,6 +178,7 @@ impl PlanOddity {
             (PlanOddity::MixedGroups, _) => MIXED_GROUPS,
             (PlanOddity::MixedFiles, _) => MIXED_FILES,
             (PlanOddity::NoLock, _) => NO_LOCK,
+            (PlanOddity::NoWhen, _) => NO_WHEN,
             (PlanOddity::ShortMax, _) => {
                 let front = format_args!(
                     "its timeout allows {allowed} minutes, and its \"max\" is {max}"
@@ -203,6 +209,9 @@ const MIXED_FILES: &str =
 
 const NO_LOCK: &str =
     "only 'cronsafe run' takes its lock, while others use flock: put flock before it";
+
+const NO_WHEN: &str =
+    "another line has this command: add \"when\" to its entry, as 'cronsafe draft' does";
 
 /// Those of some that are about a command among all. The only error is want of memory.
 fn those_about(

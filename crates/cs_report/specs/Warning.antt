@@ -130,11 +130,19 @@ doubled_warning None = []
 doubled_warning (Some name) = codes "warning: an object of the declarations has "
     ++ (name ++ codes " twice, and the last one counts\n")
 
--- that of a member that stands twice, those of the lines that a plan leaves out, in their order, that
+-- `warning: another line has the command of line N: add "when" to its entry, as cronsafe draft does`
+-- and a newline, and nothing where there is none
+abbrev pub untimed_warning : Option ℕ → List ℕ
+untimed_warning None = []
+untimed_warning (Some number) = codes "warning: another line has the command of line "
+    ++ (decimal number ++ codes ": add \"when\" to its entry, as cronsafe draft does\n")
+
+-- that of a member that stands twice, that of a line that shares its command, those of the lines that a plan leaves out, in their order, that
 -- it has no job, how many of its jobs have the default, how many longest times are guesses, and that
 -- hardly anything is decided
 abbrev pub plan_notes : Declared → List ℕ
 plan_notes d = doubled_warning d.doubled
+    ++ (untimed_warning d.untimed
     ++ (flat_map left_out_note d.left_out
     ++ (no_job_note d.left_out (length d.jobs)
-    ++ (default_note d.defaulted ++ (guess_note d.guessed ++ nothing_note d))))
+    ++ (default_note d.defaulted ++ (guess_note d.guessed ++ nothing_note d)))))

@@ -9,7 +9,7 @@ ghost use Rattle.cs_report.specs.Warning.{begins_with_number, number_warning, nu
 ghost use Rattle.cs_report.specs.Warning.{default_note, doubled_warning, is_unheeded, left_out_note};
 ghost use Rattle.cs_report.specs.Warning.{decides_nothing, guess_note, is_at_stake, is_contended};
 ghost use Rattle.cs_report.specs.Warning.{no_job_note, nothing_note, nothing_text, plan_notes};
-ghost use Rattle.cs_report.specs.Warning.{user_warning, user_warning_of};
+ghost use Rattle.cs_report.specs.Warning.{untimed_warning, user_warning, user_warning_of};
 ghost use Rattle.cs_report.specs.Warning.{warning, warnings, warnings_of};
 
 use crate::user::first_behind_user;
@@ -389,9 +389,31 @@ fn push_doubled(text: &mut Vec<u8>, doubled: &Option<Bytes>) -> Result<(), Alloc
     }
 }
 
+/// Writes the warning of a line whose entry tells a command of several behind the text.
+fn push_untimed(
+    alloc: Global,
+    text: &mut Vec<u8>,
+    untimed: Option<u32>,
+) -> Result<(), AllocError>
+    ensures { OnOk result (text.new.items ≡ text.old.items ++ untimed_warning untimed) }
+{
+    match untimed {
+        None => Ok(()),
+        Some(number) => push_numbered(
+            alloc,
+            text,
+            b"warning: another line has the command of line ",
+            u128::from(number),
+            b": add \"when\" to its entry, as cronsafe draft does\n",
+        ),
+    }
+}
+
 /// First, if an object of the declarations has a member twice, the first such name:
-/// `warning: an object of the declarations has max twice, and the last one counts`. Then a line for
-/// each line of the crontab that the plan leaves out, in order of their numbers:
+/// `warning: an object of the declarations has max twice, and the last one counts`. Then, if an entry
+/// tells a command that several lines have, and no schedule, the number of the first such line:
+/// `warning: another line has the command of line 4: add "when" to its entry, as cronsafe draft does`.
+/// Then a line for each line of the crontab that the plan leaves out, in order of their numbers:
 /// `note: line 4 is left out of the plan`. Then, if lines are left out and no job is left in either
 /// table, `note: the plan has no job`. Then, if jobs have the default,
 /// `note: 12 jobs without an entry have the default` or `note: 1 job without an entry has the default`.
@@ -404,6 +426,7 @@ pub fn plan_notes(alloc: Global, plan: &Plan) -> Result<Bytes, AllocError>
 {
     let mut text = Vec::new(alloc);
     push_doubled(&mut text, plan.doubled())?;
+    push_untimed(alloc, &mut text, plan.untimed())?;
     push_all_left_out(alloc, &mut text, plan.left_out())?;
     push_no_job(&mut text, plan.left_out(), plan.jobs().len())?;
     push_default(alloc, &mut text, plan.defaulted())?;

@@ -27,4 +27,4 @@ new-requires c =
       c.lines-3.ensures.value,
       c.lines-4.ensures.value,
     )
-    (whole c.args.crontab c.args.left_out c.args.anacrontab c.args.entries.now c.requires.valid c.lines.ensures.few c.lines-2.ensures.few c.lines-2.ensures.possible c.requires.timed)
+    (whole c.args.crontab c.args.left_out c.args.untimed c.args.anacrontab c.args.entries.now c.requires.valid c.lines.ensures.few c.lines-2.ensures.few c.lines-2.ensures.possible c.requires.timed)

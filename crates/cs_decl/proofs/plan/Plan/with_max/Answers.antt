@@ -1,5 +1,5 @@
 use Rattle.std.proofs.Common.{rules, ◌≡◌, set, sym, subst}
-use Rattle.cs_decl.specs.Changed.{job_with_max, with_jobs, with_max}
+use Rattle.cs_decl.specs.Changed.{job_with_max, with_max}
 use Rattle.cs_decl.specs.Plan.{IsWhole, job_at}
 use Rattle.cs_decl.proofs.Changes.{with_max_whole}
 use Rattle.cs_decl.proofs.plan.Plan.with_max.Goals as goal
@@ -8,4 +8,4 @@ pub with_jobs-requires : goal.with_jobs-requires
 with_jobs-requires c =
     let whole : IsWhole (with_max c.args.self.now c.args.number c.args.max) = with_max_whole c.args.self.now c.jobs.ensures.whole c.args.number c.args.max c.requires.in_range in
     let same : c.in_ok-jobs.jobs ≡ set c.args.self.now.jobs c.args.number (job_with_max (job_at c.args.self.now c.args.number) c.args.max) = search rules in
-    subst (λ jobs. IsWhole (with_jobs c.args.self.now jobs)) (sym same) whole
+    subst (λ jobs. IsWhole (record c.args.self.now { jobs = jobs })) (sym same) whole

@@ -113,7 +113,7 @@ is_odd_planned ShortMax all held = has_short_max held
 is_odd_planned NoWhen all held = held.is_untimed
 
 -- all that may be odd, in the order in which it's told
-abbrev pub plan_oddities : List PlanOddity
+unfoldable pub plan_oddities : List PlanOddity
 plan_oddities = NoGroup ∷ OtherMode ∷ MixedGroups ∷ MixedFiles ∷ NoLock ∷ ShortMax ∷ NoWhen ∷ []
 
 -- what it is called

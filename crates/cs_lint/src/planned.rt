@@ -234,6 +234,7 @@ fn those_about(
 
 /// What is odd about a command among all, in the order in which it's told. The only error is want
 /// of memory.
+#[tactic(auto, unfolding(crate::specs::Planned::plan_oddities))]
 fn oddities_about(alloc: Global, all: &[Held], held: &Held) -> Result<Vec<PlanOddity>, AllocError>
     ensures { IfOk result (λ found. found.items ≡ oddities_about all.now held.now) }
 {

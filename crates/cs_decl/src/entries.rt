@@ -70,7 +70,7 @@ pub struct AnacronEntry {
 }
 
 /// What is declared of each job without an entry.
-#[derive(Debug, Drop)]
+#[derive(Debug, PartialEq, Eq, Drop)]
 pub struct DefaultEntry {
     /// The longest time of a run in minutes.
     pub max: i128,

@@ -41,4 +41,4 @@ pub use laws::{
 pub use limits::{MAX_CAPACITY, MAX_GROUPS, MAX_MINUTES, MAX_OFFSET, MAX_WEIGHT};
 pub use naming::is_named;
 pub use plan::Plan;
-pub use when::is_told_when;
+pub use when::{is_same_when, is_told_when};

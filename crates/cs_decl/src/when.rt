@@ -60,7 +60,8 @@ fn is_same_schedule(one: &Schedule, other: &Schedule) -> bool
         && is_same_field(one.field(Part::Dow), other.field(Part::Dow))
 }
 
-fn is_same_when(one: &When, other: &When) -> bool
+/// Whether both are the same five fields, or `@reboot`.
+pub fn is_same_when(one: &When, other: &When) -> bool
     ensures { result ≡ same_when one.now other.now }
 {
     match (one, other) {

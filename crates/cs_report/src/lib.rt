@@ -20,7 +20,7 @@ mod writing;
 
 pub use check_fault::CheckFault;
 pub use nameable::is_nameable;
-pub use refusal::fault_text;
+pub use refusal::{fault_text, push_window};
 pub use reply::{push_reply, reply_text};
 pub use script::{MAX_SCRIPT, NumberedScript, read_numbered_script, read_script};
 pub use script_fault::{ScriptError, ScriptFault};

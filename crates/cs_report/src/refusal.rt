@@ -103,9 +103,9 @@ fn start_of(at: Minute, window: &Window) -> Minute
     Minute::new(start.max(FIRST_MINUTE).min(LAST_MINUTE)).unwrap()
 }
 
-/// Adds a window: its job and its first minute.
+/// Adds a window: its job and its first minute. The only error is out of memory.
 #[tactic(auto, unfolding(crate::specs::Refused::window_text))]
-fn push_window(
+pub fn push_window(
     alloc: Global,
     text: &mut Vec<u8>,
     plan: &Plan,

@@ -57,12 +57,7 @@ fn is_of_line(number: Option<u32>, line: &Line) -> bool
     }
 }
 
-fn held_by(
-    alloc: Global,
-    untimed: Option<u32>,
-    line: &Line,
-    job: Job,
-) -> Result<Held, AllocError>
+fn held_by(alloc: Global, untimed: Option<u32>, line: &Line, job: Job) -> Result<Held, AllocError>
     ensures { IfOk result (λ held. held ≡ held_by untimed line.now job) }
 {
     let (own, is_bare) = own_lock(alloc, line.command())?;

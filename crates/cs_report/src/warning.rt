@@ -390,11 +390,7 @@ fn push_doubled(text: &mut Vec<u8>, doubled: &Option<Bytes>) -> Result<(), Alloc
 }
 
 /// Writes the warning of a line whose entry tells a command of several behind the text.
-fn push_untimed(
-    alloc: Global,
-    text: &mut Vec<u8>,
-    untimed: Option<u32>,
-) -> Result<(), AllocError>
+fn push_untimed(alloc: Global, text: &mut Vec<u8>, untimed: Option<u32>) -> Result<(), AllocError>
     ensures { OnOk result (text.new.items ≡ text.old.items ++ untimed_warning untimed) }
 {
     match untimed {

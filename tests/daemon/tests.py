@@ -193,8 +193,12 @@ def unwritable_stamps(room):
     in_the_way = room.folder / "stamps/a"
     in_the_way.mkdir()
     minute, run = take_job(room)
+    since = int(time.time())
     room.start(room.words())
     room.wait_for_line("stamp not written a", 2 * SOON, times=3)
+    state = written_state(room, lambda it: it["stamps_not_written"] > 2)
+    at = seconds_of(state["stamp_fault_at"])
+    wanted("a time between", True, since <= at <= time.time())
     in_the_way.rmdir()
     room.wait_for("the stamp", in_the_way.is_file)
     written = os.stat(in_the_way).st_mtime_ns
@@ -584,6 +588,27 @@ def seconds_of(moment):
     return calendar.timegm(time.strptime(moment, "%Y-%m-%dT%H:%M:%SZ"))
 
 
+def compact(state):
+    """Returns the line of a state: compact JSON, its members in their order."""
+    return json.dumps(state, separators=(",", ":")) + "\n"
+
+
+def written_state(room, is_it, seconds=SOON):
+    """Returns the state that `status --json` prints, as compact JSON, once it is one."""
+    found = {}
+
+    def is_there():
+        _, out, _ = room.ask("status", "stamps", "--json")
+        if not out or not is_it(json.loads(out)):
+            return False
+        found.update(json.loads(out))
+        wanted("text of --json", compact(found), out)
+        return True
+
+    room.wait_for("such a state", is_there, seconds)
+    return found
+
+
 def told_state(room):
     """What `status` says of a run, of a daemon that is asked to stop, and of none.
 
@@ -608,7 +633,6 @@ def told_state(room):
     wanted("lines", [files, counts], [lines[1], *lines[3:]])
     status, out, err = room.ask("status", "stamps", "--json")
     wanted("end of --json", (0, ""), (status, err))
-    wanted("lines of --json", 1, out.count("\n"))
     state = json.loads(out)
     _, version, _ = room.call("--version")
     told = {
@@ -637,7 +661,7 @@ def told_state(room):
         "stamps_not_written": 0,
         "stamp_fault_at": None,
     }
-    wanted("members", list(told.items()), list(state.items()))
+    wanted("text of --json", compact(told), out)
     wanted("stop --now", (0, "", ""), room.ask("stop", "stamps", "--now"))
     lines = state_of(room, "nothing more is started")
     wanted("lines while it stops", [files, "nothing more is started"], lines[1:3])
@@ -691,6 +715,7 @@ def late_run_that_meets(room):
         return status == 1 and first in found and found[first]["late"]
 
     room.wait_for("a late run", is_told)
+    written_state(room, lambda it: len(it["running"]) == 1)
     until = moment_text(seconds_of(found[first]["since"]) + MINUTE)
     meets = "line 1, line 2"
     wanted("the late run", (until, meets), (found[first]["until"], found[first]["may_meet"]))
@@ -1181,9 +1206,13 @@ def runs_that_wait(room):
     write = "date +\\%s >>"
     table = "".join(f"{due_at(due)} {write}{it}; sleep 8; {write}{it}\n" for it in names)
     room.take(declared(4, (1, 2, 3, 4), groups=["g", "h"], **terms), table)
-    room.run("--minutes", "2", seconds=3 * MINUTE)
-    told = runs(*[f"line {it} due {date_text(due)}" for it in (1, 2, 3, 4)])
-    room.holds([*told, f"waiting line 2 due {date_text(due)}"])
+    room.start(room.words("--minutes", "2"))
+    lines = [f"line {it} due {date_text(due)}" for it in (1, 2, 3, 4)]
+    state = written_state(room, lambda it: len(it["running"]) == 3, 2 * MINUTE)
+    wanted("those that wait", lines[1:2], state["waiting"])
+    wanted("those that run", [lines[0], *lines[2:]], sorted(it["run"] for it in state["running"]))
+    room.ends(0, 3 * MINUTE)
+    room.holds([*runs(*lines), f"waiting {lines[1]}"])
     times = {it: [int(second) for second in room.read(it).split()] for it in names}
     wanted("number of times", [2] * 4, [len(it) for it in times.values()])
     if times["wait2"][0] < times["wait1"][1]:

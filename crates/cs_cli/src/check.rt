@@ -1,5 +1,5 @@
 //! The subcommand `check`.
-ghost use Rattle.std.specs.Prelude.{◌≡◌, ◌≢◌, ◌∷◌, ◌++◌, [], IfErr, IfOk, None, OnOk, Some};
+ghost use Rattle.std.specs.Prelude.{◌≡◌, ◌≢◌, ◌∷◌, ◌++◌, [], ℕ, IfErr, IfOk, List, OnOk, Some};
 ghost use Rattle.std.specs.Result.{result_map_both};
 ghost use Rattle.cs_check.specs.Checked.{certificate_in, plan_in};
 ghost use Rattle.cs_claims.specs.Certificate.{content};
@@ -9,9 +9,8 @@ ghost use Rattle.cs_report.specs.Warning.{plan_notes};
 ghost use Rattle.cs_args.specs.Asked.{asked_check};
 ghost use Rattle.cs_io.specs.Files.{AreReadInTurn, IsFresh, IsReadAlone};
 ghost use Rattle.cs_cli.specs.Check.{AnswersCheck, AreRead, IfAccepted, IfEnded, IsDigestOf};
-ghost use Rattle.cs_cli.specs.Check.{Judges, ReadsCertificate, answer_of, ending_of, fault_places};
-ghost use Rattle.cs_cli.specs.Check.{safe_text, said, stale_note, verdict};
-ghost use Rattle.cs_cli.specs.Overload.{overload_notes};
+ghost use Rattle.cs_cli.specs.Check.{IsVerdict, Judges, ReadsCertificate, answer_of, ending_of};
+ghost use Rattle.cs_cli.specs.Check.{fault_places, safe_text, said, stale_note};
 ghost use Rattle.cs_files.specs.RanOut.{IsWarned};
 ghost use Rattle.cs_files.specs.Response.{done};
 ghost use Rattle.cs_files.specs.Reads.{MeansIt, PlacesIn, without_rest};
@@ -21,7 +20,7 @@ ghost use Rattle.cs_files.specs.Turn.{check_paths};
 ghost use Rattle.cs_cert.specs.Denoted.{certificate_by};
 ghost use Rattle.sha2.specs.Sha256.{sha256};
 
-use crate::overload::push_overload_notes;
+use crate::overload::overload_notes;
 use crate::places::{push_fault_places, push_stale_note};
 use cs_anacrontab::Anacrontab;
 use cs_args::CheckWords;
@@ -83,13 +82,14 @@ fn refusal_notes(
     reach: &[JobReach],
     fault: &CheckFault,
 ) -> Result<Bytes, AllocError>
-    ensures { IfOk result (λ notes. notes ≡ plan_notes plan.now
+    ensures { IfOk result (λ notes. (more : List ℕ) × (notes ≡ plan_notes plan.now
         ++ (fault_places plan.now places.now (told fault.now)
-        ++ (overload_notes plan.now reach.now (told fault.now) ++ stale_note (told fault.now)))) }
+        ++ (more ++ stale_note (told fault.now))))) }
 {
+    let more = overload_notes(alloc, plan, reach, fault)?;
     let mut notes = plan_notes(alloc, plan)?.into_vec();
     push_fault_places(alloc, &mut notes, plan, places, fault)?;
-    push_overload_notes(alloc, &mut notes, plan, reach, fault)?;
+    notes.extend_from_slice(more.as_slice())?;
     push_stale_note(&mut notes, fault)?;
     Ok(Bytes::from_vec(notes))
 }
@@ -103,8 +103,7 @@ fn refusal(
     reach: &[JobReach],
     fault: &CheckFault,
 ) -> Result<Response, AllocError>
-    ensures { IfOk result (λ answer.
-        answer ≡ verdict plan.now places.now reach.now (Some (told fault.now))) }
+    ensures { IfOk result (IsVerdict plan.now places.now (Some (told fault.now))) }
 {
     let mut text = Vec::from_slice(alloc, fault_text(alloc, plan, fault)?.as_slice())?;
     text.extend_from_slice(b"\n")?;
@@ -122,8 +121,8 @@ fn ruling<R: Threads + Sync>(
     places: &[Place],
     certificate: Certificate,
 ) -> Result<Result<Checked, Response>, AllocError>
-    ensures answer { IfOk result (λ found. answer_of found ≡ verdict plan places.now
-        (content certificate).reach (fault_of plan (content certificate))) }
+    ensures answer { IfOk result (λ found. IsVerdict plan places.now
+        (fault_of plan (content certificate)) (answer_of found)) }
     ensures same { IfOk result (λ found. IfOk found
         (λ checked. (plan_in checked ≡ plan) × (certificate_in checked ≡ content certificate))) }
     ensures safe { IfOk result (λ found. IfOk found IsSafe) }

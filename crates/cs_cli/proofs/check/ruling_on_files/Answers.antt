@@ -1,8 +1,8 @@
-use Rattle.std.proofs.Common.{◌≡◌, ◌∙◌, ℕ, List, Option, [], ◌∷◌, Result, Ok, Err, ap, inr, subst}
+use Rattle.std.proofs.Common.{◌≡◌, ◌∙◌, ℕ, List, Option, [], ◌∷◌, Result, Ok, Err, inr, refl, subst}
 use Rattle.std.proofs.lemmas.Result.{err_from_is_err_and}
 use Rattle.cs_claims.specs.Certificate.{content}
 use Rattle.cs_claims.specs.Content.{Content}
-use Rattle.cs_cli.specs.Check.{IsDigestOf, ReadsCertificate, verdict}
+use Rattle.cs_cli.specs.Check.{IsDigestOf, IsVerdict, ReadsCertificate, answer_of}
 use Rattle.cs_check.specs.Case.{fault_of}
 use Rattle.cs_crontab.specs.Crontab.{Table}
 use Rattle.cs_anacrontab.specs.Anacrontab.{Table as JobTable}
@@ -10,7 +10,7 @@ use Rattle.cs_decl.specs.Plan.{Declared}
 use Rattle.cs_gather.specs.declared.places.Place.{Place}
 use Rattle.cs_args.specs.Asked.{asked_check}
 use Rattle.cs_args.specs.CommandLine.{AskedCheck}
-use Rattle.cs_files.specs.Reads.{AndThen, Gives, ReadsFitting}
+use Rattle.cs_files.specs.Reads.{AndThen, GivesSome, ReadsFitting}
 use Rattle.cs_files.specs.Response.{Ending}
 use Rattle.cs_files.specs.Trouble.{CameTo, Trouble}
 use Rattle.cs_cli.proofs.CheckLemmas.{are_read, digest_accepted}
@@ -21,7 +21,7 @@ use Rattle.cs_cli.proofs.check.ruling_on_files.Goals as goal
 
 -- what follows once the plan is there, and all of it
 abbrev Rest : (List ℕ → Option (List ℕ)) → AskedCheck → List Place → Declared → Failed → Failed → Result Ending Trouble → Type 0
-Rest files a places plan = AndThen (ReadsCertificate files a.certificate) (λ x. Gives (Ok (verdict plan places x.reach (fault_of plan x))))
+Rest files a places plan = AndThen (ReadsCertificate files a.certificate) (λ x. GivesSome (IsVerdict plan places (fault_of plan x)))
 
 abbrev Whole : (List ℕ → Option (List ℕ)) → AskedCheck → Table × JobTable → List Place → Failed → Failed → Result Ending Trouble → Type 0
 Whole files a tables places = AndThen (ReadsFitting files places tables a.declarations) (Rest files a places)
@@ -49,7 +49,7 @@ returns-in_err-certificate-clause-step g c = λ fresh placed.
     let fault = c.in_err-certificate.field-0.0 in
     let one = subst (λ (f : Failed). ReadsFitting files places c.args.tables a.declarations before f (Ok plan)) c.in_ok-plan.ensures.works (c.in_ok-plan.ensures.step fresh) in
     let two = moved (λ w f. CameTo {X = Content} (ReadsCertificate w a.certificate f after) (Err fault)) (g.I.Inputs.whole c.placed_plan_from.new.inputs) files (g.I.Inputs.failed c.placed_plan_from.new.inputs) before c.placed_plan_from.ensures.whole c.in_ok-plan.ensures.works (c.in_err-certificate.ensures.step (c.in_ok-plan.ensures.fresh fresh)) in
-    let next = stops (ReadsCertificate files a.certificate) (λ x. Gives (Ok (verdict plan places x.reach (fault_of plan x)))) before after fault two in
+    let next = stops (ReadsCertificate files a.certificate) (λ x. GivesSome (IsVerdict plan places (fault_of plan x))) before after fault two in
     let p = err_from_is_err_and c.from_residual-in_err-certificate.result c.from_residual-in_err-certificate.ensures.1 in
     rw (p.1, p.2) (with_places files a.table c.args.tables.0 (Whole files a c.args.tables) before after places (Err fault) placed
     (goes_on (ReadsFitting files places c.args.tables a.declarations) (Rest files a places) before after plan (Err fault) one next))
@@ -66,7 +66,7 @@ returns-clause-step g c = λ fresh placed.
     let one = subst (λ (f : Failed). ReadsFitting files places c.args.tables a.declarations before f (Ok plan)) c.in_ok-plan.ensures.works (c.in_ok-plan.ensures.step fresh) in
     let two = moved (λ w f. ReadsCertificate w a.certificate f after (Ok x)) (g.I.Inputs.whole c.placed_plan_from.new.inputs) files (g.I.Inputs.failed c.placed_plan_from.new.inputs) before c.placed_plan_from.ensures.whole c.in_ok-plan.ensures.works (c.in_ok-certificate.ensures.step (c.in_ok-plan.ensures.fresh fresh)) in
     let same : after ≡ before = c.in_ok-certificate.ensures.works ∙ c.in_ok-plan.ensures.works in
-    (places, placed, inr (plan, one, inr (x, subst (λ (f : Failed). ReadsCertificate files a.certificate before f (Ok x)) same two, (same, ap Ok c.in_ok-ruling.ensures.answer))))
+    (places, placed, inr (plan, one, inr (x, subst (λ (f : Failed). ReadsCertificate files a.certificate before f (Ok x)) same two, (same, (answer_of c.in_ok-ruling.field-0, c.in_ok-ruling.ensures.answer, refl)))))
 
 pub returns-clause-read : goal.returns-clause-read
 returns-clause-read g c = λ fresh placed.

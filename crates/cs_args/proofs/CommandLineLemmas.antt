@@ -1,5 +1,5 @@
 -- The words of a call.
-use Rattle.std.proofs.Common.{◌≡◌, ◌<◌, ◌^◌, ℕ, Bool, true, false, List, [], ◌∷◌, ◌&&◌, ◌∙◌, Option, option_map, option_and_then, Some, None, Result, Ok, Err, refl, ap, subst, sym, length, nat_lt, inl, inr}
+use Rattle.std.proofs.Common.{◌≡◌, ◌<◌, ◌≤◌, ◌+◌, ◌-◌, ◌^◌, ℕ, zero, suc, arith, drop, fold, map, slice_index_or, Bool, true, false, List, [], ◌∷◌, ◌&&◌, ◌∙◌, Option, option_map, option_and_then, Some, None, Result, Ok, Err, refl, ap, subst, sym, length, nat_lt, inl, inr}
 use Rattle.std.specs.List.{list_all}
 use Rattle.std.specs.Char.{is_ascii_digit}
 use Rattle.std.specs.Str.{all_ascii_digits}
@@ -12,11 +12,11 @@ use Rattle.std.specs.Box.{box_value}
 use Rattle.clap.specs.Simple.{subcommand_rows}
 use Rattle.clap.specs.declared.parser.matches.ArgMatches.TheViews.{out-SubCommand}
 use Rattle.clap.specs.declared.parser.matches.SubCommand.{SubCommand}
-use Rattle.clap.specs.Words.{HasKind, IsAmong, Row, Text, fault_of, is_simple, is_simple_and_free, kind_of}
+use Rattle.clap.specs.Words.{HasKind, IsAmong, Row, Text, fault_of, is_simple, is_simple_and_free, kind_of, App, Shape, with_subcommand}
 use Rattle.clap.specs.declared.error.Error.{Error}
-use Rattle.cs_args.specs.CommandLine.{asked_by, asked_of, chart_app, check_app, cronsafe_app, day_app, draft_app, explain_app, gather_app, help_app, judge_and_check_app}
-use Rattle.cs_args.specs.CommandLine.{advise_app, judge_app, learn_app, lint_app, make_app, number_of, replay_app, room_app, run_app, top_app, stop_app, reload_app, status_app, up_to_explain_app, up_to_lint_app, up_to_chart_app, up_to_status_app, up_to_room_app}
-use Rattle.cs_args.specs.Asked.{FaultOf, Parses, RequestAsked}
+use Rattle.cs_args.specs.CommandLine.{Asking, all_subcommands, app_of_subcommand, asked_by, asked_of, cronsafe_app, number_of, top_app, with_all}
+use Rattle.cs_args.specs.Asked.{Answers, FaultOf, Parses}
+use Rattle.cs_args.specs.declared.table.Subcommand.{Subcommand}
 use Rattle.cs_args.specs.declared.request.Request.{Request}
 use Rattle.cs_args.specs.declared.request.UsageFault.{UsageFault}
 use Rattle.cs_args.specs.declared.request.UsageFault.TheVariants.{Help, NoCall, OutOfMemory, Version}
@@ -69,12 +69,12 @@ name_met None = refl
 name_met (Some b) = refl
 
 -- what the entries ask is what the words ask
-pub request_parses : (words : List Text) (name : Text) (rows : List Row) → fault_of cronsafe_app words ≡ [] → asked_of words ≡ asked_by name rows → (r : Result Request UsageFault) → RequestAsked name rows r → Parses words r
-request_parses words name rows none same (Ok d) h = (none, same ∙ h)
-request_parses words name rows none same (Err (Help text)) h = inr (none, same ∙ h)
-request_parses words name rows none same (Err Version) h = absurd h
-request_parses words name rows none same (Err (NoCall text)) h = inr (none, same ∙ h)
-request_parses words name rows none same (Err OutOfMemory) h = h
+pub request_parses : (words : List Text) (wanted : Option Asking) → fault_of cronsafe_app words ≡ [] → asked_of words ≡ wanted → (r : Result Request UsageFault) → Answers wanted r → Parses words r
+request_parses words wanted none same (Ok d) h = (none, same ∙ h)
+request_parses words wanted none same (Err (Help text)) h = inr (none, same ∙ h)
+request_parses words wanted none same (Err Version) h = absurd h
+request_parses words wanted none same (Err (NoCall text)) h = inr (none, same ∙ h)
+request_parses words wanted none same (Err OutOfMemory) h = h
 
 -- a fault of `clap` is one of its kinds
 pub fault_parses : (words : List Text) (e : Error) (u : UsageFault) → HasKind (fault_of cronsafe_app words) e → FaultOf e u → Parses words (Err u)
@@ -86,11 +86,43 @@ fault_parses words e (NoCall text) (inl m) h = absurd (h.2 m)
 fault_parses words e (NoCall text) (inr k) h = inl (kind_of e, k, h.0, h.1)
 fault_parses words e OutOfMemory k h = h
 
+-- a subcommand more is one less that is left
+after_one : (xs : List Subcommand) (i : ℕ) (d : Subcommand) (old new : App) → i < length xs → new ≡ with_subcommand old (app_of_subcommand (slice_index_or xs i d)).top
+    → with_all old (drop i xs) ≡ with_all new (drop (suc i) xs)
+after_one [] i d old new some added = absurd (omega arith)
+after_one (x ∷ xs) zero d old new some added = ap (λ app. with_all app xs) (sym added)
+after_one (x ∷ xs) (suc i) d old new some added =
+    let rest : i < length xs = omega arith in
+    after_one xs i d old new rest added
+
+pub with_next : (xs : List Subcommand) (i : ℕ) (d : Subcommand) (below : Shape) (old new : App) → i < length xs → below ≡ (app_of_subcommand (slice_index_or xs i d)).top
+    → new ≡ with_subcommand old below → with_all old (drop i xs) ≡ with_all new (drop (i + 1) xs)
+with_next xs i d below old new some is added =
+    let one : suc i ≡ i + 1 = omega arith in
+    subst (λ j. with_all old (drop i xs) ≡ with_all new (drop j xs)) one (after_one xs i d old new some (added ∙ ap (with_subcommand old) is))
+
+-- a sum is no less than what it has so far
+grows : {X : Type 0} (f : X → ℕ) (xs : List X) (n : ℕ) → n ≤ fold (λ a x. a + f x) n xs
+grows f [] n = omega arith
+grows f (x ∷ xs) n = let rest : n + f x ≤ fold (λ a y. a + f y) (n + f x) xs = grows f xs (n + f x) in omega arith
+
+pub more_than_one : {X Y : Type 0} (f : X → ℕ) (g : Y → X) (ys : List Y) (i n : ℕ) (d : Y) (all : ℕ) → i < length ys → 1 - n < f (g (slice_index_or ys i d))
+    → fold (λ a x. a + f x) n (map g (drop i ys)) ≡ all → true ≡ nat_lt 1 all
+more_than_one f g [] i n d all some more is = absurd (omega arith)
+more_than_one f g (y ∷ ys) zero n d all some more is =
+    let rest : n + f (g y) ≤ fold (λ a x. a + f x) (n + f (g y)) (map g ys) = grows f (map g ys) (n + f (g y)) in
+    let whole : n + f (g y) ≤ all = subst (λ m. n + f (g y) ≤ m) is rest in
+    let two : 1 < all = omega arith in
+    sym (lt-ltb 1 all two)
+more_than_one f g (y ∷ ys) (suc i) n d all some more is =
+    let rest : i < length ys = omega arith in
+    more_than_one f g ys i n d all rest more is
+
 -- of the command line all is known
 pub is_known : is_simple_and_free cronsafe_app ≡ true
-unfolding cronsafe_app up_to_explain_app up_to_lint_app up_to_chart_app up_to_status_app up_to_room_app judge_and_check_app top_app judge_app make_app advise_app room_app check_app run_app stop_app reload_app status_app day_app replay_app gather_app draft_app learn_app lint_app chart_app explain_app help_app
+unfolding all_subcommands cronsafe_app top_app
 is_known = refl
 
 pub is_told : is_simple cronsafe_app ≡ true
-unfolding cronsafe_app up_to_explain_app up_to_lint_app up_to_chart_app up_to_status_app up_to_room_app judge_and_check_app top_app judge_app make_app advise_app room_app check_app run_app stop_app reload_app status_app day_app replay_app gather_app draft_app learn_app lint_app chart_app explain_app help_app
+unfolding all_subcommands cronsafe_app top_app
 is_told = refl

@@ -1,34 +1,30 @@
 -- What `parse_words` answers, as what the words ask.
-use Rattle.std.specs.Prelude.{◌≡◌, ◌≢◌, ℕ, List, Option, map, option_map, Some, None, Result, Ok, Err, ⊤}
-use Rattle.std.specs.Borrow.{Bor}
+use Rattle.std.specs.Prelude.{◌≡◌, ◌≢◌, ℕ, Bool, List, Option, map, option_map, Some, None, Result, Ok, Err, false, true, ⊤}
 use Rattle.clap.specs.Words.{Row, Text, kind_of}
 use Rattle.clap.specs.declared.error.Error.{Error}
 use Rattle.clap.specs.declared.error.kind.ErrorKind.TheVariants.{DisplayHelp, DisplayVersion}
 use Rattle.clap.specs.declared.error.kind.ErrorKind.TheVariants as kind
-use Rattle.cs_args.specs.CommandLine.{Asked, AskedCheck, AskedReplay, Asking, Asks, AsksHelp, AsksVersion, Check, Day, Help as HelpAsking, IsNoCall, Replay, asked_by, asked_in, asked_up_to, check_in, help_in, replay_in}
-use Rattle.cs_args.specs.CommandLine.{AskedChart, AskedDraft, AskedGather, AskedLint, Chart, Draft, Explain, Gather, Lint}
-use Rattle.cs_args.specs.CommandLine.{chart_in, draft_in, gather_in, lint_in}
-use Rattle.cs_args.specs.CommandLine.{Advise, AskedAdvise, Room, advise_in}
-use Rattle.cs_args.specs.CommandLine.{AskedLearn, Learn, learn_in}
+use Rattle.cs_args.specs.CommandLine.{Asked, AskedAdvise, AskedChart, AskedCheck, AskedDraft, AskedGather, AskedJudge, AskedLearn, AskedLint, AskedMake, AskedReplay, AskedRun, AskedStatus, AskedStop}
+use Rattle.cs_args.specs.CommandLine.{Advise, Asking, Chart, Check, Day, Draft, Explain, Gather, Help as HelpAsking, Judge, Learn, Lint, Make, Reload, Replay, Room, Run, Status, Stop}
+use Rattle.cs_args.specs.CommandLine.{Asks, AsksHelp, AsksVersion, IsNoCall, help_in}
 use Rattle.cs_args.specs.declared.request.AdviseWords.{AdviseWords}
 use Rattle.cs_args.specs.declared.request.ChartWords.{ChartWords}
+use Rattle.cs_args.specs.declared.request.CheckWords.{CheckWords}
+use Rattle.cs_args.specs.declared.request.DayWords.{DayWords}
 use Rattle.cs_args.specs.declared.request.DraftWords.{DraftWords}
 use Rattle.cs_args.specs.declared.request.GatherWords.{GatherWords}
+use Rattle.cs_args.specs.declared.request.JudgeWords.{JudgeWords}
 use Rattle.cs_args.specs.declared.request.LearnWords.{LearnWords}
 use Rattle.cs_args.specs.declared.request.LintWords.{LintWords}
-use Rattle.cs_args.specs.declared.request.CheckWords.{CheckWords}
-use Rattle.cs_args.specs.CommandLine.{AskedJudge, AskedMake, AskedRun, AskedStatus, AskedStop, Judge, Make, Reload, Run, Status, Stop, judge_in, make_in, run_in}
-use Rattle.cs_args.specs.declared.request.JudgeWords.{JudgeWords}
 use Rattle.cs_args.specs.declared.request.MakeWords.{MakeWords}
-use Rattle.cs_args.specs.declared.request.DayWords.{DayWords}
 use Rattle.cs_args.specs.declared.request.ReplayWords.{ReplayWords}
+use Rattle.cs_args.specs.declared.request.Request.TheVariants as request
+use Rattle.cs_args.specs.declared.request.Request.{Request}
 use Rattle.cs_args.specs.declared.request.RunWords.{RunWords}
 use Rattle.cs_args.specs.declared.request.StatusWords.{StatusWords}
 use Rattle.cs_args.specs.declared.request.StopWords.{StopWords}
-use Rattle.cs_args.specs.declared.request.Request.{Request}
-use Rattle.cs_args.specs.declared.request.Request.TheVariants as request
-use Rattle.cs_args.specs.declared.request.UsageFault.{UsageFault}
 use Rattle.cs_args.specs.declared.request.UsageFault.TheVariants.{Help, NoCall, OutOfMemory, Version}
+use Rattle.cs_args.specs.declared.request.UsageFault.{UsageFault}
 
 abbrev pub asked : DayWords → Asked
 asked d = record {
@@ -131,7 +127,6 @@ asked_chart c = record {
   day = asked c.day;
   days = c.days;
   declarations = option_map (λ path. path.now) c.declarations;
-  story = option_map (λ path. path.now) c.story;
 }
 
 abbrev pub asking : Request → Asking
@@ -162,7 +157,16 @@ Parses words (Err Version) = AsksVersion words
 Parses words (Err (NoCall text)) = IsNoCall words
 Parses words (Err OutOfMemory) = ⊤
 
--- what is asked is answered, and a fault of the words where nothing is
+-- what is asked is answered: by what is asked, by help where that is asked, and by a fault of the
+-- words where nothing is
+abbrev pub Answers : Option Asking → Result Request UsageFault → Type 0
+Answers wanted (Ok r) = wanted ≡ Some (asking r)
+Answers wanted (Err (Help text)) = wanted ≡ Some HelpAsking
+Answers wanted (Err Version) = ⊥
+Answers wanted (Err (NoCall text)) = wanted ≡ None
+Answers wanted (Err OutOfMemory) = ⊤
+
+-- so of what isn't help
 abbrev pub AnswersFor : {W A : Type 0} → (W → A) → Option A → Result W UsageFault → Type 0
 AnswersFor view wanted (Ok words) = wanted ≡ Some (view words)
 AnswersFor view wanted (Err (Help text)) = ⊥
@@ -170,72 +174,28 @@ AnswersFor view wanted (Err Version) = ⊥
 AnswersFor view wanted (Err (NoCall text)) = wanted ≡ None
 AnswersFor view wanted (Err OutOfMemory) = ⊤
 
--- so of a number, and of one that may be left out
+-- of a number, and of one that may be left out
 abbrev pub NumberAsked : Option ℕ → Result ℕ UsageFault → Type 0
 NumberAsked = AnswersFor (λ n. n)
 
 abbrev pub OptionalNumberAsked : Option (Option ℕ) → Result (Option ℕ) UsageFault → Type 0
 OptionalNumberAsked = AnswersFor (λ n. n)
 
--- and of the text of one that may be left out beside declarations
-abbrev pub MaxAsked : Option Text → Result (Bor Text) UsageFault → Type 0
-MaxAsked = AnswersFor (λ text. text.now)
+-- a fault is answered where there is one
+abbrev pub RefusesIf : {T : Type 0} → Bool → Result T UsageFault → Type 0
+RefusesIf is_fault (Ok words) = is_fault ≡ false
+RefusesIf is_fault (Err (Help text)) = ⊥
+RefusesIf is_fault (Err Version) = ⊥
+RefusesIf is_fault (Err (NoCall text)) = is_fault ≡ true
+RefusesIf is_fault (Err OutOfMemory) = ⊤
 
--- and of the entries that follow a subcommand
-abbrev pub DayAskedUpTo : Text → List Row → Result DayWords UsageFault → Type 0
-DayAskedUpTo max rows = AnswersFor asked (asked_up_to max rows)
-
-abbrev pub DayAsked : List Row → Result DayWords UsageFault → Type 0
-DayAsked rows = AnswersFor asked (asked_in rows)
-
-abbrev pub ReplayAsked : List Row → Result ReplayWords UsageFault → Type 0
-ReplayAsked rows = AnswersFor asked_replay (replay_in rows)
-
-abbrev pub CheckAsked : List Row → Result CheckWords UsageFault → Type 0
-CheckAsked rows = AnswersFor asked_check (check_in rows)
-
-abbrev pub RunAsked : List Row → Result RunWords UsageFault → Type 0
-RunAsked rows = AnswersFor asked_run (run_in rows)
-
-abbrev pub JudgeAsked : List Row → Result JudgeWords UsageFault → Type 0
-JudgeAsked rows = AnswersFor asked_judge (judge_in rows)
-
-abbrev pub MakeAsked : List Row → Result MakeWords UsageFault → Type 0
-MakeAsked rows = AnswersFor asked_make (make_in rows)
-
-abbrev pub AdviseAsked : List Row → Result AdviseWords UsageFault → Type 0
-AdviseAsked rows = AnswersFor asked_advise (advise_in rows)
-
-abbrev pub GatherAsked : List Row → Result GatherWords UsageFault → Type 0
-GatherAsked rows = AnswersFor asked_gather (gather_in rows)
-
-abbrev pub DraftAsked : List Row → Result DraftWords UsageFault → Type 0
-DraftAsked rows = AnswersFor asked_draft (draft_in rows)
-
-abbrev pub LearnAsked : List Row → Result LearnWords UsageFault → Type 0
-LearnAsked rows = AnswersFor asked_learn (learn_in rows)
-
-abbrev pub LintAsked : List Row → Result LintWords UsageFault → Type 0
-LintAsked rows = AnswersFor asked_lint (lint_in rows)
-
-abbrev pub ChartAsked : List Row → Result ChartWords UsageFault → Type 0
-ChartAsked rows = AnswersFor asked_chart (chart_in rows)
-
--- and of those that follow `help`: a text of it
+-- and of the words of `help`: a text of it
 abbrev pub HelpAsked : {T : Type 0} → List Row → Result T UsageFault → Type 0
 HelpAsked rows (Ok text) = help_in rows ≡ Some HelpAsking
 HelpAsked rows (Err (Help text)) = ⊥
 HelpAsked rows (Err Version) = ⊥
 HelpAsked rows (Err (NoCall text)) = help_in rows ≡ None
 HelpAsked rows (Err OutOfMemory) = ⊤
-
--- and of a subcommand's, by its name
-abbrev pub RequestAsked : Text → List Row → Result Request UsageFault → Type 0
-RequestAsked name rows (Ok r) = asked_by name rows ≡ Some (asking r)
-RequestAsked name rows (Err (Help text)) = asked_by name rows ≡ Some HelpAsking
-RequestAsked name rows (Err Version) = ⊥
-RequestAsked name rows (Err (NoCall text)) = asked_by name rows ≡ None
-RequestAsked name rows (Err OutOfMemory) = ⊤
 
 -- what a fault of `clap` is here
 abbrev pub FaultOf : Error → UsageFault → Type 0

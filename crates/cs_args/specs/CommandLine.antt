@@ -1,5 +1,5 @@
 -- The command line, as `clap` reads it, and what its words ask.
-use Rattle.std.specs.Prelude.{◌≡◌, ◌≢◌, ◌⊎◌, ◌^◌, ◌+◌, ◌==◌, ℕ, Bool, false, List, [], ◌∷◌, count_by, is_some, not, Option, Some, None, true, codes, option_and_then, option_map, unwrap_or, length, if◌then◌else◌, nat_lt, ◌&&◌, ◌||◌}
+use Rattle.std.specs.Prelude.{◌≡◌, ◌≢◌, ◌⊎◌, ◌^◌, ◌+◌, ◌==◌, ℕ, Bool, false, List, [], ◌∷◌, count_by, find, fold, is_some, map, not, Option, Some, None, sum_by, true, codes, option_and_then, option_map, unwrap_or, length, if◌then◌else◌, nat_lt, ◌&&◌, ◌||◌}
 use Rattle.std.specs.Str.Parse.{digits_value}
 use Rattle.std.specs.Char.{is_ascii_digit}
 use Rattle.std.specs.List.{list_all}
@@ -8,225 +8,134 @@ use Rattle.std.specs.Str.{bytes_eq}
 use Rattle.clap.specs.Words.{App, IsAmong, Row, Rule, Text, all_of, fault_of, first_of, new_app, new_rule, subcommand_of, with_rule, with_subcommand}
 use Rattle.clap.specs.Simple.{on_top}
 use Rattle.clap.specs.declared.builder.action.ArgAction.TheVariants.{Append, SetTrue}
-use Rattle.clap.specs.declared.builder.command.Command.{Command}
-use Rattle.clap.specs.declared.builder.command.Command.TheViews.{out-Command as fields_of}
 use Rattle.clap.specs.declared.error.kind.ErrorKind.{ErrorKind}
 use Rattle.clap.specs.declared.error.kind.ErrorKind.TheVariants.{DisplayHelp, DisplayVersion}
+use Rattle.cs_args.specs.declared.table.Subcommand.{Subcommand}
+use Rattle.cs_args.specs.declared.table.Subcommand.TheVariants as subcommand
 
--- an argument that stands without a name, and has to
-abbrev pub required_rule : Text → Rule
-required_rule id = record (new_rule id) { required = true }
+-- an argument that stands without a name, and may be left out, has to stand, or has to once or more
+-- often
+abbrev pub optional_word : Text → Rule
+optional_word = new_rule
 
--- no argument of the command counts for its subcommands too
-abbrev pub IsLocal : Command → Type 0
-IsLocal c = (fields_of c).has_globals ≡ false
+abbrev pub word : Text → Rule
+word id = record (new_rule id) { required = true }
 
--- an option with one value, `--NAME VALUE`
-abbrev pub option_rule : Text → Rule
-option_rule id = record (new_rule id) { long = Some id; value_names = 1 }
+abbrev pub words : Text → Rule
+words id = record (word id) { action = Some Append }
 
--- an option with one value, `--NAME VALUE`, which can be given more than once
-abbrev pub list_rule : Text → Rule
-list_rule id = record (option_rule id) { action = Some Append }
+-- an option with one value, `--NAME VALUE`, which can be given once, or more than once
+abbrev pub value : Text → Rule
+value id = record (new_rule id) { long = Some id; value_names = 1 }
 
--- an argument that stands without a name, and has to, once or more often
-abbrev pub many_rule : Text → Rule
-many_rule id = record (required_rule id) { action = Some Append }
+abbrev pub values : Text → Rule
+values id = record (value id) { action = Some Append }
 
 -- an option with no value, `--NAME`
-abbrev pub flag_rule : Text → Rule
-flag_rule id = record (new_rule id) { long = Some id; action = Some SetTrue }
+abbrev pub flag : Text → Rule
+flag id = record (new_rule id) { long = Some id; action = Some SetTrue }
 
--- `TABLE DATE`
-abbrev pub with_words : App → App
-with_words app =
-    with_rule (with_rule app (required_rule (codes "TABLE"))) (required_rule (codes "DATE"))
+-- the names of the subcommands
+abbrev pub name_of : Subcommand → Text
+name_of subcommand.Judge = codes "judge"
+name_of subcommand.Check = codes "check"
+name_of subcommand.Make = codes "make"
+name_of subcommand.Advise = codes "advise"
+name_of subcommand.Room = codes "room"
+name_of subcommand.Run = codes "run"
+name_of subcommand.Stop = codes "stop"
+name_of subcommand.Reload = codes "reload"
+name_of subcommand.Status = codes "status"
+name_of subcommand.Gather = codes "gather"
+name_of subcommand.Draft = codes "draft"
+name_of subcommand.Learn = codes "learn"
+name_of subcommand.Lint = codes "lint"
+name_of subcommand.Day = codes "day"
+name_of subcommand.Chart = codes "chart"
+name_of subcommand.Replay = codes "replay"
+name_of subcommand.Explain = codes "explain"
+name_of subcommand.Help = codes "help"
 
--- `[--anacrontab FILE] [--from M] [--to M]`
-abbrev pub with_hours : App → App
-with_hours app = with_rule
-    (with_rule (with_rule app (option_rule (codes "anacrontab"))) (option_rule (codes "from")))
-    (option_rule (codes "to"))
+-- their arguments
+abbrev pub rules_of : Subcommand → List Rule
+rules_of subcommand.Judge =
+    word (codes "TABLE") ∷ word (codes "DECLS") ∷ value (codes "anacrontab") ∷ []
+rules_of subcommand.Check =
+    word (codes "TABLE") ∷ word (codes "DECLS") ∷ word (codes "CERT") ∷ value (codes "anacrontab") ∷
+    []
+rules_of subcommand.Make =
+    word (codes "TABLE") ∷ word (codes "DECLS") ∷ value (codes "anacrontab") ∷
+    flag (codes "compact") ∷ []
+rules_of subcommand.Advise =
+    word (codes "TABLE") ∷ word (codes "DECLS") ∷ value (codes "anacrontab") ∷
+    value (codes "within") ∷ []
+rules_of subcommand.Room =
+    word (codes "TABLE") ∷ word (codes "DECLS") ∷ value (codes "anacrontab") ∷ []
+rules_of subcommand.Run =
+    word (codes "TABLE") ∷ word (codes "DECLS") ∷ word (codes "CERT") ∷ word (codes "STAMPS") ∷
+    value (codes "anacrontab") ∷ value (codes "minutes") ∷ value (codes "log") ∷
+    value (codes "output") ∷ value (codes "keep") ∷ flag (codes "home") ∷
+    value (codes "on-overrun") ∷ value (codes "on-failure") ∷ []
+rules_of subcommand.Stop = word (codes "STAMPS") ∷ flag (codes "now") ∷ []
+rules_of subcommand.Reload = word (codes "STAMPS") ∷ []
+rules_of subcommand.Status = word (codes "STAMPS") ∷ flag (codes "json") ∷ []
+rules_of subcommand.Gather =
+    value (codes "root") ∷ values (codes "system") ∷ values (codes "user") ∷ []
+rules_of subcommand.Draft =
+    word (codes "TABLE") ∷ value (codes "anacrontab") ∷ value (codes "max") ∷
+    value (codes "update") ∷ []
+rules_of subcommand.Learn =
+    word (codes "TABLE") ∷ words (codes "LOG") ∷ value (codes "factor") ∷ value (codes "update") ∷
+    []
+rules_of subcommand.Lint =
+    word (codes "TABLE") ∷ optional_word (codes "DECLS") ∷ value (codes "anacrontab") ∷
+    value (codes "zone") ∷ values (codes "only") ∷ values (codes "except") ∷
+    flag (codes "faults-only") ∷ []
+rules_of subcommand.Day =
+    word (codes "TABLE") ∷ word (codes "DATE") ∷ word (codes "MAX") ∷ value (codes "anacrontab") ∷
+    value (codes "from") ∷ value (codes "to") ∷ []
+rules_of subcommand.Chart =
+    word (codes "TABLE") ∷ word (codes "DATE") ∷ optional_word (codes "MAX") ∷
+    value (codes "anacrontab") ∷ value (codes "from") ∷ value (codes "to") ∷ value (codes "days") ∷
+    value (codes "declarations") ∷ []
+rules_of subcommand.Replay =
+    word (codes "TABLE") ∷ word (codes "SCRIPT") ∷ value (codes "max") ∷
+    value (codes "anacrontab") ∷ value (codes "declarations") ∷ flag (codes "judge") ∷
+    flag (codes "log") ∷ flag (codes "script") ∷ []
+rules_of subcommand.Explain = optional_word (codes "NAME") ∷ []
+rules_of subcommand.Help = optional_word (codes "COMMAND") ∷ []
 
--- `day TABLE DATE MAX [--anacrontab FILE] [--from M] [--to M]`
-unfoldable pub day_app : App
-day_app = with_hours (with_rule (with_words (new_app (codes "day"))) (required_rule (codes "MAX")))
+-- all of them, in the order of the help
+unfoldable pub all_subcommands : List Subcommand
+all_subcommands =
+    subcommand.Judge ∷ subcommand.Check ∷ subcommand.Make ∷ subcommand.Advise ∷ subcommand.Room ∷
+    subcommand.Run ∷ subcommand.Stop ∷ subcommand.Reload ∷ subcommand.Status ∷ subcommand.Gather ∷
+    subcommand.Draft ∷ subcommand.Learn ∷ subcommand.Lint ∷ subcommand.Day ∷ subcommand.Chart ∷
+    subcommand.Replay ∷ subcommand.Explain ∷ subcommand.Help ∷ []
 
--- `[--max N] [--anacrontab FILE] [--declarations FILE]`
-abbrev pub with_terms : App → App
-with_terms app = with_rule
-    (with_rule (with_rule app (option_rule (codes "max"))) (option_rule (codes "anacrontab")))
-    (option_rule (codes "declarations"))
-
--- `replay TABLE SCRIPT [--max N] [--anacrontab FILE] [--declarations FILE] [--judge] [--log]
--- [--script]`
-unfoldable pub replay_app : App
-replay_app = with_rule (with_rule (with_rule (with_terms
-    (with_rule (with_rule (new_app (codes "replay")) (required_rule (codes "TABLE")))
-    (required_rule (codes "SCRIPT")))) (flag_rule (codes "judge"))) (flag_rule (codes "log")))
-    (flag_rule (codes "script"))
-
--- `TABLE DECLS CERT`
-abbrev pub with_certificate : App → App
-with_certificate app =
-    with_rule (with_rule (with_rule app (required_rule (codes "TABLE")))
-    (required_rule (codes "DECLS"))) (required_rule (codes "CERT"))
-
--- `check TABLE DECLS CERT [--anacrontab FILE]`
-unfoldable pub check_app : App
-check_app =
-    with_rule (with_certificate (new_app (codes "check"))) (option_rule (codes "anacrontab"))
-
--- `[--home] [--on-overrun COMMAND] [--on-failure COMMAND]`
-abbrev pub with_home_and_hooks : App → App
-with_home_and_hooks app = with_rule
-    (with_rule (with_rule app (flag_rule (codes "home"))) (option_rule (codes "on-overrun")))
-    (option_rule (codes "on-failure"))
-
--- `[--log FILE] [--output FOLDER] [--keep N]`
-abbrev pub with_log_and_output : App → App
-with_log_and_output app = with_rule
-    (with_rule (with_rule app (option_rule (codes "log"))) (option_rule (codes "output")))
-    (option_rule (codes "keep"))
-
--- `run TABLE DECLS CERT STAMPS [--anacrontab FILE] [--minutes N] [--log FILE] [--output FOLDER]
--- [--keep N] [--home] [--on-overrun COMMAND] [--on-failure COMMAND]`
-unfoldable pub run_app : App
-run_app = with_home_and_hooks (with_log_and_output
-    (with_rule (with_rule (with_rule (with_certificate (new_app (codes "run")))
-    (required_rule (codes "STAMPS"))) (option_rule (codes "anacrontab")))
-    (option_rule (codes "minutes"))))
-
--- `stop STAMPS [--now]`
-unfoldable pub stop_app : App
-stop_app =
-    with_rule (with_rule (new_app (codes "stop")) (required_rule (codes "STAMPS")))
-    (flag_rule (codes "now"))
-
--- `reload STAMPS`
-unfoldable pub reload_app : App
-reload_app = with_rule (new_app (codes "reload")) (required_rule (codes "STAMPS"))
-
--- `status STAMPS [--json]`
-unfoldable pub status_app : App
-status_app =
-    with_rule (with_rule (new_app (codes "status")) (required_rule (codes "STAMPS")))
-    (flag_rule (codes "json"))
-
--- `NAME TABLE DECLS [--anacrontab FILE]`
-abbrev pub plan_app : Text → App
-plan_app name =
-    with_rule (with_rule (with_rule (new_app name) (required_rule (codes "TABLE")))
-    (required_rule (codes "DECLS"))) (option_rule (codes "anacrontab"))
-
--- `judge TABLE DECLS [--anacrontab FILE]`
-unfoldable pub judge_app : App
-judge_app = plan_app (codes "judge")
-
--- `make TABLE DECLS [--anacrontab FILE] [--compact]`
-unfoldable pub make_app : App
-make_app = with_rule (plan_app (codes "make")) (flag_rule (codes "compact"))
-
--- `advise TABLE DECLS [--anacrontab FILE] [--within MINUTES]`
-unfoldable pub advise_app : App
-advise_app = with_rule (plan_app (codes "advise")) (option_rule (codes "within"))
-
--- `room TABLE DECLS [--anacrontab FILE]`
-unfoldable pub room_app : App
-room_app = plan_app (codes "room")
-
--- `gather [--root DIR] [--system FILE].. [--user FILE]..`
-unfoldable pub gather_app : App
-gather_app =
-    with_rule (with_rule (with_rule (new_app (codes "gather")) (option_rule (codes "root")))
-    (list_rule (codes "system"))) (list_rule (codes "user"))
-
--- `draft TABLE [--anacrontab FILE] [--max N] [--update OLD]`
-unfoldable pub draft_app : App
-draft_app =
-    with_rule (with_rule (with_rule (with_rule (new_app (codes "draft"))
-    (required_rule (codes "TABLE"))) (option_rule (codes "anacrontab")))
-    (option_rule (codes "max"))) (option_rule (codes "update"))
-
--- `learn TABLE LOG.. [--factor F] [--update OLD]`
-unfoldable pub learn_app : App
-learn_app =
-    with_rule (with_rule (with_rule (with_rule (new_app (codes "learn"))
-    (required_rule (codes "TABLE"))) (many_rule (codes "LOG")))
-    (option_rule (codes "factor"))) (option_rule (codes "update"))
-
--- `[--only NAME].. [--except NAME].. [--faults-only]`
-abbrev pub with_names : App → App
-with_names app =
-    with_rule (with_rule (with_rule app (list_rule (codes "only"))) (list_rule (codes "except")))
-    (flag_rule (codes "faults-only"))
-
--- `lint TABLE [DECLS] [--anacrontab FILE] [--zone FILE] [--only NAME].. [--except NAME]..
--- [--faults-only]`
-unfoldable pub lint_app : App
-lint_app =
-    with_names
-    (with_rule (with_rule (with_rule (with_rule (new_app (codes "lint"))
-    (required_rule (codes "TABLE"))) (new_rule (codes "DECLS")))
-    (option_rule (codes "anacrontab"))) (option_rule (codes "zone")))
-
--- `chart TABLE DATE [MAX] [--anacrontab FILE] [--from M] [--to M] [--days N] [--declarations FILE]
--- [--story FILE]`
-unfoldable pub chart_app : App
-chart_app =
-    with_rule (with_rule (with_rule (with_hours
-    (with_rule (with_words (new_app (codes "chart"))) (new_rule (codes "MAX"))))
-    (option_rule (codes "days"))) (option_rule (codes "declarations")))
-    (option_rule (codes "story"))
-
--- `explain [NAME]`
-unfoldable pub explain_app : App
-explain_app = with_rule (new_app (codes "explain")) (new_rule (codes "NAME"))
-
--- `help [COMMAND]`
-unfoldable pub help_app : App
-help_app = with_rule (new_app (codes "help")) (new_rule (codes "COMMAND"))
-
--- what `cronsafe` says of itself: it has a version, and wants a subcommand, of which `help` is its
--- own
+-- `cronsafe`: it has a version, and wants a subcommand, of which `help` is its own
 unfoldable pub top_app : App
 top_app = on_top (λ s.
     record s { disable_help_subcommand = true; subcommand_required = true; has_version = true })
     (new_app (codes "cronsafe"))
 
--- `cronsafe` with the subcommands `judge` and `check`
-unfoldable pub judge_and_check_app : App
-judge_and_check_app = with_subcommand (with_subcommand top_app judge_app.top) check_app.top
+-- a command line with one subcommand more
+abbrev pub app_of_subcommand : Subcommand → App
+app_of_subcommand s = fold with_rule (new_app (name_of s)) (rules_of s)
 
--- and with `make`, `advise` and `room`
-unfoldable pub up_to_room_app : App
-up_to_room_app =
-    with_subcommand (with_subcommand (with_subcommand judge_and_check_app make_app.top)
-    advise_app.top) room_app.top
+abbrev pub with_all : App → List Subcommand → App
+with_all = fold (λ app s. with_subcommand app (app_of_subcommand s).top)
 
--- and with `run`, `stop`, `reload` and `status`
-unfoldable pub up_to_status_app : App
-up_to_status_app =
-    with_subcommand (with_subcommand (with_subcommand (with_subcommand up_to_room_app run_app.top)
-    stop_app.top) reload_app.top) status_app.top
-
--- and with `gather`, `draft`, `learn` and `lint`
-unfoldable pub up_to_lint_app : App
-up_to_lint_app =
-    with_subcommand (with_subcommand (with_subcommand
-    (with_subcommand up_to_status_app gather_app.top) draft_app.top) learn_app.top) lint_app.top
-
--- and with `day` and `chart`
-unfoldable pub up_to_chart_app : App
-up_to_chart_app = with_subcommand (with_subcommand up_to_lint_app day_app.top) chart_app.top
-
--- and with `replay` and `explain`
-unfoldable pub up_to_explain_app : App
-up_to_explain_app = with_subcommand (with_subcommand up_to_chart_app replay_app.top) explain_app.top
-
--- and with `help`
+-- the command line of `cronsafe`
 unfoldable pub cronsafe_app : App
-cronsafe_app = with_subcommand up_to_explain_app help_app.top
+cronsafe_app = with_all top_app all_subcommands
+
+-- the subcommand of a name
+abbrev pub named_among : List Subcommand → Text → Option Subcommand
+named_among subcommands name = find (λ s. bytes_eq (name_of s) name) subcommands
+
+abbrev pub subcommand_named : Text → Option Subcommand
+subcommand_named = named_among all_subcommands
 
 -- the number that digits write, where it is below 2 ^ 64
 abbrev pub number_of : Text → Option ℕ
@@ -342,13 +251,11 @@ pub record AskedLint : Type 0 where
   pub except : List Text
   pub faults_only : Bool
 
--- what `chart` is asked: what `day` is, for how many days, and the paths of declarations and of a
--- script
+-- what `chart` is asked: what `day` is, for how many days, and the path of declarations
 pub record AskedChart : Type 0 where
   pub day : Asked
   pub days : ℕ
   pub declarations : Option Text
-  pub story : Option Text
 
 -- what words may ask: a subcommand, of which `reload` is asked the path of a folder of stamps, or,
 -- by the subcommand `help`, how the program is called
@@ -376,6 +283,10 @@ pub data Asking : Type 0 where
 abbrev pub value_or : Text → Text → List Row → Text
 value_or absent id rows = unwrap_or (first_of id rows) absent
 
+-- that of a word that has to stand
+abbrev pub word_in : Text → List Row → Text
+word_in = value_or []
+
 -- all values of an argument, in order
 abbrev pub values_in : Text → List Row → List Text
 values_in id rows = unwrap_or (all_of id rows) []
@@ -384,341 +295,229 @@ values_in id rows = unwrap_or (all_of id rows) []
 abbrev pub has_flag : Text → List Row → Bool
 has_flag id rows = option_map_or (λ text. bytes_eq text (codes "true")) (first_of id rows) false
 
--- both paths name standard input
-abbrev pub is_dash : Text → Bool
-is_dash path = bytes_eq path (45 ∷ [])
+-- an argument is given
+abbrev pub is_given : Text → List Row → Bool
+is_given id rows = is_some (first_of id rows)
 
-abbrev pub is_twice_standard : Text → Option Text → Bool
-is_twice_standard table anacrontab = is_dash table && option_map_or is_dash anacrontab false
-
--- what the entries of `day` ask, where MAX, `--from` and `--to` have these numbers
-abbrev pub asked_with : List Row → ℕ → ℕ → ℕ → Option Asked
-asked_with rows max from to =
-    let table = value_or [] (codes "TABLE") rows in
-    let anacrontab = first_of (codes "anacrontab") rows in
-    if is_twice_standard table anacrontab then None
-    else Some (record {
-      table = table;
-      date = value_or [] (codes "DATE") rows;
-      max = max;
-      anacrontab = anacrontab;
-      from = from;
-      to = to;
-    })
-
--- what the entries of `day` ask, where MAX is this text: it and the hours have to be numbers, the
--- hours are by default the whole day, and standard input is named once at most
-abbrev pub asked_up_to : Text → List Row → Option Asked
-asked_up_to max rows =
-    option_and_then
-    (λ max. option_and_then (λ from. option_and_then (λ to. asked_with rows max from to)
-    (number_of (value_or (codes "1440") (codes "to") rows)))
-    (number_of (value_or (codes "0") (codes "from") rows)))
-    (number_of max)
-
--- what the entries of `day` ask
-abbrev pub asked_in : List Row → Option Asked
-asked_in rows = asked_up_to (value_or [] (codes "MAX") rows) rows
-
--- whether an option names standard input
-abbrev pub is_dash_in : Option Text → Bool
-is_dash_in path = option_map_or is_dash path false
-
--- two of the four paths name standard input
-abbrev pub are_dashes : Text → Text → Option Text → Option Text → Bool
-are_dashes table script anacrontab declarations =
-    (is_dash table && is_dash script)
-    || (((is_dash table || is_dash script) && (is_dash_in anacrontab || is_dash_in declarations))
-    || (is_dash_in anacrontab && is_dash_in declarations))
-
--- the script of a log is shown, so with a log alone
-abbrev pub is_script_alone : Bool → Bool → Bool
-is_script_alone show_script log = show_script && not log
-
--- what the entries of `replay` ask, where `--max` has this number
-abbrev pub replay_with : List Row → ℕ → Option AskedReplay
-replay_with rows max =
-    let table = value_or [] (codes "TABLE") rows in
-    let script = value_or [] (codes "SCRIPT") rows in
-    let anacrontab = first_of (codes "anacrontab") rows in
-    let declarations = first_of (codes "declarations") rows in
-    let log = has_flag (codes "log") rows in
-    let show_script = has_flag (codes "script") rows in
-    if are_dashes table script anacrontab declarations then None
-    else if is_script_alone show_script log then None
-    else Some (record {
-      table = table;
-      script = script;
-      max = max;
-      anacrontab = anacrontab;
-      declarations = declarations;
-      judge = has_flag (codes "judge") rows;
-      log = log;
-      show_script = show_script;
-    })
-
--- what the entries of `replay` ask: `--max` has to be a number, by default a day's minutes,
--- `--script` is given beside `--log` alone, and standard input is named once at most
-abbrev pub replay_in : List Row → Option AskedReplay
-replay_in rows = option_and_then (λ max. replay_with rows max)
-    (number_of (value_or (codes "1440") (codes "max") rows))
-
--- what the entries of `check` ask: standard input is named once at most
-abbrev pub check_in : List Row → Option AskedCheck
-check_in rows =
-    let table = value_or [] (codes "TABLE") rows in
-    let declarations = value_or [] (codes "DECLS") rows in
-    let certificate = value_or [] (codes "CERT") rows in
-    let anacrontab = first_of (codes "anacrontab") rows in
-    if are_dashes table declarations anacrontab (Some certificate) then None
-    else Some (record {
-      table = table;
-      declarations = declarations;
-      certificate = certificate;
-      anacrontab = anacrontab;
-    })
+-- the number of an option, and that of this text where it isn't given
+abbrev pub number_in : Text → Text → List Row → Option ℕ
+number_in absent id rows = number_of (value_or absent id rows)
 
 -- the number of an option that may be left out
 abbrev pub optional_number_of : Option Text → Option (Option ℕ)
 optional_number_of None = Some None
 optional_number_of (Some text) = option_map Some (number_of text)
 
--- files are kept in a folder of output, so with one alone
-abbrev pub is_keep_alone : Option ℕ → Option Text → Bool
-is_keep_alone keep output = is_some keep && not (is_some output)
+-- the path names standard input
+abbrev pub is_dash : Text → Bool
+is_dash path = bytes_eq path (45 ∷ [])
 
--- how many files of each job are kept beside a folder of output: a number from 1 on, where it is
--- given
-abbrev pub keep_beside : Option Text → Option Text → Option (Option ℕ)
-keep_beside keep output = option_and_then
-    (λ keep.
-    if is_keep_alone keep output then None
-    else if option_map_or (λ files. files == 0) keep false then None else Some keep)
-    (optional_number_of keep)
+-- the paths of these arguments name standard input more than once
+abbrev pub is_twice_standard : List Text → List Row → Bool
+is_twice_standard ids rows = nat_lt 1 (sum_by (λ id. count_by is_dash (values_in id rows)) ids)
 
--- what the entries of `run` ask: `--minutes` has to be a number where it is given, `--keep` one
--- from 1 on and beside `--output` alone, and standard input is named once at most among the paths
--- of `check`
-abbrev pub run_in : List Row → Option AskedRun
+-- nothing is asked where this holds
+abbrev pub unless : {A : Type 0} → Bool → Option A → Option A
+unless fault asked = if fault then None else asked
+
+-- what the words of `day` ask, where MAX is this text: it and the hours have to be numbers, and the
+-- hours are by default the whole day
+abbrev pub day_up_to : Text → List Row → Option Asked
+day_up_to max rows =
+    option_and_then (λ max. option_and_then (λ from. option_and_then (λ to.
+    unless (is_twice_standard (codes "TABLE" ∷ codes "anacrontab" ∷ []) rows)
+    (Some (record {
+      table = word_in (codes "TABLE") rows;
+      date = word_in (codes "DATE") rows;
+      max = max;
+      anacrontab = first_of (codes "anacrontab") rows;
+      from = from;
+      to = to;
+    })))
+    (number_in (codes "1440") (codes "to") rows)) (number_in (codes "0") (codes "from") rows))
+    (number_of max)
+
+-- `chart`: MAX may be left out beside declarations, which have the longest time of each job, and
+-- `--days` is from 1 to 7, by default 1
+abbrev pub chart_in : List Row → Option Asking
+chart_in rows =
+    unless (not (is_given (codes "MAX") rows) && not (is_given (codes "declarations") rows))
+    (option_and_then (λ day. option_and_then (λ days.
+    unless
+    (is_twice_standard (codes "TABLE" ∷ codes "anacrontab" ∷ codes "declarations" ∷ []) rows)
+    (unless (days == 0 || nat_lt 7 days) (Some (Chart (record {
+      day = day;
+      days = days;
+      declarations = first_of (codes "declarations") rows;
+    })))))
+    (number_in (codes "1") (codes "days") rows))
+    (day_up_to (value_or (codes "1440") (codes "MAX") rows) rows))
+
+-- `replay`: `--max` is by default a day's minutes, and `--script` stands beside `--log` alone
+abbrev pub replay_in : List Row → Option Asking
+replay_in rows =
+    option_and_then (λ max.
+    unless (is_twice_standard
+    (codes "TABLE" ∷ codes "SCRIPT" ∷ codes "anacrontab" ∷ codes "declarations" ∷ []) rows)
+    (unless (has_flag (codes "script") rows && not (has_flag (codes "log") rows))
+    (Some (Replay (record {
+      table = word_in (codes "TABLE") rows;
+      script = word_in (codes "SCRIPT") rows;
+      max = max;
+      anacrontab = first_of (codes "anacrontab") rows;
+      declarations = first_of (codes "declarations") rows;
+      judge = has_flag (codes "judge") rows;
+      log = has_flag (codes "log") rows;
+      show_script = has_flag (codes "script") rows;
+    })))))
+    (number_in (codes "1440") (codes "max") rows)
+
+-- `check`
+abbrev pub check_in : List Row → Option AskedCheck
+check_in rows =
+    unless (is_twice_standard
+    (codes "TABLE" ∷ codes "DECLS" ∷ codes "CERT" ∷ codes "anacrontab" ∷ []) rows)
+    (Some (record {
+      table = word_in (codes "TABLE") rows;
+      declarations = word_in (codes "DECLS") rows;
+      certificate = word_in (codes "CERT") rows;
+      anacrontab = first_of (codes "anacrontab") rows;
+    }))
+
+-- `run`: what `check` asks; `--keep` is at least 1, and stands beside `--output` alone
+abbrev pub run_in : List Row → Option Asking
 run_in rows =
-    let stamps = value_or [] (codes "STAMPS") rows in
-    let output = first_of (codes "output") rows in
-    option_and_then (λ minutes. option_and_then (λ keep. option_map (λ check. record {
+    option_and_then (λ minutes. option_and_then (λ keep.
+    unless (is_some keep && not (is_given (codes "output") rows))
+    (unless (option_map_or (λ files. files == 0) keep false)
+    (option_map (λ check. Run (record {
       check = check;
-      stamps = stamps;
+      stamps = word_in (codes "STAMPS") rows;
       minutes = minutes;
       log = first_of (codes "log") rows;
-      output = output;
+      output = first_of (codes "output") rows;
       keep = keep;
       home = has_flag (codes "home") rows;
       on_overrun = first_of (codes "on-overrun") rows;
       on_failure = first_of (codes "on-failure") rows;
-    }) (check_in rows)) (keep_beside (first_of (codes "keep") rows) output))
+    })) (check_in rows))))
+    (optional_number_of (first_of (codes "keep") rows)))
     (optional_number_of (first_of (codes "minutes") rows))
 
--- what the entries of `stop` ask
-abbrev pub stop_in : List Row → AskedStop
-stop_in rows = record {
-  stamps = value_or [] (codes "STAMPS") rows;
-  now = has_flag (codes "now") rows;
-}
-
--- what the entries of `reload` ask
-abbrev pub reload_in : List Row → Text
-reload_in rows = value_or [] (codes "STAMPS") rows
-
--- what the entries of `status` ask
-abbrev pub status_in : List Row → AskedStatus
-status_in rows = record {
-  stamps = value_or [] (codes "STAMPS") rows;
-  json = has_flag (codes "json") rows;
-}
-
--- what the entries of `judge` and of `room` ask: standard input is named once at most
+-- `judge` and `room`
 abbrev pub judge_in : List Row → Option AskedJudge
 judge_in rows =
-    let table = value_or [] (codes "TABLE") rows in
-    let declarations = value_or [] (codes "DECLS") rows in
-    let anacrontab = first_of (codes "anacrontab") rows in
-    if are_dashes table declarations anacrontab None then None
-    else Some (record { table = table; declarations = declarations; anacrontab = anacrontab })
+    unless (is_twice_standard (codes "TABLE" ∷ codes "DECLS" ∷ codes "anacrontab" ∷ []) rows)
+    (Some (record {
+      table = word_in (codes "TABLE") rows;
+      declarations = word_in (codes "DECLS") rows;
+      anacrontab = first_of (codes "anacrontab") rows;
+    }))
 
--- what the entries of `make` ask: what those of `judge` do, and whether `--compact` is among them
-abbrev pub make_in : List Row → Option AskedMake
-make_in rows =
-    option_map (λ judge. record { judge = judge; compact = has_flag (codes "compact") rows })
-    (judge_in rows)
+-- `make`: what `judge` asks, and `--compact`
+abbrev pub make_in : List Row → Option Asking
+make_in rows = option_map (λ judge.
+    Make (record { judge = judge; compact = has_flag (codes "compact") rows })) (judge_in rows)
 
--- so many minutes are from one to less than a day
-abbrev pub is_below_a_day : ℕ → Bool
-is_below_a_day minutes = nat_lt 0 minutes && nat_lt minutes 1440
-
--- what the entries of `advise` ask, where those of `judge` ask this and `--within` has this number
-abbrev pub advise_with : AskedJudge → ℕ → Option AskedAdvise
-advise_with judge within =
-    if is_below_a_day within then Some (record { judge = judge; within = within }) else None
-
--- what the entries of `advise` ask: those of `judge` ask something, and `--within` has to be a
--- number from 1 to 1439, by default 120
-abbrev pub advise_in : List Row → Option AskedAdvise
+-- `advise`: what `judge` asks, and `--within`, from 1 to 1439, by default 120
+abbrev pub advise_in : List Row → Option Asking
 advise_in rows =
-    option_and_then (λ judge. option_and_then (λ within. advise_with judge within)
-    (number_of (value_or (codes "120") (codes "within") rows))) (judge_in rows)
+    option_and_then (λ judge. option_and_then (λ within.
+    unless (within == 0 || nat_lt 1439 within)
+    (Some (Advise (record { judge = judge; within = within }))))
+    (number_in (codes "120") (codes "within") rows)) (judge_in rows)
 
--- no path is named
-abbrev pub is_asked_nothing : AskedGather → Bool
-is_asked_nothing a = not (is_some a.root) && ((length a.system == 0) && (length a.user == 0))
-
--- standard input is named more than once
-abbrev pub has_two_dashes : AskedGather → Bool
-has_two_dashes a = nat_lt 1 (count_by is_dash a.system + count_by is_dash a.user)
-
--- what the entries of `gather` ask: at least one path, and standard input is named once at most
-abbrev pub gather_in : List Row → Option AskedGather
+-- `gather`: at least one path
+abbrev pub gather_in : List Row → Option Asking
 gather_in rows =
-    let asked : AskedGather = record {
+    unless (not (is_given (codes "root") rows)
+    && (not (is_given (codes "system") rows) && not (is_given (codes "user") rows)))
+    (unless (is_twice_standard (codes "system" ∷ codes "user" ∷ []) rows) (Some (Gather (record {
       root = first_of (codes "root") rows;
       system = values_in (codes "system") rows;
       user = values_in (codes "user") rows;
-    } in
-    if is_asked_nothing asked then None else if has_two_dashes asked then None else Some asked
+    }))))
 
--- what the entries of `draft` ask, where `--max` has this number
-abbrev pub draft_with : List Row → ℕ → Option AskedDraft
-draft_with rows max =
-    let table = value_or [] (codes "TABLE") rows in
-    let anacrontab = first_of (codes "anacrontab") rows in
-    let update = first_of (codes "update") rows in
-    if are_dashes table [] anacrontab update then None
-    else Some (record { table = table; max = max; anacrontab = anacrontab; update = update })
-
--- what the entries of `draft` ask: `--max` has to be a number, by default 60, and standard input is
--- named once at most
-abbrev pub draft_in : List Row → Option AskedDraft
+-- `draft`: `--max` is by default 60
+abbrev pub draft_in : List Row → Option Asking
 draft_in rows =
-    option_and_then (λ max. draft_with rows max)
-    (number_of (value_or (codes "60") (codes "max") rows))
+    option_and_then (λ max.
+    unless (is_twice_standard (codes "TABLE" ∷ codes "anacrontab" ∷ codes "update" ∷ []) rows)
+    (Some (Draft (record {
+      table = word_in (codes "TABLE") rows;
+      max = max;
+      anacrontab = first_of (codes "anacrontab") rows;
+      update = first_of (codes "update") rows;
+    }))))
+    (number_in (codes "60") (codes "max") rows)
 
--- standard input is named more than once among a table, logs and declarations to update
-abbrev pub has_dashes : AskedLearn → Bool
-has_dashes a =
-    nat_lt 1 (count_by is_dash (a.table ∷ unwrap_or a.update [] ∷ []) + count_by is_dash a.logs)
-
--- what the entries of `learn` ask: the factor is by default 1.5, and standard input is named once at
--- most
-abbrev pub learn_in : List Row → Option AskedLearn
+-- `learn`: the factor is by default 1.5
+abbrev pub learn_in : List Row → Option Asking
 learn_in rows =
-    let asked : AskedLearn = record {
-      table = value_or [] (codes "TABLE") rows;
+    unless (is_twice_standard (codes "TABLE" ∷ codes "LOG" ∷ codes "update" ∷ []) rows)
+    (Some (Learn (record {
+      table = word_in (codes "TABLE") rows;
       logs = values_in (codes "LOG") rows;
       factor = value_or (codes "1.5") (codes "factor") rows;
       update = first_of (codes "update") rows;
-    } in
-    if has_dashes asked then None else Some asked
+    })))
 
--- what the entries of `lint` ask: standard input is named once at most
-abbrev pub lint_in : List Row → Option AskedLint
+-- `lint`
+abbrev pub lint_in : List Row → Option Asking
 lint_in rows =
-    let table = value_or [] (codes "TABLE") rows in
-    let declarations = first_of (codes "DECLS") rows in
-    let anacrontab = first_of (codes "anacrontab") rows in
-    let zone = first_of (codes "zone") rows in
-    if are_dashes table (unwrap_or zone []) anacrontab declarations then None
-    else Some (record {
-      table = table;
-      declarations = declarations;
-      anacrontab = anacrontab;
-      zone = zone;
+    unless (is_twice_standard
+    (codes "TABLE" ∷ codes "DECLS" ∷ codes "anacrontab" ∷ codes "zone" ∷ []) rows)
+    (Some (Lint (record {
+      table = word_in (codes "TABLE") rows;
+      declarations = first_of (codes "DECLS") rows;
+      anacrontab = first_of (codes "anacrontab") rows;
+      zone = first_of (codes "zone") rows;
       only = values_in (codes "only") rows;
       except = values_in (codes "except") rows;
       faults_only = has_flag (codes "faults-only") rows;
-    })
+    })))
 
--- so many days are from one to a week
-abbrev pub is_up_to_a_week : ℕ → Bool
-is_up_to_a_week days = nat_lt 0 days && nat_lt days 8
+-- `stop` and `status`
+abbrev pub stop_in : List Row → AskedStop
+stop_in rows = record {
+  stamps = word_in (codes "STAMPS") rows;
+  now = has_flag (codes "now") rows;
+}
 
--- a story is told of a plan, so with declarations alone
-abbrev pub is_story_alone : Option Text → Option Text → Bool
-is_story_alone story declarations = is_some story && not (is_some declarations)
+abbrev pub status_in : List Row → AskedStatus
+status_in rows = record {
+  stamps = word_in (codes "STAMPS") rows;
+  json = has_flag (codes "json") rows;
+}
 
--- what the entries of `chart` ask, where those of `day` ask this and `--days` has this number
-abbrev pub chart_with : List Row → Asked → ℕ → Option AskedChart
-chart_with rows day days =
-    let declarations = first_of (codes "declarations") rows in
-    let story = first_of (codes "story") rows in
-    if are_dashes day.table (unwrap_or story []) day.anacrontab declarations then None
-    else if is_story_alone story declarations then None
-    else if is_up_to_a_week days
-    then Some (record { day = day; days = days; declarations = declarations; story = story })
-    else None
-
--- MAX of `chart` may be left out beside declarations, which have the longest time of each job: then
--- it is a day's minutes, and nothing comes of it
-abbrev pub max_beside : Option Text → Option Text → Option Text
-max_beside (Some max) declarations = Some max
-max_beside None (Some path) = Some (codes "1440")
-max_beside None None = None
-
--- what the entries of `chart` ask, where MAX is this text
-abbrev pub chart_up_to : Text → List Row → Option AskedChart
-chart_up_to max rows =
-    option_and_then (λ day. option_and_then (λ days. chart_with rows day days)
-    (number_of (value_or (codes "1") (codes "days") rows))) (asked_up_to max rows)
-
--- what the entries of `chart` ask: MAX is given or left out beside declarations, those of `day` ask
--- something, `--days` has to be a number from 1 to 7, by default 1, `--story` is given beside
--- declarations alone, and standard input is named once at most
-abbrev pub chart_in : List Row → Option AskedChart
-chart_in rows = option_and_then (λ max. chart_up_to max rows)
-    (max_beside (first_of (codes "MAX") rows) (first_of (codes "declarations") rows))
-
--- the names of the subcommands
-abbrev pub is_planned_name : Text → Bool
-is_planned_name name =
-    bytes_eq name (codes "check") || (bytes_eq name (codes "run")
-    || (bytes_eq name (codes "stop") || (bytes_eq name (codes "reload")
-    || (bytes_eq name (codes "status")
-    || (bytes_eq name (codes "judge") || (bytes_eq name (codes "make")
-    || (bytes_eq name (codes "advise") || bytes_eq name (codes "room"))))))))
-
-abbrev pub is_shown_name : Text → Bool
-is_shown_name name =
-    bytes_eq name (codes "gather") || (bytes_eq name (codes "draft")
-    || (bytes_eq name (codes "learn") || (bytes_eq name (codes "lint")
-    || (bytes_eq name (codes "chart") || bytes_eq name (codes "explain")))))
-
-abbrev pub is_subcommand : Text → Bool
-is_subcommand name =
-    bytes_eq name (codes "day") || (bytes_eq name (codes "replay")
-    || (is_planned_name name || (is_shown_name name || bytes_eq name (codes "help"))))
-
--- what the entries of `help` ask: help, but of no other subcommand
+-- `help`: of the program, or of a subcommand
 abbrev pub help_in : List Row → Option Asking
-help_in rows =
-    if option_map_or is_subcommand (first_of (codes "COMMAND") rows) true then Some Help else None
+help_in rows = unless (option_map_or (λ name. not (is_some (subcommand_named name)))
+    (first_of (codes "COMMAND") rows) false) (Some Help)
 
--- what the entries of a subcommand ask, by its name
+-- what the words of each subcommand ask
+abbrev pub asked_in : Subcommand → List Row → Option Asking
+asked_in subcommand.Day rows = option_map Day (day_up_to (word_in (codes "MAX") rows) rows)
+asked_in subcommand.Replay rows = replay_in rows
+asked_in subcommand.Check rows = option_map Check (check_in rows)
+asked_in subcommand.Run rows = run_in rows
+asked_in subcommand.Stop rows = Some (Stop (stop_in rows))
+asked_in subcommand.Reload rows = Some (Reload (word_in (codes "STAMPS") rows))
+asked_in subcommand.Status rows = Some (Status (status_in rows))
+asked_in subcommand.Judge rows = option_map Judge (judge_in rows)
+asked_in subcommand.Make rows = make_in rows
+asked_in subcommand.Advise rows = advise_in rows
+asked_in subcommand.Room rows = option_map Room (judge_in rows)
+asked_in subcommand.Gather rows = gather_in rows
+asked_in subcommand.Draft rows = draft_in rows
+asked_in subcommand.Learn rows = learn_in rows
+asked_in subcommand.Lint rows = lint_in rows
+asked_in subcommand.Chart rows = chart_in rows
+asked_in subcommand.Explain rows = Some (Explain (first_of (codes "NAME") rows))
+asked_in subcommand.Help rows = help_in rows
+
 abbrev pub asked_by : Text → List Row → Option Asking
-asked_by name rows =
-    if bytes_eq name (codes "replay") then option_map Replay (replay_in rows)
-    else if bytes_eq name (codes "check") then option_map Check (check_in rows)
-    else if bytes_eq name (codes "run") then option_map Run (run_in rows)
-    else if bytes_eq name (codes "stop") then Some (Stop (stop_in rows))
-    else if bytes_eq name (codes "reload") then Some (Reload (reload_in rows))
-    else if bytes_eq name (codes "status") then Some (Status (status_in rows))
-    else if bytes_eq name (codes "judge") then option_map Judge (judge_in rows)
-    else if bytes_eq name (codes "make") then option_map Make (make_in rows)
-    else if bytes_eq name (codes "advise") then option_map Advise (advise_in rows)
-    else if bytes_eq name (codes "room") then option_map Room (judge_in rows)
-    else if bytes_eq name (codes "gather") then option_map Gather (gather_in rows)
-    else if bytes_eq name (codes "draft") then option_map Draft (draft_in rows)
-    else if bytes_eq name (codes "learn") then option_map Learn (learn_in rows)
-    else if bytes_eq name (codes "lint") then option_map Lint (lint_in rows)
-    else if bytes_eq name (codes "chart") then option_map Chart (chart_in rows)
-    else if bytes_eq name (codes "explain") then Some (Explain (first_of (codes "NAME") rows))
-    else if bytes_eq name (codes "help") then help_in rows
-    else option_map Day (asked_in rows)
+asked_by name rows = option_and_then (λ s. asked_in s rows) (subcommand_named name)
 
 -- what words ask, the first of which is the program's name
 abbrev pub asked_of : List Text → Option Asking

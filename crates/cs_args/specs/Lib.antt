@@ -1,4 +1,5 @@
 pub mod CommandLine
+pub mod Table
 pub mod Asked
 pub mod Question
 pub mod Words

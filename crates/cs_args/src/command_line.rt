@@ -1,20 +1,21 @@
 //! What the words of a call ask.
-ghost use Rattle.std.specs.Prelude.{◌≡◌, ◌++◌, IfOk, codes, count_by, map, option_map};
+ghost use Rattle.std.specs.Prelude.{◌≡◌, IfOk, count_by, map, option_map};
 ghost use Rattle.std.specs.Char.{is_ascii_digit};
 ghost use Rattle.std.specs.List.{list_all};
 ghost use Rattle.clap.specs.Words.{first_of, found_of, rows_of};
-ghost use Rattle.cs_args.specs.CommandLine.{are_dashes, has_flag, is_dash, is_dash_in, is_twice_standard, keep_beside, max_beside, number_of, optional_number_of, value_or, values_in};
-ghost use Rattle.cs_args.specs.Asked.{CheckAsked, DayAsked, DayAskedUpTo, FaultOf, HelpAsked, NumberAsked, Parses, ReplayAsked, RequestAsked};
-ghost use Rattle.cs_args.specs.Asked.{AdviseAsked, JudgeAsked, MakeAsked, MaxAsked, OptionalNumberAsked, RunAsked};
-ghost use Rattle.cs_args.specs.Asked.{asked_status, asked_stop};
-ghost use Rattle.cs_args.specs.Asked.{ChartAsked, DraftAsked, GatherAsked, LearnAsked, LintAsked};
-ghost use Rattle.cs_args.specs.CommandLine.{is_below_a_day, is_up_to_a_week, reload_in, status_in, stop_in};
+ghost use Rattle.cs_args.specs.CommandLine.{asked_by, asked_in, check_in, day_up_to, has_flag, help_in, is_dash, is_twice_standard, judge_in};
+ghost use Rattle.cs_args.specs.CommandLine.{advise_in, chart_in, draft_in, gather_in, learn_in, lint_in, make_in, replay_in, run_in};
+ghost use Rattle.cs_args.specs.CommandLine.{number_of, optional_number_of, value_or, values_in};
+ghost use Rattle.cs_args.specs.Asked.{Answers, AnswersFor, FaultOf, HelpAsked, NumberAsked, OptionalNumberAsked, Parses, RefusesIf};
+ghost use Rattle.cs_args.specs.Asked.{asked, asked_check, asked_judge};
+ghost use Rattle.cs_args.specs.Table.{words_given};
 
-use crate::commands::{Subcommand, command};
+use crate::commands::command;
 use crate::request::{
     AdviseWords, ChartWords, CheckWords, DayWords, DraftWords, GatherWords, JudgeWords, LearnWords,
     LintWords, MakeWords, ReplayWords, Request, RunWords, StatusWords, StopWords, UsageFault,
 };
+use crate::table::Subcommand;
 use clap::error::ErrorKind;
 use clap::{ArgMatches, Error};
 use std::alloc::{AllocError, Global};
@@ -56,345 +57,6 @@ fn digits(text: &str) -> Option<u64>
     text.parse::<u64>().ok()
 }
 
-/// The first value of an argument, if it has one.
-fn value_of<'a>(given: &ArgMatches<'a>, id: &str) -> Option<&'a str>
-    ensures { option_map (λ text. text.now) result
-        ≡ first_of id.now (rows_of (found_of given.now)) }
-{
-    given.get_str(id)
-}
-
-/// The first value of an argument, and this text where it has none.
-fn text_of<'a>(given: &ArgMatches<'a>, id: &str, absent: &'a str) -> &'a str
-    ensures { result.now ≡ value_or absent.now id.now (rows_of (found_of given.now)) }
-{
-    match value_of(given, id) {
-        Some(text) => text,
-        None => absent,
-    }
-}
-
-/// All values of an argument, in order.
-fn values_of<'a>(
-    alloc: Global,
-    given: &ArgMatches<'a>,
-    id: &str,
-) -> Result<Vec<&'a str>, AllocError>
-    ensures { IfOk result (λ values. map (λ text. text.now) values.items
-        ≡ values_in id.now (rows_of (found_of given.now))) }
-{
-    match given.get_strs(id) {
-        Some(values) => Vec::from_slice(alloc, values),
-        None => Ok(Vec::new(alloc)),
-    }
-}
-
-/// Whether an option with no value is given.
-fn has_flag(given: &ArgMatches<'_>, id: &str) -> bool
-    ensures { result ≡ has_flag id.now (rows_of (found_of given.now)) }
-{
-    match value_of(given, id) {
-        Some(text) => text == "true",
-        None => false,
-    }
-}
-
-/// Whether both paths name standard input.
-fn is_twice_standard(table: &str, anacrontab: Option<&str>) -> bool
-    ensures { result
-        ≡ is_twice_standard table.now (option_map (λ path. path.now) anacrontab.entry) }
-{
-    match anacrontab {
-        Some(path) => table == "-" && path == "-",
-        None => false,
-    }
-}
-
-/// What is wrong with the number of an argument.
-fn number_fault(
-    alloc: Global,
-    subcommand: Subcommand,
-    name: &str,
-    text: &str,
-) -> Result<String, AllocError> {
-    let message = if !text.is_empty() && has_only_digits(text.as_bytes()) {
-        format!(in alloc; "{name} is larger than 18446744073709551615: {text}")?
-    } else {
-        format!(in alloc; "{name} is not a number: {text}")?
-    };
-    subcommand.fault(alloc, message.as_str())
-}
-
-/// The number of an argument.
-fn number(alloc: Global, subcommand: Subcommand, name: &str, text: &str) -> Result<u64, UsageFault>
-    ensures { NumberAsked (number_of text.now) result }
-{
-    match digits(text) {
-        Some(number) => Ok(number),
-        None => Err(UsageFault::NoCall(number_fault(alloc, subcommand, name, text)?)),
-    }
-}
-
-/// What is wrong where two paths name standard input.
-fn twice_standard(alloc: Global, subcommand: Subcommand) -> Result<String, AllocError> {
-    subcommand.fault(alloc, "only one path can be - for standard input")
-}
-
-/// What the entries of `day` ask, and of `chart` the same of them, where MAX is this text.
-fn words_up_to<'a>(
-    alloc: Global,
-    subcommand: Subcommand,
-    max: &str,
-    given: &ArgMatches<'a>,
-) -> Result<DayWords<'a>, UsageFault>
-    ensures { DayAskedUpTo max.now (rows_of (found_of given.now)) result }
-{
-    let max = number(alloc, subcommand, "MAX", max)?;
-    let from = number(alloc, subcommand, "--from", text_of(given, "from", "0"))?;
-    let to = number(alloc, subcommand, "--to", text_of(given, "to", "1440"))?;
-    let table = text_of(given, "TABLE", "");
-    let anacrontab = value_of(given, "anacrontab");
-    if is_twice_standard(table, anacrontab) {
-        return Err(UsageFault::NoCall(twice_standard(alloc, subcommand)?));
-    }
-    Ok(DayWords {
-        table,
-        date: text_of(given, "DATE", ""),
-        max,
-        anacrontab,
-        from,
-        to,
-    })
-}
-
-/// What the entries of `day` ask.
-fn day_words<'a>(alloc: Global, given: &ArgMatches<'a>) -> Result<DayWords<'a>, UsageFault>
-    ensures { DayAsked (rows_of (found_of given.now)) result }
-{
-    words_up_to(alloc, Subcommand::Day, text_of(given, "MAX", ""), given)
-}
-
-/// Whether the path is given, and names standard input.
-fn is_dash_in(path: Option<&str>) -> bool
-    ensures { result ≡ is_dash_in (option_map (λ path. path.now) path.entry) }
-{
-    match path {
-        Some(path) => path == "-",
-        None => false,
-    }
-}
-
-/// Whether two of the paths name standard input.
-fn are_dashes(
-    table: &str,
-    script: &str,
-    anacrontab: Option<&str>,
-    declarations: Option<&str>,
-) -> bool
-    ensures { result ≡ are_dashes table.now script.now
-        (option_map (λ path. path.now) anacrontab.entry)
-        (option_map (λ path. path.now) declarations.entry) }
-{
-    let tables = (table == "-", script == "-");
-    let options = (is_dash_in(anacrontab), is_dash_in(declarations));
-    (tables.0 && tables.1)
-        || ((tables.0 || tables.1) && (options.0 || options.1))
-        || (options.0 && options.1)
-}
-
-/// What the entries of `replay` ask.
-fn replay_words<'a>(alloc: Global, given: &ArgMatches<'a>) -> Result<ReplayWords<'a>, UsageFault>
-    ensures { ReplayAsked (rows_of (found_of given.now)) result }
-{
-    let max = number(
-        alloc,
-        Subcommand::Replay,
-        "--max",
-        text_of(given, "max", "1440"),
-    )?;
-    let table = text_of(given, "TABLE", "");
-    let script = text_of(given, "SCRIPT", "");
-    let anacrontab = value_of(given, "anacrontab");
-    let declarations = value_of(given, "declarations");
-    if are_dashes(table, script, anacrontab, declarations) {
-        return Err(UsageFault::NoCall(twice_standard(alloc, Subcommand::Replay)?));
-    }
-    let log = has_flag(given, "log");
-    let show_script = has_flag(given, "script");
-    if show_script && !log {
-        let message = "--script is given without --log";
-        return Err(UsageFault::NoCall(Subcommand::Replay.fault(alloc, message)?));
-    }
-    Ok(ReplayWords {
-        table,
-        script,
-        max,
-        anacrontab,
-        declarations,
-        judge: has_flag(given, "judge"),
-        log,
-        show_script,
-    })
-}
-
-/// What the entries of `check` ask, and of `run` the same of them.
-fn check_words<'a>(
-    alloc: Global,
-    subcommand: Subcommand,
-    given: &ArgMatches<'a>,
-) -> Result<CheckWords<'a>, UsageFault>
-    ensures { CheckAsked (rows_of (found_of given.now)) result }
-{
-    let table = text_of(given, "TABLE", "");
-    let declarations = text_of(given, "DECLS", "");
-    let certificate = text_of(given, "CERT", "");
-    let anacrontab = value_of(given, "anacrontab");
-    if are_dashes(table, declarations, anacrontab, Some(certificate)) {
-        return Err(UsageFault::NoCall(twice_standard(alloc, subcommand)?));
-    }
-    Ok(CheckWords {
-        table,
-        declarations,
-        certificate,
-        anacrontab,
-    })
-}
-
-/// The number of an option of `run`, if it is given.
-fn optional_number(alloc: Global, name: &str, text: Option<&str>) -> Result<Option<u64>, UsageFault>
-    ensures { OptionalNumberAsked (optional_number_of (option_map (λ text. text.now) text.entry))
-        result }
-{
-    match text {
-        Some(text) => Ok(Some(number(alloc, Subcommand::Run, name, text)?)),
-        None => Ok(None),
-    }
-}
-
-/// How many files of each job `run` keeps, which can be given beside a folder of them alone.
-fn keep_beside(
-    alloc: Global,
-    keep: Option<&str>,
-    output: Option<&str>,
-) -> Result<Option<u64>, UsageFault>
-    ensures { OptionalNumberAsked (keep_beside (option_map (λ text. text.now) keep.entry)
-        (option_map (λ path. path.now) output.entry)) result }
-{
-    let keep = optional_number(alloc, "--keep", keep)?;
-    if keep.is_some() && output.is_none() {
-        let message = "--keep is given without --output";
-        return Err(UsageFault::NoCall(Subcommand::Run.fault(alloc, message)?));
-    }
-    if keep == Some(0) {
-        let message = "--keep is at least 1";
-        return Err(UsageFault::NoCall(Subcommand::Run.fault(alloc, message)?));
-    }
-    Ok(keep)
-}
-
-/// What the entries of `run` ask.
-fn run_words<'a>(alloc: Global, given: &ArgMatches<'a>) -> Result<RunWords<'a>, UsageFault>
-    ensures { RunAsked (rows_of (found_of given.now)) result }
-{
-    let minutes = optional_number(alloc, "--minutes", value_of(given, "minutes"))?;
-    let output = value_of(given, "output");
-    let keep = keep_beside(alloc, value_of(given, "keep"), output)?;
-    let check = check_words(alloc, Subcommand::Run, given)?;
-    Ok(RunWords {
-        check,
-        stamps: text_of(given, "STAMPS", ""),
-        minutes,
-        log: value_of(given, "log"),
-        output,
-        keep,
-        home: has_flag(given, "home"),
-        on_overrun: value_of(given, "on-overrun"),
-        on_failure: value_of(given, "on-failure"),
-    })
-}
-
-/// What the entries of `stop` ask.
-fn stop_words<'a>(given: &ArgMatches<'a>) -> StopWords<'a>
-    ensures { asked_stop result ≡ stop_in (rows_of (found_of given.now)) }
-{
-    StopWords {
-        stamps: text_of(given, "STAMPS", ""),
-        now: has_flag(given, "now"),
-    }
-}
-
-/// What the entries of `reload` ask.
-fn reload_word<'a>(given: &ArgMatches<'a>) -> &'a str
-    ensures { result.now ≡ reload_in (rows_of (found_of given.now)) }
-{
-    text_of(given, "STAMPS", "")
-}
-
-/// What the entries of `status` ask.
-fn status_words<'a>(given: &ArgMatches<'a>) -> StatusWords<'a>
-    ensures { asked_status result ≡ status_in (rows_of (found_of given.now)) }
-{
-    StatusWords {
-        stamps: text_of(given, "STAMPS", ""),
-        json: has_flag(given, "json"),
-    }
-}
-
-/// What the entries of `judge` and `room` ask, and of `make` and `advise` the same of them.
-fn judge_words<'a>(
-    alloc: Global,
-    subcommand: Subcommand,
-    given: &ArgMatches<'a>,
-) -> Result<JudgeWords<'a>, UsageFault>
-    ensures { JudgeAsked (rows_of (found_of given.now)) result }
-{
-    let table = text_of(given, "TABLE", "");
-    let declarations = text_of(given, "DECLS", "");
-    let anacrontab = value_of(given, "anacrontab");
-    if are_dashes(table, declarations, anacrontab, None) {
-        return Err(UsageFault::NoCall(twice_standard(alloc, subcommand)?));
-    }
-    Ok(JudgeWords {
-        table,
-        declarations,
-        anacrontab,
-    })
-}
-
-/// What the entries of `make` ask.
-fn make_words<'a>(alloc: Global, given: &ArgMatches<'a>) -> Result<MakeWords<'a>, UsageFault>
-    ensures { MakeAsked (rows_of (found_of given.now)) result }
-{
-    let judge = judge_words(alloc, Subcommand::Make, given)?;
-    let compact = has_flag(given, "compact");
-    Ok(MakeWords { judge, compact })
-}
-
-/// Whether so many minutes are from one to less than a day.
-fn is_below_a_day(minutes: u64) -> bool
-    ensures { result ≡ is_below_a_day minutes }
-{
-    minutes > 0 && minutes < 1440
-}
-
-/// What the entries of `advise` ask.
-fn advise_words<'a>(alloc: Global, given: &ArgMatches<'a>) -> Result<AdviseWords<'a>, UsageFault>
-    ensures { AdviseAsked (rows_of (found_of given.now)) result }
-{
-    let judge = judge_words(alloc, Subcommand::Advise, given)?;
-    let within = number(
-        alloc,
-        Subcommand::Advise,
-        "--within",
-        text_of(given, "within", "120"),
-    )?;
-    if !is_below_a_day(within) {
-        let message = "--within is from 1 to 1439";
-        return Err(UsageFault::NoCall(Subcommand::Advise.fault(alloc, message)?));
-    }
-    Ok(AdviseWords { judge, within })
-}
-
 /// How many of the paths name standard input.
 fn dash_count(paths: &[&str]) -> usize
     ensures { result ≡ count_by is_dash (map (λ path. path.now) paths.now) }
@@ -402,288 +64,389 @@ fn dash_count(paths: &[&str]) -> usize
     paths.iter().filter(|path| **path == "-").count()
 }
 
-/// What the entries of `gather` ask.
-fn gather_words<'a>(alloc: Global, given: &ArgMatches<'a>) -> Result<GatherWords<'a>, UsageFault>
-    ensures { GatherAsked (rows_of (found_of given.now)) result }
-{
-    let root = value_of(given, "root");
-    let system = values_of(alloc, given, "system")?;
-    let user = values_of(alloc, given, "user")?;
-    if root.is_none() && system.is_empty() && user.is_empty() {
-        let message = "one of --root, --system and --user is required";
-        return Err(UsageFault::NoCall(Subcommand::Gather.fault(alloc, message)?));
-    }
-    if dash_count(&system) + dash_count(&user) > 1 {
-        return Err(UsageFault::NoCall(twice_standard(alloc, Subcommand::Gather)?));
-    }
-    Ok(GatherWords { root, system, user })
-}
-
-/// What the entries of `draft` ask.
-fn draft_words<'a>(alloc: Global, given: &ArgMatches<'a>) -> Result<DraftWords<'a>, UsageFault>
-    ensures { DraftAsked (rows_of (found_of given.now)) result }
-{
-    let max = number(
-        alloc,
-        Subcommand::Draft,
-        "--max",
-        text_of(given, "max", "60"),
-    )?;
-    let table = text_of(given, "TABLE", "");
-    let anacrontab = value_of(given, "anacrontab");
-    let update = value_of(given, "update");
-    if are_dashes(table, "", anacrontab, update) {
-        return Err(UsageFault::NoCall(twice_standard(alloc, Subcommand::Draft)?));
-    }
-    Ok(DraftWords {
-        table,
-        max,
-        anacrontab,
-        update,
-    })
-}
-
-/// What the entries of `learn` ask.
-fn learn_words<'a>(alloc: Global, given: &ArgMatches<'a>) -> Result<LearnWords<'a>, UsageFault>
-    ensures { LearnAsked (rows_of (found_of given.now)) result }
-{
-    let table = text_of(given, "TABLE", "");
-    let logs = values_of(alloc, given, "LOG")?;
-    let update = value_of(given, "update");
-    if dash_count(&[table, update.unwrap_or("")]) + dash_count(&logs) > 1 {
-        return Err(UsageFault::NoCall(twice_standard(alloc, Subcommand::Learn)?));
-    }
-    Ok(LearnWords {
-        table,
-        logs,
-        factor: text_of(given, "factor", "1.5"),
-        update,
-    })
-}
-
-/// What the entries of `lint` ask.
-fn lint_words<'a>(alloc: Global, given: &ArgMatches<'a>) -> Result<LintWords<'a>, UsageFault>
-    ensures { LintAsked (rows_of (found_of given.now)) result }
-{
-    let table = text_of(given, "TABLE", "");
-    let declarations = value_of(given, "DECLS");
-    let anacrontab = value_of(given, "anacrontab");
-    let zone = value_of(given, "zone");
-    if are_dashes(table, zone.unwrap_or(""), anacrontab, declarations) {
-        return Err(UsageFault::NoCall(twice_standard(alloc, Subcommand::Lint)?));
-    }
-    Ok(LintWords {
-        table,
-        declarations,
-        anacrontab,
-        zone,
-        only: values_of(alloc, given, "only")?,
-        except: values_of(alloc, given, "except")?,
-        faults_only: has_flag(given, "faults-only"),
-    })
-}
-
-/// Whether so many days are from one to a week.
-fn is_up_to_a_week(days: u64) -> bool
-    ensures { result ≡ is_up_to_a_week days }
-{
-    days > 0 && days < 8
-}
-
-/// MAX of `chart`, which may be left out beside declarations.
-fn max_beside<'a>(
+/// The words of a subcommand, as `clap` found them.
+#[derive(Clone, Copy)]
+struct Given<'a, 'm> {
     alloc: Global,
-    max: Option<&'a str>,
-    declarations: Option<&str>,
-) -> Result<&'a str, UsageFault>
-    ensures { MaxAsked (max_beside (option_map (λ text. text.now) max.entry)
-        (option_map (λ path. path.now) declarations.entry)) result }
-{
-    match max {
-        Some(max) => Ok(max),
-        None if declarations.is_some() => Ok("1440"),
-        None => {
-            let message = "MAX is required without --declarations";
-            Err(UsageFault::NoCall(Subcommand::Chart.fault(alloc, message)?))
+    subcommand: Subcommand,
+    matches: &'m ArgMatches<'a>,
+}
+
+impl<'a, 'm> Given<'a, 'm> {
+    /// The first value of an argument, if it has one.
+    fn value(self, id: &str) -> Option<&'a str>
+        ensures { option_map (λ text. text.now) result ≡ first_of id.now (words_given self.entry) }
+    {
+        self.matches.get_str(id)
+    }
+
+    /// The first value of an argument, and this text where it has none.
+    fn text(self, id: &str, absent: &'a str) -> &'a str
+        ensures { result.now ≡ value_or absent.now id.now (words_given self.entry) }
+    {
+        match self.value(id) {
+            Some(text) => text,
+            None => absent,
+        }
+    }
+
+    /// All values of an argument, in order.
+    fn values(self, id: &str) -> Result<Vec<&'a str>, AllocError>
+        ensures { IfOk result (λ values. map (λ text. text.now) values.items
+            ≡ values_in id.now (words_given self.entry)) }
+    {
+        match self.matches.get_strs(id) {
+            Some(values) => Vec::from_slice(self.alloc, values),
+            None => Ok(Vec::new(self.alloc)),
+        }
+    }
+
+    /// Whether an option with no value is given.
+    fn has_flag(self, id: &str) -> bool
+        ensures { result ≡ has_flag id.now (words_given self.entry) }
+    {
+        match self.value(id) {
+            Some(text) => text == "true",
+            None => false,
+        }
+    }
+
+    /// How many of the values of an argument name standard input.
+    fn dashes(self, id: &str) -> usize
+        ensures { result ≡ count_by is_dash (values_in id.now (words_given self.entry)) }
+    {
+        match self.matches.get_strs(id) {
+            Some(paths) => dash_count(paths),
+            None => 0,
+        }
+    }
+
+    /// Whether the paths of these arguments name standard input more than once.
+    fn is_twice_standard(self, ids: &[&str]) -> bool
+        ensures { result ≡ is_twice_standard (map (λ id. id.now) ids.now) (words_given self.entry) }
+    {
+        let mut dashes = 0;
+        for id in ids {
+            let more = self.dashes(id);
+            if more > 1 - dashes {
+                return true;
+            }
+            dashes += more;
+        }
+        false
+    }
+
+    /// What is wrong with the words.
+    fn fault(self, message: &str) -> Result<String, AllocError> {
+        self.subcommand.fault(self.alloc, message)
+    }
+
+    /// A fault where this holds.
+    fn refuse_if(self, is_fault: bool, message: &str) -> Result<(), UsageFault>
+        ensures { RefusesIf is_fault result }
+    {
+        if is_fault {
+            return Err(UsageFault::NoCall(self.fault(message)?));
+        }
+        Ok(())
+    }
+
+    /// A fault where the paths of these arguments name standard input more than once.
+    fn one_standard(self, ids: &[&str]) -> Result<(), UsageFault>
+        ensures { RefusesIf (is_twice_standard (map (λ id. id.now) ids.now) (words_given self.entry))
+            result }
+    {
+        let message = "only one path can be - for standard input";
+        self.refuse_if(self.is_twice_standard(ids), message)
+    }
+
+    /// What is wrong with the number of an argument.
+    fn number_fault(self, name: &str, text: &str) -> Result<String, AllocError> {
+        let message = if !text.is_empty() && has_only_digits(text.as_bytes()) {
+            format!(in self.alloc; "{name} is larger than 18446744073709551615: {text}")?
+        } else {
+            format!(in self.alloc; "{name} is not a number: {text}")?
+        };
+        self.fault(message.as_str())
+    }
+
+    /// The number of an argument.
+    fn number(self, name: &str, text: &str) -> Result<u64, UsageFault>
+        ensures { NumberAsked (number_of text.now) result }
+    {
+        match digits(text) {
+            Some(number) => Ok(number),
+            None => Err(UsageFault::NoCall(self.number_fault(name, text)?)),
+        }
+    }
+
+    /// The number of an argument, if it is given.
+    fn optional_number(self, name: &str, text: Option<&str>) -> Result<Option<u64>, UsageFault>
+        ensures { OptionalNumberAsked
+            (optional_number_of (option_map (λ text. text.now) text.entry)) result }
+    {
+        match text {
+            Some(text) => Ok(Some(self.number(name, text)?)),
+            None => Ok(None),
         }
     }
 }
 
-/// What the entries of `chart` ask.
-fn chart_words<'a>(alloc: Global, given: &ArgMatches<'a>) -> Result<ChartWords<'a>, UsageFault>
-    ensures { ChartAsked (rows_of (found_of given.now)) result }
+/// What the words of `day` ask, and of `chart` the same of them, where MAX is this text.
+fn day_up_to<'a>(given: Given<'a, '_>, max: &str) -> Result<DayWords<'a>, UsageFault>
+    ensures { AnswersFor asked (day_up_to max.now (words_given given.entry)) result }
 {
-    let declarations = value_of(given, "declarations");
-    let max = max_beside(alloc, value_of(given, "MAX"), declarations)?;
-    let day = words_up_to(alloc, Subcommand::Chart, max, given)?;
-    let days = number(
-        alloc,
-        Subcommand::Chart,
-        "--days",
-        text_of(given, "days", "1"),
+    let max = given.number("MAX", max)?;
+    let from = given.number("--from", given.text("from", "0"))?;
+    let to = given.number("--to", given.text("to", "1440"))?;
+    given.one_standard(&["TABLE", "anacrontab"])?;
+    Ok(DayWords {
+        table: given.text("TABLE", ""),
+        date: given.text("DATE", ""),
+        max,
+        anacrontab: given.value("anacrontab"),
+        from,
+        to,
+    })
+}
+
+/// What the words of `chart` ask.
+fn chart<'a>(given: Given<'a, '_>) -> Result<Request<'a>, UsageFault>
+    ensures { Answers (chart_in (words_given given.entry)) result }
+{
+    let max = given.value("MAX");
+    let declarations = given.value("declarations");
+    given.refuse_if(
+        max.is_none() && declarations.is_none(),
+        "MAX is required without --declarations",
     )?;
-    let story = value_of(given, "story");
-    if are_dashes(day.table, story.unwrap_or(""), day.anacrontab, declarations) {
-        return Err(UsageFault::NoCall(twice_standard(alloc, Subcommand::Chart)?));
-    }
-    if story.is_some() && declarations.is_none() {
-        let message = "--story is given without --declarations";
-        return Err(UsageFault::NoCall(Subcommand::Chart.fault(alloc, message)?));
-    }
-    if !is_up_to_a_week(days) {
-        let message = "--days is from 1 to 7";
-        return Err(UsageFault::NoCall(Subcommand::Chart.fault(alloc, message)?));
-    }
-    Ok(ChartWords {
+    let day = day_up_to(given, given.text("MAX", "1440"))?;
+    let days = given.number("--days", given.text("days", "1"))?;
+    given.one_standard(&["TABLE", "anacrontab", "declarations"])?;
+    given.refuse_if(days == 0 || days > 7, "--days is from 1 to 7")?;
+    Ok(Request::Chart(ChartWords {
         day,
         days: days as u8,
         declarations,
-        story,
+    }))
+}
+
+/// What the words of `replay` ask.
+fn replay<'a>(given: Given<'a, '_>) -> Result<Request<'a>, UsageFault>
+    ensures { Answers (replay_in (words_given given.entry)) result }
+{
+    let max = given.number("--max", given.text("max", "1440"))?;
+    given.one_standard(&["TABLE", "SCRIPT", "anacrontab", "declarations"])?;
+    let log = given.has_flag("log");
+    let show_script = given.has_flag("script");
+    given.refuse_if(show_script && !log, "--script is given without --log")?;
+    Ok(Request::Replay(ReplayWords {
+        table: given.text("TABLE", ""),
+        script: given.text("SCRIPT", ""),
+        max,
+        anacrontab: given.value("anacrontab"),
+        declarations: given.value("declarations"),
+        judge: given.has_flag("judge"),
+        log,
+        show_script,
+    }))
+}
+
+/// What the words of `check` ask, and of `run` the same of them.
+fn check<'a>(given: Given<'a, '_>) -> Result<CheckWords<'a>, UsageFault>
+    ensures { AnswersFor asked_check (check_in (words_given given.entry)) result }
+{
+    given.one_standard(&["TABLE", "DECLS", "CERT", "anacrontab"])?;
+    Ok(CheckWords {
+        table: given.text("TABLE", ""),
+        declarations: given.text("DECLS", ""),
+        certificate: given.text("CERT", ""),
+        anacrontab: given.value("anacrontab"),
     })
 }
 
-/// The help that the entries of `help` ask for, of the program or of a subcommand.
-fn help_text(alloc: Global, given: &ArgMatches<'_>) -> Result<String, UsageFault>
-    ensures { HelpAsked (rows_of (found_of given.now)) result }
+/// What the words of `run` ask.
+fn run<'a>(given: Given<'a, '_>) -> Result<Request<'a>, UsageFault>
+    ensures { Answers (run_in (words_given given.entry)) result }
 {
-    let Some(name) = value_of(given, "COMMAND") else {
-        return Ok(command(alloc)?.render_help()?);
+    let minutes = given.optional_number("--minutes", given.value("minutes"))?;
+    let keep = given.optional_number("--keep", given.value("keep"))?;
+    let output = given.value("output");
+    given.refuse_if(
+        keep.is_some() && output.is_none(),
+        "--keep is given without --output",
+    )?;
+    given.refuse_if(keep == Some(0), "--keep is at least 1")?;
+    Ok(Request::Run(RunWords {
+        check: check(given)?,
+        stamps: given.text("STAMPS", ""),
+        minutes,
+        log: given.value("log"),
+        output,
+        keep,
+        home: given.has_flag("home"),
+        on_overrun: given.value("on-overrun"),
+        on_failure: given.value("on-failure"),
+    }))
+}
+
+/// What the words of `judge` and `room` ask, and of `make` and `advise` the same of them.
+fn judge<'a>(given: Given<'a, '_>) -> Result<JudgeWords<'a>, UsageFault>
+    ensures { AnswersFor asked_judge (judge_in (words_given given.entry)) result }
+{
+    given.one_standard(&["TABLE", "DECLS", "anacrontab"])?;
+    Ok(JudgeWords {
+        table: given.text("TABLE", ""),
+        declarations: given.text("DECLS", ""),
+        anacrontab: given.value("anacrontab"),
+    })
+}
+
+/// What the words of `make` ask.
+fn make<'a>(given: Given<'a, '_>) -> Result<Request<'a>, UsageFault>
+    ensures { Answers (make_in (words_given given.entry)) result }
+{
+    let judge = judge(given)?;
+    let compact = given.has_flag("compact");
+    Ok(Request::Make(MakeWords { judge, compact }))
+}
+
+/// What the words of `advise` ask.
+fn advise<'a>(given: Given<'a, '_>) -> Result<Request<'a>, UsageFault>
+    ensures { Answers (advise_in (words_given given.entry)) result }
+{
+    let judge = judge(given)?;
+    let within = given.number("--within", given.text("within", "120"))?;
+    given.refuse_if(within == 0 || within > 1439, "--within is from 1 to 1439")?;
+    Ok(Request::Advise(AdviseWords { judge, within }))
+}
+
+/// What the words of `gather` ask.
+fn gather<'a>(given: Given<'a, '_>) -> Result<Request<'a>, UsageFault>
+    ensures { Answers (gather_in (words_given given.entry)) result }
+{
+    let root = given.value("root");
+    let is_rootless = root.is_none();
+    given.refuse_if(
+        is_rootless && given.value("system").is_none() && given.value("user").is_none(),
+        "one of --root, --system and --user is required",
+    )?;
+    given.one_standard(&["system", "user"])?;
+    let system = given.values("system")?;
+    let user = given.values("user")?;
+    Ok(Request::Gather(GatherWords { root, system, user }))
+}
+
+/// What the words of `draft` ask.
+fn draft<'a>(given: Given<'a, '_>) -> Result<Request<'a>, UsageFault>
+    ensures { Answers (draft_in (words_given given.entry)) result }
+{
+    let max = given.number("--max", given.text("max", "60"))?;
+    given.one_standard(&["TABLE", "anacrontab", "update"])?;
+    Ok(Request::Draft(DraftWords {
+        table: given.text("TABLE", ""),
+        max,
+        anacrontab: given.value("anacrontab"),
+        update: given.value("update"),
+    }))
+}
+
+/// What the words of `learn` ask.
+fn learn<'a>(given: Given<'a, '_>) -> Result<Request<'a>, UsageFault>
+    ensures { Answers (learn_in (words_given given.entry)) result }
+{
+    given.one_standard(&["TABLE", "LOG", "update"])?;
+    Ok(Request::Learn(LearnWords {
+        table: given.text("TABLE", ""),
+        logs: given.values("LOG")?,
+        factor: given.text("factor", "1.5"),
+        update: given.value("update"),
+    }))
+}
+
+/// What the words of `lint` ask.
+fn lint<'a>(given: Given<'a, '_>) -> Result<Request<'a>, UsageFault>
+    ensures { Answers (lint_in (words_given given.entry)) result }
+{
+    given.one_standard(&["TABLE", "DECLS", "anacrontab", "zone"])?;
+    let only = given.values("only")?;
+    let except = given.values("except")?;
+    Ok(Request::Lint(LintWords {
+        table: given.text("TABLE", ""),
+        declarations: given.value("DECLS"),
+        anacrontab: given.value("anacrontab"),
+        zone: given.value("zone"),
+        only,
+        except,
+        faults_only: given.has_flag("faults-only"),
+    }))
+}
+
+/// The help that the words of `help` ask for, of the program or of a subcommand.
+fn help_text(given: Given<'_, '_>) -> Result<String, UsageFault>
+    ensures { HelpAsked (words_given given.entry) result }
+{
+    let Some(name) = given.value("COMMAND") else {
+        return Ok(command(given.alloc)?.render_help()?);
     };
     match Subcommand::named(name) {
-        Some(subcommand) => Ok(subcommand.help(alloc)?),
+        Some(subcommand) => Ok(subcommand.help(given.alloc)?),
         None => {
-            let message = format!(in alloc; "unrecognized subcommand '{name}'")?;
-            Err(UsageFault::NoCall(Subcommand::Help.fault(alloc, message.as_str())?))
+            let message = format!(in given.alloc; "unrecognized subcommand '{name}'")?;
+            Err(UsageFault::NoCall(given.fault(message.as_str())?))
         }
     }
 }
 
-/// The request of the entries of `replay`.
-fn replay_request<'a>(alloc: Global, given: &ArgMatches<'a>) -> Result<Request<'a>, UsageFault>
-    ensures { RequestAsked (codes "replay") (rows_of (found_of given.now)) result }
+/// What the words of a subcommand ask.
+fn asked_in<'a>(given: Given<'a, '_>) -> Result<Request<'a>, UsageFault>
+    ensures { Answers (asked_in given.entry.subcommand (words_given given.entry)) result }
 {
-    Ok(Request::Replay(replay_words(alloc, given)?))
+    match given.subcommand {
+        Subcommand::Judge => Ok(Request::Judge(judge(given)?)),
+        Subcommand::Check => Ok(Request::Check(check(given)?)),
+        Subcommand::Make => make(given),
+        Subcommand::Advise => advise(given),
+        Subcommand::Room => Ok(Request::Room(judge(given)?)),
+        Subcommand::Run => run(given),
+        Subcommand::Stop => Ok(Request::Stop(StopWords {
+            stamps: given.text("STAMPS", ""),
+            now: given.has_flag("now"),
+        })),
+        Subcommand::Reload => Ok(Request::Reload(given.text("STAMPS", ""))),
+        Subcommand::Status => Ok(Request::Status(StatusWords {
+            stamps: given.text("STAMPS", ""),
+            json: given.has_flag("json"),
+        })),
+        Subcommand::Gather => gather(given),
+        Subcommand::Draft => draft(given),
+        Subcommand::Learn => learn(given),
+        Subcommand::Lint => lint(given),
+        Subcommand::Day => Ok(Request::Day(day_up_to(given, given.text("MAX", ""))?)),
+        Subcommand::Chart => chart(given),
+        Subcommand::Replay => replay(given),
+        Subcommand::Explain => Ok(Request::Explain(given.value("NAME"))),
+        Subcommand::Help => Err(UsageFault::Help(help_text(given)?)),
+    }
 }
 
-/// The request of the entries of `check`.
-fn check_request<'a>(alloc: Global, given: &ArgMatches<'a>) -> Result<Request<'a>, UsageFault>
-    ensures { RequestAsked (codes "check") (rows_of (found_of given.now)) result }
-{
-    Ok(Request::Check(check_words(alloc, Subcommand::Check, given)?))
-}
-
-/// The request of the entries of `run`.
-fn run_request<'a>(alloc: Global, given: &ArgMatches<'a>) -> Result<Request<'a>, UsageFault>
-    ensures { RequestAsked (codes "run") (rows_of (found_of given.now)) result }
-{
-    Ok(Request::Run(run_words(alloc, given)?))
-}
-
-/// The request of the entries of `judge`.
-fn judge_request<'a>(alloc: Global, given: &ArgMatches<'a>) -> Result<Request<'a>, UsageFault>
-    ensures { RequestAsked (codes "judge") (rows_of (found_of given.now)) result }
-{
-    Ok(Request::Judge(judge_words(alloc, Subcommand::Judge, given)?))
-}
-
-/// The request of the entries of `make`.
-fn make_request<'a>(alloc: Global, given: &ArgMatches<'a>) -> Result<Request<'a>, UsageFault>
-    ensures { RequestAsked (codes "make") (rows_of (found_of given.now)) result }
-{
-    Ok(Request::Make(make_words(alloc, given)?))
-}
-
-/// The request of the entries of `advise`.
-fn advise_request<'a>(alloc: Global, given: &ArgMatches<'a>) -> Result<Request<'a>, UsageFault>
-    ensures { RequestAsked (codes "advise") (rows_of (found_of given.now)) result }
-{
-    Ok(Request::Advise(advise_words(alloc, given)?))
-}
-
-/// The request of the entries of `room`.
-fn room_request<'a>(alloc: Global, given: &ArgMatches<'a>) -> Result<Request<'a>, UsageFault>
-    ensures { RequestAsked (codes "room") (rows_of (found_of given.now)) result }
-{
-    Ok(Request::Room(judge_words(alloc, Subcommand::Room, given)?))
-}
-
-/// The request of the entries of `gather`.
-fn gather_request<'a>(alloc: Global, given: &ArgMatches<'a>) -> Result<Request<'a>, UsageFault>
-    ensures { RequestAsked (codes "gather") (rows_of (found_of given.now)) result }
-{
-    Ok(Request::Gather(gather_words(alloc, given)?))
-}
-
-/// The request of the entries of `draft`.
-fn draft_request<'a>(alloc: Global, given: &ArgMatches<'a>) -> Result<Request<'a>, UsageFault>
-    ensures { RequestAsked (codes "draft") (rows_of (found_of given.now)) result }
-{
-    Ok(Request::Draft(draft_words(alloc, given)?))
-}
-
-/// The request of the entries of `learn`.
-fn learn_request<'a>(alloc: Global, given: &ArgMatches<'a>) -> Result<Request<'a>, UsageFault>
-    ensures { RequestAsked (codes "learn") (rows_of (found_of given.now)) result }
-{
-    Ok(Request::Learn(learn_words(alloc, given)?))
-}
-
-/// The request of the entries of `lint`.
-fn lint_request<'a>(alloc: Global, given: &ArgMatches<'a>) -> Result<Request<'a>, UsageFault>
-    ensures { RequestAsked (codes "lint") (rows_of (found_of given.now)) result }
-{
-    Ok(Request::Lint(lint_words(alloc, given)?))
-}
-
-/// The request of the entries of `chart`.
-fn chart_request<'a>(alloc: Global, given: &ArgMatches<'a>) -> Result<Request<'a>, UsageFault>
-    ensures { RequestAsked (codes "chart") (rows_of (found_of given.now)) result }
-{
-    Ok(Request::Chart(chart_words(alloc, given)?))
-}
-
-/// The request of the entries of `day`.
-fn day_request<'a>(alloc: Global, given: &ArgMatches<'a>) -> Result<Request<'a>, UsageFault>
-    ensures { RequestAsked (codes "day") (rows_of (found_of given.now)) result }
-{
-    Ok(Request::Day(day_words(alloc, given)?))
-}
-
-/// The help of the entries of `help`.
-fn help_request<'a>(alloc: Global, given: &ArgMatches<'_>) -> Result<Request<'a>, UsageFault>
-    ensures { RequestAsked (codes "help") (rows_of (found_of given.now)) result }
-{
-    Err(UsageFault::Help(help_text(alloc, given)?))
-}
-
-/// What the entries of a subcommand ask, by its name.
+/// What the words of a subcommand ask, by its name.
 fn asked_by<'a>(
     alloc: Global,
     name: &str,
-    given: &ArgMatches<'a>,
+    matches: &ArgMatches<'a>,
 ) -> Result<Request<'a>, UsageFault>
-    ensures { RequestAsked name.now (rows_of (found_of given.now)) result }
+    ensures { Answers (asked_by name.now (rows_of (found_of matches.now))) result }
 {
-    match name {
-        "replay" => replay_request(alloc, given),
-        "check" => check_request(alloc, given),
-        "run" => run_request(alloc, given),
-        "stop" => Ok(Request::Stop(stop_words(given))),
-        "reload" => Ok(Request::Reload(reload_word(given))),
-        "status" => Ok(Request::Status(status_words(given))),
-        "judge" => judge_request(alloc, given),
-        "make" => make_request(alloc, given),
-        "advise" => advise_request(alloc, given),
-        "room" => room_request(alloc, given),
-        "gather" => gather_request(alloc, given),
-        "draft" => draft_request(alloc, given),
-        "learn" => learn_request(alloc, given),
-        "lint" => lint_request(alloc, given),
-        "chart" => chart_request(alloc, given),
-        "help" => help_request(alloc, given),
-        "explain" => Ok(Request::Explain(value_of(given, "NAME"))),
-        _ => day_request(alloc, given),
-    }
+    let Some(subcommand) = Subcommand::named(name) else {
+        let text = String::from_str(alloc, "error: a subcommand is required\n")?;
+        return Err(UsageFault::NoCall(text));
+    };
+    asked_in(Given {
+        alloc,
+        subcommand,
+        matches,
+    })
 }
 
 /// What the words of a call ask, the first of which is the program's name.

@@ -5,6 +5,7 @@ mod command_line;
 mod commands;
 mod question;
 mod request;
+mod table;
 mod texts;
 mod version;
 

@@ -195,8 +195,6 @@ pub struct ChartWords<'a> {
     pub days: u8,
     /// The path of declarations.
     pub declarations: Option<&'a str>,
-    /// The path of a script, whose story is drawn over the plan of the declarations.
-    pub story: Option<&'a str>,
 }
 
 /// What a call asks.

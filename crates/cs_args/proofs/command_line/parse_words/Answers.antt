@@ -1,7 +1,7 @@
 use Rattle.std.proofs.Common.{◌≡◌, [], inr, map, option_map, sym, subst, ap, ◌∙◌}
 use Rattle.clap.specs.Words.{HasKind, fault_of, found_of, is_simple, is_simple_and_free, rows_of, subcommand_of, subcommand_rows_of}
 use Rattle.clap.specs.declared.parser.matches.ArgMatches.TheViews.{out-ArgMatches}
-use Rattle.cs_args.specs.CommandLine.{cronsafe_app}
+use Rattle.cs_args.specs.CommandLine.{asked_by, cronsafe_app}
 use Rattle.cs_args.proofs.CommandLineLemmas.{asked_named, asked_none, fault_parses, is_known, is_told, name_met, request_parses}
 use Rattle.cs_args.proofs.command_line.parse_words.Goals as goal
 
@@ -22,7 +22,7 @@ returns-in-Some g c =
     let named = ap (option_map (λ p. p.0)) (sym walk) ∙ sym (name_met (out-ArgMatches c.in-Ok.matches).subcommand) ∙ sym c.in-Some.ensures.name in
     let listed = ap (option_map (λ p. p.1)) (sym walk) ∙ sym c.in-Some.ensures.rows in
     let asks = asked_named subcommand c.in-Some.name.now (rows_of (found_of c.in-Some.given.now)) named listed in
-    request_parses words c.in-Some.name.now (rows_of (found_of c.in-Some.given.now)) none asks c.asked_by.result c.asked_by.ensures
+    request_parses words (asked_by c.in-Some.name.now (rows_of (found_of c.in-Some.given.now))) none asks c.asked_by.result c.asked_by.ensures
 
 pub returns : goal.returns
 returns g c =

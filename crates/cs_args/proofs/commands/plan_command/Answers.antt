@@ -1,7 +1,0 @@
-use Rattle.cs_args.proofs.commands.plan_command.Goals as goal
-
-pub returns-clause-app : goal.returns-clause-app
-returns-clause-app c = c.with_option.ensures.app _ (c.with_required-command-2.ensures.app _ (c.with_required-command.ensures.app _ c.described-command.ensures.app))
-
-pub returns-clause-local : goal.returns-clause-local
-returns-clause-local c = c.with_option.ensures.local (c.with_required-command-2.ensures.local (c.with_required-command.ensures.local c.described-command.ensures.local))

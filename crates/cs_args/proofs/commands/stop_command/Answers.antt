@@ -1,9 +1,0 @@
-use Rattle.cs_args.specs.CommandLine.{stop_app}
-use Rattle.cs_args.proofs.commands.stop_command.Goals as goal
-
-pub returns-clause-app : goal.returns-clause-app
-unfolding stop_app
-returns-clause-app c = c.with_flag.ensures.app _ (c.with_required-command.ensures.app _ c.described-command.ensures.app)
-
-pub returns-clause-local : goal.returns-clause-local
-returns-clause-local c = c.with_flag.ensures.local (c.with_required-command.ensures.local c.described-command.ensures.local)

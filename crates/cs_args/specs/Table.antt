@@ -1,0 +1,29 @@
+-- The table of the subcommands, as contracts see it.
+use Rattle.std.specs.Prelude.{◌≡◌, List, false}
+use Rattle.clap.specs.Words.{Row, Rule, Text, found_of, rows_of}
+use Rattle.clap.specs.declared.builder.command.Command.{Command}
+use Rattle.clap.specs.declared.builder.command.Command.TheViews.{out-Command as fields_of}
+use Rattle.cs_args.specs.CommandLine.{flag, optional_word, value, values, word, words}
+use Rattle.cs_args.specs.declared.command_line.Given.{Given}
+use Rattle.cs_args.specs.declared.table.Argument.{Argument}
+use Rattle.cs_args.specs.declared.table.Takes.{Takes}
+use Rattle.cs_args.specs.declared.table.Takes.TheVariants as takes
+
+-- no argument of the command counts for its subcommands too
+abbrev pub IsLocal : Command → Type 0
+IsLocal c = (fields_of c).has_globals ≡ false
+
+abbrev pub rule_taking : Takes → Text → Rule
+rule_taking takes.Word = word
+rule_taking takes.OptionalWord = optional_word
+rule_taking takes.Words = words
+rule_taking takes.Flag = flag
+rule_taking (takes.Value name) = value
+rule_taking (takes.Values name) = values
+
+abbrev pub rule_in : Argument → Rule
+rule_in a = rule_taking a.1 a.0.now
+
+-- what `clap` found
+abbrev pub words_given : Given → List Row
+words_given given = rows_of (found_of given.matches.now)

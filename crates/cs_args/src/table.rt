@@ -1,0 +1,300 @@
+//! The subcommands and their arguments.
+ghost use Rattle.std.specs.Prelude.{◌≡◌, map};
+ghost use Rattle.cs_args.specs.CommandLine.{name_of, rules_of};
+ghost use Rattle.cs_args.specs.Table.{rule_in};
+
+use crate::table::Takes::{Flag, OptionalWord, Value, Values, Word, Words};
+use crate::texts;
+
+/// How an argument is given.
+pub(crate) enum Takes {
+    /// A word, which is required.
+    Word,
+    /// A word, which may be left out.
+    OptionalWord,
+    /// Words, one at least.
+    Words,
+    /// `--NAME`.
+    Flag,
+    /// `--NAME VALUE`, and what the help calls the value.
+    Value(&'static str),
+    /// `--NAME VALUE`, once or more often, and what the help calls the value.
+    Values(&'static str),
+}
+
+/// An argument: its name, how it is given, and what the help says of it.
+pub(crate) struct Argument(
+    pub(crate) &'static str,
+    pub(crate) Takes,
+    pub(crate) &'static str,
+);
+
+const TABLE: Argument = Argument("TABLE", Word, texts::TABLE_HELP);
+
+const DATE: Argument = Argument("DATE", Word, texts::DATE_HELP);
+
+const DECLS: Argument = Argument("DECLS", Word, texts::DECLARATIONS_HELP);
+
+const CERT: Argument = Argument("CERT", Word, texts::CERTIFICATE_HELP);
+
+const STAMPS: Argument = Argument("STAMPS", Word, texts::DAEMON_STAMPS_HELP);
+
+const ANACRONTAB: Argument = Argument("anacrontab", Value("FILE"), texts::ANACRONTAB_HELP);
+
+const DECLARATIONS: Argument = Argument("declarations", Value("FILE"), texts::DECLARATIONS_HELP);
+
+const FROM: Argument = Argument("from", Value("M"), texts::FROM_HELP);
+
+const TO: Argument = Argument("to", Value("M"), texts::TO_HELP);
+
+const UPDATE: Argument = Argument("update", Value("OLD"), texts::UPDATE_HELP);
+
+static JUDGE: [Argument; 3] = [TABLE, DECLS, ANACRONTAB];
+
+static CHECK: [Argument; 4] = [TABLE, DECLS, CERT, ANACRONTAB];
+
+static MAKE: [Argument; 4] = [
+    TABLE,
+    DECLS,
+    ANACRONTAB,
+    Argument("compact", Flag, texts::COMPACT_HELP),
+];
+
+static ADVISE: [Argument; 4] = [
+    TABLE,
+    DECLS,
+    ANACRONTAB,
+    Argument("within", Value("MINUTES"), texts::WITHIN_HELP),
+];
+
+static RUN: [Argument; 12] = [
+    TABLE,
+    DECLS,
+    CERT,
+    Argument("STAMPS", Word, texts::STAMPS_HELP),
+    ANACRONTAB,
+    Argument("minutes", Value("N"), texts::MINUTES_HELP),
+    Argument("log", Value("FILE"), texts::RUN_LOG_HELP),
+    Argument("output", Value("FOLDER"), texts::OUTPUT_HELP),
+    Argument("keep", Value("N"), texts::KEEP_HELP),
+    Argument("home", Flag, texts::HOME_HELP),
+    Argument("on-overrun", Value("COMMAND"), texts::ON_OVERRUN_HELP),
+    Argument("on-failure", Value("COMMAND"), texts::ON_FAILURE_HELP),
+];
+
+static STOP: [Argument; 2] = [STAMPS, Argument("now", Flag, texts::NOW_HELP)];
+
+static RELOAD: [Argument; 1] = [STAMPS];
+
+static STATUS: [Argument; 2] = [STAMPS, Argument("json", Flag, texts::STATUS_JSON_HELP)];
+
+static GATHER: [Argument; 3] = [
+    Argument("root", Value("DIR"), texts::ROOT_HELP),
+    Argument("system", Values("FILE"), texts::SYSTEM_HELP),
+    Argument("user", Values("FILE"), texts::USER_HELP),
+];
+
+static DRAFT: [Argument; 4] = [
+    TABLE,
+    ANACRONTAB,
+    Argument("max", Value("N"), texts::DRAFT_MAX_HELP),
+    UPDATE,
+];
+
+static LEARN: [Argument; 4] = [
+    TABLE,
+    Argument("LOG", Words, texts::LOG_HELP),
+    Argument("factor", Value("F"), texts::FACTOR_HELP),
+    UPDATE,
+];
+
+static LINT: [Argument; 7] = [
+    TABLE,
+    Argument("DECLS", OptionalWord, texts::DECLARATIONS_HELP),
+    ANACRONTAB,
+    Argument("zone", Value("FILE"), texts::ZONE_HELP),
+    Argument("only", Values("NAME"), texts::ONLY_HELP),
+    Argument("except", Values("NAME"), texts::EXCEPT_HELP),
+    Argument("faults-only", Flag, texts::FAULTS_ONLY_HELP),
+];
+
+static DAY: [Argument; 6] = [
+    TABLE,
+    DATE,
+    Argument("MAX", Word, texts::MAX_HELP),
+    ANACRONTAB,
+    FROM,
+    TO,
+];
+
+static CHART: [Argument; 8] = [
+    TABLE,
+    DATE,
+    Argument("MAX", OptionalWord, texts::CHART_MAX_HELP),
+    ANACRONTAB,
+    FROM,
+    TO,
+    Argument("days", Value("N"), texts::DAYS_HELP),
+    DECLARATIONS,
+];
+
+static REPLAY: [Argument; 8] = [
+    TABLE,
+    Argument("SCRIPT", Word, texts::SCRIPT_HELP),
+    Argument("max", Value("N"), texts::REPLAY_MAX_HELP),
+    ANACRONTAB,
+    DECLARATIONS,
+    Argument("judge", Flag, texts::JUDGE_HELP),
+    Argument("log", Flag, texts::REPLAY_LOG_HELP),
+    Argument("script", Flag, texts::SHOW_SCRIPT_HELP),
+];
+
+static EXPLAIN: [Argument; 1] = [Argument("NAME", OptionalWord, texts::NAME_HELP)];
+
+static HELP: [Argument; 1] = [Argument("COMMAND", OptionalWord, texts::COMMAND_HELP)];
+
+/// A subcommand.
+#[derive(Clone, Copy)]
+pub(crate) enum Subcommand {
+    Judge,
+    Check,
+    Make,
+    Advise,
+    Room,
+    Run,
+    Stop,
+    Reload,
+    Status,
+    Gather,
+    Draft,
+    Learn,
+    Lint,
+    Day,
+    Chart,
+    Replay,
+    Explain,
+    Help,
+}
+
+/// All subcommands, in the order of the help.
+pub(crate) static SUBCOMMANDS: [Subcommand; 18] = [
+    Subcommand::Judge,
+    Subcommand::Check,
+    Subcommand::Make,
+    Subcommand::Advise,
+    Subcommand::Room,
+    Subcommand::Run,
+    Subcommand::Stop,
+    Subcommand::Reload,
+    Subcommand::Status,
+    Subcommand::Gather,
+    Subcommand::Draft,
+    Subcommand::Learn,
+    Subcommand::Lint,
+    Subcommand::Day,
+    Subcommand::Chart,
+    Subcommand::Replay,
+    Subcommand::Explain,
+    Subcommand::Help,
+];
+
+impl Subcommand {
+    /// Its name.
+    pub(crate) fn name(self) -> &'static str
+        ensures { result.now ≡ name_of self }
+    {
+        match self {
+            Subcommand::Judge => "judge",
+            Subcommand::Check => "check",
+            Subcommand::Make => "make",
+            Subcommand::Advise => "advise",
+            Subcommand::Room => "room",
+            Subcommand::Run => "run",
+            Subcommand::Stop => "stop",
+            Subcommand::Reload => "reload",
+            Subcommand::Status => "status",
+            Subcommand::Gather => "gather",
+            Subcommand::Draft => "draft",
+            Subcommand::Learn => "learn",
+            Subcommand::Lint => "lint",
+            Subcommand::Day => "day",
+            Subcommand::Chart => "chart",
+            Subcommand::Replay => "replay",
+            Subcommand::Explain => "explain",
+            Subcommand::Help => "help",
+        }
+    }
+
+    /// What it does, in a sentence.
+    pub(crate) fn about(self) -> &'static str {
+        match self {
+            Subcommand::Judge => texts::JUDGE_ABOUT,
+            Subcommand::Check => texts::CHECK_ABOUT,
+            Subcommand::Make => texts::MAKE_ABOUT,
+            Subcommand::Advise => texts::ADVISE_ABOUT,
+            Subcommand::Room => texts::ROOM_ABOUT,
+            Subcommand::Run => texts::RUN_ABOUT,
+            Subcommand::Stop => texts::STOP_ABOUT,
+            Subcommand::Reload => texts::RELOAD_ABOUT,
+            Subcommand::Status => texts::STATUS_ABOUT,
+            Subcommand::Gather => texts::GATHER_ABOUT,
+            Subcommand::Draft => texts::DRAFT_ABOUT,
+            Subcommand::Learn => texts::LEARN_ABOUT,
+            Subcommand::Lint => texts::LINT_ABOUT,
+            Subcommand::Day => texts::DAY_ABOUT,
+            Subcommand::Chart => texts::CHART_ABOUT,
+            Subcommand::Replay => texts::REPLAY_ABOUT,
+            Subcommand::Explain => texts::EXPLAIN_ABOUT,
+            Subcommand::Help => texts::HELP_ABOUT,
+        }
+    }
+
+    /// What its help says below its arguments.
+    pub(crate) fn example(self) -> Option<&'static str> {
+        Some(match self {
+            Subcommand::Judge => texts::JUDGE_EXAMPLE,
+            Subcommand::Check => texts::CHECK_EXAMPLE,
+            Subcommand::Make => texts::MAKE_EXAMPLE,
+            Subcommand::Advise => texts::ADVISE_EXAMPLE,
+            Subcommand::Room => texts::ROOM_EXAMPLE,
+            Subcommand::Run => texts::RUN_EXAMPLE,
+            Subcommand::Stop => texts::STOP_EXAMPLE,
+            Subcommand::Reload => texts::RELOAD_EXAMPLE,
+            Subcommand::Status => texts::STATUS_EXAMPLE,
+            Subcommand::Gather => texts::GATHER_EXAMPLE,
+            Subcommand::Draft => texts::DRAFT_EXAMPLE,
+            Subcommand::Learn => texts::LEARN_EXAMPLE,
+            Subcommand::Lint => texts::LINT_EXAMPLE,
+            Subcommand::Day => texts::DAY_EXAMPLE,
+            Subcommand::Chart => texts::CHART_EXAMPLE,
+            Subcommand::Replay => texts::REPLAY_EXAMPLE,
+            Subcommand::Explain => texts::EXPLAIN_EXAMPLE,
+            Subcommand::Help => return None,
+        })
+    }
+
+    /// Its arguments, in the order of its help.
+    pub(crate) fn arguments(self) -> &'static [Argument]
+        ensures { map rule_in result.now ≡ rules_of self }
+    {
+        match self {
+            Subcommand::Judge | Subcommand::Room => JUDGE.as_slice(),
+            Subcommand::Check => CHECK.as_slice(),
+            Subcommand::Make => MAKE.as_slice(),
+            Subcommand::Advise => ADVISE.as_slice(),
+            Subcommand::Run => RUN.as_slice(),
+            Subcommand::Stop => STOP.as_slice(),
+            Subcommand::Reload => RELOAD.as_slice(),
+            Subcommand::Status => STATUS.as_slice(),
+            Subcommand::Gather => GATHER.as_slice(),
+            Subcommand::Draft => DRAFT.as_slice(),
+            Subcommand::Learn => LEARN.as_slice(),
+            Subcommand::Lint => LINT.as_slice(),
+            Subcommand::Day => DAY.as_slice(),
+            Subcommand::Chart => CHART.as_slice(),
+            Subcommand::Replay => REPLAY.as_slice(),
+            Subcommand::Explain => EXPLAIN.as_slice(),
+            Subcommand::Help => HELP.as_slice(),
+        }
+    }
+}

@@ -1,12 +1,12 @@
 -- What `parse_words` answers, as what the words ask.
-use Rattle.std.specs.Prelude.{◌≡◌, ◌≢◌, ℕ, Bool, List, Option, map, option_map, Some, None, Result, Ok, Err, false, true, ⊤}
-use Rattle.clap.specs.Words.{Row, Text, kind_of}
+use Rattle.std.specs.Prelude.{◌≡◌, ◌≢◌, Bool, List, Option, map, option_map, Some, None, Result, Ok, Err, false, true, ⊤}
+use Rattle.clap.specs.Words.{Text, kind_of}
 use Rattle.clap.specs.declared.error.Error.{Error}
 use Rattle.clap.specs.declared.error.kind.ErrorKind.TheVariants.{DisplayHelp, DisplayVersion}
 use Rattle.clap.specs.declared.error.kind.ErrorKind.TheVariants as kind
 use Rattle.cs_args.specs.CommandLine.{Asked, AskedAdvise, AskedChart, AskedCheck, AskedDraft, AskedGather, AskedJudge, AskedLearn, AskedLint, AskedMake, AskedReplay, AskedRun, AskedStatus, AskedStop}
 use Rattle.cs_args.specs.CommandLine.{Advise, Asking, Chart, Check, Day, Draft, Explain, Gather, Help as HelpAsking, Judge, Learn, Lint, Make, Reload, Replay, Room, Run, Status, Stop}
-use Rattle.cs_args.specs.CommandLine.{Asks, AsksHelp, AsksVersion, IsNoCall, help_in}
+use Rattle.cs_args.specs.CommandLine.{Asks, AsksHelp, AsksVersion, IsNoCall}
 use Rattle.cs_args.specs.declared.request.AdviseWords.{AdviseWords}
 use Rattle.cs_args.specs.declared.request.ChartWords.{ChartWords}
 use Rattle.cs_args.specs.declared.request.CheckWords.{CheckWords}
@@ -166,20 +166,13 @@ Answers wanted (Err Version) = ⊥
 Answers wanted (Err (NoCall text)) = wanted ≡ None
 Answers wanted (Err OutOfMemory) = ⊤
 
--- so of what isn't help
+-- so of a part of it, such as a number
 abbrev pub AnswersFor : {W A : Type 0} → (W → A) → Option A → Result W UsageFault → Type 0
 AnswersFor view wanted (Ok words) = wanted ≡ Some (view words)
 AnswersFor view wanted (Err (Help text)) = ⊥
 AnswersFor view wanted (Err Version) = ⊥
 AnswersFor view wanted (Err (NoCall text)) = wanted ≡ None
 AnswersFor view wanted (Err OutOfMemory) = ⊤
-
--- of a number, and of one that may be left out
-abbrev pub NumberAsked : Option ℕ → Result ℕ UsageFault → Type 0
-NumberAsked = AnswersFor (λ n. n)
-
-abbrev pub OptionalNumberAsked : Option (Option ℕ) → Result (Option ℕ) UsageFault → Type 0
-OptionalNumberAsked = AnswersFor (λ n. n)
 
 -- a fault is answered where there is one
 abbrev pub RefusesIf : {T : Type 0} → Bool → Result T UsageFault → Type 0
@@ -188,14 +181,6 @@ RefusesIf is_fault (Err (Help text)) = ⊥
 RefusesIf is_fault (Err Version) = ⊥
 RefusesIf is_fault (Err (NoCall text)) = is_fault ≡ true
 RefusesIf is_fault (Err OutOfMemory) = ⊤
-
--- and of the words of `help`: a text of it
-abbrev pub HelpAsked : {T : Type 0} → List Row → Result T UsageFault → Type 0
-HelpAsked rows (Ok text) = help_in rows ≡ Some HelpAsking
-HelpAsked rows (Err (Help text)) = ⊥
-HelpAsked rows (Err Version) = ⊥
-HelpAsked rows (Err (NoCall text)) = help_in rows ≡ None
-HelpAsked rows (Err OutOfMemory) = ⊤
 
 -- what a fault of `clap` is here
 abbrev pub FaultOf : Error → UsageFault → Type 0

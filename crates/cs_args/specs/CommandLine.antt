@@ -1,5 +1,5 @@
 -- The command line, as `clap` reads it, and what its words ask.
-use Rattle.std.specs.Prelude.{◌≡◌, ◌≢◌, ◌⊎◌, ◌^◌, ◌+◌, ◌==◌, ℕ, Bool, false, List, [], ◌∷◌, count_by, find, fold, is_some, map, not, Option, Some, None, sum_by, true, codes, option_and_then, option_map, unwrap_or, length, if◌then◌else◌, nat_lt, ◌&&◌, ◌||◌}
+use Rattle.std.specs.Prelude.{◌≡◌, ◌≢◌, ◌⊎◌, ◌^◌, ◌==◌, ℕ, Bool, false, List, [], ◌∷◌, count_by, find, fold, is_some, not, Option, Some, None, sum_by, true, codes, option_and_then, option_map, unwrap_or, length, if◌then◌else◌, nat_lt, ◌&&◌, ◌||◌}
 use Rattle.std.specs.Str.Parse.{digits_value}
 use Rattle.std.specs.Char.{is_ascii_digit}
 use Rattle.std.specs.List.{list_all}
@@ -477,19 +477,6 @@ lint_in rows =
       faults_only = has_flag (codes "faults-only") rows;
     })))
 
--- `stop` and `status`
-abbrev pub stop_in : List Row → AskedStop
-stop_in rows = record {
-  stamps = word_in (codes "STAMPS") rows;
-  now = has_flag (codes "now") rows;
-}
-
-abbrev pub status_in : List Row → AskedStatus
-status_in rows = record {
-  stamps = word_in (codes "STAMPS") rows;
-  json = has_flag (codes "json") rows;
-}
-
 -- `help`: of the program, or of a subcommand
 abbrev pub help_in : List Row → Option Asking
 help_in rows = unless (option_map_or (λ name. not (is_some (subcommand_named name)))
@@ -501,9 +488,15 @@ asked_in subcommand.Day rows = option_map Day (day_up_to (word_in (codes "MAX") 
 asked_in subcommand.Replay rows = replay_in rows
 asked_in subcommand.Check rows = option_map Check (check_in rows)
 asked_in subcommand.Run rows = run_in rows
-asked_in subcommand.Stop rows = Some (Stop (stop_in rows))
+asked_in subcommand.Stop rows = Some (Stop (record {
+  stamps = word_in (codes "STAMPS") rows;
+  now = has_flag (codes "now") rows;
+}))
 asked_in subcommand.Reload rows = Some (Reload (word_in (codes "STAMPS") rows))
-asked_in subcommand.Status rows = Some (Status (status_in rows))
+asked_in subcommand.Status rows = Some (Status (record {
+  stamps = word_in (codes "STAMPS") rows;
+  json = has_flag (codes "json") rows;
+}))
 asked_in subcommand.Judge rows = option_map Judge (judge_in rows)
 asked_in subcommand.Make rows = make_in rows
 asked_in subcommand.Advise rows = advise_in rows

@@ -3,10 +3,10 @@ ghost use Rattle.std.specs.Prelude.{◌≡◌, IfOk, count_by, map, option_map};
 ghost use Rattle.std.specs.Char.{is_ascii_digit};
 ghost use Rattle.std.specs.List.{list_all};
 ghost use Rattle.clap.specs.Words.{first_of, found_of, rows_of};
-ghost use Rattle.cs_args.specs.CommandLine.{asked_by, asked_in, check_in, day_up_to, has_flag, help_in, is_dash, is_twice_standard, judge_in};
+ghost use Rattle.cs_args.specs.CommandLine.{Help, asked_by, asked_in, check_in, day_up_to, has_flag, help_in, is_dash, is_twice_standard, judge_in};
 ghost use Rattle.cs_args.specs.CommandLine.{advise_in, chart_in, draft_in, gather_in, learn_in, lint_in, make_in, replay_in, run_in};
 ghost use Rattle.cs_args.specs.CommandLine.{number_of, optional_number_of, value_or, values_in};
-ghost use Rattle.cs_args.specs.Asked.{Answers, AnswersFor, FaultOf, HelpAsked, NumberAsked, OptionalNumberAsked, Parses, RefusesIf};
+ghost use Rattle.cs_args.specs.Asked.{Answers, AnswersFor, FaultOf, Parses, RefusesIf};
 ghost use Rattle.cs_args.specs.Asked.{asked, asked_check, asked_judge};
 ghost use Rattle.cs_args.specs.Table.{words_given};
 
@@ -172,7 +172,7 @@ impl<'a, 'm> Given<'a, 'm> {
 
     /// The number of an argument.
     fn number(self, name: &str, text: &str) -> Result<u64, UsageFault>
-        ensures { NumberAsked (number_of text.now) result }
+        ensures { AnswersFor (λ n. n) (number_of text.now) result }
     {
         match digits(text) {
             Some(number) => Ok(number),
@@ -182,7 +182,7 @@ impl<'a, 'm> Given<'a, 'm> {
 
     /// The number of an argument, if it is given.
     fn optional_number(self, name: &str, text: Option<&str>) -> Result<Option<u64>, UsageFault>
-        ensures { OptionalNumberAsked
+        ensures { AnswersFor (λ n. n)
             (optional_number_of (option_map (λ text. text.now) text.entry)) result }
     {
         match text {
@@ -326,9 +326,8 @@ fn gather<'a>(given: Given<'a, '_>) -> Result<Request<'a>, UsageFault>
     ensures { Answers (gather_in (words_given given.entry)) result }
 {
     let root = given.value("root");
-    let is_rootless = root.is_none();
     given.refuse_if(
-        is_rootless && given.value("system").is_none() && given.value("user").is_none(),
+        root.is_none() && given.value("system").is_none() && given.value("user").is_none(),
         "one of --root, --system and --user is required",
     )?;
     given.one_standard(&["system", "user"])?;
@@ -384,7 +383,7 @@ fn lint<'a>(given: Given<'a, '_>) -> Result<Request<'a>, UsageFault>
 
 /// The help that the words of `help` ask for, of the program or of a subcommand.
 fn help_text(given: Given<'_, '_>) -> Result<String, UsageFault>
-    ensures { HelpAsked (words_given given.entry) result }
+    ensures { AnswersFor (λ text. Help) (help_in (words_given given.entry)) result }
 {
     let Some(name) = given.value("COMMAND") else {
         return Ok(command(given.alloc)?.render_help()?);

@@ -33,9 +33,9 @@ fn command_of<'a>(alloc: Global, subcommand: Subcommand) -> Result<Command<'a>, 
     ensures app { IfOk result (λ c. app_of c ≡ app_of_subcommand subcommand) }
     ensures local { IfOk result IsLocal }
 {
-    let name: &'a str = subcommand.name();
-    let mut command = Command::new(alloc, name).about(subcommand.about());
-    if let Some(example) = subcommand.example() {
+    let (name, about, example): (&'a str, &'a str, &'a str) = subcommand.texts();
+    let mut command = Command::new(alloc, name).about(about);
+    if !example.is_empty() {
         command = command.after_help(example);
     }
     for argument in subcommand.arguments() {
@@ -83,7 +83,7 @@ fn named_among(subcommands: &[Subcommand], name: &str) -> Option<Subcommand>
     ensures { result ≡ named_among subcommands.now name.now }
 {
     for subcommand in subcommands {
-        if subcommand.name() == name {
+        if subcommand.texts().0 == name {
             return Some(*subcommand);
         }
     }
@@ -109,7 +109,7 @@ impl Subcommand {
 
     /// Its command line alone, as its usage names it.
     fn command<'a>(self, alloc: Global) -> Result<Command<'a>, AllocError> {
-        let name = format!(in alloc; "cronsafe {}", self.name())?;
+        let name = format!(in alloc; "cronsafe {}", self.texts().0)?;
         command_of(alloc, self)?.bin_name(name.as_str())
     }
 

@@ -17,7 +17,7 @@ const LONGEST_TIME: u64 = 4_320;
 
 /// A civil day from 1970-01-04 on, the longest time of each run, from 1 to 4,320 minutes, and the
 /// catch-up hours.
-#[derive(Clone, Copy, Debug)]
+#[derive(Clone, Copy)]
 pub struct Question {
     date: Day,
     time: u16,
@@ -47,7 +47,7 @@ impl Model for Question {
 }
 
 /// What is wrong with the words of `day`, beside those that are no call.
-#[derive(Clone, Copy, Debug, PartialEq, Eq)]
+#[derive(Clone, Copy)]
 pub enum WordFault {
     /// DATE is no date, or not in range.
     Date(CivilFault),

@@ -5,7 +5,7 @@ ghost use Rattle.cs_args.specs.declared.request.UsageFault.TheVariants.{OutOfMem
 use std::alloc::{AllocError, AllocFailed};
 
 /// What `day` is asked.
-#[derive(Clone, Copy, Debug)]
+#[derive(Clone, Copy)]
 pub struct DayWords<'a> {
     /// The path of a crontab.
     pub table: &'a str,
@@ -22,7 +22,7 @@ pub struct DayWords<'a> {
 }
 
 /// What `replay` is asked.
-#[derive(Clone, Copy, Debug)]
+#[derive(Clone, Copy)]
 pub struct ReplayWords<'a> {
     /// The path of a crontab.
     pub table: &'a str,
@@ -43,7 +43,7 @@ pub struct ReplayWords<'a> {
 }
 
 /// What `check` is asked.
-#[derive(Clone, Copy, Debug)]
+#[derive(Clone, Copy)]
 pub struct CheckWords<'a> {
     /// The path of a crontab.
     pub table: &'a str,
@@ -56,7 +56,7 @@ pub struct CheckWords<'a> {
 }
 
 /// What `run` is asked.
-#[derive(Clone, Copy, Debug)]
+#[derive(Clone, Copy)]
 pub struct RunWords<'a> {
     /// The paths that `check` is asked with.
     pub check: CheckWords<'a>,
@@ -83,7 +83,7 @@ pub struct RunWords<'a> {
 }
 
 /// What `stop` is asked.
-#[derive(Clone, Copy, Debug)]
+#[derive(Clone, Copy)]
 pub struct StopWords<'a> {
     /// The path of the folder of stamps that the daemon uses.
     pub stamps: &'a str,
@@ -92,7 +92,7 @@ pub struct StopWords<'a> {
 }
 
 /// What `status` is asked.
-#[derive(Clone, Copy, Debug)]
+#[derive(Clone, Copy)]
 pub struct StatusWords<'a> {
     /// The path of the folder of stamps that the daemon uses.
     pub stamps: &'a str,
@@ -101,7 +101,7 @@ pub struct StatusWords<'a> {
 }
 
 /// What `judge` is asked.
-#[derive(Clone, Copy, Debug)]
+#[derive(Clone, Copy)]
 pub struct JudgeWords<'a> {
     /// The path of a crontab.
     pub table: &'a str,
@@ -112,7 +112,7 @@ pub struct JudgeWords<'a> {
 }
 
 /// What `make` is asked.
-#[derive(Clone, Copy, Debug)]
+#[derive(Clone, Copy)]
 pub struct MakeWords<'a> {
     /// The paths that `judge` is asked with.
     pub judge: JudgeWords<'a>,
@@ -122,7 +122,7 @@ pub struct MakeWords<'a> {
 }
 
 /// What `advise` is asked.
-#[derive(Clone, Copy, Debug)]
+#[derive(Clone, Copy)]
 pub struct AdviseWords<'a> {
     /// The paths that `judge` is asked with.
     pub judge: JudgeWords<'a>,
@@ -131,7 +131,7 @@ pub struct AdviseWords<'a> {
 }
 
 /// What `gather` is asked.
-#[derive(Debug, Drop)]
+#[derive(Drop)]
 pub struct GatherWords<'a> {
     /// The path of a machine's root folder.
     pub root: Option<&'a str>,
@@ -142,7 +142,7 @@ pub struct GatherWords<'a> {
 }
 
 /// What `draft` is asked.
-#[derive(Clone, Copy, Debug)]
+#[derive(Clone, Copy)]
 pub struct DraftWords<'a> {
     /// The path of a crontab.
     pub table: &'a str,
@@ -155,7 +155,7 @@ pub struct DraftWords<'a> {
 }
 
 /// What `learn` is asked.
-#[derive(Debug, Drop)]
+#[derive(Drop)]
 pub struct LearnWords<'a> {
     /// The path of a crontab.
     pub table: &'a str,
@@ -168,7 +168,7 @@ pub struct LearnWords<'a> {
 }
 
 /// What `lint` is asked.
-#[derive(Debug, Drop)]
+#[derive(Drop)]
 pub struct LintWords<'a> {
     /// The path of a crontab.
     pub table: &'a str,
@@ -187,7 +187,7 @@ pub struct LintWords<'a> {
 }
 
 /// What `chart` is asked.
-#[derive(Clone, Copy, Debug)]
+#[derive(Clone, Copy)]
 pub struct ChartWords<'a> {
     /// What `day` is asked, of the first day.
     pub day: DayWords<'a>,
@@ -198,7 +198,7 @@ pub struct ChartWords<'a> {
 }
 
 /// What a call asks.
-#[derive(Debug, Drop)]
+#[derive(Drop)]
 pub enum Request<'a> {
     /// A day of the tables.
     Day(DayWords<'a>),
@@ -237,7 +237,7 @@ pub enum Request<'a> {
 }
 
 /// Why words are no call.
-#[derive(Debug, Drop)]
+#[derive(Drop)]
 pub enum UsageFault {
     /// Help is asked for: its text.
     Help(String),

@@ -199,78 +199,30 @@ pub(crate) static SUBCOMMANDS: [Subcommand; 18] = [
 ];
 
 impl Subcommand {
-    /// Its name.
-    pub(crate) fn name(self) -> &'static str
-        ensures { result.now ≡ name_of self }
+    /// Its name, what it does, and what its help says below its arguments.
+    pub(crate) fn texts(self) -> (&'static str, &'static str, &'static str)
+        ensures { result.0.now ≡ name_of self }
     {
         match self {
-            Subcommand::Judge => "judge",
-            Subcommand::Check => "check",
-            Subcommand::Make => "make",
-            Subcommand::Advise => "advise",
-            Subcommand::Room => "room",
-            Subcommand::Run => "run",
-            Subcommand::Stop => "stop",
-            Subcommand::Reload => "reload",
-            Subcommand::Status => "status",
-            Subcommand::Gather => "gather",
-            Subcommand::Draft => "draft",
-            Subcommand::Learn => "learn",
-            Subcommand::Lint => "lint",
-            Subcommand::Day => "day",
-            Subcommand::Chart => "chart",
-            Subcommand::Replay => "replay",
-            Subcommand::Explain => "explain",
-            Subcommand::Help => "help",
+            Subcommand::Judge => ("judge", texts::JUDGE_ABOUT, texts::JUDGE_EXAMPLE),
+            Subcommand::Check => ("check", texts::CHECK_ABOUT, texts::CHECK_EXAMPLE),
+            Subcommand::Make => ("make", texts::MAKE_ABOUT, texts::MAKE_EXAMPLE),
+            Subcommand::Advise => ("advise", texts::ADVISE_ABOUT, texts::ADVISE_EXAMPLE),
+            Subcommand::Room => ("room", texts::ROOM_ABOUT, texts::ROOM_EXAMPLE),
+            Subcommand::Run => ("run", texts::RUN_ABOUT, texts::RUN_EXAMPLE),
+            Subcommand::Stop => ("stop", texts::STOP_ABOUT, texts::STOP_EXAMPLE),
+            Subcommand::Reload => ("reload", texts::RELOAD_ABOUT, texts::RELOAD_EXAMPLE),
+            Subcommand::Status => ("status", texts::STATUS_ABOUT, texts::STATUS_EXAMPLE),
+            Subcommand::Gather => ("gather", texts::GATHER_ABOUT, texts::GATHER_EXAMPLE),
+            Subcommand::Draft => ("draft", texts::DRAFT_ABOUT, texts::DRAFT_EXAMPLE),
+            Subcommand::Learn => ("learn", texts::LEARN_ABOUT, texts::LEARN_EXAMPLE),
+            Subcommand::Lint => ("lint", texts::LINT_ABOUT, texts::LINT_EXAMPLE),
+            Subcommand::Day => ("day", texts::DAY_ABOUT, texts::DAY_EXAMPLE),
+            Subcommand::Chart => ("chart", texts::CHART_ABOUT, texts::CHART_EXAMPLE),
+            Subcommand::Replay => ("replay", texts::REPLAY_ABOUT, texts::REPLAY_EXAMPLE),
+            Subcommand::Explain => ("explain", texts::EXPLAIN_ABOUT, texts::EXPLAIN_EXAMPLE),
+            Subcommand::Help => ("help", texts::HELP_ABOUT, ""),
         }
-    }
-
-    /// What it does, in a sentence.
-    pub(crate) fn about(self) -> &'static str {
-        match self {
-            Subcommand::Judge => texts::JUDGE_ABOUT,
-            Subcommand::Check => texts::CHECK_ABOUT,
-            Subcommand::Make => texts::MAKE_ABOUT,
-            Subcommand::Advise => texts::ADVISE_ABOUT,
-            Subcommand::Room => texts::ROOM_ABOUT,
-            Subcommand::Run => texts::RUN_ABOUT,
-            Subcommand::Stop => texts::STOP_ABOUT,
-            Subcommand::Reload => texts::RELOAD_ABOUT,
-            Subcommand::Status => texts::STATUS_ABOUT,
-            Subcommand::Gather => texts::GATHER_ABOUT,
-            Subcommand::Draft => texts::DRAFT_ABOUT,
-            Subcommand::Learn => texts::LEARN_ABOUT,
-            Subcommand::Lint => texts::LINT_ABOUT,
-            Subcommand::Day => texts::DAY_ABOUT,
-            Subcommand::Chart => texts::CHART_ABOUT,
-            Subcommand::Replay => texts::REPLAY_ABOUT,
-            Subcommand::Explain => texts::EXPLAIN_ABOUT,
-            Subcommand::Help => texts::HELP_ABOUT,
-        }
-    }
-
-    /// What its help says below its arguments.
-    pub(crate) fn example(self) -> Option<&'static str> {
-        Some(match self {
-            Subcommand::Judge => texts::JUDGE_EXAMPLE,
-            Subcommand::Check => texts::CHECK_EXAMPLE,
-            Subcommand::Make => texts::MAKE_EXAMPLE,
-            Subcommand::Advise => texts::ADVISE_EXAMPLE,
-            Subcommand::Room => texts::ROOM_EXAMPLE,
-            Subcommand::Run => texts::RUN_EXAMPLE,
-            Subcommand::Stop => texts::STOP_EXAMPLE,
-            Subcommand::Reload => texts::RELOAD_EXAMPLE,
-            Subcommand::Status => texts::STATUS_EXAMPLE,
-            Subcommand::Gather => texts::GATHER_EXAMPLE,
-            Subcommand::Draft => texts::DRAFT_EXAMPLE,
-            Subcommand::Learn => texts::LEARN_EXAMPLE,
-            Subcommand::Lint => texts::LINT_EXAMPLE,
-            Subcommand::Day => texts::DAY_EXAMPLE,
-            Subcommand::Chart => texts::CHART_EXAMPLE,
-            Subcommand::Replay => texts::REPLAY_EXAMPLE,
-            Subcommand::Explain => texts::EXPLAIN_EXAMPLE,
-            Subcommand::Help => return None,
-        })
     }
 
     /// Its arguments, in the order of its help.

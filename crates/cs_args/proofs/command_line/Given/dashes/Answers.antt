@@ -1,4 +1,4 @@
-use Rattle.std.proofs.Common.{◌≡◌, ◌∙◌, [], ap, map, option_map, sym, unwrap_or}
+use Rattle.std.proofs.Common.{◌∙◌, [], ap, map, option_map, sym, unwrap_or}
 use Rattle.std.specs.Prelude.{count_by}
 use Rattle.clap.specs.Words.{found_of}
 use Rattle.clap.proofs.WalkLemmas.{raw_values-rows}

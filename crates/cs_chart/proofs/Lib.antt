@@ -7,4 +7,3 @@ pub mod Passed
 pub mod Example
 pub mod Others
 pub mod Marked
-pub mod Told

@@ -6,4 +6,3 @@ pub mod Rows
 pub mod Begun
 pub mod Program
 pub mod Meeting
-pub mod Story

@@ -8,7 +8,7 @@ use Rattle.cs_chart.specs.declared.row.Row.{Row}
 use Rattle.cs_civil.specs.Calendar.{Kind}
 use Rattle.cs_windows.specs.Windows.{Job as WindowsJob}
 use Rattle.cs_chart.specs.Bars.{Days}
-use Rattle.cs_chart.specs.Chart.{ArePlotted, IsPictureOf, IsPlotOf, IsRowOf, AreRowsOf, ShownJob}
+use Rattle.cs_chart.specs.Chart.{ArePlotted, IsPlotOf, IsRowOf, AreRowsOf, ShownJob}
 use Rattle.cs_chart.specs.Picture.{AddsRows, Plot, Row as TextRow}
 
 -- how a name begins
@@ -46,7 +46,3 @@ AddsRowOf days job top old new =
 abbrev pub AddsRowsOf : Days → List ShownJob → ℕ → List ℕ → List ℕ → Type 0
 AddsRowsOf days jobs top old new =
     (rows : List TextRow) × AreRowsOf days top 0 jobs rows × AddsRows rows old new
-
--- a picture of the jobs, whose first row is there
-abbrev pub IsPictureAt : ℕ → Days → List ShownJob → List ℕ → Type 0
-IsPictureAt top days jobs text = (picture : IsPictureOf days jobs text) × (picture.top ≡ top)

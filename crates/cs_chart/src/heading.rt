@@ -20,7 +20,7 @@ const GROUPS_OF_LINE: usize = 8;
 const GROUP_WIDTH: u32 = 148;
 
 /// How high a line of the key is.
-pub(crate) const KEY_LINE: u32 = 18;
+const KEY_LINE: u32 = 18;
 
 /// Adds the name of the table, and the days.
 #[tactic(auto, unfolding(crate::specs::Picture::has_no_bars))]

@@ -16,11 +16,9 @@ mod program;
 mod row;
 mod sheet;
 mod span;
-mod story;
 mod svg;
 mod text;
 
 pub use laws::{labels_are_programs, rows_have_bars};
 pub use picture::{Subject, chart, plan_chart};
 pub use row::Terms;
-pub use story::{Episode, What};

@@ -1,10 +1,9 @@
 //! The whole picture.
-ghost use Rattle.std.specs.Prelude.{◌≡◌, ◌+◌, ◌*◌, ◌≤◌, true, length, map, option_map, string_bytes, IfOk, OnOk};
+ghost use Rattle.std.specs.Prelude.{◌≡◌, ◌+◌, ◌*◌, ◌≤◌, true, length, map, string_bytes, IfOk, OnOk};
 ghost use Rattle.cs_chart.specs.Bars.{days_shown};
 ghost use Rattle.cs_chart.specs.Chart.{IsPictureOf, jobs_of_plan, jobs_of_tables};
 ghost use Rattle.cs_chart.specs.Picture.{KeepsBars, has_no_bars};
-ghost use Rattle.cs_chart.specs.Rows.{AddsRowsOf, IsPictureAt, shown_of};
-ghost use Rattle.cs_chart.specs.Story.{IsTold};
+ghost use Rattle.cs_chart.specs.Rows.{AddsRowsOf, shown_of};
 
 use crate::axis::{push_axis, push_foot_hours, push_grid, push_hours_above};
 use crate::heading::{plan_text, push_groups, push_key, push_title, terms_text, title};
@@ -12,9 +11,8 @@ use crate::job::{Beside, push_row};
 use crate::load::Load;
 use crate::meeting::{Meeting, meetings_of};
 use crate::row::{Row, Terms, plan_rows, table_rows};
-use crate::sheet::Sheet;
+use crate::sheet::{HOURS, ROW, ROWS_OF_HOURS, Sheet};
 use crate::span::{DaySpan, MOST_DAYS};
-use crate::story::{Episode, is_whole, push_story, push_story_key, rows_height};
 use crate::svg::Svg;
 use cs_anacrontab::Anacrontab;
 use cs_civil::Day;
@@ -113,21 +111,6 @@ fn push_coarse(sheet: &mut Sheet, span: DaySpan) -> Result<(), AllocError>
     Ok(())
 }
 
-/// Adds what the marks of a story mean, if one is told, and whether some of it is left out.
-#[tactic(auto, unfolding(crate::specs::Picture::has_no_bars))]
-fn push_told(sheet: &mut Sheet, span: DaySpan, story: Option<&[Episode]>) -> Result<(), AllocError>
-    ensures { OnOk result (KeepsBars sheet.old.svg sheet.new.svg) }
-{
-    let Some(episodes) = story else {
-        return Ok(());
-    };
-    push_story_key(sheet)?;
-    if !episodes.iter().all(|episode| is_whole(span, episode)) {
-        push_note(sheet, "what the script tells of other days is left out")?;
-    }
-    Ok(())
-}
-
 /// Adds what the picture leaves out, at its foot.
 #[tactic(auto, unfolding(crate::specs::Picture::has_no_bars))]
 fn push_notes(sheet: &mut Sheet, scene: &Scene<'_>, is_coarse: bool) -> Result<(), AllocError>
@@ -153,6 +136,14 @@ fn push_notes(sheet: &mut Sheet, scene: &Scene<'_>, is_coarse: bool) -> Result<(
         push_note(sheet, "days past 9999-12-31 are left out")?;
     }
     Ok(())
+}
+
+/// How high so many rows are, with the hours between them.
+fn rows_height(rows: usize) -> u32 {
+    let rows = u32::try_from(rows).unwrap_or(u32::MAX);
+    let hours = rows.saturating_sub(1) / ROWS_OF_HOURS;
+    ROW.saturating_mul(rows)
+        .saturating_add(HOURS.saturating_mul(hours))
 }
 
 /// Adds everything above the rows.
@@ -203,27 +194,21 @@ fn push_foot(
     push_notes(sheet, scene, is_coarse)
 }
 
-/// Draws everything below the head of the file, and answers the top of the first row too.
-fn body(
-    alloc: Global,
-    scene: &Scene<'_>,
-    story: Option<&[Episode]>,
-) -> Result<(Sheet, u32), AllocError>
+/// Draws everything below the head of the file.
+fn body(alloc: Global, scene: &Scene<'_>) -> Result<Sheet, AllocError>
     requires title { has_no_bars scene.now.title.now ≡ true }
     requires terms { has_no_bars scene.now.terms.now ≡ true }
     requires few { 18 * length scene.now.groups.now + 19 * length scene.now.rows.now ≤ 9_000 }
-    ensures { IfOk result (λ drawn. IsPictureAt drawn.1 scene.now.span
-        (map shown_of scene.now.rows.now) drawn.0.svg) }
+    ensures { IfOk result (λ drawn. IsPictureOf scene.now.span
+        (map shown_of scene.now.rows.now) drawn.svg) }
 {
     let mut sheet = Sheet::new(alloc);
     let mut load = Load::new(alloc, scene.span.minutes())?;
     push_head(&mut sheet, scene)?;
-    let top = sheet.y;
     let is_coarse = push_rows(alloc, &mut sheet, scene, &mut load)?;
     push_foot(&mut sheet, scene, &load, is_coarse)?;
-    push_told(&mut sheet, scene.span, story)?;
     sheet.down(10);
-    Ok((sheet, top))
+    Ok(sheet)
 }
 
 /// Adds the head of the file.
@@ -253,18 +238,17 @@ fn push_file(svg: &mut Svg, scene: &Scene<'_>, height: u32) -> Result<(), AllocE
 
 /// Draws a scene.
 #[tactic(auto, unfolding(crate::specs::Picture::has_no_bars))]
-fn draw(alloc: Global, scene: &Scene<'_>, story: Option<&[Episode]>) -> Result<String, AllocError>
+fn draw(alloc: Global, scene: &Scene<'_>) -> Result<String, AllocError>
     requires title { has_no_bars scene.now.title.now ≡ true }
     requires terms { has_no_bars scene.now.terms.now ≡ true }
     requires few { 18 * length scene.now.groups.now + 19 * length scene.now.rows.now ≤ 9_000 }
-    ensures { IfOk result (λ svg. IsTold scene.now.span (map shown_of scene.now.rows.now)
-        (option_map (λ episodes. episodes.now) story.entry) (string_bytes svg)) }
+    ensures { IfOk result (λ svg. IsPictureOf scene.now.span (map shown_of scene.now.rows.now)
+        (string_bytes svg)) }
 {
-    let (sheet, top) = body(alloc, scene, story)?;
+    let sheet = body(alloc, scene)?;
     let mut svg = Svg::new(alloc);
     push_file(&mut svg, scene, sheet.y)?;
     svg.push_drawn(&sheet.svg)?;
-    push_story(&mut svg, scene.span, top, scene.rows.len(), story)?;
     svg.push_str("</svg>\n")?;
     Ok(svg.into_string())
 }
@@ -314,7 +298,7 @@ pub fn chart(
         span,
         days,
     };
-    let svg = draw(alloc, &scene, None)?;
+    let svg = draw(alloc, &scene)?;
     Ok(svg)
 }
 
@@ -322,19 +306,17 @@ pub fn chart(
 /// has its own longest time, its group has a colour, and below the rows is the load of each minute, the
 /// weights of the jobs of which a window holds it, beside the capacity.
 ///
-/// A run that waits for its lock may go on past its window; the picture says so where there is one. A
-/// story is drawn over the rows: black lines where runs go on, pale ones where they wait, and grey where
-/// the daemon is down. The only error is want of memory.
+/// A run that waits for its lock may go on past its window; the picture says so where there is one. The
+/// only error is want of memory.
 pub fn plan_chart(
     alloc: Global,
     subject: &Subject<'_>,
     plan: &Plan,
-    story: Option<&[Episode]>,
     from: Day,
     days: u8,
 ) -> Result<String, AllocError>
-    ensures { IfOk result (λ svg. IsTold (days_shown from days) (jobs_of_plan plan.now)
-        (option_map (λ episodes. episodes.now) story.entry) (string_bytes svg)) }
+    ensures { IfOk result (λ svg. IsPictureOf (days_shown from days) (jobs_of_plan plan.now)
+        (string_bytes svg)) }
 {
     let span = DaySpan::new(from, days);
     let rows = plan_rows(alloc, plan, subject.places)?;
@@ -351,6 +333,6 @@ pub fn plan_chart(
         span,
         days,
     };
-    let svg = draw(alloc, &scene, story)?;
+    let svg = draw(alloc, &scene)?;
     Ok(svg)
 }

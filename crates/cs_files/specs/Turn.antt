@@ -37,8 +37,7 @@ abbrev pub lint_paths : AskedLint → List Text
 lint_paths a = (table_paths a.table a.anacrontab ++ some_path a.declarations) ++ some_path a.zone
 
 abbrev pub chart_paths : AskedChart → List Text
-chart_paths a = table_paths a.day.table a.day.anacrontab
-    ++ (some_path a.declarations ++ some_path a.story)
+chart_paths a = table_paths a.day.table a.day.anacrontab ++ some_path a.declarations
 
 -- those that the words name
 abbrev pub gather_paths : AskedGather → List Text

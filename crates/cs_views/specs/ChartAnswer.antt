@@ -1,5 +1,5 @@
 -- What is answered to `chart`.
-use Rattle.std.specs.Prelude.{◌≡◌, ◌⊎◌, ℕ, false, true, List, [], Option, Some, None, Result}
+use Rattle.std.specs.Prelude.{◌≡◌, ◌⊎◌, ℕ, List, [], Option, Some, None, Result}
 use Rattle.clap.specs.Words.{Text}
 use Rattle.cs_crontab.specs.Crontab.{Table}
 use Rattle.cs_anacrontab.specs.Anacrontab.{Table as JobTable}
@@ -10,13 +10,6 @@ use Rattle.cs_args.specs.declared.question.WordFault.{WordFault}
 use Rattle.cs_chart.specs.Bars.{days_shown}
 use Rattle.cs_chart.specs.Chart.{IsPictureOf, ShownJob, jobs_of_plan, jobs_of_tables}
 use Rattle.cs_chart.specs.declared.row.Terms.{Terms}
-use Rattle.cs_chart.specs.Story.{IsTold}
-use Rattle.cs_chart.specs.declared.story.Episode.{Episode}
-use Rattle.cs_decl.specs.Plan.{Declared}
-use Rattle.cs_history.specs.declared.refusal.Refusal.{Refusal}
-use Rattle.cs_report.specs.Grammar.{Numbered}
-use Rattle.cs_views.specs.Replayed.{ReadsScript}
-use Rattle.cs_views.specs.Story.{episodes, first_refused, refused_text}
 use Rattle.cs_io.specs.Files.{Failed}
 use Rattle.cs_files.specs.Reads.{AndThen, Answered, GivesSome, ReadsDeclared, ReadsTables}
 use Rattle.cs_files.specs.Response.{Ending}
@@ -31,41 +24,21 @@ abbrev pub IsPicture : Question → ℕ → List ShownJob → Ending → Type 0
 IsPicture q days jobs ending = (ending.status ≡ 0) × (ending.err ≡ [])
     × IsPictureOf (days_shown q.day days) jobs ending.out
 
--- a picture of a plan is printed, with a story over it if there is one
-abbrev pub IsPlanPicture : Question → ℕ → Declared → Option (List Episode) → Ending → Type 0
-IsPlanPicture q days plan story ending = (ending.status ≡ 0) × (ending.err ≡ [])
-    × IsTold (days_shown q.day days) (jobs_of_plan plan) story ending.out
-
--- .. the story of a script; but where an event is refused, the first such is told and nothing is drawn
-abbrev pub TellsStory : Question → ℕ → Declared → Numbered → Option (ℕ × Refusal) → Ending
-    → Type 0
-TellsStory q days plan script None ending =
-    IsPlanPicture q days plan (Some (episodes plan script)) ending
-TellsStory q days plan script (Some refused) ending =
-    ending ≡ record { status = 1; out = []; err = refused_text refused }
-
--- the script is read where there is one, as `replay --judge` reads it
-abbrev pub ChartsPlan : Question → ℕ → (List ℕ → Option (List ℕ)) → Option Text → Declared
-    → Failed → Failed → Result Ending Trouble → Type 0
-ChartsPlan q days files None plan = GivesSome (IsPlanPicture q days plan None)
-ChartsPlan q days files (Some path) plan = AndThen (ReadsScript files plan true false path)
-    (λ script. GivesSome (TellsStory q days plan script (first_refused plan script)))
-
 -- the declarations are read where there are any, and a picture is printed of the plan, else of the
 -- tables
-abbrev pub Charts : Question → ℕ → (List ℕ → Option (List ℕ)) → Option Text → Option Text
-    → Table × JobTable → Failed → Failed → Result Ending Trouble → Type 0
-Charts q days files None story tables =
+abbrev pub Charts : Question → ℕ → (List ℕ → Option (List ℕ)) → Option Text → Table × JobTable
+    → Failed → Failed → Result Ending Trouble → Type 0
+Charts q days files None tables =
     GivesSome (IsPicture q days (jobs_of_tables (terms_of q) tables.0 tables.1))
-Charts q days files (Some path) story tables = AndThen (ReadsDeclared files tables path)
-    (λ plan. ChartsPlan q days files story plan)
+Charts q days files (Some path) tables = AndThen (ReadsDeclared files tables path)
+    (λ plan. GivesSome (IsPicture q days (jobs_of_plan plan)))
 
 -- both tables are read first
 abbrev pub ChartsTables : Question → AskedChart → (List ℕ → Option (List ℕ)) → Failed → Failed
     → Ending → Type 0
 ChartsTables q a files =
     Answered (ReadsTables files a.day.table a.day.anacrontab)
-    (λ both. Charts q a.days files a.declarations a.story both)
+    (λ both. Charts q a.days files a.declarations both)
 
 -- what is answered to `chart`: the first fault of DATE, MAX, the hours and the files ends the call
 abbrev pub AnswersChart : AskedChart → (List ℕ → Option (List ℕ)) → Failed → Failed → Ending

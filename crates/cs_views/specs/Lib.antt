@@ -10,5 +10,4 @@ pub mod ExplainAnswer
 pub mod GatherTables
 pub mod GatherAnswer
 pub mod Listing
-pub mod Story
 pub mod LearnAnswer

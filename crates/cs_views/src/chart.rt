@@ -1,29 +1,23 @@
 //! The subcommand `chart`.
-ghost use Rattle.std.specs.Prelude.{◌≡◌, ◌≢◌, ◌++◌, [], IfErr, IfOk, option_map};
+ghost use Rattle.std.specs.Prelude.{◌≢◌, IfErr, IfOk};
 ghost use Rattle.cs_args.specs.Asked.{asked_chart};
 ghost use Rattle.cs_io.specs.Files.{AreReadInTurn, IsFresh};
 ghost use Rattle.cs_files.specs.RanOut.{IsWarned};
 ghost use Rattle.cs_files.specs.Trouble.{CameTo, IsHonest, IsHonestOf};
 ghost use Rattle.cs_files.specs.Turn.{chart_paths, some_path};
-ghost use Rattle.cs_chart.specs.Chart.{jobs_of_tables};
-ghost use Rattle.cs_views.specs.ChartAnswer.{AnswersChart, Charts, ChartsPlan, ChartsTables, IsPicture};
-ghost use Rattle.cs_views.specs.ChartAnswer.{IsPlanPicture, TellsStory, terms_of};
-ghost use Rattle.cs_views.specs.Story.{first_refused, refused_text};
+ghost use Rattle.cs_chart.specs.Chart.{jobs_of_plan, jobs_of_tables};
+ghost use Rattle.cs_views.specs.ChartAnswer.{AnswersChart, Charts, ChartsTables, IsPicture, terms_of};
 
-use crate::replay::script_from;
-use crate::replay_text::push_event;
-use crate::story::story_of;
 use cs_anacrontab::Anacrontab;
 use cs_args::{ChartWords, Question};
-use cs_chart::{Episode, Subject, Terms, chart as table_picture, plan_chart};
+use cs_chart::{Subject, Terms, chart as table_picture, plan_chart};
 use cs_civil::Bytes;
 use cs_crontab::Crontab;
 use cs_decl::Plan;
 use cs_files::{Fault, RanOut, Response, declared_plan_from, read_placed_tables};
 use cs_gather::Place;
-use cs_history::Refusal;
 use cs_io::Inputs;
-use cs_report::{NumberedScript, warnings};
+use cs_report::warnings;
 use std::alloc::{AllocError, Global};
 
 /// What the picture calls the tables, and where their lines come from.
@@ -60,85 +54,19 @@ fn show_tables(
     Ok(Response::done(picture.into_bytes(), Bytes::new(alloc)))
 }
 
-/// The picture of a plan, with a story over it if there is one.
+/// The picture of a plan.
 fn show_plan(
     alloc: Global,
     request: &ChartWords<'_>,
     question: Question,
     plan: &Plan,
-    story: Option<&[Episode]>,
     places: &[Place],
 ) -> Result<Response, AllocError>
-    ensures { IfOk result (IsPlanPicture question request.now.days plan.now
-        (option_map (λ told. told.now) story.entry)) }
+    ensures { IfOk result (IsPicture question request.now.days (jobs_of_plan plan.now)) }
 {
     let subject = subject(request, places);
-    let picture = plan_chart(alloc, &subject, plan, story, question.day(), request.days)?;
+    let picture = plan_chart(alloc, &subject, plan, question.day(), request.days)?;
     Ok(Response::done(picture.into_bytes(), Bytes::new(alloc)))
-}
-
-/// What is answered where an event of the script is refused.
-fn show_refused(alloc: Global, line: u32, refusal: Refusal) -> Result<Response, AllocError>
-    ensures { IfOk result (λ answer. answer
-        ≡ record { status = 1; out = []; err = refused_text (line, refusal) }) }
-{
-    let mut text = Vec::from_slice(alloc, b"cronsafe: script line ".as_slice())?;
-    push_event(alloc, &mut text, line, Err(refusal))?;
-    Ok(Response::replayed(Vec::new(alloc), true, Bytes::from_vec(text)))
-}
-
-/// The picture of a plan with the story of a script, or the first event of it that is refused.
-fn show_story(
-    alloc: Global,
-    request: &ChartWords<'_>,
-    question: Question,
-    plan: &Plan,
-    script: NumberedScript,
-    places: &[Place],
-) -> Result<Response, AllocError>
-    ensures value { IfOk result (TellsStory question request.now.days plan.now script
-        (first_refused plan.now script)) }
-    ensures done { IfOk result (λ answer. answer.status ≢ 6) }
-{
-    let (start, events) = script.into_parts();
-    match story_of(alloc, plan, start, events.as_slice())? {
-        Ok(told) => show_plan(
-            alloc,
-            request,
-            question,
-            plan,
-            Some(told.as_slice()),
-            places,
-        ),
-        Err((line, refusal)) => show_refused(alloc, line, refusal),
-    }
-}
-
-/// What is answered once the plan was read.
-fn plan_drawn<'a, I: Inputs>(
-    alloc: Global,
-    inputs: &mut I,
-    request: &ChartWords<'a>,
-    question: Question,
-    plan: &Plan,
-    places: &[Place],
-) -> Result<Response, Fault<'a>>
-    ensures step { IsFresh (I.whole inputs.old) (I.left inputs.old)
-        → CameTo (ChartsPlan question (asked_chart request.now).days (I.whole inputs.old)
-        (asked_chart request.now).story plan.now
-        (I.failed inputs.old) (I.failed inputs.new)) result }
-    ensures status { IfErr result (IsHonestOf (I.failed inputs.new) (I.reads inputs.new)) }
-    ensures turn { AreReadInTurn (some_path (asked_chart request.now).story)
-        (I.reads inputs.old) (I.reads inputs.new) }
-    ensures done { IfOk result (λ r. r.status ≢ 6) }
-{
-    match request.story {
-        Some(path) => {
-            let script = script_from(alloc, inputs, path, plan, true, false)?;
-            Ok(show_story(alloc, request, question, plan, script, places)?)
-        }
-        None => Ok(show_plan(alloc, request, question, plan, None, places)?),
-    }
 }
 
 /// What is answered once both tables were read.
@@ -154,18 +82,17 @@ fn drawn<'a, I: Inputs>(
 ) -> Result<Response, Fault<'a>>
     ensures step { IsFresh (I.whole inputs.old) (I.left inputs.old)
         → CameTo (Charts question (asked_chart request.now).days (I.whole inputs.old)
-        (asked_chart request.now).declarations (asked_chart request.now).story (table, jobs)
+        (asked_chart request.now).declarations (table, jobs)
         (I.failed inputs.old) (I.failed inputs.new)) result }
     ensures status { IfErr result (IsHonestOf (I.failed inputs.new) (I.reads inputs.new)) }
-    ensures turn { AreReadInTurn (some_path (asked_chart request.now).declarations
-        ++ some_path (asked_chart request.now).story)
+    ensures turn { AreReadInTurn (some_path (asked_chart request.now).declarations)
         (I.reads inputs.old) (I.reads inputs.new) }
     ensures done { IfOk result (λ r. r.status ≢ 6) }
 {
     match request.declarations {
         Some(path) => {
             let plan = declared_plan_from(alloc, inputs, path, table, jobs)?;
-            plan_drawn(alloc, inputs, request, question, &plan, places)
+            Ok(show_plan(alloc, request, question, &plan, places)?)
         }
         None => Ok(show_tables(alloc, request, question, &table, &jobs, places)?),
     }
@@ -211,7 +138,7 @@ fn chart_tables<I: Inputs>(
 }
 
 /// The answer to `chart TABLE DATE [MAX] [--anacrontab FILE] [--from M] [--to M] [--days N]
-/// [--declarations FILE] [--story FILE]`.
+/// [--declarations FILE]`.
 pub fn answer_chart<I: Inputs>(
     alloc: Global,
     request: &ChartWords<'_>,

@@ -17,7 +17,6 @@ mod learn;
 mod lint;
 mod replay;
 mod replay_text;
-mod story;
 mod verdict;
 
 pub use chart::answer_chart;

@@ -135,7 +135,7 @@ fn script_given<'a>(
 }
 
 /// The script at a path; with `log` that is a log.
-pub(crate) fn script_from<'a, I: Inputs>(
+fn script_from<'a, I: Inputs>(
     alloc: Global,
     inputs: &mut I,
     path: &'a str,

@@ -14,7 +14,7 @@ use std::alloc::{AllocError, Global};
 
 /// Tries an event. The only error is want of memory.
 #[tactic(auto, using(crate::proofs::ReplayLemmas::step_taken, crate::proofs::ReplayLemmas::step_refused))]
-pub(crate) fn try_event(core: &mut Core, event: Event) -> Result<Result<Reply, Refusal>, AllocError>
+fn try_event(core: &mut Core, event: Event) -> Result<Result<Reply, Refusal>, AllocError>
     ensures answer { IfOk result (λ answer.
         answer ≡ tried (as_plan core.old.plan) core.old.state event) }
     ensures state { OnOk result
@@ -30,7 +30,7 @@ pub(crate) fn try_event(core: &mut Core, event: Event) -> Result<Result<Reply, R
 
 /// Adds the line of an event.
 #[tactic(auto, unfolding(crate::specs::Replay::event_line))]
-pub(crate) fn push_event(
+fn push_event(
     alloc: Global,
     text: &mut Vec<u8>,
     number: u32,

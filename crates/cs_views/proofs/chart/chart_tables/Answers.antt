@@ -19,8 +19,8 @@ returns-in-Ok-drawn-clause-value g c = λ fresh.
     let a = asked_chart c.args.request.now in
     let both = c.in-Ok.found.0 in
     let one = subst (λ (f : Failed). ReadsTables files a.day.table a.day.anacrontab before f (Ok both)) c.in-Ok.ensures.works (c.in-Ok.ensures.step fresh) in
-    let other = moved (λ w f. Charts c.args.question a.days w a.declarations a.story both f after (Ok c.in-Ok-drawn.answer)) (g.I.Inputs.whole c.read_placed_tables.new.inputs) files (g.I.Inputs.failed c.read_placed_tables.new.inputs) before c.read_placed_tables.ensures.whole c.in-Ok.ensures.works (c.in-Ok-drawn.ensures.step (c.in-Ok.ensures.fresh fresh)) in
-    IfOk-weaker c.behind.result _ _ (λ r is. answered (ReadsTables files a.day.table a.day.anacrontab) (λ b. Charts c.args.question a.days files a.declarations a.story b) before after both c.in_ok-warnings.warnings c.in-Ok-drawn.answer r one c.in_ok-warnings.ensures other is) c.behind.ensures.told
+    let other = moved (λ w f. Charts c.args.question a.days w a.declarations both f after (Ok c.in-Ok-drawn.answer)) (g.I.Inputs.whole c.read_placed_tables.new.inputs) files (g.I.Inputs.failed c.read_placed_tables.new.inputs) before c.read_placed_tables.ensures.whole c.in-Ok.ensures.works (c.in-Ok-drawn.ensures.step (c.in-Ok.ensures.fresh fresh)) in
+    IfOk-weaker c.behind.result _ _ (λ r is. answered (ReadsTables files a.day.table a.day.anacrontab) (λ b. Charts c.args.question a.days files a.declarations b) before after both c.in_ok-warnings.warnings c.in-Ok-drawn.answer r one c.in_ok-warnings.ensures other is) c.behind.ensures.told
 
 pub returns-clause-value : goal.returns-clause-value
 returns-clause-value g c = λ fresh.
@@ -31,33 +31,33 @@ returns-clause-value g c = λ fresh.
     let both = c.in-Ok.found.0 in
     let fault = c.in-Err-drawn.fault in
     let one = subst (λ (f : Failed). ReadsTables files a.day.table a.day.anacrontab before f (Ok both)) c.in-Ok.ensures.works (c.in-Ok.ensures.step fresh) in
-    let other = moved (λ w f. CameTo (Charts c.args.question a.days w a.declarations a.story both f after) (Err fault)) (g.I.Inputs.whole c.read_placed_tables.new.inputs) files (g.I.Inputs.failed c.read_placed_tables.new.inputs) before c.read_placed_tables.ensures.whole c.in-Ok.ensures.works (c.in-Err-drawn.ensures.step (c.in-Ok.ensures.fresh fresh)) in
-    IfOk-weaker c.response_behind.result _ _ (λ r is. answered_fault (ReadsTables files a.day.table a.day.anacrontab) (λ b. Charts c.args.question a.days files a.declarations a.story b) before after both c.in_ok-warnings.warnings fault r one c.in_ok-warnings.ensures other is) c.response_behind.ensures.told
+    let other = moved (λ w f. CameTo (Charts c.args.question a.days w a.declarations both f after) (Err fault)) (g.I.Inputs.whole c.read_placed_tables.new.inputs) files (g.I.Inputs.failed c.read_placed_tables.new.inputs) before c.read_placed_tables.ensures.whole c.in-Ok.ensures.works (c.in-Err-drawn.ensures.step (c.in-Ok.ensures.fresh fresh)) in
+    IfOk-weaker c.response_behind.result _ _ (λ r is. answered_fault (ReadsTables files a.day.table a.day.anacrontab) (λ b. Charts c.args.question a.days files a.declarations b) before after both c.in_ok-warnings.warnings fault r one c.in_ok-warnings.ensures other is) c.response_behind.ensures.told
 
 pub returns-in_err-response-in-Err-clause-turn : goal.returns-in_err-response-in-Err-clause-turn
 returns-in_err-response-in-Err-clause-turn g c =
     let a = asked_chart c.args.request.now in
-    some_read (table_paths a.day.table a.day.anacrontab) (some_path a.declarations ++ some_path a.story) (g.I.Inputs.reads c.args.inputs.now) (g.I.Inputs.reads c.read_placed_tables.new.inputs) c.read_placed_tables.ensures.turn
+    some_read (table_paths a.day.table a.day.anacrontab) (some_path a.declarations) (g.I.Inputs.reads c.args.inputs.now) (g.I.Inputs.reads c.read_placed_tables.new.inputs) c.read_placed_tables.ensures.turn
 
 pub returns-in-Err-clause-turn : goal.returns-in-Err-clause-turn
 returns-in-Err-clause-turn g c =
     let a = asked_chart c.args.request.now in
-    some_read (table_paths a.day.table a.day.anacrontab) (some_path a.declarations ++ some_path a.story) (g.I.Inputs.reads c.args.inputs.now) (g.I.Inputs.reads c.read_placed_tables.new.inputs) c.read_placed_tables.ensures.turn
+    some_read (table_paths a.day.table a.day.anacrontab) (some_path a.declarations) (g.I.Inputs.reads c.args.inputs.now) (g.I.Inputs.reads c.read_placed_tables.new.inputs) c.read_placed_tables.ensures.turn
 
 pub returns-in_err-warnings-clause-turn : goal.returns-in_err-warnings-clause-turn
 returns-in_err-warnings-clause-turn g c =
     let a = asked_chart c.args.request.now in
-    some_read (table_paths a.day.table a.day.anacrontab) (some_path a.declarations ++ some_path a.story) (g.I.Inputs.reads c.args.inputs.now) (g.I.Inputs.reads c.read_placed_tables.new.inputs) c.read_placed_tables.ensures.turn
+    some_read (table_paths a.day.table a.day.anacrontab) (some_path a.declarations) (g.I.Inputs.reads c.args.inputs.now) (g.I.Inputs.reads c.read_placed_tables.new.inputs) c.read_placed_tables.ensures.turn
 
 pub returns-in-Ok-drawn-clause-turn : goal.returns-in-Ok-drawn-clause-turn
 returns-in-Ok-drawn-clause-turn g c =
     let a = asked_chart c.args.request.now in
-    then_read (table_paths a.day.table a.day.anacrontab) (some_path a.declarations ++ some_path a.story) (g.I.Inputs.reads c.args.inputs.now) (g.I.Inputs.reads c.read_placed_tables.new.inputs) (g.I.Inputs.reads c.drawn.new.inputs) c.read_placed_tables.ensures.turn (c.drawn.ensures.turn)
+    then_read (table_paths a.day.table a.day.anacrontab) (some_path a.declarations) (g.I.Inputs.reads c.args.inputs.now) (g.I.Inputs.reads c.read_placed_tables.new.inputs) (g.I.Inputs.reads c.drawn.new.inputs) c.read_placed_tables.ensures.turn (c.drawn.ensures.turn)
 
 pub returns-clause-turn : goal.returns-clause-turn
 returns-clause-turn g c =
     let a = asked_chart c.args.request.now in
-    then_read (table_paths a.day.table a.day.anacrontab) (some_path a.declarations ++ some_path a.story) (g.I.Inputs.reads c.args.inputs.now) (g.I.Inputs.reads c.read_placed_tables.new.inputs) (g.I.Inputs.reads c.drawn.new.inputs) c.read_placed_tables.ensures.turn (c.drawn.ensures.turn)
+    then_read (table_paths a.day.table a.day.anacrontab) (some_path a.declarations) (g.I.Inputs.reads c.args.inputs.now) (g.I.Inputs.reads c.read_placed_tables.new.inputs) (g.I.Inputs.reads c.drawn.new.inputs) c.read_placed_tables.ensures.turn (c.drawn.ensures.turn)
 
 pub returns-in-Ok-drawn-clause-warned : goal.returns-in-Ok-drawn-clause-warned
 returns-in-Ok-drawn-clause-warned g c = λ fresh.
@@ -85,7 +85,7 @@ returns-in-Err-clause-value g c = λ fresh.
     let a = asked_chart c.args.request.now in
     let fault = c.in-Err.fault in
     let r = c.in_ok-response-in-Err.field-0 in
-    answered_stop (ReadsTables files a.day.table a.day.anacrontab) (λ b. Charts c.args.question a.days files a.declarations a.story b) before after fault r (c.in-Err.ensures.step fresh)
+    answered_stop (ReadsTables files a.day.table a.day.anacrontab) (λ b. Charts c.args.question a.days files a.declarations b) before after fault r (c.in-Err.ensures.step fresh)
     (subst (λ v. option_map (ends v) (trouble fault) ≡ Some r) c.as_slice.ensures c.in_ok-response-in-Err.ensures)
 
 pub returns-in-Err-clause-status : goal.returns-in-Err-clause-status

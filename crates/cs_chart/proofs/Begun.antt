@@ -1,17 +1,15 @@
 -- How often bars begin in a picture.
-use Rattle.std.proofs.Common.{◌≡◌, ℕ, zero, suc, ◌+◌, ◌%◌, ◌<◌, ◌==◌, Bool, true, false, ◌&&◌, List, [], ◌∷◌, ◌++◌, length, get_or, refl, append_assoc, append-nil, arith}
+use Rattle.std.proofs.Common.{◌≡◌, ◌∙◌, ℕ, ◌+◌, ◌==◌, Bool, true, false, ◌&&◌, List, [], ◌∷◌, ◌++◌, refl, ap, append_assoc, append-nil, arith}
 use Rattle.std.specs.Prelude.{codes, flat_map, if◌then◌else◌, Option, None, Some}
 use Rattle.std.specs.Option.{is_some}
 use Rattle.std.specs.Fmt.{decimal}
 use Rattle.std.proofs.lemmas.Bool.{and_parts}
 use Rattle.cs_civil.specs.Calendar.{Kind}
 use Rattle.cs_windows.specs.Windows.{Job}
-use Rattle.cs_chart.specs.declared.bar.Bar.{Bar}
 use Rattle.cs_chart.specs.Bars.{Days}
 use Rattle.cs_chart.specs.Begun.{begins, begun, have_windows}
-use Rattle.cs_chart.specs.Chart.{AreRowsOf, IsPictureOf, IsPlotOf, ShownJob, row_top}
-use Rattle.cs_chart.specs.Colours.{colour_of}
-use Rattle.cs_chart.specs.Picture.{agree, area_text, bar_text, bars_tag, bars_text, has_no_bars, name_text, plot_text, row_text, Draws, Plot, Row}
+use Rattle.cs_chart.specs.Chart.{AreRowsOf, IsPictureOf, IsPlotOf, ShownJob}
+use Rattle.cs_chart.specs.Picture.{agree, bar_text, bars_tag, has_no_bars, plot_text, row_text, Draws, Plot, Row}
 use Rattle.cs_chart.proofs.Plain.{more_differs, no_bars_append, no_bars_decimal, no_bars_lines, not_true}
 
 -- what differs from the tag does not begin with it
@@ -39,93 +37,61 @@ begun_none : (a : List ℕ) → has_no_bars a ≡ true → begun a ≡ 0
 unfolding begun
 begun_none a h = rw append-nil at (begun_behind a [] h)
 
-name_plain : (name : List ℕ) (top : ℕ) → has_no_bars name ≡ true → has_no_bars (name_text name top) ≡ true
-unfolding has_no_bars name_text
-name_plain name top h = no_bars_append (decimal (top + 13)) (codes "\">" ++ (name ++ codes "</text>\n")) (no_bars_decimal (top + 13))
-    (no_bars_append name (codes "</text>\n") h refl)
+-- .. at the end of a row's name
+name_begun : (name : List ℕ) (top : ℕ) (more : List ℕ) → has_no_bars name ≡ true
+    → begun (codes "<text x=\"10\" y=\"" ++ (decimal (top + 13) ++ (codes "\">" ++ (name ++ (codes "</text>\n" ++ more))))) ≡ begun more
+unfolding has_no_bars
+name_begun name top more plain = begun_behind (codes "<text x=\"10\" y=\"") _ refl ∙ begun_behind (decimal (top + 13)) _ (no_bars_decimal (top + 13))
+    ∙ begun_behind (codes "\">") _ refl ∙ begun_behind name _ plain ∙ begun_behind (codes "</text>\n") more refl
 
-area_plain : (top minutes : ℕ) → has_no_bars (area_text top minutes) ≡ true
-unfolding has_no_bars area_text
-area_plain top minutes = no_bars_append (decimal top) (codes "\" width=\"840\" height=\"18\" viewBox=\"0 0 " ++ (decimal minutes ++ codes " 18\" preserveAspectRatio=\"none\">"))
-    (no_bars_decimal top) (no_bars_append (decimal minutes) (codes " 18\" preserveAspectRatio=\"none\">") (no_bars_decimal minutes) refl)
-
-colour_plain : (group : Option ℕ) → has_no_bars (colour_of group) ≡ true
-unfolding has_no_bars colour_of
-colour_plain None = refl
-colour_plain (Some place) = by_place (place % 6 == 0) (place % 6 == 1) (place % 6 == 2) (place % 6 == 3) (place % 6 == 4)
-  where
-    by_place : (a b c d e : Bool) → has_no_bars (if a then codes "#E69F00" else (if b then codes "#56B4E9" else (if c then codes "#009E73"
-        else (if d then codes "#0072B2" else (if e then codes "#CC79A7" else codes "#F0E442"))))) ≡ true
-    by_place true b c d e = refl
-    by_place false true c d e = refl
-    by_place false false true d e = refl
-    by_place false false false true e = refl
-    by_place false false false false true = refl
-    by_place false false false false false = refl
+tag_once : (more : List ℕ) → begun (bars_tag ++ more) ≡ 1 + begun more
+unfolding begun
+tag_once more = omega arith
 
 -- bars begin once where they are drawn
-bars_once : (colour : List ℕ) (bars : List Bar) (behind : List ℕ) → has_no_bars colour ≡ true
-    → begun (bars_text colour bars ++ behind) ≡ 1 + begun behind
-unfolding begun has_no_bars bars_text
-bars_once colour bars behind h =
-    let rest : List ℕ = codes " stroke=\"" ++ (colour ++ (codes "\" stroke-width=\"10\" d=\"" ++ (flat_map bar_text bars ++ codes "\"/>"))) in
-    let bare : has_no_bars rest ≡ true = no_bars_append colour (codes "\" stroke-width=\"10\" d=\"" ++ (flat_map bar_text bars ++ codes "\"/>")) h
-    (no_bars_append (flat_map bar_text bars) (codes "\"/>") (no_bars_lines bars) refl) in
-    let e = begun_behind rest behind bare in
-    omega (arith, e)
+bars_once : (top : ℕ) (plot : Plot) (more : List ℕ) → has_no_bars plot.colour ≡ true
+    → begun (plot_text top (Some plot) ++ more) ≡ 1 + begun more
+unfolding has_no_bars
+bars_once top plot more bare =
+    let inner : List ℕ = codes " stroke=\"" ++ (plot.colour ++ (codes "\" stroke-width=\"10\" d=\"" ++ (flat_map bar_text plot.bars ++ codes "\"/>"))) in
+    let plain : has_no_bars inner ≡ true = no_bars_append plot.colour (codes "\" stroke-width=\"10\" d=\"" ++ (flat_map bar_text plot.bars ++ codes "\"/>")) bare
+    (no_bars_append (flat_map bar_text plot.bars) (codes "\"/>") (no_bars_lines plot.bars) refl) in
+    let same : plot_text top (Some plot) ++ more ≡ codes "<svg x=\"256\" y=\"" ++ (decimal top ++ (codes "\" width=\"840\" height=\"18\" viewBox=\"0 0 "
+    ++ (decimal plot.minutes ++ (codes " 18\" preserveAspectRatio=\"none\">" ++ (bars_tag ++ (inner ++ more)))))) = simp append_assoc refl in
+    ap begun same ∙ begun_behind (codes "<svg x=\"256\" y=\"") _ refl ∙ begun_behind (decimal top) _ (no_bars_decimal top)
+    ∙ begun_behind (codes "\" width=\"840\" height=\"18\" viewBox=\"0 0 ") _ refl ∙ begun_behind (decimal plot.minutes) _ (no_bars_decimal plot.minutes)
+    ∙ begun_behind (codes " 18\" preserveAspectRatio=\"none\">") _ refl ∙ tag_once (inner ++ more) ∙ ap (λ (n : ℕ). 1 + n) (begun_behind inner more plain)
 
 abbrev windows_count : Option (Job Kind) → ℕ
 windows_count windows = if is_some windows then 1 else 0
 
 -- bars begin once in the text of a row that has them
-row_once : (days : Days) (job : ShownJob) (row : Row) (behind : List ℕ) → has_no_bars row.name ≡ true → IsPlotOf days job.windows job.group row.plot
+row_once : (days : Days) (job : ShownJob) (row : Row) (behind : List ℕ) → has_no_bars row.name ≡ true → IsPlotOf days job.windows row.plot
     → begun (row_text row ++ behind) ≡ windows_count job.windows + begun behind
 unfolding row_text
-row_once days job row behind plain is = by_plot job.windows row.plot is
+row_once days job row behind plain is =
+    ap begun same ∙ name_begun row.name row.top (plot_text row.top row.plot ++ behind) plain ∙ by_plot job.windows row.plot is
   where
-    named : (more : List ℕ) → begun (name_text row.name row.top ++ more) ≡ begun more
-    named more = begun_behind (name_text row.name row.top) more (name_plain row.name row.top plain)
+    same : row_text row ++ behind ≡ codes "<text x=\"10\" y=\"" ++ (decimal (row.top + 13) ++ (codes "\">" ++ (row.name ++ (codes "</text>\n" ++ (plot_text row.top row.plot ++ behind)))))
+    same = simp append_assoc refl
 
-    by_plot : (windows : Option (Job Kind)) (plot : Option Plot) → IsPlotOf days windows job.group plot
-        → begun ((name_text row.name row.top ++ plot_text row.top plot) ++ behind) ≡ windows_count windows + begun behind
-    by_plot None None is = rw (append-nil, named behind) (omega arith)
+    by_plot : (windows : Option (Job Kind)) (plot : Option Plot) → IsPlotOf days windows plot
+        → begun (plot_text row.top plot ++ behind) ≡ windows_count windows + begun behind
+    by_plot None None is = omega arith
     by_plot None (Some plot) is = absurd is
     by_plot (Some windows) None is = absurd is
-    by_plot (Some windows) (Some plot) is =
-        let bare : has_no_bars plot.colour ≡ true = rw is.colour (colour_plain job.group) in
-        rw (append_assoc, named, append_assoc, begun_behind (area_text row.top plot.minutes) _ (area_plain row.top plot.minutes))
-        (bars_once plot.colour plot.bars behind bare)
+    by_plot (Some windows) (Some plot) is = bars_once row.top plot behind is.colour
 
-rows_once : (days : Days) (top place : ℕ) (jobs : List ShownJob) (rows : List Row) (text : List ℕ) → AreRowsOf days top place jobs rows → Draws text rows
+rows_once : (days : Days) (top : ℕ) (jobs : List ShownJob) (rows : List Row) (text : List ℕ) → AreRowsOf days top jobs rows → Draws text rows
     → begun text ≡ have_windows jobs
 unfolding AreRowsOf Draws
-rows_once days top place [] [] text so d = begun_none text d
-rows_once days top place [] (row ∷ rows) text so d = absurd so
-rows_once days top place (job ∷ jobs) [] text so d = absurd so
-rows_once days top place (job ∷ jobs) (row ∷ rows) text so (before, behind, parts, plain, rest) =
-    let e = rows_once days top (place + 1) jobs rows behind so.2 rest in
+rows_once days top [] [] text so d = begun_none text d
+rows_once days top [] (row ∷ rows) text so d = absurd so
+rows_once days top (job ∷ jobs) [] text so d = absurd so
+rows_once days top (job ∷ jobs) (row ∷ rows) text so (before, behind, parts, plain, rest) =
+    let e = rows_once days (row.top + 18) jobs rows behind so.2 rest in
     rw (parts, begun_behind before (row_text row ++ behind) plain, row_once days job row behind so.0.name.2 so.0.plot, e) refl
 
 -- bars begin in a picture as often as jobs have windows
 pub counted : (days : Days) (jobs : List ShownJob) (text : List ℕ) → IsPictureOf days jobs text → begun text ≡ have_windows jobs
-counted days jobs text p = rows_once days p.top 0 jobs p.rows text p.of_jobs p.drawn
-
--- how far down a row is
-height : (days : Days) (top place : ℕ) (jobs : List ShownJob) (rows : List Row) (d : Row) (i : ℕ) → AreRowsOf days top place jobs rows
-    → i < length rows → (get_or rows i d).top ≡ row_top top (place + i)
-unfolding AreRowsOf
-height days top place jobs [] d i so lt = absurd (omega (arith, lt))
-height days top place [] (row ∷ rows) d i so lt = absurd so
-height days top place (job ∷ jobs) (row ∷ rows) d zero so lt = rw so.1 (omega arith)
-height days top place (job ∷ jobs) (row ∷ rows) d (suc i) so lt =
-    let less : i < length rows = omega (arith, lt) in
-    let e = height days top (place + 1) jobs rows d i so.2 less in
-    omega (arith, e)
-
--- no two rows are at one height
-pub apart : (days : Days) (top : ℕ) (jobs : List ShownJob) (rows : List Row) (d : Row) (i j : ℕ) → AreRowsOf days top 0 jobs rows
-    → i < length rows → j < length rows → (get_or rows i d).top ≡ (get_or rows j d).top → i ≡ j
-apart days top jobs rows d i j so low high same =
-    let e = height days top 0 jobs rows d i so low in
-    let f = height days top 0 jobs rows d j so high in
-    omega (arith, e, f, same)
+counted days jobs text p = rows_once days 0 jobs p.rows text p.of_jobs p.drawn

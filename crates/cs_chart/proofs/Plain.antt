@@ -1,12 +1,27 @@
 -- Texts without bars, and texts that rows and other text are added to.
-use Rattle.std.proofs.Common.{◌≡◌, ◌≢◌, ℕ, zero, suc, ◌+◌, ◌-◌, ◌<◌, ◌/◌, ◌%◌, ◌==◌, Bool, true, false, not, ◌&&◌, List, [], ◌∷◌, ◌++◌, refl, append_assoc, append-nil, arith}
+use Rattle.std.proofs.Common.{◌≡◌, ℕ, zero, suc, ◌-◌, ◌/◌, ◌%◌, ◌==◌, Bool, true, false, not, ◌&&◌, ◌||◌, List, [], ◌∷◌, ◌++◌, nat_eq, refl, sym, inl, inr, append_assoc, append-nil, arith}
 use Rattle.std.specs.Prelude.{codes, flat_map, nat_lt, if◌then◌else◌}
-use Rattle.std.specs.Char.{encode_utf8}
 use Rattle.std.specs.Fmt.{decimal, digits, digits_onto, digit_glyph}
-use Rattle.std.specs.List.{list_all}
+use Rattle.std.specs.List.{list_all, starts_with}
 use Rattle.std.proofs.lemmas.Bool.{and_parts, and_from, ne_eqb}
+use Rattle.std.proofs.lemmas.Bool.Decides.{eqb_tells}
 use Rattle.cs_chart.specs.declared.bar.Bar.{Bar}
-use Rattle.cs_chart.specs.Picture.{agree, has_no_bars, bar_text, bars_tag, row_text, Draws, IsLonger, KeepsBars, Row}
+use Rattle.cs_chart.specs.Picture.{agree, has_no_bars, bar_text, bars_tag, row_text, Draws, KeepsBars, Row}
+use Rattle.cs_chart.specs.Rows.{start_of}
+use Rattle.cs_chart.specs.declared.row.Name.{Name}
+use Rattle.cs_chart.specs.declared.row.Name.TheVariants.{Job, Line}
+
+-- one of both begins with the other
+pub agree_is : (text tag : List ℕ) → agree text tag ≡ (starts_with nat_eq text tag || starts_with nat_eq tag text)
+agree_is [] [] = refl
+agree_is [] (t ∷ tag) = refl
+agree_is (b ∷ text) [] = refl
+agree_is (b ∷ text) (t ∷ tag) = elim (eqb_tells b t) [
+  | inl same ↦
+      let e : nat_eq t t ≡ true = rw same.1 at same.0 in
+      rw (same.1, e) (agree_is text tag)
+  | inr other ↦ rw (other.0, ne_eqb t b (λ e. other.1 (sym e))) refl
+]
 
 -- what differs goes on to differ
 pub more_differs : (a b tag : List ℕ) → agree a tag ≡ false → agree (a ++ b) tag ≡ false
@@ -68,30 +83,6 @@ pub no_bars_decimal : (n : ℕ) → has_no_bars (decimal n) ≡ true
 unfolding digits
 no_bars_decimal n = no_bars_without (decimal n) (without_onto 64 n [] refl)
 
--- ---- characters
-
-above : (n : ℕ) → 60 < n → other n ≡ true
-above n h = grind arith
-
-own : (n : ℕ) → n ≢ 60 → other n ≡ true
-own n h = rw (ne_eqb n 60 h) refl
-
-all : (a b c d : ℕ) → other a ≡ true → other b ≡ true → other c ≡ true → other d ≡ true → list_all other (a ∷ b ∷ c ∷ d ∷ []) ≡ true
-all a b c d e f g h = rw (e, f, g, h) refl
-
-pub no_bars_character : (c : ℕ) → c ≢ 60 → has_no_bars (encode_utf8 c) ≡ true
-unfolding encode_utf8
-no_bars_character c h = no_bars_without (encode_utf8 c) (by_length (nat_lt c 128) (nat_lt c 2048) (nat_lt c 65536))
-  where
-    by_length : (x y z : Bool) → list_all other (if x then c ∷ [] else (if y then (192 + c / 64) ∷ (128 + c % 64) ∷ []
-        else (if z then (224 + c / 4096) ∷ (128 + c / 64 % 64) ∷ (128 + c % 64) ∷ []
-        else (240 + c / 262144) ∷ (128 + c / 4096 % 64) ∷ (128 + c / 64 % 64) ∷ (128 + c % 64) ∷ []))) ≡ true
-    by_length true y z = rw (own c h) refl
-    by_length false true z = rw (above (192 + c / 64) (omega arith), above (128 + c % 64) (omega arith)) refl
-    by_length false false true = rw (above (224 + c / 4096) (omega arith), above (128 + c / 64 % 64) (omega arith), above (128 + c % 64) (omega arith)) refl
-    by_length false false false = all (240 + c / 262144) (128 + c / 4096 % 64) (128 + c / 64 % 64) (128 + c % 64)
-        (above _ (omega arith)) (above _ (omega arith)) (above _ (omega arith)) (above _ (omega arith))
-
 -- ---- lines along a row
 
 no_bars_bar : (bar : Bar) → has_no_bars (bar_text bar) ≡ true
@@ -123,25 +114,21 @@ draws_row old row [] d = (old, [], simp append-nil refl, d, refl)
 draws_row old row (first ∷ rows) (before, behind, parts, plain, rest) =
     (before, behind ++ row_text row, rw parts (simp append_assoc refl), plain, draws_row behind row rows rest)
 
--- ---- one addition after another
-
-pub longer_none : (text : List ℕ) → IsLonger text text
-unfolding has_no_bars
-longer_none text = ([], simp append-nil refl, refl)
-
-pub longer_then : (a b c : List ℕ) → IsLonger a b → IsLonger b c → IsLonger a c
-longer_then a b c (x, is, plain) (y, so, bare) = (x ++ y, rw (so, is) (simp append_assoc refl), no_bars_append x y plain bare)
-
 -- what is added to nothing has no bars
 pub plain_of_none : (text : List ℕ) → KeepsBars [] text → has_no_bars text ≡ true
 unfolding Draws has_no_bars
 plain_of_none text keeps = keeps [] refl
 
--- a name, and how it begins
-pub named : (start none front name : List ℕ) → none ≡ [] → front ≡ none ++ start → IsLonger front name → KeepsBars none front
-    → KeepsBars front name → (rest : List ℕ) × (name ≡ start ++ rest) × (has_no_bars name ≡ true)
-named start none front name empty is (rest, so, bare) first last =
-    (rest, rw (so, is, empty) refl, plain_of_none name (λ rows d. last rows (first rows (rw empty d))))
+-- how a name begins
+pub start_plain : (name : Name) → has_no_bars (start_of name) ≡ true
+unfolding has_no_bars
+start_plain (Line number command) = no_bars_append (decimal number) (codes " ") (no_bars_decimal number) refl
+start_plain (Job identifier) = refl
+
+pub named : (start none front rest name : List ℕ) → none ≡ [] → front ≡ none ++ start → name ≡ front ++ rest → has_no_bars start ≡ true
+    → has_no_bars rest ≡ true → (x : List ℕ) × (name ≡ start ++ x) × (has_no_bars name ≡ true)
+named start none front rest name empty is so first last =
+    (rest, rw (so, is, empty) refl, rw (so, is, empty) (no_bars_append start rest first last))
 
 -- rows behind a text that has none
 pub draws_behind : (text drawn : List ℕ) (rows : List Row) → has_no_bars text ≡ true → Draws drawn rows → Draws (text ++ drawn) rows

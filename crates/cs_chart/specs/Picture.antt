@@ -2,8 +2,6 @@
 use Rattle.std.specs.Prelude.{◌≡◌, ℕ, ◌+◌, ◌-◌, ◌==◌, Bool, true, not, ◌&&◌, nat_lt, if◌then◌else◌, List, [], ◌∷◌, ◌++◌, codes, decimal, flat_map, Option, None, Some}
 use Rattle.cs_chart.specs.declared.bar.Bar.{Bar}
 
--- ---- a row
-
 -- bars in a colour, and how many minutes the picture shows
 pub record Plot : Type 0 where
   pub minutes : ℕ
@@ -16,18 +14,7 @@ pub record Row : Type 0 where
   pub top : ℕ
   pub plot : Option Plot
 
--- the name, at the left of the row
-unfoldable pub name_text : List ℕ → ℕ → List ℕ
-name_text name top = codes "<text x=\"10\" y=\"" ++ (decimal (top + 13)
-    ++ (codes "\">" ++ (name ++ codes "</text>\n")))
-
--- the area of the row: 18 high, and a place from its left is a minute
-unfoldable pub area_text : ℕ → ℕ → List ℕ
-area_text top minutes = codes "<svg x=\"256\" y=\"" ++ (decimal top
-    ++ (codes "\" width=\"840\" height=\"18\" viewBox=\"0 0 " ++ (decimal minutes
-    ++ codes " 18\" preserveAspectRatio=\"none\">")))
-
--- `M60 9h30`, a line along the middle of the area: from minute 60 on, over 30 minutes
+-- `M60 9h30`, a line along the middle of an area: from minute 60 on, over 30 minutes
 abbrev pub bar_text : Bar → List ℕ
 bar_text bar =
     if nat_lt bar.from bar.to
@@ -38,18 +25,19 @@ bar_text bar =
 abbrev pub bars_tag : List ℕ
 bars_tag = codes "<path class=\"bars\""
 
--- the bars, 10 high
-unfoldable pub bars_text : List ℕ → List Bar → List ℕ
-bars_text colour bars = bars_tag ++ (codes " stroke=\"" ++ (colour
-    ++ (codes "\" stroke-width=\"10\" d=\"" ++ (flat_map bar_text bars ++ codes "\"/>"))))
-
+-- bars, 10 high, in an area of their own: 18 high, and a place from its left is a minute
 abbrev pub plot_text : ℕ → Option Plot → List ℕ
 plot_text top None = []
-plot_text top (Some plot) = area_text top plot.minutes ++ bars_text plot.colour plot.bars
+plot_text top (Some plot) = codes "<svg x=\"256\" y=\"" ++ (decimal top
+    ++ (codes "\" width=\"840\" height=\"18\" viewBox=\"0 0 " ++ (decimal plot.minutes
+    ++ (codes " 18\" preserveAspectRatio=\"none\">" ++ (bars_tag
+    ++ (codes " stroke=\"" ++ (plot.colour
+    ++ (codes "\" stroke-width=\"10\" d=\"" ++ (flat_map bar_text plot.bars ++ codes "\"/>")))))))))
 
--- the name, and behind it the bars in their area
+-- the name at the left of the row, and directly behind it the bars
 unfoldable pub row_text : Row → List ℕ
-row_text row = name_text row.name row.top ++ plot_text row.top row.plot
+row_text row = codes "<text x=\"10\" y=\"" ++ (decimal (row.top + 13)
+    ++ (codes "\">" ++ (row.name ++ (codes "</text>\n" ++ plot_text row.top row.plot))))
 
 -- ---- the whole text
 
@@ -70,21 +58,9 @@ Draws text [] = has_no_bars text ≡ true
 Draws text (row ∷ rows) = (before behind : List ℕ) × (text ≡ before ++ (row_text row ++ behind))
     × (has_no_bars before ≡ true) × Draws behind rows
 
--- ---- what is added to a text
-
--- what is written has no bars
-abbrev pub IsPlain : Option (List ℕ) → Type 0
-IsPlain None = ⊥
-IsPlain (Some text) = has_no_bars text ≡ true
-
--- the rows of the old text, and no other bars, stand in the new one
+-- what is added to a text: no bars, or these rows
 abbrev pub KeepsBars : List ℕ → List ℕ → Type 0
 KeepsBars old new = (rows : List Row) → Draws old rows → Draws new rows
 
--- .. and behind them these rows
-abbrev pub AddsRows : List Row → List ℕ → List ℕ → Type 0
-AddsRows more old new = (rows : List Row) → Draws old rows → Draws new (rows ++ more)
-
--- text without bars is added
-abbrev pub IsLonger : List ℕ → List ℕ → Type 0
-IsLonger old new = (more : List ℕ) × (new ≡ old ++ more) × (has_no_bars more ≡ true)
+abbrev pub AddsRow : Row → List ℕ → List ℕ → Type 0
+AddsRow row old new = (rows : List Row) → Draws old rows → Draws new (rows ++ (row ∷ []))

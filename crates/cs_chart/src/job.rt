@@ -1,9 +1,8 @@
 //! The row of a job: its name, its bars and its marks.
-ghost use Rattle.std.specs.Prelude.{◌≡◌, ◌≤◌, ◌+◌, ◌++◌, ◌∷◌, [], List, ℕ, true, IfOk, OnOk};
+ghost use Rattle.std.specs.Prelude.{◌≡◌, ◌≤◌, ◌++◌, IfOk, OnOk, Some, option_map, string_bytes};
 ghost use Rattle.cs_windows.specs.Occupied.{job_of};
-ghost use Rattle.cs_chart.specs.Picture.{IsLonger, KeepsBars, has_no_bars};
 ghost use Rattle.cs_chart.specs.Chart.{IsNamed};
-ghost use Rattle.cs_chart.specs.Rows.{AddsJob, AddsPlot, AddsRowOf, group_of, shown_of, start_of};
+ghost use Rattle.cs_chart.specs.Rows.{AddsPlot, AddsRowOf, shown_of, start_of};
 
 use crate::bar::{Bar, bars_of};
 use crate::load::Load;
@@ -12,53 +11,34 @@ use crate::marks::{Drawn, marks_of, without_gaps};
 use crate::meeting::Meeting;
 use crate::program::program_of;
 use crate::row::{Name, Row};
-use crate::sheet::{GROUP_CELLS, NAME_CELLS, PLOT_LEFT, PLOT_RIGHT, ROW, Sheet};
+use crate::sheet::{NAME_CELLS, PLOT_LEFT, PLOT_RIGHT};
 use crate::span::DaySpan;
-use crate::svg::Svg;
-use crate::text::push_cut;
+use crate::svg::{Svg, plain};
+use crate::text::{push_cut, push_label};
 use cs_decl::Group;
-use cs_gather::Place as Source;
 use cs_history::Mode;
 use cs_windows::Occupied;
 use std::alloc::{AllocError, Global};
-
-/// The name of a row, and where it is.
-#[derive(Clone, Copy, Debug)]
-struct Place<'a> {
-    span: DaySpan,
-    name: &'a str,
-    top: u32,
-    /// The minutes at which its windows meet others.
-    met: &'a [Bar],
-}
+use std::fmt::Write;
 
 /// What a row shows beside its job.
 #[derive(Clone, Copy, Debug)]
 pub(crate) struct Beside<'a> {
+    pub(crate) span: DaySpan,
     /// The groups that are declared.
     pub(crate) groups: &'a [Group],
     /// What the windows of the job meet, where that is looked for.
     pub(crate) meeting: Option<&'a Meeting<'a>>,
 }
 
-impl<'a> Beside<'a> {
-    /// The minutes at which its windows meet others.
-    fn met(&self) -> &'a [Bar] {
-        match self.meeting {
-            Some(meeting) => meeting.bars.as_slice(),
-            None => &[],
-        }
-    }
-}
-
 /// How many cells of a name are told where a reader points at its row.
 const TOLD_CELLS: usize = 120;
 
+// ---- names
+
 /// Adds how a name begins: `line 5 ` or `job `.
-#[tactic(auto, using(crate::proofs::Plain::no_bars_append, crate::proofs::Plain::no_bars_decimal), unfolding(crate::specs::Picture::has_no_bars))]
-fn push_start(text: &mut Svg, name: Name<'_>) -> Result<(), AllocError>
-    ensures keeps { OnOk result (KeepsBars text.old text.new) }
-    ensures value { OnOk result (text.new ≡ text.old ++ start_of name.entry) }
+fn push_start(text: &mut String, name: Name<'_>) -> Result<(), AllocError>
+    ensures { OnOk result (string_bytes text.new ≡ string_bytes text.old ++ start_of name.entry) }
 {
     match name {
         Name::Line(number, _) => write!(text, "line {number} "),
@@ -66,51 +46,39 @@ fn push_start(text: &mut Svg, name: Name<'_>) -> Result<(), AllocError>
     }
 }
 
-/// Adds the command or the identifier that a name ends with, so many cells of it at most.
-fn push_end(text: &mut Svg, name: Name<'_>, cells: usize) -> Result<(), AllocError>
-    ensures keeps { OnOk result (KeepsBars text.old text.new) }
-    ensures longer { OnOk result (IsLonger text.old text.new) }
+/// `line 5 /usr/bin/backup` or `job cron.weekly`, as far as there is room for it in front of the bars.
+fn label_of(alloc: Global, name: Name<'_>) -> Result<String, AllocError>
+    ensures { IfOk result (λ text. IsNamed (start_of name.entry) (string_bytes text)) }
 {
-    match name {
-        Name::Line(_, command) => push_cut(text, command, cells),
-        Name::Job(identifier) => push_cut(text, identifier, cells),
-    }
-}
-
-/// `line 5 /usr/bin/backup` or `job cron.weekly`, so many cells of it at most.
-fn name_text(alloc: Global, name: Name<'_>, cells: usize) -> Result<Svg, AllocError>
-    ensures { IfOk result (λ text. IsNamed (start_of name.entry) text) }
-{
-    let mut text = Svg::new(alloc);
+    let mut text = String::new(alloc);
     push_start(&mut text, name)?;
-    let left = cells.saturating_sub(text.as_str().len());
-    push_end(&mut text, name, left)?;
+    let words = match name {
+        Name::Line(_, command) => program_of(command),
+        Name::Job(identifier) => identifier,
+    };
+    let mut rest = String::new(alloc);
+    push_cut(&mut rest, words, NAME_CELLS.saturating_sub(text.len()))?;
+    text.push_str(plain(rest.as_str()))?;
     Ok(text)
 }
 
-/// The same name, of which the command is without what only prepares its run.
-fn without_fronts(name: Name<'_>) -> Name<'_>
-    ensures { start_of result ≡ start_of name.entry }
-{
-    match name {
-        Name::Line(number, command) => Name::Line(number, program_of(command)),
-        Name::Job(_) => name,
+/// Adds which jobs it meets: `, meets line 5, job cron.weekly`.
+fn push_met_names(text: &mut String, names: &[Name<'_>]) -> Result<(), AllocError> {
+    for (place, name) in names.iter().enumerate() {
+        text.push_str(if place == 0 { ", meets " } else { ", " })?;
+        match *name {
+            Name::Line(number, _) => write!(text, "line {number}")?,
+            Name::Job(identifier) => {
+                text.push_str("job ")?;
+                push_cut(text, identifier, TOLD_CELLS)?;
+            }
+        }
     }
-}
-
-/// `line 5 /usr/bin/backup`, as far as there is room for it in front of the bars.
-fn label_text(alloc: Global, name: Name<'_>) -> Result<Svg, AllocError>
-    ensures { IfOk result (λ text. IsNamed (start_of name.entry) text) }
-{
-    let text = name_text(alloc, without_fronts(name), NAME_CELLS)?;
-    Ok(text)
+    Ok(())
 }
 
 /// What a mode says of a job.
-#[tactic(auto, unfolding(crate::specs::Picture::has_no_bars))]
-fn mode_text(mode: Mode) -> &'static str
-    ensures { has_no_bars result.now ≡ true }
-{
+fn mode_text(mode: Mode) -> &'static str {
     match mode {
         Mode::Plain => "",
         Mode::Skip => ", skips where its lock is held",
@@ -122,265 +90,218 @@ fn mode_text(mode: Mode) -> &'static str
 
 /// The group of a job, if it is in one.
 fn group_of<'a>(row: &Row<'_>, groups: &'a [Group]) -> Option<&'a Group> {
-    let group = row.declared?.group?;
-    groups.get(usize::from(group))
+    groups.get(usize::from(row.group()?))
 }
 
-/// Adds where a line comes from, if it is one of a gathered table: ` from /etc/cron.d/munin:12 (munin)`.
-#[tactic(auto, unfolding(crate::specs::Picture::has_no_bars))]
-fn push_origin(svg: &mut Svg, origin: Option<&Source>) -> Result<(), AllocError>
-    ensures { OnOk result (KeepsBars svg.old svg.new) }
-{
-    let Some(origin) = origin else {
-        return Ok(());
-    };
-    svg.push_str(" from ")?;
-    push_cut(svg, origin.origin.as_slice(), TOLD_CELLS)?;
-    svg.push_str(" (")?;
-    push_cut(svg, origin.user.as_slice(), TOLD_CELLS)?;
-    svg.push_str(")")
-}
-
-/// Adds the name of a job that another meets: `line 5` or `job cron.weekly`.
-#[tactic(auto, using(crate::proofs::Plain::no_bars_append, crate::proofs::Plain::no_bars_decimal), unfolding(crate::specs::Picture::has_no_bars))]
-fn push_met_name(svg: &mut Svg, name: Name<'_>) -> Result<(), AllocError>
-    ensures { OnOk result (KeepsBars svg.old svg.new) }
-{
-    match name {
-        Name::Line(number, _) => write!(svg, "line {number}"),
-        Name::Job(identifier) => {
-            svg.push_str("job ")?;
-            push_cut(svg, identifier, TOLD_CELLS)
-        }
+/// Adds the name of a job, and where its line comes from, if it is one of a gathered table:
+/// `line 5 /usr/bin/backup from /etc/cron.d/munin:12 (munin)`.
+fn push_name(text: &mut String, row: &Row<'_>) -> Result<(), AllocError> {
+    let start = text.len();
+    push_start(text, row.name)?;
+    let left = TOLD_CELLS.saturating_sub(text.len().saturating_sub(start));
+    match row.name {
+        Name::Line(_, command) => push_cut(text, command, left)?,
+        Name::Job(identifier) => push_cut(text, identifier, left)?,
     }
-}
-
-/// Adds which jobs it meets: `, meets line 5, line 7`.
-#[tactic(auto, unfolding(crate::specs::Picture::has_no_bars))]
-fn push_met_names(svg: &mut Svg, names: &[Name<'_>]) -> Result<(), AllocError>
-    ensures { OnOk result (KeepsBars svg.old svg.new) }
-{
-    let [first, others @ ..] = names else {
-        return Ok(());
-    };
-    svg.push_str(", meets ")?;
-    push_met_name(svg, *first)?;
-    for name in others {
-        svg.push_str(", ")?;
-        push_met_name(svg, *name)?;
+    if let Some(origin) = row.origin {
+        text.push_str(" from ")?;
+        push_cut(text, origin.origin.as_slice(), TOLD_CELLS)?;
+        text.push_str(" (")?;
+        push_cut(text, origin.user.as_slice(), TOLD_CELLS)?;
+        text.push_str(")")?;
     }
     Ok(())
 }
 
 /// Adds what a reader is told who points at the row.
-#[tactic(auto, using(crate::proofs::Plain::no_bars_append, crate::proofs::Plain::no_bars_decimal), unfolding(crate::specs::Picture::has_no_bars))]
-fn push_told(
-    svg: &mut Svg,
-    row: &Row<'_>,
-    name: &str,
-    beside: &Beside<'_>,
-) -> Result<(), AllocError>
-    requires { has_no_bars name.now ≡ true }
-    ensures { OnOk result (KeepsBars svg.old svg.new) }
-{
+fn push_told(text: &mut String, row: &Row<'_>, beside: &Beside<'_>) -> Result<(), AllocError> {
     let max = row.max;
-    write!(svg, "<title>{name}")?;
-    push_origin(svg, row.origin)?;
-    write!(svg, ": at most {max} min")?;
+    text.push_str("<title>")?;
+    push_name(text, row)?;
+    write!(text, ": at most {max} min")?;
     if let Some(job) = row.declared {
         let weight = job.weight;
-        write!(svg, ", weight {weight}")?;
+        write!(text, ", weight {weight}")?;
         if let Some(group) = group_of(row, beside.groups) {
-            svg.push_str(", group ")?;
-            push_cut(svg, group.name(), TOLD_CELLS)?;
+            text.push_str(", group ")?;
+            push_cut(text, group.name(), TOLD_CELLS)?;
         }
-        svg.push_str(mode_text(job.mode))?;
+        text.push_str(mode_text(job.mode))?;
     }
     if let Some(meeting) = beside.meeting {
-        push_met_names(svg, meeting.names.as_slice())?;
+        push_met_names(text, meeting.names.as_slice())?;
     }
-    svg.push_str("</title>\n")
+    text.push_str("</title>\n")
 }
 
-/// Adds a text in a row, so far from the left and from the top.
-#[tactic(auto, using(crate::proofs::Plain::no_bars_append, crate::proofs::Plain::no_bars_decimal), unfolding(crate::specs::Picture::has_no_bars))]
-fn push_label(svg: &mut Svg, x: u32, y: u32, text: &[u8]) -> Result<(), AllocError>
-    ensures { OnOk result (KeepsBars svg.old svg.new) }
-{
-    write!(svg, "<text x=\"{x}\" y=\"{y}\">")?;
-    push_cut(svg, text, GROUP_CELLS)?;
-    svg.push_str("</text>\n")
-}
+// ---- marks over the bars
 
-/// Adds the name of the group behind the days, if the job is in one.
-fn push_group(svg: &mut Svg, row: &Row<'_>, y: u32, groups: &[Group]) -> Result<(), AllocError>
-    ensures { OnOk result (KeepsBars svg.old svg.new) }
-{
-    match group_of(row, groups) {
-        Some(group) => push_label(svg, PLOT_RIGHT + 8, y, group.name()),
-        None => Ok(()),
+/// Adds lines along a row, from the beginning of each bar to its end.
+fn push_stretches(text: &mut String, start: &str, bars: &[Bar]) -> Result<(), AllocError> {
+    text.push_str(start)?;
+    for bar in bars {
+        let from = bar.from;
+        if from < bar.to {
+            let length = bar.to - from;
+            write!(text, "M{from} 9h{length}")?;
+        }
     }
+    text.push_str("\"/>")
 }
 
 /// Adds a mark at the first and at the last minute of each bar.
-#[tactic(auto, using(crate::proofs::Plain::no_bars_append, crate::proofs::Plain::no_bars_decimal), unfolding(crate::specs::Picture::has_no_bars))]
-fn push_ends(svg: &mut Svg, span: DaySpan, bars: &[Bar]) -> Result<(), AllocError>
-    ensures { OnOk result (KeepsBars svg.old svg.new) }
-{
+fn push_ends(text: &mut String, span: DaySpan, bars: &[Bar]) -> Result<(), AllocError> {
     let width = 2 * u32::from(span.days());
     write!(
-        svg,
+        text,
         "<path class=\"due\" stroke=\"#000\" stroke-width=\"{width}\" d=\""
     )?;
     for bar in bars {
         let from = bar.from;
         let to = bar.to;
-        write!(svg, "M{from} 1v16")?;
+        write!(text, "M{from} 1v16")?;
         if from < to {
-            write!(svg, "M{to} 1v16")?;
+            write!(text, "M{to} 1v16")?;
         }
     }
-    svg.push_str("\"/>")
+    text.push_str("\"/>")
 }
 
 /// Adds due minutes: a mark for each, or a band from the first to the last of many.
-#[tactic(auto, unfolding(crate::specs::Picture::has_no_bars))]
-fn push_marks(svg: &mut Svg, span: DaySpan, marks: &Drawn) -> Result<(), AllocError>
-    ensures { OnOk result (KeepsBars svg.old svg.new) }
-{
+fn push_marks(text: &mut String, span: DaySpan, marks: &Drawn) -> Result<(), AllocError> {
     if marks.bars.is_empty() {
         return Ok(());
     }
     if marks.is_coarse {
-        svg.push_str("<path class=\"many\" stroke=\"#000\" stroke-width=\"3\" d=\"")?;
-        svg.push_path(marks.bars.as_slice())?;
-        svg.push_str("\"/>")?;
+        let start = "<path class=\"many\" stroke=\"#000\" stroke-width=\"3\" d=\"";
+        push_stretches(text, start, marks.bars.as_slice())?;
     }
-    push_ends(svg, span, marks.bars.as_slice())
+    push_ends(text, span, marks.bars.as_slice())
 }
 
-/// Adds over the bars where windows meet others.
-#[tactic(auto, unfolding(crate::specs::Picture::has_no_bars))]
-fn push_met(svg: &mut Svg, met: &[Bar]) -> Result<(), AllocError>
-    ensures { OnOk result (KeepsBars svg.old svg.new) }
-{
-    if met.is_empty() {
-        return Ok(());
-    }
-    svg.push_str("<path class=\"meets\" stroke=\"#D55E00\" stroke-width=\"10\" d=\"")?;
-    svg.push_path(met)?;
-    svg.push_str("\"/>")
-}
-
-/// Adds the due minutes of a cron job, and tells whether some are drawn as one.
-fn push_due(
+/// Adds over the bars of a job the lines of its group, where windows meet others, and the due minutes of a
+/// cron job. Tells whether some of these are drawn as one.
+fn push_over(
     alloc: Global,
-    svg: &mut Svg,
-    span: DaySpan,
+    text: &mut String,
+    row: &Row<'_>,
     occupied: &Occupied<'_>,
-) -> Result<bool, AllocError>
-    ensures { OnOk result (KeepsBars svg.old svg.new) }
-{
+    beside: &Beside<'_>,
+) -> Result<bool, AllocError> {
+    let span = beside.span;
+    push_lines(text, row.group(), 0, 9, span.minutes())?;
+    if let Some(meeting) = beside.meeting {
+        if !meeting.bars.is_empty() {
+            let start = "<path class=\"meets\" stroke=\"#D55E00\" stroke-width=\"10\" d=\"";
+            push_stretches(text, start, meeting.bars.as_slice())?;
+        }
+    }
     let Occupied::Cron { schedule, reach: _ } = occupied else {
         return Ok(false);
     };
     let marks = marks_of(alloc, schedule, span, 4 * u32::from(span.days()))?;
-    push_marks(svg, span, &marks)?;
+    push_marks(text, span, &marks)?;
     Ok(marks.is_coarse)
 }
 
+// ---- the row
+
 /// Adds the name of a job with its bars and marks, and its weight to the load. Tells whether some
 /// are drawn as one.
-#[tactic(auto, unfolding(crate::specs::Picture::has_no_bars))]
 fn push_plot(
     alloc: Global,
     svg: &mut Svg,
     row: &Row<'_>,
     occupied: &Occupied<'_>,
-    place: &Place<'_>,
+    name: &str,
+    top: u32,
+    beside: &Beside<'_>,
     load: &mut Load,
 ) -> Result<bool, AllocError>
-    requires { place.now.top ≤ 10_000 }
-    ensures { OnOk result (AddsPlot place.now.span (job_of occupied.now) (group_of row.now.declared)
-        place.now.name.now place.now.top svg.old svg.new) }
+    requires { top ≤ 100_000 }
+    ensures { OnOk result (AddsPlot beside.now.span (Some (job_of occupied.now)) name.now top
+        svg.old svg.new) }
 {
-    let span = place.span;
+    let span = beside.span;
     let bars = bars_of(alloc, *occupied, span)?;
     if let Some(job) = row.declared {
         load.add(bars.as_slice(), job.weight);
     }
     let drawn = without_gaps(alloc, bars.as_slice(), 2 * u32::from(span.days()))?;
-    let group = row.group();
-    let minutes = span.minutes();
-    svg.push_bars(
-        place.name,
-        place.top,
-        minutes,
-        colour_of(group),
-        drawn.bars.as_slice(),
-    )?;
-    push_lines(svg, group, 0, 9, minutes)?;
-    push_met(svg, place.met)?;
-    let is_coarse = push_due(alloc, svg, span, occupied)?;
-    svg.push_str("</svg>\n")?;
+    let colour = colour_of(row.group());
+    svg.push_bars(name, top, span.minutes(), colour, drawn.bars.as_slice())?;
+    let mut over = String::new(alloc);
+    let is_coarse = push_over(alloc, &mut over, row, occupied, beside)?;
+    over.push_str("</svg>\n")?;
+    svg.push_str(over.as_str())?;
     Ok(is_coarse || drawn.is_coarse)
 }
 
 /// Adds the name of a job and what is drawn of it.
-#[tactic(auto, unfolding(crate::specs::Picture::has_no_bars))]
 fn push_job(
     alloc: Global,
     svg: &mut Svg,
     row: &Row<'_>,
-    place: &Place<'_>,
+    name: &str,
+    top: u32,
+    beside: &Beside<'_>,
     load: &mut Load,
 ) -> Result<bool, AllocError>
-    requires { place.now.top ≤ 10_000 }
-    ensures { OnOk result (AddsJob place.now.span (shown_of row.now)
-        place.now.name.now place.now.top svg.old svg.new) }
+    requires { top ≤ 100_000 }
+    ensures { OnOk result (AddsPlot beside.now.span (option_map job_of row.now.occupied) name.now
+        top svg.old svg.new) }
 {
     match &row.occupied {
         Some(occupied) => {
-            let is_coarse = push_plot(alloc, svg, row, occupied, place, load)?;
+            let is_coarse = push_plot(alloc, svg, row, occupied, name, top, beside, load)?;
             Ok(is_coarse)
         }
         None => {
-            svg.push_name(place.name, place.top)?;
-            push_label(svg, PLOT_LEFT + 4, place.top + 13, b"at reboot")?;
+            svg.push_name(name, top)?;
             Ok(false)
         }
     }
 }
 
-/// Adds the row of a job, and goes below it. Tells whether something is drawn coarser than it is.
-#[tactic(auto, unfolding(crate::specs::Picture::has_no_bars))]
+/// What stands behind the bars: that the job is started at reboot, and the name of its group.
+fn behind_text(
+    alloc: Global,
+    row: &Row<'_>,
+    top: u32,
+    groups: &[Group],
+) -> Result<String, AllocError>
+    requires { top ≤ 100_000 }
+{
+    let mut text = String::new(alloc);
+    if row.occupied.is_none() {
+        push_label(&mut text, PLOT_LEFT + 4, top + 13, b"at reboot".as_slice())?;
+    }
+    if let Some(group) = group_of(row, groups) {
+        push_label(&mut text, PLOT_RIGHT + 8, top + 13, group.name())?;
+    }
+    text.push_str("</g>\n")?;
+    Ok(text)
+}
+
+/// Adds the row of a job at this height, behind a text. Tells whether something is drawn coarser than it
+/// is.
 pub(crate) fn push_row(
     alloc: Global,
-    sheet: &mut Sheet,
-    span: DaySpan,
+    svg: &mut Svg,
     row: &Row<'_>,
+    top: u32,
     beside: &Beside<'_>,
     load: &mut Load,
 ) -> Result<bool, AllocError>
-    requires { sheet.old.y ≤ 10_000 }
-    ensures y { OnOk result (sheet.new.y ≡ sheet.old.y + 18) }
-    ensures row { OnOk result (AddsRowOf span (shown_of row.now) sheet.old.y
-        sheet.old.svg sheet.new.svg) }
+    requires { top ≤ 100_000 }
+    ensures { OnOk result (AddsRowOf beside.now.span (shown_of row.now) top svg.old svg.new) }
 {
-    let top = sheet.y;
-    let told = name_text(alloc, row.name, TOLD_CELLS)?;
-    let name = label_text(alloc, row.name)?;
-    sheet.svg.push_str("<g class=\"row\">")?;
-    push_told(&mut sheet.svg, row, told.as_str(), beside)?;
-    let place = Place {
-        span,
-        name: name.as_str(),
-        top,
-        met: beside.met(),
-    };
-    let is_coarse = push_job(alloc, &mut sheet.svg, row, &place, load)?;
-    push_group(&mut sheet.svg, row, top + 13, beside.groups)?;
-    sheet.svg.push_str("</g>\n")?;
-    sheet.down(ROW);
+    let name = label_of(alloc, row.name)?;
+    let mut before = String::from_str(alloc, "<g class=\"row\">")?;
+    push_told(&mut before, row, beside)?;
+    svg.push_str(before.as_str())?;
+    let is_coarse = push_job(alloc, svg, row, name.as_str(), top, beside, load)?;
+    let behind = behind_text(alloc, row, top, beside.groups)?;
+    svg.push_str(behind.as_str())?;
     Ok(is_coarse)
 }

@@ -19,6 +19,6 @@ mod span;
 mod svg;
 mod text;
 
-pub use laws::{labels_are_programs, rows_have_bars};
+pub use laws::rows_have_bars;
 pub use picture::{Subject, chart, plan_chart};
 pub use row::Terms;

@@ -1,13 +1,10 @@
 //! The load: what the jobs that may run weigh together, minute by minute.
-ghost use Rattle.std.specs.Prelude.{◌≡◌, true, OnOk};
-ghost use Rattle.cs_chart.specs.Picture.{KeepsBars, has_no_bars};
-
 use crate::axis::push_grid;
 use crate::bar::Bar;
 use crate::sheet::{MARGIN, PLOT_LEFT, PLOT_WIDTH, Sheet};
 use crate::span::DaySpan;
-use crate::svg::Svg;
 use std::alloc::{AllocError, Global};
+use std::fmt::Write;
 
 /// How high the part of the load is.
 const HEIGHT: u32 = 100;
@@ -52,65 +49,51 @@ impl Load {
     }
 
     /// Adds the area under the load, or of what is above a floor, behind how its element begins.
-    #[tactic(auto, using(crate::proofs::Plain::no_bars_append, crate::proofs::Plain::no_bars_decimal), unfolding(crate::specs::Picture::has_no_bars))]
-    fn push_area(&self, svg: &mut Svg, start: &str, top: u32, floor: u32) -> Result<(), AllocError>
-        requires { has_no_bars start.now ≡ true }
-        ensures { OnOk result (KeepsBars svg.old svg.new) }
-    {
+    fn push_area(
+        &self,
+        text: &mut String,
+        start: &str,
+        top: u32,
+        floor: u32,
+    ) -> Result<(), AllocError> {
         let foot = top.saturating_sub(floor);
-        write!(svg, "{start} d=\"M0 {foot}")?;
+        write!(text, "{start} d=\"M0 {foot}")?;
         let mut last = foot;
         for (minute, load) in self.minutes.as_slice().iter().enumerate() {
             let height = top.saturating_sub((*load).max(floor));
             if height != last {
-                write!(svg, "H{minute}V{height}")?;
+                write!(text, "H{minute}V{height}")?;
                 last = height;
             }
         }
         let end = self.minutes.len();
-        write!(svg, "H{end}V{foot}z\"/>")
+        write!(text, "H{end}V{foot}z\"/>")
     }
 
-    /// Adds the words beside the load.
-    #[tactic(auto, using(crate::proofs::Plain::no_bars_append, crate::proofs::Plain::no_bars_decimal), unfolding(crate::specs::Picture::has_no_bars))]
-    fn push_words(&self, sheet: &mut Sheet, capacity: u8, line: u32) -> Result<(), AllocError>
-        ensures { OnOk result (KeepsBars sheet.old.svg sheet.new.svg) }
-    {
+    /// Adds the line at the foot of the load, that of the capacity, so far down, and the words beside.
+    fn push_beside(&self, sheet: &mut Sheet, capacity: u8, line: u32) -> Result<(), AllocError> {
         let most = self.most();
+        let foot = sheet.below(HEIGHT);
         let beside = PLOT_LEFT - 6;
         let y = line.saturating_add(4);
         let (first, second) = (sheet.below(12), sheet.below(26));
         write!(
-            sheet.svg,
-            "<text x=\"{MARGIN}\" y=\"{first}\">load: the weights of jobs</text>\n\
+            sheet.text,
+            "<path stroke=\"#888\" d=\"M{PLOT_LEFT} {foot}h{PLOT_WIDTH}\"/>\n\
+             <path class=\"capacity\" stroke=\"#000\" stroke-dasharray=\"6 3\" d=\"M{PLOT_LEFT} {line}h{PLOT_WIDTH}\"/>\n\
+             <text x=\"{MARGIN}\" y=\"{first}\">load: the weights of jobs</text>\n\
              <text x=\"{MARGIN}\" y=\"{second}\">that may run, at most {most}</text>\n\
              <text x=\"{beside}\" y=\"{y}\" text-anchor=\"end\">capacity {capacity}</text>\n"
         )
     }
 
-    /// Adds the line at the foot of the load, and that of the capacity.
-    #[tactic(auto, using(crate::proofs::Plain::no_bars_append, crate::proofs::Plain::no_bars_decimal), unfolding(crate::specs::Picture::has_no_bars))]
-    fn push_lines(sheet: &mut Sheet, line: u32) -> Result<(), AllocError>
-        ensures { OnOk result (KeepsBars sheet.old.svg sheet.new.svg) }
-    {
-        let foot = sheet.below(HEIGHT);
-        write!(
-            sheet.svg,
-            "<path stroke=\"#888\" d=\"M{PLOT_LEFT} {foot}h{PLOT_WIDTH}\"/>\n\
-             <path class=\"capacity\" stroke=\"#000\" stroke-dasharray=\"6 3\" d=\"M{PLOT_LEFT} {line}h{PLOT_WIDTH}\"/>\n"
-        )
-    }
-
     /// Adds the load with the line of the capacity, what is above it in another colour, and goes below.
-    #[tactic(auto, unfolding(crate::specs::Picture::has_no_bars))]
     pub(crate) fn push(
         &self,
         sheet: &mut Sheet,
         span: DaySpan,
         capacity: u8,
-    ) -> Result<(), AllocError>
-        ensures { OnOk result (KeepsBars sheet.old.svg sheet.new.svg) }
-    {
+    ) -> Result<(), AllocError> {
         let capacity_line = u32::from(capacity);
         let most = self.most().max(capacity_line).max(1);
         let top = most.saturating_add(most / 8).saturating_add(1);
@@ -118,21 +101,12 @@ impl Load {
         let line = sheet.below(HEIGHT).saturating_sub(up as u32);
         push_grid(sheet, span, HEIGHT)?;
         sheet.begin_plot(span, HEIGHT, top)?;
-        self.push_area(
-            &mut sheet.svg,
-            "<path class=\"load\" fill=\"#999999\"",
-            top,
-            0,
-        )?;
-        self.push_area(
-            &mut sheet.svg,
-            "<path class=\"over\" fill=\"#D55E00\"",
-            top,
-            capacity_line,
-        )?;
-        sheet.svg.push_str("</svg>\n")?;
-        Load::push_lines(sheet, line)?;
-        self.push_words(sheet, capacity, line)?;
+        let load = "<path class=\"load\" fill=\"#999999\"";
+        self.push_area(&mut sheet.text, load, top, 0)?;
+        let over = "<path class=\"over\" fill=\"#D55E00\"";
+        self.push_area(&mut sheet.text, over, top, capacity_line)?;
+        sheet.text.push_str("</svg>\n")?;
+        self.push_beside(sheet, capacity, line)?;
         sheet.down(HEIGHT);
         Ok(())
     }

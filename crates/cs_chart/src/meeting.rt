@@ -1,15 +1,10 @@
 //! Windows of one exclusive group that meet.
-ghost use Rattle.std.specs.Prelude.{◌≡◌, ◌+◌, ◌*◌, ◌/◌, ◌<◌, ◌≤◌, ◌&&◌, ◌||◌, ◌∷◌, [], ℕ, IfOk, OnOk, false, length, nat_eq, nat_lt, slice_index_or};
-ghost use Rattle.cs_civil.specs.declared.minute.TheConstants.{MINUTES_OF_DAY};
-ghost use Rattle.cs_chart.specs.Bars.{covers, is_covered};
-ghost use Rattle.cs_chart.specs.Meeting.{are_of_one_group, clash, is_cron, is_exclusive, is_marked};
-ghost use Rattle.cs_chart.specs.Meeting.{meets, row_holds, takes_lock};
+ghost use Rattle.std.specs.Prelude.{◌<◌, length};
 
 use crate::bar::{Bar, add_bar, bars_of};
-use crate::row::{Declared, Name, Row};
+use crate::row::{Name, Row};
 use crate::span::DaySpan;
 use cs_decl::Group;
-use cs_windows::Occupied;
 use std::alloc::{AllocError, Global};
 
 /// What the windows of a job meet.
@@ -21,162 +16,81 @@ pub(crate) struct Meeting<'a> {
     pub(crate) names: Vec<Name<'a>>,
 }
 
-// ---- jobs whose windows may not meet
-
-/// Whether the group is one of those that exclude one another.
-fn is_exclusive(groups: &[Group], group: Option<u8>) -> bool
-    ensures { result ≡ is_exclusive groups.now group }
-{
-    match group {
-        Some(place) => match groups.get(usize::from(place)) {
-            Some(group) => group.is_exclusive(),
-            None => false,
-        },
-        None => false,
-    }
-}
-
-fn are_of_one_group(group: Option<u8>, other: Option<u8>) -> bool
-    ensures { result ≡ are_of_one_group group other }
-{
-    match (group, other) {
-        (Some(group), Some(other)) => group == other,
-        _ => false,
-    }
-}
-
-fn takes_lock(declared: Option<Declared>) -> bool
-    ensures { result ≡ takes_lock declared }
-{
-    match declared {
-        Some(declared) => declared.mode.takes_lock(),
-        None => false,
-    }
+/// A row, and the minutes that its windows hold, a bit each.
+#[derive(Debug, Drop)]
+struct Holder<'a> {
+    row: Row<'a>,
+    held: Vec<u64>,
 }
 
 /// Whether the row is that of a command.
-fn is_cron(row: &Row<'_>) -> bool
-    ensures { result ≡ is_cron row.now.occupied }
-{
-    match &row.occupied {
-        Some(
-            Occupied::Cron {
-                schedule: _,
-                reach: _,
-            },
-        ) => true,
-        _ => false,
+fn is_cron(row: &Row<'_>) -> bool {
+    match row.name {
+        Name::Line(_, _) => true,
+        Name::Job(_) => false,
     }
 }
 
-/// Whether windows of both may not meet.
-fn clash(groups: &[Group], row: &Row<'_>, other: &Row<'_>) -> bool
-    ensures { result ≡ clash groups.now row.now other.now }
-{
-    is_exclusive(groups, row.group())
-        && are_of_one_group(row.group(), other.group())
+/// Whether windows of both may not meet: these are of one exclusive group, one of them is of the crontab,
+/// and not both take the group's lock.
+fn clash(groups: &[Group], row: &Row<'_>, other: &Row<'_>) -> bool {
+    let (Some(own), Some(others)) = (row.declared, other.declared) else {
+        return false;
+    };
+    let Some(place) = own.group else {
+        return false;
+    };
+    let is_exclusive = match groups.get(usize::from(place)) {
+        Some(group) => group.is_exclusive(),
+        None => false,
+    };
+    is_exclusive
+        && own.group == others.group
         && (is_cron(row) || is_cron(other))
-        && !(takes_lock(row.declared) && takes_lock(other.declared))
-}
-
-// ---- minutes
-
-/// So many minutes, none of which is marked.
-#[tactic(auto, using(crate::proofs::Marked::none_marked))]
-fn no_marks(alloc: Global, minutes: u32) -> Result<Vec<u64>, AllocError>
-    ensures length { IfOk result (λ marks. length marks.items ≡ (minutes + 63) / 64) }
-    ensures none { IfOk result (λ marks. (minute : ℕ) → is_marked marks.items minute ≡ false) }
-{
-    vec![in alloc; 0; minutes.div_ceil(64) as usize]
-}
-
-/// The marks of the 64 minutes at this place.
-fn word_at(marks: &[u64], place: usize) -> u64
-    ensures { result ≡ slice_index_or marks.now place 0 }
-{
-    match marks.get(place) {
-        Some(word) => *word,
-        None => 0,
-    }
-}
-
-fn is_marked(marks: &[u64], minute: usize) -> bool
-    ensures { result ≡ is_marked marks.now minute }
-{
-    (word_at(marks, minute / 64) >> (minute % 64)) & 1 == 1
-}
-
-/// Marks a minute.
-fn mark(marks: &mut [u64], minute: usize)
-    requires { minute / 64 < length marks.old }
-    ensures length { length marks.new ≡ length marks.old }
-    ensures marks { (k : ℕ) → is_marked marks.new k ≡ (nat_eq k minute || is_marked marks.old k) }
-{
-    marks[minute / 64] |= 1u64 << (minute % 64);
+        && !(own.mode.takes_lock() && others.mode.takes_lock())
 }
 
 /// Marks the minutes of a bar.
-fn mark_bar(marks: &mut [u64], bar: Bar)
-    ensures length { length marks.new ≡ length marks.old }
-    ensures marks { (minute : ℕ) → minute / 64 < length marks.old
-        → is_marked marks.new minute ≡ (is_marked marks.old minute || covers bar minute) }
-{
-    for count in 0..bar.to.saturating_sub(bar.from) {
-        let minute = (bar.from + count) as usize;
-        if minute / 64 < marks.len() {
-            mark(marks, minute);
+fn mark(marks: &mut [u64], bar: Bar) {
+    for minute in bar.from..bar.to {
+        let minute = minute as usize;
+        if let Some(word) = marks.get_mut(minute / 64) {
+            *word |= 1u64 << (minute % 64);
         }
     }
 }
 
-/// Marks the minutes of bars.
-fn mark_bars(marks: &mut [u64], bars: &[Bar])
-    ensures length { length marks.new ≡ length marks.old }
-    ensures marks { (minute : ℕ) → minute / 64 < length marks.old
-        → is_marked marks.new minute ≡ (is_marked marks.old minute || is_covered bars.now minute) }
-{
-    for bar in bars {
-        mark_bar(marks, *bar);
-    }
-}
-
-/// Marks the minutes of the picture that the windows of a row hold.
-fn held_minutes(alloc: Global, row: &Row<'_>, span: DaySpan) -> Result<Vec<u64>, AllocError>
-    ensures { IfOk result (λ marks. (minute : ℕ) → minute < MINUTES_OF_DAY * span.days
-        → is_marked marks.items minute ≡ row_holds span row.now.occupied minute) }
-{
-    let mut marks = no_marks(alloc, span.minutes())?;
+/// The minutes of the picture that the windows of a row hold.
+fn held_minutes(alloc: Global, row: &Row<'_>, span: DaySpan) -> Result<Vec<u64>, AllocError> {
+    let mut marks = vec![in alloc; 0; span.minutes().div_ceil(64) as usize]?;
     if let Some(occupied) = row.occupied {
         let bars = bars_of(alloc, occupied, span)?;
-        mark_bars(marks.as_mut_slice(), bars.as_slice());
+        for bar in bars.as_slice() {
+            mark(marks.as_mut_slice(), *bar);
+        }
     }
     Ok(marks)
 }
 
 /// Marks the minutes that both have, 64 at a time, and tells whether there are any.
-fn mark_common(marks: &mut [u64], one: &[u64], other: &[u64]) -> bool
-    ensures length { length marks.new ≡ length marks.old }
-    ensures marks { (minute : ℕ) → minute / 64 < length marks.old → is_marked marks.new minute
-        ≡ (is_marked marks.old minute || (is_marked one.now minute && is_marked other.now minute)) }
-{
+fn mark_common(marks: &mut [u64], one: &[u64], other: &[u64]) -> bool {
     let mut is_found = false;
-    for place in 0..marks.len() {
-        let both = word_at(one, place) & word_at(other, place);
-        marks[place] |= both;
-        is_found = is_found || both != 0;
+    for (place, word) in marks.iter_mut().enumerate() {
+        if let (Some(one), Some(other)) = (one.get(place), other.get(place)) {
+            let both = *one & *other;
+            *word |= both;
+            is_found = is_found || both != 0;
+        }
     }
     is_found
 }
 
 /// The bars of the marked minutes below this one.
-fn bars_of_marks(alloc: Global, marks: &[u64], minutes: u32) -> Result<Vec<Bar>, AllocError>
-    requires { minutes ≤ 100_000 }
-    ensures { IfOk result (λ bars. (minute : ℕ) → is_covered bars.items minute
-        ≡ (nat_lt minute minutes && is_marked marks.now minute)) }
-{
+fn bars_of_marks(alloc: Global, marks: &[u64], minutes: u32) -> Result<Vec<Bar>, AllocError> {
     let mut bars = Vec::new(alloc);
     for minute in 0..minutes {
-        if is_marked(marks, minute as usize) {
+        let word = marks.get((minute / 64) as usize).copied().unwrap_or(0);
+        if (word >> (minute % 64)) & 1 == 1 {
             let bar = Bar {
                 from: minute,
                 to: minute + 1,
@@ -187,66 +101,31 @@ fn bars_of_marks(alloc: Global, marks: &[u64], minutes: u32) -> Result<Vec<Bar>,
     Ok(bars)
 }
 
-// ---- meetings
-
-/// A row, and the minutes that its windows hold.
-#[derive(Debug, Drop)]
-struct Holder<'a> {
-    row: Row<'a>,
-    held: Vec<u64>,
-}
-
-/// Marks the minutes at which windows of two rows meet, and tells whether there are any.
-fn mark_meeting(marks: &mut [u64], own: &Holder<'_>, other: &Holder<'_>, groups: &[Group]) -> bool
-    ensures length { length marks.new ≡ length marks.old }
-    ensures marks { (minute : ℕ) → minute / 64 < length marks.old → is_marked marks.new minute
-        ≡ (is_marked marks.old minute || meets groups.now own.now (other.now ∷ []) minute) }
-{
-    clash(groups, &own.row, &other.row)
-        && mark_common(marks, own.held.as_slice(), other.held.as_slice())
-}
-
-/// Marks the minutes at which windows of others meet those of a row, and adds the names of these.
-fn mark_meetings<'a>(
-    marks: &mut [u64],
-    names: &mut Vec<Name<'a>>,
-    own: &Holder<'a>,
-    others: &[Holder<'a>],
-    groups: &[Group],
-) -> Result<(), AllocError>
-    ensures length { OnOk result (length marks.new ≡ length marks.old) }
-    ensures marks { OnOk result ((minute : ℕ) → minute / 64 < length marks.old
-        → is_marked marks.new minute
-        ≡ (is_marked marks.old minute || meets groups.now own.now others.now minute)) }
-{
-    for other in others {
-        if mark_meeting(marks, own, other, groups) {
-            names.push(other.row.name)?;
-        }
-    }
-    Ok(())
-}
-
-/// What the windows of a row meet of those of the rows before it and behind it, with the minutes
-/// below this one.
+/// What the windows of the row at this place meet of those of the others.
 fn meeting_of<'a>(
     alloc: Global,
-    before: &[Holder<'a>],
-    own: &Holder<'a>,
-    behind: &[Holder<'a>],
+    holders: &[Holder<'a>],
+    place: usize,
     groups: &[Group],
     minutes: u32,
 ) -> Result<Meeting<'a>, AllocError>
-    requires { minutes ≤ 100_000 }
-    ensures { IfOk result (λ meeting. (minute : ℕ) → minute < minutes
-        → is_covered meeting.bars.items minute
-        ≡ (meets groups.now own.now before.now minute
-        || meets groups.now own.now behind.now minute)) }
+    requires { place < length holders.now }
 {
-    let mut marks = no_marks(alloc, minutes)?;
+    let own = &holders[place];
+    let mut marks = vec![in alloc; 0; own.held.len()]?;
     let mut names = Vec::new(alloc);
-    mark_meetings(marks.as_mut_slice(), &mut names, own, before, groups)?;
-    mark_meetings(marks.as_mut_slice(), &mut names, own, behind, groups)?;
+    for (at, other) in holders.iter().enumerate() {
+        if at != place
+            && clash(groups, &own.row, &other.row)
+            && mark_common(
+                marks.as_mut_slice(),
+                own.held.as_slice(),
+                other.held.as_slice(),
+            )
+        {
+            names.push(other.row.name)?;
+        }
+    }
     let bars = bars_of_marks(alloc, marks.as_slice(), minutes)?;
     Ok(Meeting { bars, names })
 }
@@ -280,12 +159,8 @@ pub(crate) fn meetings_of<'a>(
         return Ok(meetings);
     }
     let holders = holders_of(alloc, rows, span)?;
-    let holders = holders.as_slice();
     for place in 0..holders.len() {
-        let (before, behind) = (&holders[..place], &holders[place + 1..]);
-        let own = &holders[place];
-        let meeting = meeting_of(alloc, before, own, behind, groups, span.minutes())?;
-        meetings.push(meeting)?;
+        meetings.push(meeting_of(alloc, holders.as_slice(), place, groups, span.minutes())?)?;
     }
     Ok(meetings)
 }

@@ -1,11 +1,11 @@
 //! The whole picture.
-ghost use Rattle.std.specs.Prelude.{◌≡◌, ◌+◌, ◌*◌, ◌≤◌, true, length, map, string_bytes, IfOk, OnOk};
+ghost use Rattle.std.specs.Prelude.{◌≤◌, length, map, string_bytes, IfOk, OnOk};
 ghost use Rattle.cs_chart.specs.Bars.{days_shown};
 ghost use Rattle.cs_chart.specs.Chart.{IsPictureOf, jobs_of_plan, jobs_of_tables};
-ghost use Rattle.cs_chart.specs.Picture.{KeepsBars, has_no_bars};
-ghost use Rattle.cs_chart.specs.Rows.{AddsRowsOf, shown_of};
+ghost use Rattle.cs_chart.specs.Picture.{KeepsBars};
+ghost use Rattle.cs_chart.specs.Rows.{shown_of};
 
-use crate::axis::{push_axis, push_foot_hours, push_grid, push_hours_above};
+use crate::axis::{push_axis, push_grid, push_hours, push_hours_between};
 use crate::heading::{plan_text, push_groups, push_key, push_title, terms_text, title};
 use crate::job::{Beside, push_row};
 use crate::load::Load;
@@ -24,10 +24,8 @@ use std::alloc::{AllocError, Global};
 /// From how many rows on the hours come once more below them.
 const MANY_ROWS: usize = 25;
 
-/// How wide a picture is, with no groups and with the names of groups behind the days.
-const WIDTH: u32 = 1_120;
-
-const WIDTH_WITH_GROUPS: u32 = 1_220;
+/// How far down the first row may be: all groups that there can be have room above it.
+const LOWEST: u32 = 10_000;
 
 /// What is drawn.
 #[derive(Clone, Copy, Debug)]
@@ -44,38 +42,66 @@ struct Scene<'a> {
     days: u8,
 }
 
-/// Adds the rows, goes below them, and adds what the jobs weigh to the load. Tells whether something
-/// is drawn coarser than it is.
-fn push_rows(
+/// How high so many rows are, with the hours between them.
+fn rows_height(rows: usize) -> u32 {
+    let rows = u32::try_from(rows).unwrap_or(u32::MAX);
+    let hours = rows.saturating_sub(1) / ROWS_OF_HOURS;
+    ROW.saturating_mul(rows)
+        .saturating_add(HOURS.saturating_mul(hours))
+}
+
+/// Adds the hours that stand above a row, by its number from 0, if 40 rows stand above it or twice as
+/// many and so on.
+fn push_above(
     alloc: Global,
-    sheet: &mut Sheet,
-    scene: &Scene<'_>,
-    load: &mut Load,
-) -> Result<bool, AllocError>
-    requires { sheet.old.y + 19 * length scene.now.rows.now ≤ 10_000 }
-    ensures { OnOk result (AddsRowsOf scene.now.span (map shown_of scene.now.rows.now) sheet.old.y
-        sheet.old.svg sheet.new.svg) }
+    svg: &mut Svg,
+    span: DaySpan,
+    place: u32,
+    top: u32,
+) -> Result<(), AllocError>
+    ensures { OnOk result (KeepsBars svg.old svg.new) }
 {
+    if 0 < place && place % ROWS_OF_HOURS == 0 {
+        let mut hours = String::new(alloc);
+        push_hours_between(&mut hours, span, top.saturating_sub(HOURS))?;
+        svg.push_str(hours.as_str())?;
+    }
+    Ok(())
+}
+
+/// The rows, of which the first has this top; what the jobs weigh comes to the load. Tells whether
+/// something is drawn coarser than it is.
+fn rows_drawn(
+    alloc: Global,
+    scene: &Scene<'_>,
+    top: u32,
+    load: &mut Load,
+) -> Result<(Svg, bool), AllocError>
+    requires low { top ≤ 10_000 }
+    requires few { length scene.now.rows.now ≤ 320 }
+    ensures { IfOk result (λ drawn. IsPictureOf scene.now.span (map shown_of scene.now.rows.now)
+        drawn.0) }
+{
+    let mut svg = Svg::new(alloc);
     let mut is_coarse = false;
     let mut place = 0;
     for row in scene.rows {
-        push_hours_above(sheet, scene.span, place)?;
+        let y = top + ROW * place + HOURS * (place / ROWS_OF_HOURS);
+        push_above(alloc, &mut svg, scene.span, place, y)?;
         let beside = Beside {
+            span: scene.span,
             groups: scene.groups,
             meeting: scene.meetings.get(place as usize),
         };
-        let coarse = push_row(alloc, sheet, scene.span, row, &beside, load)?;
+        let coarse = push_row(alloc, &mut svg, row, y, &beside, load)?;
         is_coarse = is_coarse || coarse;
         place += 1;
     }
-    Ok(is_coarse)
+    Ok((svg, is_coarse))
 }
 
 /// Adds a line of the foot, and goes below it.
-fn push_note(sheet: &mut Sheet, note: &str) -> Result<(), AllocError>
-    requires { has_no_bars note.now ≡ true }
-    ensures { OnOk result (KeepsBars sheet.old.svg sheet.new.svg) }
-{
+fn push_note(sheet: &mut Sheet, note: &str) -> Result<(), AllocError> {
     sheet.push_line(12, note)?;
     sheet.down(15);
     Ok(())
@@ -89,37 +115,23 @@ fn waits(row: &Row<'_>) -> bool {
     }
 }
 
-/// Whether windows of a job meet others.
-fn meets(meeting: &Meeting<'_>) -> bool {
-    !meeting.bars.is_empty()
-}
-
-/// Adds that due minutes or bars are drawn as one.
-#[tactic(auto, using(crate::proofs::Plain::no_bars_append, crate::proofs::Plain::no_bars_decimal), unfolding(crate::specs::Picture::has_no_bars))]
-fn push_coarse(sheet: &mut Sheet, span: DaySpan) -> Result<(), AllocError>
-    ensures { OnOk result (KeepsBars sheet.old.svg sheet.new.svg) }
-{
-    let due = 4 * u32::from(span.days());
-    let gap = 2 * u32::from(span.days());
-    let y = sheet.below(12);
-    write!(
-        sheet.svg,
-        "<text x=\"10\" y=\"{y}\">left out: due minutes less than {due} min behind the one before, \
-         and gaps of less than {gap} min between bars</text>\n"
-    )?;
-    sheet.down(15);
-    Ok(())
-}
-
 /// Adds what the picture leaves out, at its foot.
-#[tactic(auto, unfolding(crate::specs::Picture::has_no_bars))]
-fn push_notes(sheet: &mut Sheet, scene: &Scene<'_>, is_coarse: bool) -> Result<(), AllocError>
-    ensures { OnOk result (KeepsBars sheet.old.svg sheet.new.svg) }
-{
+fn push_notes(
+    alloc: Global,
+    sheet: &mut Sheet,
+    scene: &Scene<'_>,
+    is_coarse: bool,
+) -> Result<(), AllocError> {
     if is_coarse {
-        push_coarse(sheet, scene.span)?;
+        let due = 4 * u32::from(scene.span.days());
+        let gap = 2 * u32::from(scene.span.days());
+        let note = format!(in alloc;
+            "left out: due minutes less than {due} min behind the one before, and gaps of less than \
+             {gap} min between bars"
+        )?;
+        push_note(sheet, note.as_str())?;
     }
-    if scene.meetings.iter().any(|meeting| meets(meeting)) {
+    if scene.meetings.iter().any(|it| !it.bars.is_empty()) {
         push_note(
             sheet,
             "red: a window of another job of its exclusive group holds the minute, and not both \
@@ -138,118 +150,78 @@ fn push_notes(sheet: &mut Sheet, scene: &Scene<'_>, is_coarse: bool) -> Result<(
     Ok(())
 }
 
-/// How high so many rows are, with the hours between them.
-fn rows_height(rows: usize) -> u32 {
-    let rows = u32::try_from(rows).unwrap_or(u32::MAX);
-    let hours = rows.saturating_sub(1) / ROWS_OF_HOURS;
-    ROW.saturating_mul(rows)
-        .saturating_add(HOURS.saturating_mul(hours))
-}
-
 /// Adds everything above the rows.
-#[tactic(auto, unfolding(crate::specs::Picture::has_no_bars))]
-fn push_head(sheet: &mut Sheet, scene: &Scene<'_>) -> Result<(), AllocError>
-    requires title { has_no_bars scene.now.title.now ≡ true }
-    requires terms { has_no_bars scene.now.terms.now ≡ true }
-    ensures svg { OnOk result (KeepsBars sheet.old.svg sheet.new.svg) }
-    ensures y { OnOk result (sheet.new.y ≤ sheet.old.y + 18 * length scene.now.groups.now + 120) }
-{
+fn push_head(sheet: &mut Sheet, scene: &Scene<'_>) -> Result<(), AllocError> {
     push_title(sheet, scene.title, scene.terms)?;
     push_key(sheet)?;
     push_groups(sheet, scene.groups)?;
     sheet.down(4);
     push_axis(sheet, scene.span)?;
     push_grid(sheet, scene.span, rows_height(scene.rows.len()))?;
-    sheet.svg.push_str("<g font-family=\"monospace\">\n")
+    sheet.text.push_str("<g font-family=\"monospace\">\n")
 }
 
-/// Adds the load beside the capacity, if that is declared.
-fn push_load(sheet: &mut Sheet, scene: &Scene<'_>, load: &Load) -> Result<(), AllocError>
-    ensures { OnOk result (KeepsBars sheet.old.svg sheet.new.svg) }
-{
-    if let Some(capacity) = scene.capacity {
-        sheet.down(12);
-        load.push(sheet, scene.span, capacity)?;
-        push_foot_hours(sheet, scene.span)?;
-    }
-    Ok(())
-}
-
-/// Adds everything below the rows.
-#[tactic(auto, unfolding(crate::specs::Picture::has_no_bars))]
+/// Adds everything below the rows: the hours again where there are many, the load beside the capacity, if
+/// that is declared, and notes.
 fn push_foot(
+    alloc: Global,
     sheet: &mut Sheet,
     scene: &Scene<'_>,
     load: &Load,
     is_coarse: bool,
-) -> Result<(), AllocError>
-    ensures { OnOk result (KeepsBars sheet.old.svg sheet.new.svg) }
-{
-    sheet.svg.push_str("</g>\n")?;
+) -> Result<(), AllocError> {
+    sheet.text.push_str("</g>\n")?;
     if MANY_ROWS <= scene.rows.len() {
-        push_foot_hours(sheet, scene.span)?;
+        push_hours(&mut sheet.text, scene.span, sheet.y)?;
+        sheet.down(HOURS);
     }
-    push_load(sheet, scene, load)?;
+    if let Some(capacity) = scene.capacity {
+        sheet.down(12);
+        load.push(sheet, scene.span, capacity)?;
+        push_hours(&mut sheet.text, scene.span, sheet.y)?;
+        sheet.down(HOURS);
+    }
     sheet.down(6);
-    push_notes(sheet, scene, is_coarse)
+    push_notes(alloc, sheet, scene, is_coarse)?;
+    sheet.text.push_str("</svg>\n")
 }
 
-/// Draws everything below the head of the file.
-fn body(alloc: Global, scene: &Scene<'_>) -> Result<Sheet, AllocError>
-    requires title { has_no_bars scene.now.title.now ≡ true }
-    requires terms { has_no_bars scene.now.terms.now ≡ true }
-    requires few { 18 * length scene.now.groups.now + 19 * length scene.now.rows.now ≤ 9_000 }
-    ensures { IfOk result (λ drawn. IsPictureOf scene.now.span
-        (map shown_of scene.now.rows.now) drawn.svg) }
-{
-    let mut sheet = Sheet::new(alloc);
-    let mut load = Load::new(alloc, scene.span.minutes())?;
-    push_head(&mut sheet, scene)?;
-    let is_coarse = push_rows(alloc, &mut sheet, scene, &mut load)?;
-    push_foot(&mut sheet, scene, &load, is_coarse)?;
-    sheet.down(10);
-    Ok(sheet)
-}
-
-/// Adds the head of the file.
-#[tactic(auto, using(crate::proofs::Plain::no_bars_append, crate::proofs::Plain::no_bars_decimal), unfolding(crate::specs::Picture::has_no_bars))]
-fn push_file(svg: &mut Svg, scene: &Scene<'_>, height: u32) -> Result<(), AllocError>
-    requires { has_no_bars scene.now.title.now ≡ true }
-    ensures { OnOk result (KeepsBars svg.old svg.new) }
-{
+/// The head of the file of a picture so high: wider where names of groups stand behind the days.
+fn file_text(alloc: Global, scene: &Scene<'_>, height: u32) -> Result<String, AllocError> {
     let title = scene.title;
     let width = if scene.groups.is_empty() {
-        WIDTH
+        1_120
     } else {
-        WIDTH_WITH_GROUPS
+        1_220
     };
-    write!(
-        svg,
+    format!(in alloc;
         "<?xml version=\"1.0\" encoding=\"UTF-8\"?>\n\
          <svg xmlns=\"http://www.w3.org/2000/svg\" width=\"{width}\" height=\"{height}\" \
-         viewBox=\"0 0 {width} {height}\" font-family=\"sans-serif\" font-size=\"11\">\n"
-    )?;
-    write!(
-        svg,
-        "<title>{title}</title>\n\
+         viewBox=\"0 0 {width} {height}\" font-family=\"sans-serif\" font-size=\"11\">\n\
+         <title>{title}</title>\n\
          <rect width=\"{width}\" height=\"{height}\" fill=\"#FFF\"/>\n"
     )
 }
 
 /// Draws a scene.
-#[tactic(auto, unfolding(crate::specs::Picture::has_no_bars))]
 fn draw(alloc: Global, scene: &Scene<'_>) -> Result<String, AllocError>
-    requires title { has_no_bars scene.now.title.now ≡ true }
-    requires terms { has_no_bars scene.now.terms.now ≡ true }
-    requires few { 18 * length scene.now.groups.now + 19 * length scene.now.rows.now ≤ 9_000 }
+    requires { length scene.now.rows.now ≤ 320 }
     ensures { IfOk result (λ svg. IsPictureOf scene.now.span (map shown_of scene.now.rows.now)
         (string_bytes svg)) }
 {
-    let sheet = body(alloc, scene)?;
+    let mut head = Sheet::new(alloc, 0);
+    push_head(&mut head, scene)?;
+    let top = head.y.min(LOWEST);
+    let mut load = Load::new(alloc, scene.span.minutes())?;
+    let (rows, is_coarse) = rows_drawn(alloc, scene, top, &mut load)?;
+    let mut foot = Sheet::new(alloc, top.saturating_add(rows_height(scene.rows.len())));
+    push_foot(alloc, &mut foot, scene, &load, is_coarse)?;
+    let file = file_text(alloc, scene, foot.below(10))?;
     let mut svg = Svg::new(alloc);
-    push_file(&mut svg, scene, sheet.y)?;
-    svg.push_drawn(&sheet.svg)?;
-    svg.push_str("</svg>\n")?;
+    svg.push_str(file.as_str())?;
+    svg.push_str(head.text.as_str())?;
+    svg.push_drawn(&rows)?;
+    svg.push_str(foot.text.as_str())?;
     Ok(svg.into_string())
 }
 

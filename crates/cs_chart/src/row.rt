@@ -1,9 +1,8 @@
 //! The rows of a picture: what is drawn of each job.
 ghost use Rattle.std.specs.Prelude.{◌≡◌, ◌≤◌, IfOk, length, map};
-ghost use Rattle.cs_decl.specs.Plan.{job_at};
 ghost use Rattle.cs_chart.specs.Chart.{jobs_of_plan, jobs_of_tables, shown_anacron, shown_command};
 ghost use Rattle.cs_chart.specs.Chart.{terms_at};
-ghost use Rattle.cs_chart.specs.Rows.{group_of, shown_of};
+ghost use Rattle.cs_chart.specs.Rows.{shown_of};
 
 use cs_anacrontab::{Anacrontab, Job};
 use cs_crontab::{Crontab, Line, When};
@@ -58,20 +57,13 @@ pub(crate) struct Row<'a> {
 
 impl Row<'_> {
     /// The place of its group, if it is in one.
-    pub(crate) fn group(&self) -> Option<u8>
-        ensures { result ≡ group_of self.now.declared }
-    {
-        match self.declared {
-            Some(declared) => declared.group,
-            None => None,
-        }
+    pub(crate) fn group(&self) -> Option<u8> {
+        self.declared?.group
     }
 }
 
 /// What a plan says of a job.
-fn declared_of(job: PlanJob) -> Declared
-    ensures { result.group ≡ job.group }
-{
+fn declared_of(job: PlanJob) -> Declared {
     Declared {
         weight: job.weight(),
         group: job.group(),
@@ -86,7 +78,7 @@ fn line_row<'a>(
     max: u16,
     declared: Option<Declared>,
 ) -> Row<'a>
-    ensures { shown_of result ≡ shown_command max (group_of declared) line.now }
+    ensures { shown_of result ≡ shown_command max line.now }
 {
     let occupied = match line.when() {
         When::At(schedule) => Some(Occupied::Cron {
@@ -107,7 +99,7 @@ fn line_row<'a>(
 /// The row of an anacron job: from the first minute at which it may be started on, up to where a run
 /// ends that starts in the last.
 fn job_row(job: &Job, terms: Terms, declared: Option<Declared>) -> Row<'_>
-    ensures { shown_of result ≡ shown_anacron terms (group_of declared) }
+    ensures { shown_of result ≡ shown_anacron terms }
 {
     let hours = terms.to.saturating_sub(1).saturating_sub(terms.from);
     Row {
@@ -146,8 +138,7 @@ pub(crate) fn table_rows<'a>(
 
 /// The row of an anacron job of a plan, by the job's number.
 fn plan_row<'a>(plan: &Plan, job: &'a Job, number: u16) -> Row<'a>
-    ensures { shown_of result
-        ≡ shown_anacron (terms_at plan.now number) (job_at plan.now number).group }
+    ensures { shown_of result ≡ shown_anacron (terms_at plan.now number) }
 {
     let hours = plan.hours();
     let declared = plan.job_at(number);

@@ -1,10 +1,7 @@
-//! The sheet that a picture is drawn on, from its top to its foot.
-ghost use Rattle.std.specs.Prelude.{◌≡◌, ◌+◌, ◌-◌, ◌^◌, ◌≤◌, min, true, OnOk};
-ghost use Rattle.cs_chart.specs.Picture.{KeepsBars, has_no_bars};
-
+//! The sheet that a part of a picture is drawn on, from its top to its foot.
 use crate::span::DaySpan;
-use crate::svg::Svg;
 use std::alloc::{AllocError, Global};
+use std::fmt::Write;
 
 /// Where the names of rows begin, in pixels from the left, as all lengths here.
 pub(crate) const MARGIN: u32 = 10;
@@ -21,9 +18,6 @@ pub(crate) const PLOT_RIGHT: u32 = PLOT_LEFT + PLOT_WIDTH;
 /// How many cells of a name have room before the first day.
 pub(crate) const NAME_CELLS: usize = 36;
 
-/// How many cells of a group's name have room behind the days.
-pub(crate) const GROUP_CELLS: usize = 16;
-
 /// How high a row is.
 pub(crate) const ROW: u32 = 18;
 
@@ -33,32 +27,25 @@ pub(crate) const ROWS_OF_HOURS: u32 = 40;
 /// How high a line of hours is.
 pub(crate) const HOURS: u32 = 16;
 
-/// A picture that is being drawn: what has been written of it, and how far down it has come.
+/// A part of a picture without rows: what has been written of it, and how far down it has come.
 #[derive(Debug, Drop)]
 pub(crate) struct Sheet {
-    pub(crate) svg: Svg,
+    pub(crate) text: String,
     /// The top of what is drawn next.
     pub(crate) y: u32,
 }
 
 impl Sheet {
-    ghost use Rattle.std.specs.Prelude.{[]};
-
-    pub(crate) fn new(alloc: Global) -> Sheet
-        ensures svg { result.svg ≡ [] }
-        ensures y { result.y ≡ 0 }
-    {
+    /// Nothing yet, from there on.
+    pub(crate) fn new(alloc: Global, y: u32) -> Sheet {
         Sheet {
-            svg: Svg::new(alloc),
-            y: 0,
+            text: String::new(alloc),
+            y,
         }
     }
 
     /// Goes down so far.
-    pub(crate) fn down(&mut self, by: u32)
-        ensures svg { self.new.svg ≡ self.old.svg }
-        ensures y { self.new.y ≡ min (self.old.y + by) (2 ^ 32 - 1) }
-    {
+    pub(crate) fn down(&mut self, by: u32) {
         self.y = self.y.saturating_add(by);
     }
 
@@ -69,34 +56,25 @@ impl Sheet {
 
     /// Begins a part as wide as the days, in which a place from the left is a minute of the picture,
     /// and a place from the top one of so many steps.
-    #[tactic(auto, using(crate::proofs::Plain::no_bars_append, crate::proofs::Plain::no_bars_decimal), unfolding(crate::specs::Picture::has_no_bars))]
     pub(crate) fn begin_plot(
         &mut self,
         span: DaySpan,
         height: u32,
         steps: u32,
-    ) -> Result<(), AllocError>
-        ensures svg { OnOk result (KeepsBars self.old.svg self.new.svg) }
-        ensures y { self.new.y ≡ self.old.y }
-    {
+    ) -> Result<(), AllocError> {
         let y = self.y;
         let minutes = span.minutes();
         write!(
-            self.svg,
+            self.text,
             "<svg x=\"{PLOT_LEFT}\" y=\"{y}\" width=\"{PLOT_WIDTH}\" height=\"{height}\" \
              viewBox=\"0 0 {minutes} {steps}\" preserveAspectRatio=\"none\">"
         )
     }
 
     /// Adds a line of text at the margin, so far below.
-    #[tactic(auto, using(crate::proofs::Plain::no_bars_append, crate::proofs::Plain::no_bars_decimal), unfolding(crate::specs::Picture::has_no_bars))]
-    pub(crate) fn push_line(&mut self, below: u32, text: &str) -> Result<(), AllocError>
-        requires { has_no_bars text.now ≡ true }
-        ensures svg { OnOk result (KeepsBars self.old.svg self.new.svg) }
-        ensures y { self.new.y ≡ self.old.y }
-    {
+    pub(crate) fn push_line(&mut self, below: u32, text: &str) -> Result<(), AllocError> {
         let y = self.below(below);
-        write!(self.svg, "<text x=\"{MARGIN}\" y=\"{y}\">{text}</text>\n")
+        write!(self.text, "<text x=\"{MARGIN}\" y=\"{y}\">{text}</text>\n")
     }
 }
 

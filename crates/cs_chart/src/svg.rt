@@ -1,11 +1,10 @@
 //! The text of a picture, as it is written.
-ghost use Rattle.std.specs.Prelude.{◌≡◌, ◌+◌, ◌++◌, ◌≤◌, ◌≢◌, ℕ, List, [], ◌∷◌, true, IfSome, None, Some, OnOk, flat_map, length, string_bytes};
-ghost use Rattle.cs_chart.specs.Picture.{AddsRows, Draws, IsLonger, IsPlain, KeepsBars, area_text, bar_text};
-ghost use Rattle.cs_chart.specs.Picture.{bars_text, has_no_bars, name_text, row_text, Row};
+ghost use Rattle.std.specs.Prelude.{◌≡◌, ◌++◌, ◌≤◌, List, [], true, None, Some, OnOk, flat_map, string_bytes};
+ghost use Rattle.cs_chart.specs.Picture.{AddsRow, Draws, KeepsBars, Row, agree, bar_text, bars_tag, has_no_bars, row_text};
 
 use crate::bar::Bar;
 use std::alloc::{AllocError, Global};
-use std::fmt::{Display, Write};
+use std::fmt::Write;
 use std::marker::Model;
 
 /// A text of elements of SVG 1.1. Bars come into it by [`push_bars`](Svg::push_bars) alone.
@@ -20,6 +19,42 @@ impl Model for Svg {
     ghost Value = { List ℕ };
 
     ghost view = { λ s. string_bytes s.text };
+}
+
+/// Whether bars begin there, or the text ends with a part of how they begin.
+#[tactic(auto, using(crate::proofs::Plain::agree_is))]
+fn begins(text: &[u8]) -> bool
+    ensures { result ≡ agree text.now bars_tag }
+{
+    let tag = b"<path class=\"bars\"".as_slice();
+    text.starts_with(tag) || tag.starts_with(text)
+}
+
+/// Whether bars begin nowhere in a text.
+#[tactic(auto, unfolding(crate::specs::Picture::has_no_bars))]
+fn has_no_bars(text: &[u8]) -> bool
+    ensures { result ≡ has_no_bars text.now }
+{
+    let mut rest = text;
+    while let [_, others @ ..] = rest {
+        if begins(rest) {
+            return false;
+        }
+        rest = others;
+    }
+    true
+}
+
+/// The text, or none of it where bars begin in it: no text that is drawn beside rows is such.
+#[tactic(auto, unfolding(crate::specs::Picture::has_no_bars))]
+pub(crate) fn plain(text: &str) -> &str
+    ensures { has_no_bars result.now ≡ true }
+{
+    if has_no_bars(text.as_bytes()) {
+        text
+    } else {
+        ""
+    }
 }
 
 /// Adds a line along the row for each bar.
@@ -38,53 +73,14 @@ fn push_path(text: &mut String, bars: &[Bar]) -> Result<(), AllocError>
 }
 
 /// Adds the name of a row.
-#[tactic(auto, unfolding(crate::specs::Picture::name_text))]
-fn push_name(text: &mut String, name: &str, top: u32) -> Result<(), AllocError>
-    requires { top ≤ 10_000 }
-    ensures { OnOk result (string_bytes text.new
-        ≡ string_bytes text.old ++ name_text name.now top) }
-{
-    let y = top + 13;
-    write!(text, "<text x=\"10\" y=\"{y}\">{name}</text>\n")
-}
-
-/// Begins the area of a row.
-#[tactic(auto, unfolding(crate::specs::Picture::area_text))]
-fn push_area(text: &mut String, top: u32, minutes: u32) -> Result<(), AllocError>
-    ensures { OnOk result (string_bytes text.new
-        ≡ string_bytes text.old ++ area_text top minutes) }
-{
-    write!(
-        text,
-        "<svg x=\"256\" y=\"{top}\" width=\"840\" height=\"18\" viewBox=\"0 0 {minutes} 18\" \
-         preserveAspectRatio=\"none\">"
-    )
-}
-
-/// Adds the bars of a row.
-#[tactic(auto, unfolding(crate::specs::Picture::bars_text))]
-fn push_bars(text: &mut String, colour: &str, bars: &[Bar]) -> Result<(), AllocError>
-    ensures { OnOk result (string_bytes text.new
-        ≡ string_bytes text.old ++ bars_text colour.now bars.now) }
-{
-    write!(
-        text,
-        "<path class=\"bars\" stroke=\"{colour}\" stroke-width=\"10\" d=\""
-    )?;
-    push_path(text, bars)?;
-    text.push_str("\"/>")?;
-    Ok(())
-}
-
-/// Adds a row that has no bars.
 #[tactic(auto, using(std::proofs::lemmas::Grind::common_steps), unfolding(crate::specs::Picture::row_text))]
-fn push_alone(text: &mut String, name: &str, top: u32) -> Result<(), AllocError>
-    requires { top ≤ 10_000 }
+fn push_name(text: &mut String, name: &str, top: u32) -> Result<(), AllocError>
+    requires { top ≤ 100_000 }
     ensures { OnOk result (string_bytes text.new ≡ string_bytes text.old
         ++ row_text (record { name = name.now; top = top; plot = None })) }
 {
-    push_name(text, name, top)?;
-    Ok(())
+    let y = top + 13;
+    write!(text, "<text x=\"10\" y=\"{y}\">{name}</text>\n")
 }
 
 /// Adds the name of a row, and its bars in an area of their own, which stays open.
@@ -97,7 +93,7 @@ fn push_row(
     colour: &str,
     bars: &[Bar],
 ) -> Result<(), AllocError>
-    requires { top ≤ 10_000 }
+    requires { top ≤ 100_000 }
     ensures { OnOk result (string_bytes text.new ≡ string_bytes text.old ++ row_text (record {
       name = name.now;
       top = top;
@@ -105,8 +101,14 @@ fn push_row(
     })) }
 {
     push_name(text, name, top)?;
-    push_area(text, top, minutes)?;
-    push_bars(text, colour, bars)
+    write!(
+        text,
+        "<svg x=\"256\" y=\"{top}\" width=\"840\" height=\"18\" viewBox=\"0 0 {minutes} 18\" \
+         preserveAspectRatio=\"none\"><path class=\"bars\" stroke=\"{colour}\" stroke-width=\"10\" d=\""
+    )?;
+    push_path(text, bars)?;
+    text.push_str("\"/>")?;
+    Ok(())
 }
 
 impl Svg {
@@ -120,39 +122,18 @@ impl Svg {
     }
 
     /// What has been written.
-    pub(crate) fn as_str(&self) -> &str
-        ensures { result.now ≡ self.now }
-    {
-        self.text.as_str()
-    }
-
-    /// What has been written.
     pub(crate) fn into_string(self) -> String
         ensures { string_bytes result ≡ self }
     {
         self.text
     }
 
-    /// Adds a text that has no bars.
+    /// Adds a text, but for one in which bars begin.
     #[tactic(auto, using(crate::proofs::Plain::draws_append))]
     pub(crate) fn push_str(&mut self, text: &str) -> Result<(), AllocError>
-        requires { has_no_bars text.now ≡ true }
-        ensures keeps { OnOk result (KeepsBars self.old self.new) }
-        ensures value { OnOk result (self.new ≡ self.old ++ text.now) }
+        ensures { OnOk result (KeepsBars self.old self.new) }
     {
-        self.text.push_str(text)?;
-        Ok(())
-    }
-
-    /// What `write!` calls, with a text that has no bars.
-    #[tactic(auto, using(crate::proofs::Plain::draws_append))]
-    pub(crate) fn write_fmt<D: Display + Drop>(&mut self, value: D) -> Result<(), AllocError>
-        requires { IsPlain (D.output value) }
-        ensures keeps { OnOk result (KeepsBars self.old self.new) }
-        ensures value { OnOk result (IfSome (D.output value)
-            (λ text. self.new ≡ self.old ++ text)) }
-    {
-        self.text.write_fmt(value)?;
+        self.text.push_str(plain(text))?;
         Ok(())
     }
 
@@ -162,38 +143,18 @@ impl Svg {
         ensures { OnOk result ((rows : List Row) → has_no_bars self.old ≡ true
             → Draws drawn.now rows → Draws self.new rows) }
     {
-        self.text.push_str(drawn.as_str())?;
-        Ok(())
-    }
-
-    /// Adds a character other than `<`.
-    #[tactic(auto, using(crate::proofs::Plain::draws_append, crate::proofs::Plain::no_bars_character))]
-    pub(crate) fn push(&mut self, character: char) -> Result<(), AllocError>
-        requires { character ≢ 60 }
-        ensures keeps { OnOk result (KeepsBars self.old self.new) }
-        ensures longer { OnOk result (IsLonger self.old self.new) }
-    {
-        self.text.push(character)?;
-        Ok(())
-    }
-
-    /// Adds lines along a row that are no bars of it.
-    #[tactic(auto, using(crate::proofs::Plain::draws_append, crate::proofs::Plain::no_bars_lines))]
-    pub(crate) fn push_path(&mut self, bars: &[Bar]) -> Result<(), AllocError>
-        ensures { OnOk result (KeepsBars self.old self.new) }
-    {
-        push_path(&mut self.text, bars)?;
+        self.text.push_str(drawn.text.as_str())?;
         Ok(())
     }
 
     /// Adds the name of a row that has no bars.
     #[tactic(auto, using(crate::proofs::Plain::draws_row))]
     pub(crate) fn push_name(&mut self, name: &str, top: u32) -> Result<(), AllocError>
-        requires { top ≤ 10_000 }
-        ensures { OnOk result (AddsRows
-            (record { name = name.now; top = top; plot = None } ∷ []) self.old self.new) }
+        requires { top ≤ 100_000 }
+        ensures { OnOk result (AddsRow
+            (record { name = name.now; top = top; plot = None }) self.old self.new) }
     {
-        push_alone(&mut self.text, name, top)?;
+        push_name(&mut self.text, name, top)?;
         Ok(())
     }
 
@@ -207,12 +168,12 @@ impl Svg {
         colour: &str,
         bars: &[Bar],
     ) -> Result<(), AllocError>
-        requires { top ≤ 10_000 }
-        ensures { OnOk result (AddsRows (record {
+        requires { top ≤ 100_000 }
+        ensures { OnOk result (AddsRow (record {
           name = name.now;
           top = top;
           plot = Some (record { minutes = minutes; colour = colour.now; bars = bars.now });
-        } ∷ []) self.old self.new) }
+        }) self.old self.new) }
     {
         push_row(&mut self.text, name, top, minutes, colour, bars)?;
         Ok(())

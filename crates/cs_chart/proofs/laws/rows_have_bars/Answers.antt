@@ -1,5 +1,5 @@
 use Rattle.cs_chart.proofs.Begun.{counted}
 use Rattle.cs_chart.proofs.laws.rows_have_bars.Goals as goal
 
-pub returns-clause-bars : goal.returns-clause-bars
-returns-clause-bars c = counted
+pub returns : goal.returns
+returns c = counted

@@ -8,9 +8,9 @@ use Rattle.cs_chart.proofs.row.plan_rows.Given as goal
 
 abbrev pub invariant-loop-place : goal.invariant-loop-place
 invariant-loop-place l = map shown_of l.rows.items
-    ≡ map (λ j. shown_command (job_at l.plan j).max (job_at l.plan j).group (command_of l.plan j)) (below l.place)
+    ≡ map (λ j. shown_command (job_at l.plan j).max (command_of l.plan j)) (below l.place)
 
 abbrev pub invariant-loop-place-2 : goal.invariant-loop-place-2
 invariant-loop-place-2 l = map shown_of l.rows.items
-    ≡ map (λ j. shown_command (job_at l.plan j).max (job_at l.plan j).group (command_of l.plan j)) (below (crons l.plan))
-    ++ map (λ j. shown_anacron (terms_at l.plan (crons l.plan + j)) (job_at l.plan (crons l.plan + j)).group) (below l.place)
+    ≡ map (λ j. shown_command (job_at l.plan j).max (command_of l.plan j)) (below (crons l.plan))
+    ++ map (λ j. shown_anacron (terms_at l.plan (crons l.plan + j))) (below l.place)

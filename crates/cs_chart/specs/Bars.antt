@@ -57,8 +57,6 @@ unfoldable pub is_held : Days → Job Kind → ℕ → Bool
 is_held days job minute =
     nat_lt minute (MINUTES_OF_DAY * days.days) && is_occupied job days.first minute
 
--- ---- bars as a picture shows them
-
 -- the minute is between two that are held, and fewer than `gap` are between these
 pub record IsInGap (held : ℕ → Bool) (gap minute : ℕ) : Type 0 where
   pub before : ℕ

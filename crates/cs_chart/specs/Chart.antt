@@ -14,8 +14,6 @@ use Rattle.cs_chart.specs.declared.row.Terms.{Terms}
 use Rattle.cs_chart.specs.Bars.{AreBarsOf, Days, is_held}
 use Rattle.cs_chart.specs.Picture.{Draws, Plot, Row, has_no_bars}
 
--- ---- the jobs
-
 -- how the name of a job begins, and its windows, unless it is started at reboot
 pub record ShownJob : Type 0 where
   pub name : List ℕ
@@ -58,8 +56,6 @@ abbrev pub jobs_of_plan : Declared → List ShownJob
 jobs_of_plan d =
     map (λ j. shown_command (job_at d j).max (command_of d j)) (below (crons d))
     ++ map (λ j. shown_anacron (terms_at d (crons d + j))) (below (length d.anacrontab.lines))
-
--- ---- the picture
 
 -- the bars are those of the job's windows; gaps of fewer minutes than two for each day may be closed
 pub record ArePlotted (days : Days) (job : Job Kind) (plot : Plot) : Type 0 where

@@ -39,8 +39,6 @@ unfoldable pub row_text : Row → List ℕ
 row_text row = codes "<text x=\"10\" y=\"" ++ (decimal (row.top + 13)
     ++ (codes "\">" ++ (row.name ++ (codes "</text>\n" ++ plot_text row.top row.plot))))
 
--- ---- the whole text
-
 -- the texts are the same as far as both go
 abbrev pub agree : List ℕ → List ℕ → Bool
 agree [] tag = true

@@ -4,7 +4,7 @@ use Rattle.std.proofs.lemmas.Bool.Decides.{Decides-eqb}
 use Rattle.std.proofs.lemmas.Slice.Eq.{starts_is}
 use Rattle.std.proofs.lemmas.List.{length-append}
 use Rattle.std.specs.List.{starts_with}
-use Rattle.cs_draft.specs.Paths.{is_below}
+use Rattle.cs_draft.specs.Locks.{is_below}
 
 pub is_longer : (folder path : List ℕ) → is_below folder path ≡ true → length folder ≤ length path
 is_longer folder path is =

@@ -1,11 +1,5 @@
 pub mod Named
 pub mod Words
-pub mod Fronts
-pub mod Paths
 pub mod Locks
-pub mod Durations
 pub mod Timeouts
-pub mod Locking
-pub mod Notices
 pub mod Draft
-pub mod Drawing

@@ -1,17 +1,56 @@
 -- Which lock a command holds as long as it runs: that of a plain call of flock(1), such as
 -- `A=b [ -x /bin/c ] && nice -n 5 flock -n /run/d c --all "e f" >>/var/log/c 2>&1`.
-use Rattle.std.specs.Prelude.{ℕ, zero, suc, List, [], ◌∷◌, length, drop, codes, bytes_eq, Option, None, Some, is_none, is_some, option_map, Bool, true, false, not, ◌&&◌, ◌||◌, ◌==◌, if◌then◌else◌}
+use Rattle.std.specs.Prelude.{ℕ, List, [], ◌∷◌, ◌++◌, drop, codes, Option, None, Some, is_none, Bool, not, ◌&&◌, ◌||◌, ◌==◌, if◌then◌else◌, zero, suc, length, bytes_eq, is_some, option_map, true, false, ◌≡◌}
+use Rattle.std.specs.List.{count_by, slice_split, starts_with}
 use Rattle.cs_table.specs.SettingReading.{◌>>=◌}
+use Rattle.cs_json.specs.Shape.{is_among}
 use Rattle.cs_table.specs.Text.{after, begins_with, is_blank, is_nothing}
 use Rattle.cs_crontab.specs.Command.{parts_from, pieces_of}
 use Rattle.cs_history.specs.declared.mode.Mode.{Mode}
 use Rattle.cs_history.specs.declared.mode.Mode.TheVariants as modes
-use Rattle.cs_json.specs.Shape.{is_among}
-use Rattle.cs_draft.specs.Fronts.{behind_front}
-use Rattle.cs_draft.specs.Named.{count_of}
-use Rattle.cs_draft.specs.Paths.{common_path, has_one_place, is_below, is_file, real_path}
-use Rattle.cs_draft.specs.Words.{behind_all, behind_one, behind_plain, behind_this, behind_word, first_word, onward, word_at}
+use Rattle.cs_draft.specs.Words.{behind_front, behind_all, behind_one, behind_plain, behind_this, behind_word, first_word, onward, word_at}
+use Rattle.cs_draft.specs.Named.{count_of, names_lock}
 use Rattle.cs_draft.specs.declared.named.Kind.TheVariants.{Locks, Leaves}
+use Rattle.cs_draft.specs.declared.lock.Lock.{Lock}
+use Rattle.cs_draft.specs.declared.lock.Lock.TheVariants.{Absent, Of, Unread}
+
+-- ---- the path of a lock file: which file it is, and how often it stands in a text
+
+abbrev pub is_below : List ℕ → List ℕ → Bool
+is_below folder path = starts_with (λ a b. a == b) path folder
+
+-- a part of a path that has no name, or doesn't lead on
+abbrev pub is_off : List ℕ → Bool
+is_off part = is_among ([] ∷ codes "." ∷ codes ".." ∷ []) part
+
+-- Only before its first slash a part of the path has no name, and it isn't below /proc or /dev,
+-- where it may be another file for each process.
+unfoldable pub is_file : List ℕ → Bool
+is_file path = is_below (codes "/") path && (count_by is_off (slice_split (λ b. b == 47) path) == 1
+    && (not (is_below (codes "/proc/") path) && not (is_below (codes "/dev/") path)))
+
+-- /var/run is /run, and /var/lock is /run/lock
+unfoldable pub behind_var : List ℕ → List ℕ
+behind_var path = if is_below (codes "/var/run/") path || is_below (codes "/var/lock/") path
+    then drop 4 path else path
+
+unfoldable pub real_path : List ℕ → List ℕ
+real_path path = if is_below (codes "/var/lock/") path then codes "/run" ++ behind_var path
+    else behind_var path
+
+-- what all spellings of a path have
+unfoldable pub common_path : List ℕ → List ℕ
+common_path path = if is_below (codes "/run/lock/") (behind_var path) then drop 4 (behind_var path)
+    else behind_var path
+
+-- behind the first byte of the first place of a text in another one
+unfoldable pub behind_place : List ℕ → List ℕ → Option (List ℕ)
+behind_place part [] = None
+behind_place part (byte ∷ bytes) =
+    if is_below part (byte ∷ bytes) then Some bytes else behind_place part bytes
+
+abbrev pub has_one_place : List ℕ → List ℕ → Bool
+has_one_place part text = is_none (behind_place part text >>= behind_place part)
 
 -- ---- options of flock(1)
 
@@ -119,3 +158,11 @@ alone parts = if is_none parts.1 then Some parts.0 else None
 abbrev pub lock_of : List ℕ → Option (List ℕ × Mode)
 lock_of command = option_map (λ call. (real_path call.0.0, call.0.1))
     (alone (parts_from (pieces_of command)) >>= call_in)
+
+-- ---- what is answered where the lock of a command is asked for
+
+-- the lock that it holds; or none, and whether it names a program that locks files
+abbrev pub IsLock : List ℕ → Lock → Type 0
+IsLock command Absent = (names_lock command ≡ false) × (lock_of command ≡ None)
+IsLock command (Of file mode) = lock_of command ≡ Some (file, mode)
+IsLock command Unread = (names_lock command ≡ true) × (lock_of command ≡ None)

@@ -1,17 +1,60 @@
 -- How long a command may run at most, as timeout(1) ends it: `timeout [-k time] time command`.
-use Rattle.std.specs.Prelude.{ℕ, List, [], ◌∷◌, codes, bytes_eq, ◌+◌, Option, None, Some, option_map, unwrap_or, Bool, false, not, ◌&&◌, ◌==◌, if◌then◌else◌}
+use Rattle.std.specs.Prelude.{ℕ, List, [], ◌∷◌, length, codes, bytes_eq, min, ◌+◌, ◌*◌, ◌^◌, ◌==◌, nat_le, Bool, false, ◌&&◌, if◌then◌else◌, Option, None, Some, option_map, unwrap_or, not}
 use Rattle.std.specs.Int.{div_ceil}
+use Rattle.cs_table.specs.Text.{after, decimal, front, is_digit}
+use Rattle.cs_json.specs.Shape.{is_among}
 use Rattle.std.specs.List.{list_any}
 use Rattle.cs_table.specs.SettingReading.{◌>>=◌}
 use Rattle.cs_history.specs.Plan.{waits_in}
 use Rattle.cs_decl.specs.Plain.{is_possible_max}
-use Rattle.cs_json.specs.Shape.{is_among}
-use Rattle.cs_draft.specs.Durations.{seconds_of}
-use Rattle.cs_draft.specs.Fronts.{behind_front}
+use Rattle.cs_draft.specs.Words.{behind_front, behind_all, behind_word, first_word}
 use Rattle.cs_draft.specs.Locks.{call_in, is_program}
 use Rattle.cs_draft.specs.Named.{count_of, names_lock}
-use Rattle.cs_draft.specs.Words.{behind_all, behind_word, first_word}
 use Rattle.cs_draft.specs.declared.named.Kind.TheVariants.{Leaves, Limits}
+
+-- ---- durations: a number, with a point or without, and a unit
+
+-- a million and more count as a million: a million seconds are more than eleven days
+abbrev pub MOST : ℕ
+MOST = 1_000_000
+
+-- the seconds of a unit: `s` or none, `m` for minutes, `h` for hours, `d` for days
+unfoldable pub unit_of : List ℕ → Option ℕ
+unit_of suffix =
+    if is_among ([] ∷ codes "s" ∷ []) suffix then Some 1
+    else if bytes_eq suffix (codes "m") then Some 60
+    else if bytes_eq suffix (codes "h") then Some 3_600
+    else if bytes_eq suffix (codes "d") then Some 86_400
+    else None
+
+abbrev pub begins_with_digit : List ℕ → Bool
+begins_with_digit [] = false
+begins_with_digit (byte ∷ bytes) = is_digit byte
+
+-- what is behind a point at the front
+abbrev pub behind_point : List ℕ → List ℕ
+behind_point [] = []
+behind_point (byte ∷ bytes) = if byte == 46 then bytes else byte ∷ bytes
+
+abbrev pub behind_whole : List ℕ → List ℕ
+behind_whole word = behind_point (after is_digit word)
+
+-- The seconds of a number of units, rounded up, where these are the digits before its point and
+-- behind it.
+abbrev pub seconds_in : List ℕ → List ℕ → ℕ → ℕ
+seconds_in whole decimals unit =
+    min MOST (min MOST (decimal whole) * unit
+    + div_ceil (min MOST (decimal decimals) * unit) (10 ^ length decimals))
+
+-- Digits, a point and at most six digits, or none of these, and a unit; none for another word.
+unfoldable pub seconds_of : List ℕ → Option ℕ
+seconds_of word =
+    if begins_with_digit word && nat_le (length (front is_digit (behind_whole word))) 6
+    then option_map (seconds_in (front is_digit word) (front is_digit (behind_whole word)))
+    (unit_of (after is_digit (behind_whole word)))
+    else None
+
+-- ---- the limit
 
 -- behind a signal that ends a program
 unfoldable pub behind_signal : List ℕ → List ℕ
@@ -75,12 +118,9 @@ limit_in text =
     else None
 
 -- .. if a job may have it
-abbrev pub declarable : Option ℕ → Option ℕ
-declarable None = None
-declarable (Some minutes) = if is_possible_max minutes then Some minutes else None
-
 abbrev pub time_limit : List ℕ → Option ℕ
-time_limit command = declarable (limit_in command)
+time_limit command =
+    limit_in command >>= λ minutes. if is_possible_max minutes then Some minutes else None
 
 -- the longest time of a run in minutes: the asked one, unless there is such a limit
 abbrev pub asked_for : ℕ → List ℕ → ℕ

@@ -1,9 +1,11 @@
 -- The words of a command that stand for themselves, for a shell (sh(1)) and for what it runs.
-use Rattle.std.specs.Prelude.{ℕ, zero, suc, List, [], ◌∷◌, length, codes, bytes_eq, Option, None, Some, option_map, Bool, not, ◌&&◌, ◌||◌, ◌==◌, if◌then◌else◌}
+use Rattle.std.specs.Prelude.{ℕ, zero, suc, List, [], ◌∷◌, length, codes, bytes_eq, Option, None, Some, option_map, Bool, not, ◌&&◌, ◌||◌, ◌==◌, if◌then◌else◌, false}
 use Rattle.std.specs.Char.{is_ascii_alphanumeric}
 use Rattle.std.specs.List.{list_all}
-use Rattle.cs_table.specs.Text.{after, front, is_blank, is_nothing, is_solid}
+use Rattle.cs_table.specs.Text.{after, front, is_blank, is_nothing, is_solid, begins_with, is_digit}
 use Rattle.cs_draft.specs.Named.{is_of}
+use Rattle.cs_table.specs.SettingReading.{◌>>=◌}
+use Rattle.cs_json.specs.Shape.{is_among}
 
 -- such a byte stands for itself (sh(1)), and between quotes a blank does too
 unfoldable pub is_plain_byte : ℕ → Bool
@@ -61,3 +63,41 @@ passed behind (suc most) text = onward (λ rest. passed behind most rest) text (
 
 abbrev pub behind_all : (List ℕ → Option (List ℕ)) → List ℕ → List ℕ
 behind_all behind text = passed behind (length text) text
+
+-- ---- what may stand before a call of flock(1) or timeout(1): settings, guards, nice(1), ionice(1)
+
+-- `NAME=`
+unfoldable pub is_setting : List ℕ → Bool
+is_setting [] = false
+is_setting (byte ∷ bytes) =
+    (is_name_byte byte && not (is_digit byte)) && begins_with 61 (after is_name_byte bytes)
+
+-- `[ WORDS ] &&`, `test WORDS &&` or `cd WORDS &&`
+unfoldable pub behind_guard : List ℕ → Option (List ℕ)
+behind_guard text =
+    if bytes_eq (first_word text) (codes "[")
+    then behind_this (codes "]") (behind_all behind_one (behind_word text))
+    >>= behind_this (codes "&&")
+    else if is_among (codes "test" ∷ codes "cd" ∷ []) (first_word text)
+    then behind_this (codes "&&") (behind_all behind_one (behind_word text))
+    else None
+
+-- an option, and the value of one that has it in the next word
+unfoldable pub behind_nice_option : List ℕ → Option (List ℕ)
+behind_nice_option text =
+    if not (begins_with 45 text) then None
+    else if is_among (codes "-n" ∷ codes "-c" ∷ codes "--adjustment" ∷ codes "--class"
+    ∷ codes "--classdata" ∷ []) (first_word text)
+    then behind_plain (behind_word text)
+    else behind_plain text
+
+abbrev pub is_nice : List ℕ → Bool
+is_nice word = is_among (codes "nice" ∷ codes "/bin/nice" ∷ codes "/usr/bin/nice"
+    ∷ codes "ionice" ∷ codes "/bin/ionice" ∷ codes "/usr/bin/ionice" ∷ []) word
+
+unfoldable pub behind_front : List ℕ → Option (List ℕ)
+behind_front text =
+    if is_setting (first_word text) then behind_plain text
+    else if is_nice (first_word text)
+    then Some (behind_all behind_nice_option (behind_word text))
+    else behind_guard text

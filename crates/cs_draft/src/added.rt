@@ -1,20 +1,80 @@
-//! Whether what old declarations don't tell is declared as in a draft.
-ghost use Rattle.std.specs.Prelude.{All, IfOk, IsTrue, option_map};
-ghost use Rattle.cs_draft.specs.Draft.{HasDefault, IsAsNew, IsDefaulted, IsNewJob, IsNewLine};
+//! Whether lines and jobs are declared as an update has them: what old declarations tell is kept, and
+//! what they don't is new.
+ghost use Rattle.std.specs.Prelude.{◌≡◌, ◌⊎◌, ◌≤◌, All, IfOk, IfSome, IsTrue, drop, false, length, option_map, true};
+ghost use Rattle.std.specs.List.{find};
+ghost use Rattle.cs_decl.specs.Join.{is_left_out, is_named};
+ghost use Rattle.cs_gap.specs.Gap.{AreApart, can_be_apart};
+ghost use Rattle.cs_gap.specs.declared.gap.TheConstants.{MAX_GAP};
+ghost use Rattle.cs_draft.specs.Draft.{HasDefault, IsAdded, IsLocked, IsNewEntry, IsNewGroup};
+ghost use Rattle.cs_draft.specs.Draft.{IsNewJobEntry, IsTimed, IsUpdatedJob, IsUpdatedLine, is_guess, parts_of};
+ghost use Rattle.cs_draft.specs.Locks.{lock_of};
 
-use crate::brief::is_drafted;
-use crate::kept::is_new;
+use crate::kept::{are_alike_jobs, is_kept, is_new};
 use crate::lock::own_lock;
-use crate::locked::has_lock;
-use crate::names::{entry_of, is_left_out, job_entry};
-use crate::terms::is_drafted_job;
+use crate::names::{entry_of, is_left_out, is_text, job_entry};
+use crate::parts::{has_parts, parts_of};
+use crate::timeouts::{asked_for, time_limit};
 use cs_anacrontab::Job;
 use cs_civil::Bytes;
-use cs_crontab::Line;
-use cs_decl::{CronEntry, DefaultEntry, Entries};
+use cs_crontab::{Line, When};
+use cs_decl::{AnacronEntry, CronEntry, DefaultEntry, Entries, GroupEntry, MAX_GROUPS};
+use cs_gap::{MAX_GAP, least_gap};
 use cs_gather::Place;
 use cs_history::Mode;
+use cs_schedule::Schedule;
 use std::alloc::{AllocError, Global};
+
+// ---- longest times
+
+/// The longest time of a new command in minutes: the asked one, or the time to its next due minute
+/// if that is shorter.
+#[tactic(auto, using(crate::proofs::Apart::still_apart))]
+pub(crate) fn brief_max(schedule: &Schedule, asked: u64) -> u64
+    ensures most { result ≤ asked }
+    ensures apart { asked ≤ MAX_GAP → AreApart schedule.now result }
+    ensures met { (result ≡ asked) ⊎ (can_be_apart schedule.now result ≡ true) }
+{
+    match least_gap(schedule) {
+        Some(gap) if u64::from(gap) < asked => u64::from(gap),
+        _ => asked,
+    }
+}
+
+/// Whether the longest time is brief, or the sum of those of parts of these names.
+fn is_timed(asked: u64, when: &When, names: &[Bytes], entry: &CronEntry) -> bool
+    ensures { IsTrue result → IsTimed asked when.now names.now entry.now }
+{
+    match when {
+        When::Reboot => true,
+        When::At(schedule) if names.is_empty() => {
+            asked <= u64::from(MAX_GAP)
+                && entry.parts.is_empty()
+                && entry.max == i128::from(brief_max(schedule, asked))
+        }
+        When::At(_) => has_parts(names, entry),
+    }
+}
+
+/// Whether that longest time is a guess: the command's timeout(1) doesn't set it.
+pub(crate) fn is_guess(command: &[u8], max: i128) -> bool
+    ensures { result ≡ is_guess command.now max }
+{
+    match time_limit(command) {
+        Some(limit) => max != i128::from(limit),
+        None => true,
+    }
+}
+
+// ---- lines
+
+/// Whether the entry has the times of a new command, weighs 1, and is marked as a guess if it is one.
+fn is_new_entry(asked: u64, names: &[Bytes], line: &Line, entry: &CronEntry) -> bool
+    ensures { IsTrue result → IsNewEntry asked names.now line.now entry.now }
+{
+    entry.weight == 1
+        && entry.guess == is_guess(line.command(), entry.max)
+        && is_timed(asked_for(asked, line.command()), line.when(), names, entry)
+}
 
 /// Whether the entry has the longest time and the weight of the default, and no parts.
 fn has_default(default: &DefaultEntry, entry: &CronEntry) -> bool
@@ -26,105 +86,156 @@ fn has_default(default: &DefaultEntry, entry: &CronEntry) -> bool
         && !entry.guess
 }
 
-/// Whether a new command with that lock has such an entry, and one without a lock has none.
-fn is_defaulted(
-    default: &DefaultEntry,
+/// Whether the entry takes the lock, or none if there can be no group of the file's name.
+fn is_locked(groups: &[GroupEntry], lock: &Option<(Bytes, Mode)>, entry: &CronEntry) -> bool
+    ensures { IsTrue result → IsLocked groups.now lock.now entry.now }
+{
+    let takes_none = entry.group.is_none() && entry.mode == Mode::Plain;
+    let Some((file, mode)) = lock else {
+        return takes_none;
+    };
+    if is_text(file.as_slice(), &entry.group) && entry.mode == *mode {
+        return true;
+    }
+    takes_none
+        && groups.len() == MAX_GROUPS
+        && groups
+            .iter()
+            .all(|group| group.name.as_slice() != file.as_slice())
+}
+
+/// Whether a new command has an entry that is new, or where there is a default, one that has that if
+/// the command takes a lock, and else none.
+fn is_added(
+    asked: u64,
+    names: &[Bytes],
+    line: &Line,
     lock: &Option<(Bytes, Mode)>,
+    default: &Option<DefaultEntry>,
     entry: Option<&CronEntry>,
 ) -> bool
-    ensures { IsTrue result
-        → IsDefaulted default.now lock.now (option_map (λ e. e.now) entry.entry) }
+    ensures { IsTrue result → IsAdded (IsNewEntry asked names.now line.now) lock.now default.now
+        (option_map (λ e. e.now) entry.entry) }
 {
-    match (lock, entry) {
-        (Some(_), Some(entry)) => has_default(default, entry),
-        (Some(_), None) => false,
-        (None, entry) => entry.is_none(),
+    match (default, entry) {
+        (None, Some(entry)) => is_new_entry(asked, names, line, entry),
+        (None, None) => false,
+        (Some(default), Some(entry)) => lock.is_some() && has_default(default, entry),
+        (Some(_), None) => lock.is_none(),
     }
 }
 
-/// Whether the line is declared as in a draft, or so where there is a default. The only error is want
-/// of memory.
-fn is_as_new(
-    alloc: Global,
-    asked: u64,
-    places: &[Place],
-    old: &Option<DefaultEntry>,
-    new: &Entries,
-    line: &Line,
-) -> Result<bool, AllocError>
-    ensures { IfOk result (λ b. IsTrue b → IsAsNew old.now asked places.now new.now line.now) }
-{
-    match old {
-        Some(default) => {
-            let lock = own_lock(alloc, line.command())?;
-            Ok(is_defaulted(default, &lock, entry_of(new, line)))
-        }
-        None => Ok(is_drafted(asked, places, new, line)),
-    }
-}
-
-/// Whether the line, if its command is new, is declared so, and has the lock of its command. The
-/// only error is want of memory.
+/// Whether the line of a new command has such an entry, which takes the lock of the command, and
+/// isn't left out.
 fn is_new_line(
     alloc: Global,
-    asked: u64,
     places: &[Place],
     old: &Entries,
+    max: u64,
     new: &Entries,
     line: &Line,
 ) -> Result<bool, AllocError>
-    ensures { IfOk result (λ b. IsTrue b → IsNewLine asked places.now old.now new.now line.now) }
+    ensures added { IfOk result (λ b. IsTrue b
+        → IsAdded (IsNewEntry max (parts_of places.now line.now) line.now)
+        (lock_of line.now.command) old.now.default
+        (find (λ e. is_named e.name line.now) new.now.cron)) }
+    ensures left_out { IfOk result (λ b. IsTrue b → is_left_out new.now line.now ≡ false) }
+    ensures locked { IfOk result (λ b. IsTrue b
+        → IfSome (find (λ e. is_named e.name line.now) new.now.cron)
+        (IsLocked new.now.groups (lock_of line.now.command))) }
 {
+    let lock = own_lock(alloc, line.command())?;
+    let names = parts_of(places, line);
+    let entry = entry_of(new, line);
+    if is_left_out(new, line) || !is_added(max, names, line, &lock, &old.default, entry) {
+        return Ok(false);
+    }
+    match entry {
+        Some(entry) => Ok(is_locked(new.groups.as_slice(), &lock, entry)),
+        None => Ok(true),
+    }
+}
+
+/// Whether what one old entry alone tells of the line is kept, or a new command is added.
+pub(crate) fn is_updated_line(
+    alloc: Global,
+    lines: &[Line],
+    places: &[Place],
+    old: &Entries,
+    max: u64,
+    new: &Entries,
+    line: &Line,
+) -> Result<bool, AllocError>
+    ensures { IfOk result (λ b. IsTrue b
+        → IsUpdatedLine lines.now places.now old.now max new.now line.now) }
+{
+    if !is_kept(false, places, lines, old, new, line)
+        || !is_kept(true, places, lines, old, new, line)
+    {
+        return Ok(false);
+    }
     if !is_new(old, line) {
         return Ok(true);
     }
-    if is_left_out(new, line) || !is_as_new(alloc, asked, places, &old.default, new, line)? {
-        return Ok(false);
-    }
-    has_lock(alloc, new, line)
+    is_new_line(alloc, places, old, max, new, line)
 }
 
-/// And so of all lines. The only error is want of memory.
-pub(crate) fn are_new_lines(
-    alloc: Global,
-    asked: u64,
-    places: &[Place],
-    old: &Entries,
-    new: &Entries,
-    lines: &[Line],
-) -> Result<bool, AllocError>
-    ensures { IfOk result
-        (λ b. IsTrue b → All (IsNewLine asked places.now old.now new.now) lines.now) }
+// ---- anacron jobs and groups
+
+/// Whether the entry has the asked time, or that of its command, the least weight and no group, and
+/// is marked as a guess if it is one.
+fn is_new_job_entry(asked: u64, command: &[u8], entry: &AnacronEntry) -> bool
+    ensures { IsTrue result → IsNewJobEntry asked command.now entry.now }
 {
-    for line in lines {
-        if !is_new_line(alloc, asked, places, old, new, line)? {
-            return Ok(false);
-        }
-    }
-    Ok(true)
+    entry.max == i128::from(asked_for(asked, command))
+        && entry.weight == 1
+        && entry.group.is_none()
+        && entry.guess == is_guess(command, entry.max)
 }
 
-/// Whether the anacron job, if it is new, is declared so.
-fn is_new_job(asked: u64, old: &Entries, new: &Entries, job: &Job) -> bool
-    ensures { IsTrue result → IsNewJob asked old.now new.now job.now }
+/// Whether the anacron job keeps what its old entry declares, or is added.
+pub(crate) fn is_updated_job(old: &Entries, max: u64, new: &Entries, job: &Job) -> bool
+    ensures { IsTrue result → IsUpdatedJob old.now max new.now job.now }
 {
-    if job_entry(old, job.identifier()).is_some() {
-        return true;
-    }
-    match old.default {
-        Some(_) => job_entry(new, job.identifier()).is_none(),
-        None => is_drafted_job(asked, new, job),
+    let entry = job_entry(new, job.identifier());
+    match (job_entry(old, job.identifier()), &old.default) {
+        (Some(before), _) => match entry {
+            Some(entry) => are_alike_jobs(before, entry),
+            None => false,
+        },
+        (None, Some(_)) => entry.is_none(),
+        (None, None) => match entry {
+            Some(entry) => is_new_job_entry(max, job.command(), entry),
+            None => false,
+        },
     }
 }
 
-/// And so of all anacron jobs.
-pub(crate) fn are_new_jobs(asked: u64, old: &Entries, new: &Entries, jobs: &[Job]) -> bool
-    ensures { IsTrue result → All (IsNewJob asked old.now new.now) jobs.now }
+/// Whether the group is exclusive, and that of an entry.
+fn is_new_group(entries: &Entries, group: &GroupEntry) -> bool
+    ensures { IsTrue result → IsNewGroup entries.now group.now }
 {
-    for job in jobs {
-        if !is_new_job(asked, old, new, job) {
+    let name = group.name.as_slice();
+    let cron = entries.cron.as_slice();
+    group.exclusive && cron.iter().any(|entry| is_text(name, &entry.group))
+}
+
+fn are_all_new(entries: &Entries, groups: &[GroupEntry]) -> bool
+    ensures { IsTrue result → All (IsNewGroup entries.now) groups.now }
+{
+    for group in groups {
+        if !is_new_group(entries, group) {
             return false;
         }
     }
     true
+}
+
+/// Whether each group that is added is.
+pub(crate) fn are_new_groups(old: &Entries, new: &Entries) -> bool
+    ensures { IsTrue result
+        → All (IsNewGroup new.now) (drop (length old.now.groups) new.now.groups) }
+{
+    let (count, groups) = (old.groups.len(), new.groups.as_slice());
+    count <= groups.len() && are_all_new(new, &groups[count..])
 }

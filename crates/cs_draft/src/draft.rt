@@ -1,16 +1,14 @@
 ghost use Rattle.std.specs.Prelude.{◌≡◌, IfOk};
 ghost use Rattle.cs_decl.specs.Plain.{is_possible_max};
-ghost use Rattle.cs_draft.specs.Drawing.{IsDrawing, IsUpdating};
+ghost use Rattle.cs_draft.specs.Draft.{IsDrawing, nothing};
 
-use crate::confirm::{is_draft, is_update};
-use crate::fresh::fresh_text;
+use crate::confirm::is_update;
 use crate::old::Old;
-use crate::told::Told;
 use crate::updated::updated_text;
 use cs_anacrontab::Anacrontab;
-use cs_civil::{Bytes, Sequence};
+use cs_civil::{Bytes, MINUTES_OF_DAY, Sequence};
 use cs_crontab::Crontab;
-use cs_decl::{Declarations, Entries, MAX_MINUTES};
+use cs_decl::{Declarations, Entries, MAX_CAPACITY, MAX_MINUTES};
 use cs_gather::Place;
 use cs_json::{Misread, parse};
 use std::alloc::{AllocError, Global};
@@ -24,28 +22,6 @@ pub struct Draft {
     /// without the lock that they take, and of an update what is new or gone. Each line begins with
     /// `warning: ` or `note: `, and ends with a newline.
     pub warnings: Bytes,
-    /// The numbers of the crontab's lines whose commands are told to be declared without a lock.
-    pub unlocked: Sequence<u32>,
-    /// The same of the anacrontab's lines.
-    pub unlocked_jobs: Sequence<u32>,
-}
-
-impl Draft {
-    fn new(text: Vec<u8>, told: Told) -> Draft
-        ensures { result ≡ record {
-          text = text.items;
-          warnings = told.text.items;
-          unlocked = told.unlocked.items;
-          unlocked_jobs = told.unlocked_jobs.items;
-        } }
-    {
-        Draft {
-            text: Bytes::from_vec(text),
-            warnings: Bytes::from_vec(told.text),
-            unlocked: Sequence::from_vec(told.unlocked),
-            unlocked_jobs: Sequence::from_vec(told.unlocked_jobs),
-        }
-    }
 }
 
 /// What is answered where declarations are to be drawn up.
@@ -66,6 +42,76 @@ fn is_possible_max(max: u64) -> bool
     max >= 1 && max <= u64::from(MAX_MINUTES)
 }
 
+/// What a draft updates.
+fn nothing(alloc: Global, offset: i16) -> Entries
+    ensures { result ≡ nothing offset }
+{
+    Entries {
+        capacity: i128::from(MAX_CAPACITY),
+        offset: i128::from(offset),
+        hours: (0, i128::from(MINUTES_OF_DAY)),
+        pass: None,
+        groups: Sequence::new(alloc),
+        cron: Sequence::new(alloc),
+        anacron: Sequence::new(alloc),
+        default: None,
+        left_out: Sequence::new(alloc),
+        doubled: None,
+    }
+}
+
+/// Its text, without an offset of 0.
+fn text_of_nothing(alloc: Global, offset: i16) -> Result<String, AllocError> {
+    if offset == 0 {
+        return format!(in alloc; "{{\"capacity\": {MAX_CAPACITY}}}");
+    }
+    format!(in alloc; "{{\"capacity\": {MAX_CAPACITY}, \"offset\": {offset}}}")
+}
+
+/// What is drawn up of old declarations in the bytes, and read back.
+fn drawn(
+    alloc: Global,
+    table: &Crontab,
+    jobs: &Anacrontab,
+    places: &[Place],
+    entries: &Entries,
+    bytes: &[u8],
+    max: u64,
+    is_draft: bool,
+) -> Result<Drawing, AllocError>
+    ensures { IfOk result (IsDrawing table.now jobs.now places.now entries.now max) }
+{
+    if !is_possible_max(max) {
+        return Ok(Drawing::BadMax);
+    }
+    let value = match parse(alloc, bytes) {
+        Ok(value) => value,
+        Err(Misread::Memory) => return Err(AllocError),
+        Err(Misread::Fault(_)) => return Ok(Drawing::NotConfirmed),
+    };
+    let old = Old {
+        value: &value,
+        entries,
+        is_draft,
+    };
+    let (text, told) = updated_text(alloc, table, jobs, places, old, max)?;
+    let text = Bytes::from_vec(text);
+    let warnings = Bytes::from_vec(told.text);
+    if is_update(
+        alloc,
+        table,
+        jobs,
+        places,
+        entries,
+        max,
+        text.as_slice(),
+        warnings.as_slice(),
+    )? {
+        return Ok(Drawing::Drawn(Draft { text, warnings }));
+    }
+    Ok(Drawing::NotConfirmed)
+}
+
 /// Declarations for the jobs of both tables, where every run takes at most `max` minutes and clocks
 /// are ahead of UTC by `offset` minutes.
 ///
@@ -74,12 +120,13 @@ fn is_possible_max(max: u64) -> bool
 /// that of timeout(1) is marked as a guess. The capacity is the greatest, and the catch-up hours
 /// are all. Where two lines have one command, their entries tell the schedule too. A command that
 /// has parts, as the places tell, has them in its entry: each has an equal share of the time to the
-/// next due minute, but at most `max` minutes and at least one, and the longest time is their sum. A command that is a plain call of flock(1), behind settings, guards
-/// and nice(1), has the group of the lock file, which is exclusive and has the file's name, and the
-/// mode that the options ask for: `try` for `-n`, `shared` for `-s`, else `wait`. Each other command
-/// that names a program that locks files has no lock, and a warning says how to declare one.
-/// `@reboot` lines are left out, each with a warning. What is drawn up was read back, compared with
-/// the commands and joined with the tables. The only error is want of memory.
+/// next due minute, but at most `max` minutes and at least one, and the longest time is their sum.
+/// A command that is a plain call of flock(1), behind settings, guards and nice(1), has the group of
+/// the lock file, which is exclusive and has the file's name, and the mode that the options ask for:
+/// `try` for `-n`, `shared` for `-s`, else `wait`. Each other command that names a program that locks
+/// files has no lock, and a warning says how to declare one. `@reboot` lines are left out, each with
+/// a warning. What is drawn up was read back, compared with the commands and joined with the tables.
+/// The only error is want of memory.
 pub fn draw_up(
     alloc: Global,
     table: &Crontab,
@@ -88,49 +135,11 @@ pub fn draw_up(
     max: u64,
     offset: i16,
 ) -> Result<Drawing, AllocError>
-    ensures { IfOk result (IsDrawing table.now jobs.now places.now max offset) }
+    ensures { IfOk result (IsDrawing table.now jobs.now places.now (nothing offset) max) }
 {
-    if !is_possible_max(max) {
-        return Ok(Drawing::BadMax);
-    }
-    let (text, told) = fresh_text(alloc, table, jobs, places, max, offset)?;
-    if is_draft(
-        alloc,
-        table,
-        jobs,
-        places,
-        max,
-        offset,
-        text.as_slice(),
-        &told,
-    )? {
-        return Ok(Drawing::Drawn(Draft::new(text, told)));
-    }
-    Ok(Drawing::NotConfirmed)
-}
-
-/// The text of an update of the declarations in the bytes, and what is told, or none where they
-/// aren't JSON.
-fn text_of(
-    alloc: Global,
-    table: &Crontab,
-    jobs: &Anacrontab,
-    places: &[Place],
-    entries: &Entries,
-    bytes: &[u8],
-    max: u64,
-) -> Result<Option<(Vec<u8>, Told)>, AllocError> {
-    match parse(alloc, bytes) {
-        Ok(value) => {
-            let old = Old {
-                value: &value,
-                entries,
-            };
-            Ok(Some(updated_text(alloc, table, jobs, places, old, max)?))
-        }
-        Err(Misread::Memory) => Err(AllocError),
-        Err(Misread::Fault(_)) => Ok(None),
-    }
+    let old = nothing(alloc, offset);
+    let text = text_of_nothing(alloc, offset)?;
+    drawn(alloc, table, jobs, places, &old, text.as_bytes(), max, true)
 }
 
 /// The old declarations, which were read from the bytes, for the jobs of both tables.
@@ -138,11 +147,13 @@ fn text_of(
 /// A command that an old entry tells keeps what that declares, wherever its line is now. Of several
 /// entries and lines of one command an entry that tells a schedule is that of the line with that
 /// schedule; of those that tell none, if there are as many of both, the first is that of the first,
-/// and so on; and one entry that is left is that of the one line that is left. Where its entry has parts, and the places tell others, those that stay keep their
-/// longest times, and the longest time is the new sum. An anacron job keeps what is declared of its
-/// identifier, and all else is as before. What is new is declared as by [`draw_up`]; where there is a
-/// default, only a new command with a lock has an entry, with the default's longest time. What is new or gone is told. What is drawn up was read back, compared with the old
-/// declarations and the commands, and joined with the tables. The only error is want of memory.
+/// and so on; and one entry that is left is that of the one line that is left. Where its entry has
+/// parts, and the places tell others, those that stay keep their longest times, and the longest time
+/// is the new sum. An anacron job keeps what is declared of its identifier, and all else is as
+/// before. What is new is declared as by [`draw_up`]; where there is a default, only a new command
+/// with a lock has an entry, with the default's longest time. What is new or gone is told. What is
+/// drawn up was read back, compared with the old declarations and the commands, and joined with the
+/// tables. The only error is want of memory.
 pub fn update(
     alloc: Global,
     table: &Crontab,
@@ -152,17 +163,7 @@ pub fn update(
     bytes: &[u8],
     max: u64,
 ) -> Result<Drawing, AllocError>
-    ensures { IfOk result (IsUpdating table.now jobs.now places.now old.now max) }
+    ensures { IfOk result (IsDrawing table.now jobs.now places.now old.now max) }
 {
-    if !is_possible_max(max) {
-        return Ok(Drawing::BadMax);
-    }
-    let old = old.entries();
-    let Some((text, told)) = text_of(alloc, table, jobs, places, old, bytes, max)? else {
-        return Ok(Drawing::NotConfirmed);
-    };
-    if is_update(alloc, table, jobs, places, old, max, text.as_slice(), &told)? {
-        return Ok(Drawing::Drawn(Draft::new(text, told)));
-    }
-    Ok(Drawing::NotConfirmed)
+    drawn(alloc, table, jobs, places, old.entries(), bytes, max, false)
 }

@@ -1,7 +1,7 @@
 //! Durations, as timeout(1) reads them: a number and a unit.
 ghost use Rattle.std.specs.Prelude.{◌≡◌, ◌≤◌, ◌*◌, ◌+◌, ◌^◌, IfSome, min};
 ghost use Rattle.std.specs.Int.{div_ceil};
-ghost use Rattle.cs_draft.specs.Durations.{MOST, begins_with_digit, behind_point, seconds_of, unit_of};
+ghost use Rattle.cs_draft.specs.Timeouts.{MOST, begins_with_digit, behind_point, seconds_of, unit_of};
 
 use cs_table::text::digits;
 
@@ -9,7 +9,7 @@ use cs_table::text::digits;
 const MOST: u64 = 1_000_000;
 
 /// The seconds of a unit.
-#[tactic(auto, unfolding(crate::specs::Durations::unit_of))]
+#[tactic(auto, unfolding(crate::specs::Timeouts::unit_of))]
 fn unit_of(suffix: &[u8]) -> Option<u32>
     ensures unit { result ≡ unit_of suffix.now }
     ensures small { IfSome result (λ unit. unit ≤ 86_400) }
@@ -74,7 +74,7 @@ fn seconds_in(whole: u32, decimals: u32, count: usize, unit: u32) -> u32
 
 /// The seconds of a duration, rounded up; none where the word is no number of at most six decimals
 /// with a unit.
-#[tactic(auto, unfolding(crate::specs::Durations::seconds_of))]
+#[tactic(auto, unfolding(crate::specs::Timeouts::seconds_of))]
 pub(crate) fn seconds_of(word: &[u8]) -> Option<u32>
     ensures { result ≡ seconds_of word.now }
 {

@@ -3,7 +3,7 @@
 ghost use Rattle.std.specs.Prelude.{◌≡◌, ◌∷◌, [], codes, option_map};
 ghost use Rattle.cs_json.specs.Shape.{is_among};
 ghost use Rattle.cs_table.specs.Text.{after, begins_with};
-ghost use Rattle.cs_draft.specs.Fronts.{behind_front, behind_guard, behind_nice_option, is_nice, is_setting};
+ghost use Rattle.cs_draft.specs.Words.{behind_front, behind_guard, behind_nice_option, is_nice, is_setting};
 ghost use Rattle.cs_draft.specs.Words.{behind_all, is_name_byte};
 
 use crate::words::{
@@ -36,7 +36,7 @@ fn begins_with_equals_sign(text: &[u8]) -> bool
 }
 
 /// Whether the word begins as `NAME=`.
-#[tactic(auto, unfolding(crate::specs::Fronts::is_setting))]
+#[tactic(auto, unfolding(crate::specs::Words::is_setting))]
 fn is_setting(word: &[u8]) -> bool
     ensures { result ≡ is_setting word.now }
 {
@@ -51,7 +51,7 @@ fn is_setting(word: &[u8]) -> bool
 }
 
 /// What stands behind `[ WORDS ] &&`, `test WORDS &&` or `cd WORDS &&`.
-#[tactic(auto, unfolding(crate::specs::Fronts::behind_guard))]
+#[tactic(auto, unfolding(crate::specs::Words::behind_guard))]
 fn behind_guard(text: &[u8]) -> Option<&[u8]>
     ensures { option_map (λ rest. rest.now) result ≡ behind_guard text.now }
 {
@@ -84,7 +84,7 @@ fn is_valued(word: &[u8]) -> bool
 }
 
 /// What stands behind an option of nice(1) or ionice(1), and its value.
-#[tactic(auto, unfolding(crate::specs::Fronts::behind_nice_option))]
+#[tactic(auto, unfolding(crate::specs::Words::behind_nice_option))]
 fn behind_nice_option(text: &[u8]) -> Option<&[u8]>
     ensures { option_map (λ rest. rest.now) result ≡ behind_nice_option text.now }
 {
@@ -127,7 +127,7 @@ fn is_nice(word: &[u8]) -> bool
 }
 
 /// What stands behind a setting, a guard, or a call of nice(1) or ionice(1).
-#[tactic(auto, unfolding(crate::specs::Fronts::behind_front))]
+#[tactic(auto, unfolding(crate::specs::Words::behind_front))]
 fn behind_front(text: &[u8]) -> Option<&[u8]>
     ensures { option_map (λ rest. rest.now) result ≡ behind_front text.now }
 {

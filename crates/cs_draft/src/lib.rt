@@ -3,18 +3,14 @@
 #![tactic(auto)]
 
 mod added;
-mod bound;
-mod brief;
 mod confirm;
 mod draft;
 mod durations;
 mod flock;
-mod fresh;
 mod fronts;
 mod kept;
 mod layout;
 mod lock;
-mod locked;
 mod named;
 mod names;
 mod old;
@@ -22,7 +18,6 @@ mod parts;
 mod paths;
 mod schedule_text;
 mod sheet;
-mod terms;
 mod timeouts;
 mod times;
 mod told;
@@ -30,6 +25,8 @@ mod updated;
 mod warned;
 mod words;
 
+pub use confirm::declared;
 pub use draft::{Draft, Drawing, draw_up, update};
 pub use lock::{Lock, lock_of};
+pub use parts::are_same_parts;
 pub use timeouts::{asked_for, time_limit};

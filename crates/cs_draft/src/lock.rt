@@ -1,9 +1,9 @@
 //! The lock that a command of a crontab holds.
-ghost use Rattle.std.specs.Prelude.{◌≡◌, IfOk, OnOk, option_map};
+ghost use Rattle.std.specs.Prelude.{◌≡◌, IfOk, option_map};
 ghost use Rattle.cs_crontab.specs.Command.{parts_from, pieces_of};
 ghost use Rattle.cs_draft.specs.Locks.{alone, call_in, lock_of};
-ghost use Rattle.cs_draft.specs.Paths.{real_path};
-ghost use Rattle.cs_draft.specs.Locking.{IsLock};
+ghost use Rattle.cs_draft.specs.Locks.{real_path};
+ghost use Rattle.cs_draft.specs.Locks.{IsLock};
 
 use crate::flock::call_in;
 use crate::named::names_lock;
@@ -24,8 +24,7 @@ pub enum Lock {
     Unread,
 }
 
-/// The text that the shell is given for the command, where that has no input. The only error is want
-/// of memory.
+/// The text that the shell is given for the command, where that has no input.
 fn shell_text(alloc: Global, command: &[u8]) -> Result<Option<Bytes>, AllocError>
     ensures { IfOk result (λ text. text ≡ alone (parts_from (pieces_of command.now))) }
 {
@@ -36,8 +35,8 @@ fn shell_text(alloc: Global, command: &[u8]) -> Result<Option<Bytes>, AllocError
     }
 }
 
-/// The one path of the file. The only error is want of memory.
-#[tactic(auto, unfolding(crate::specs::Paths::real_path))]
+/// The one path of the file.
+#[tactic(auto, unfolding(crate::specs::Locks::real_path))]
 fn real_path(alloc: Global, path: &[u8]) -> Result<Vec<u8>, AllocError>
     ensures { IfOk result (λ file. file.items ≡ real_path path.now) }
 {
@@ -49,7 +48,7 @@ fn real_path(alloc: Global, path: &[u8]) -> Result<Vec<u8>, AllocError>
     Ok(file)
 }
 
-/// The lock of a plain call in the text. The only error is want of memory.
+/// The lock of a plain call in the text.
 fn lock_in(alloc: Global, text: &[u8]) -> Result<Option<(Bytes, Mode)>, AllocError>
     ensures { IfOk result (λ lock. lock
         ≡ option_map (λ call. (real_path call.0.0, call.0.1)) (call_in text.now)) }
@@ -63,7 +62,7 @@ fn lock_in(alloc: Global, text: &[u8]) -> Result<Option<(Bytes, Mode)>, AllocErr
     }
 }
 
-/// The lock of the command. The only error is want of memory.
+/// The lock of the command.
 pub(crate) fn own_lock(alloc: Global, command: &[u8]) -> Result<Option<(Bytes, Mode)>, AllocError>
     ensures { IfOk result (λ lock. lock ≡ lock_of command.now) }
 {

@@ -1,13 +1,12 @@
-//! The lines and jobs that entries name.
-ghost use Rattle.std.specs.Prelude.{◌≡◌, ◌&&◌, bytes_eq, option_map};
+//! The lines and jobs that entries name, and whether they tell the commands of these.
+ghost use Rattle.std.specs.Prelude.{◌≡◌, All, IsTrue, option_map};
 ghost use Rattle.std.specs.List.{count_by, find};
 ghost use Rattle.cs_decl.specs.Join.{is_left_out, is_named, is_of_job, is_reboot};
-ghost use Rattle.cs_decl.specs.When.{is_told_when};
-ghost use Rattle.cs_draft.specs.Draft.{are_like, is_shared, is_text, tells, when_of};
+ghost use Rattle.cs_draft.specs.Draft.{IsBound, TellsLine, are_like, is_shared, is_text, tells};
 
 use cs_civil::Bytes;
 use cs_crontab::{Line, When};
-use cs_decl::{AnacronEntry, CronEntry, Entries, LineName, is_named, is_told_when};
+use cs_decl::{AnacronEntry, CronEntry, Entries, LineName, is_named, is_same_when, is_told_when};
 
 /// Whether the text is this one.
 pub(crate) fn is_text(text: &[u8], told: &Option<Bytes>) -> bool
@@ -27,35 +26,19 @@ pub(crate) fn tells(timed: bool, line: &Line, name: &LineName) -> bool
         && (!timed || name.when.is_some() && is_told_when(&name.when, line.when()))
 }
 
-/// The schedule of the line, if that is asked for.
-fn when_of(timed: bool, line: &Line) -> Option<When>
-    ensures { result ≡ when_of timed line.now }
+fn is_like(timed: bool, line: &Line, other: &Line) -> bool
+    ensures { result ≡ are_like timed line.now other.now }
 {
-    if !timed {
-        return None;
-    }
-    match line.when() {
-        When::At(schedule) => Some(When::At(schedule.copy())),
-        When::Reboot => Some(When::Reboot),
-    }
-}
-
-/// Whether another line has the line's command, and that schedule, if there is one.
-fn is_like(when: &Option<When>, line: &Line, other: &Line) -> bool
-    ensures { result ≡ (bytes_eq other.now.command line.now.command
-        && is_told_when when.now other.now.when) }
-{
-    other.command() == line.command() && is_told_when(when, other.when())
+    other.command() == line.command() && (!timed || is_same_when(line.when(), other.when()))
 }
 
 /// How many lines have the line's command; and its schedule, if that is asked for.
 pub(crate) fn count_like(timed: bool, lines: &[Line], line: &Line) -> usize
     ensures { result ≡ count_by (are_like timed line.now) lines.now }
 {
-    let when = when_of(timed, line);
     lines
         .iter()
-        .filter(|other| is_like(&when, line, other))
+        .filter(|other| is_like(timed, line, other))
         .count()
 }
 
@@ -105,4 +88,53 @@ pub(crate) fn is_reboot(line: &Line) -> bool
         When::At(_) => false,
         When::Reboot => true,
     }
+}
+
+// ---- whether entries are bound to the commands of their lines
+
+/// Whether the name, if it names the line, tells its command where that is UTF-8; and its schedule,
+/// where another line has that command.
+fn tells_line(lines: &[Line], name: &LineName, line: &Line) -> bool
+    ensures { IsTrue result → TellsLine lines.now name.now line.now }
+{
+    if !is_named(name, line) {
+        return true;
+    }
+    if str::from_utf8(line.command()).is_ok() && !is_text(line.command(), &name.command) {
+        return false;
+    }
+    name.when.is_some() || !is_shared(lines, line)
+}
+
+fn is_bound(lines: &[Line], name: &LineName) -> bool
+    ensures { IsTrue result → IsBound lines.now name.now }
+{
+    for line in lines {
+        if !tells_line(lines, name, line) {
+            return false;
+        }
+    }
+    true
+}
+
+pub(crate) fn are_bound(lines: &[Line], names: &[LineName]) -> bool
+    ensures { IsTrue result → All (IsBound lines.now) names.now }
+{
+    for name in names {
+        if !is_bound(lines, name) {
+            return false;
+        }
+    }
+    true
+}
+
+pub(crate) fn entries_are_bound(lines: &[Line], entries: &[CronEntry]) -> bool
+    ensures { IsTrue result → All (λ e. IsBound lines.now e.name) entries.now }
+{
+    for entry in entries {
+        if !is_bound(lines, &entry.name) {
+            return false;
+        }
+    }
+    true
 }

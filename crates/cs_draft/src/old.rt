@@ -13,6 +13,8 @@ use std::alloc::{AllocError, Global};
 pub(crate) struct Old<'v> {
     pub(crate) value: &'v Value,
     pub(crate) entries: &'v Entries,
+    /// Whether nothing was declared, so that nothing is told to be new.
+    pub(crate) is_draft: bool,
 }
 
 /// An entry that tells a command.
@@ -48,8 +50,14 @@ pub(crate) fn text_of<'v>(value: &'v Value, name: &str) -> Option<&'v str> {
     value.get(name)?.as_str()
 }
 
+/// The entry at that place in a list tells no command.
+fn unbound(alloc: Global, told: &mut Told, list: &str, place: usize) -> Result<(), AllocError> {
+    let number = place.saturating_add(1);
+    told.note(format!(in alloc; "{list} {number} is not kept: it tells no command")?)
+}
+
 /// The entries of the declarations that tell a command, in the order of the lines that they name.
-/// It is told of the others. The only error is want of memory.
+/// It is told of the others.
 pub(crate) fn bound_in<'v>(
     alloc: Global,
     told: &mut Told,
@@ -59,7 +67,7 @@ pub(crate) fn bound_in<'v>(
     let entries = old.entries.cron.as_slice().iter();
     for (i, (value, entry)) in items(old.value, "cron").iter().zip(entries).enumerate() {
         if entry.name.command.is_none() {
-            told.unbound(alloc, "cron", i.saturating_add(1))?;
+            unbound(alloc, told, "cron", i)?;
             continue;
         }
         bound.push(Bound {
@@ -73,7 +81,7 @@ pub(crate) fn bound_in<'v>(
     let names = old.entries.left_out.as_slice().iter();
     for (i, (value, name)) in items(old.value, "left_out").iter().zip(names).enumerate() {
         if name.command.is_none() {
-            told.unbound(alloc, "left_out", i.saturating_add(1))?;
+            unbound(alloc, told, "left_out", i)?;
             continue;
         }
         bound.push(Bound {
@@ -165,8 +173,8 @@ fn owner_of(
     if is_clear { owner } else { None }
 }
 
-/// The lines that have an entry: first those whose schedule an entry tells, then those of entries that
-/// tell none, and then those of entries that tell another one. The only error is want of memory.
+/// The lines that have an entry: first those whose schedule an entry tells, then those of entries
+/// that tell none, and then those of entries that tell another one.
 pub(crate) fn pairs_of(
     alloc: Global,
     bound: &[Bound<'_>],

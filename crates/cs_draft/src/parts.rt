@@ -1,12 +1,13 @@
 //! The parts of commands: those that a gathered table tells, and those that entries have.
-ghost use Rattle.std.specs.Prelude.{◌≡◌, ◌||◌, ◌+◌, ◌<◌, IfNone, IfSome, IsTrue, not, option_map, pos};
-ghost use Rattle.std.specs.List.{find, list_all, list_any};
+ghost use Rattle.std.specs.Prelude.{◌≡◌, [], All, IsTrue, bytes_eq, map, option_map, pos, unwrap_or};
+ghost use Rattle.std.specs.List.{find, list_any};
 ghost use Rattle.cs_decl.specs.Faults.{minutes_of};
-ghost use Rattle.cs_draft.specs.Draft.{AreRenewed, AreTooLong, KeepsTimes, all_are_parts, are_same, declarable, has_name};
-ghost use Rattle.cs_draft.specs.Draft.{have_changed, have_own, is_part, names_at, parts_of, parts_with, time_of};
+ghost use Rattle.cs_draft.specs.Draft.{HasParts, KeepsPart, KeepsTimes, all_are_parts, declarable};
+ghost use Rattle.cs_draft.specs.Draft.{have_own, is_part, parts_of};
 ghost use Rattle.cs_gather.specs.Places.{place_of};
 
 use cs_civil::Bytes;
+use cs_crontab::Line;
 use cs_decl::{CronEntry, MAX_MINUTES, PartEntry};
 use cs_gather::{Place, place_of};
 
@@ -19,7 +20,8 @@ pub(crate) fn is_placed(places: &[Place], number: u32) -> bool {
 
 /// The names of the parts that the place of a line tells.
 pub(crate) fn names_at(places: &[Place], number: u32) -> &[Bytes]
-    ensures { result.now ≡ names_at (place_of places.now number) }
+    ensures { result.now
+        ≡ unwrap_or (option_map (λ place. place.parts) (place_of places.now number)) [] }
 {
     match place_of(places, number) {
         Some(place) => place.parts.as_slice(),
@@ -29,7 +31,7 @@ pub(crate) fn names_at(places: &[Place], number: u32) -> &[Bytes]
 
 /// Whether the name is among them.
 pub(crate) fn has_name(name: &[u8], names: &[Bytes]) -> bool
-    ensures { result ≡ has_name name.now names.now }
+    ensures { result ≡ list_any (λ other. bytes_eq other name.now) names.now }
 {
     names.iter().any(|other| other.as_slice() == name)
 }
@@ -58,17 +60,17 @@ pub(crate) fn declarable(names: &[Bytes]) -> &[Bytes]
     &[]
 }
 
-/// The names of the parts of the line with that number.
-pub(crate) fn parts_of(places: &[Place], number: u32) -> &[Bytes]
-    ensures { result.now ≡ parts_of places.now number }
+/// The names of the parts of the line.
+pub(crate) fn parts_of<'p>(places: &'p [Place], line: &Line) -> &'p [Bytes]
+    ensures { result.now ≡ parts_of places.now line.now }
 {
-    declarable(names_at(places, number))
+    declarable(names_at(places, line.number()))
 }
 
 // ---- those of entries
 
 /// The first part of that name.
-fn part_of<'e>(parts: &'e [PartEntry], name: &[u8]) -> Option<&'e PartEntry>
+pub(crate) fn part_of<'e>(parts: &'e [PartEntry], name: &[u8]) -> Option<&'e PartEntry>
     ensures { option_map (λ p. p.now) result ≡ find (is_part name.now) parts.now }
 {
     parts.iter().find(|part| part.name.as_slice() == name)
@@ -88,132 +90,83 @@ pub(crate) fn all_are_parts(names: &[Bytes], parts: &[PartEntry]) -> bool
     names.iter().all(|name| has_part(parts, name.as_slice()))
 }
 
-fn all_have_names(names: &[Bytes], parts: &[PartEntry]) -> bool
-    ensures { result ≡ list_all (λ p. has_name p.name names.now) parts.now }
-{
-    parts
-        .iter()
-        .all(|part| has_name(part.name.as_slice(), names))
+/// Whether there are parts in the entry and in the table, and not of the same names.
+pub(crate) fn have_changed(names: &[Bytes], parts: &[PartEntry]) -> bool {
+    !names.is_empty()
+        && !parts.is_empty()
+        && !(all_are_parts(names, parts)
+            && parts
+                .iter()
+                .all(|part| has_name(part.name.as_slice(), names)))
 }
 
-/// Whether the names of the parts are these, in any order.
-fn are_same(names: &[Bytes], parts: &[PartEntry]) -> bool
-    ensures { result ≡ are_same names.now parts.now }
+fn is_named(name: &[u8], part: &PartEntry) -> bool
+    ensures { IsTrue result → part.now.name ≡ name.now }
 {
-    all_are_parts(names, parts) && all_have_names(names, parts)
+    part.name.as_slice() == name
 }
 
-/// Whether there are parts in the entry and in the table, and not the same ones.
-pub(crate) fn have_changed(names: &[Bytes], parts: &[PartEntry]) -> bool
-    ensures { result ≡ have_changed names.now parts.now }
-{
-    names.len() != 0 && parts.len() != 0 && !are_same(names, parts)
-}
-
-/// The longest time of a part: that of the old part of that name, or else a share.
-fn time_of(share: u64, old: &[PartEntry], name: &[u8]) -> i128
-    ensures { result ≡ time_of share (find (is_part name.now) old.now) }
-{
-    match part_of(old, name) {
-        Some(part) => part.max,
-        None => i128::from(share),
-    }
-}
-
-/// Whether the part has the name, and such a time.
-fn is_part_with(share: u64, old: &[PartEntry], name: &[u8], part: &PartEntry) -> bool
-    ensures name { IsTrue result → part.now.name ≡ name.now }
-    ensures max { IsTrue result → part.now.max ≡ time_of share (find (is_part name.now) old.now) }
-{
-    part.name.as_slice() == name && part.max == time_of(share, old, name)
-}
-
-/// Whether these are parts of those names with such times.
-pub(crate) fn are_parts_with(
-    share: u64,
-    old: &[PartEntry],
-    names: &[Bytes],
-    parts: &[PartEntry],
-) -> bool
-    ensures { IsTrue result → parts.now ≡ parts_with share old.now names.now }
+/// Whether the parts have these names, in this order.
+fn are_named(names: &[Bytes], parts: &[PartEntry]) -> bool
+    ensures { IsTrue result → map (λ p. p.name) parts.now ≡ names.now }
 {
     if parts.len() != names.len() {
         return false;
     }
     for i in 0..names.len() {
-        if !is_part_with(share, old, names[i].as_slice(), &parts[i]) {
+        if !is_named(names[i].as_slice(), &parts[i]) {
             return false;
         }
     }
     true
 }
 
-/// What is left of so many minutes beside parts of those names with such times; none where they are
-/// too few.
-pub(crate) fn minutes_left(
-    minutes: u128,
-    share: u64,
-    old: &[PartEntry],
-    names: &[Bytes],
-) -> Option<u128>
-    ensures left { IfSome result
-        (λ left. left + minutes_of (parts_with share old.now names.now) ≡ minutes) }
-    ensures past { IfNone result (minutes < minutes_of (parts_with share old.now names.now)) }
+/// Whether the longest time is the sum of those of the parts.
+fn is_sum(max: i128, parts: &[PartEntry]) -> bool
+    ensures { IsTrue result → max ≡ pos (minutes_of parts.now) }
 {
-    let mut left = minutes;
-    let mut rest = names;
-    while let [name, behind @ ..] = rest {
-        left = left.checked_sub(time_of(share, old, name.as_slice()).unsigned_abs())?;
-        rest = behind;
-    }
-    Some(left)
-}
-
-/// Whether parts of those names with such times take more minutes than a job may.
-fn are_too_long(share: u64, old: &[PartEntry], names: &[Bytes]) -> bool
-    ensures { IsTrue result → AreTooLong share old.now names.now }
-{
-    minutes_left(u128::from(MAX_MINUTES), share, old, names).is_none()
-}
-
-// ---- entries of an update
-
-/// The longest time of the first part that is new, or the asked one where none is.
-fn share_in(asked: u64, old: &[PartEntry], new: &[PartEntry]) -> u64 {
-    match new.iter().find(|part| !has_part(old, part.name.as_slice())) {
-        Some(part) => u64::try_from(part.max).unwrap_or(0),
-        None => asked,
-    }
-}
-
-/// Whether the longest time is the sum of parts of those names with such times.
-fn is_sum(max: i128, share: u64, old: &[PartEntry], names: &[Bytes]) -> bool
-    ensures { IsTrue result → max ≡ pos (minutes_of (parts_with share old.now names.now)) }
-{
-    max >= 0 && minutes_left(max.unsigned_abs(), share, old, names) == Some(0)
-}
-
-/// Whether the longest time is a guess where an entry gets parts of those names: it was one, or one of
-/// them is new.
-fn is_guess(names: &[Bytes], old: &CronEntry) -> bool
-    ensures { result ≡ (old.now.guess || not (all_are_parts names.now old.now.parts)) }
-{
-    old.guess || !all_are_parts(names, old.parts.as_slice())
-}
-
-/// Whether the new entry has the table's parts, as the old one has them where it does.
-fn are_renewed(asked: u64, names: &[Bytes], old: &CronEntry, new: &CronEntry) -> bool
-    ensures { IsTrue result → AreRenewed asked names.now old.now new.now }
-{
-    let (before, parts) = (old.parts.as_slice(), new.parts.as_slice());
-    let share = share_in(asked, before, parts);
-    if share > asked || !are_parts_with(share, before, names, parts) {
+    if max < 0 {
         return false;
     }
-    if !is_sum(new.max, share, before, names) || new.guess != is_guess(names, old) {
-        return false;
+    let mut left = max.unsigned_abs();
+    let mut rest = parts;
+    while let [part, others @ ..] = rest {
+        let Some(less) = left.checked_sub(part.max.unsigned_abs()) else {
+            return false;
+        };
+        left = less;
+        rest = others;
     }
-    share == asked || are_too_long(share + 1, before, names)
+    left == 0
+}
+
+/// Whether the entry has parts of these names, and its longest time is their sum.
+pub(crate) fn has_parts(names: &[Bytes], entry: &CronEntry) -> bool
+    ensures { IsTrue result → HasParts names.now entry.now }
+{
+    let parts = entry.parts.as_slice();
+    are_named(names, parts) && is_sum(entry.max, parts)
+}
+
+fn keeps_part(old: &[PartEntry], part: &PartEntry) -> bool
+    ensures { IsTrue result → KeepsPart old.now part.now }
+{
+    match part_of(old, part.name.as_slice()) {
+        Some(old) => part.max == old.max,
+        None => true,
+    }
+}
+
+/// Whether each part that was there has the longest time that it had.
+fn keep_parts(old: &[PartEntry], new: &[PartEntry]) -> bool
+    ensures { IsTrue result → All (KeepsPart old.now) new.now }
+{
+    for part in new {
+        if !keeps_part(old, part) {
+            return false;
+        }
+    }
+    true
 }
 
 fn is_same_part(old: &PartEntry, new: &PartEntry) -> bool
@@ -223,7 +176,7 @@ fn is_same_part(old: &PartEntry, new: &PartEntry) -> bool
 }
 
 /// Whether the parts are the same, in the same order.
-fn are_equal(old: &[PartEntry], new: &[PartEntry]) -> bool
+pub fn are_same_parts(old: &[PartEntry], new: &[PartEntry]) -> bool
     ensures { IsTrue result → new.now ≡ old.now }
 {
     if new.len() != old.len() {
@@ -237,26 +190,17 @@ fn are_equal(old: &[PartEntry], new: &[PartEntry]) -> bool
     true
 }
 
-fn have_same_times(old: &CronEntry, new: &CronEntry) -> bool
-    ensures max { IsTrue result → new.now.max ≡ old.now.max }
-    ensures parts { IsTrue result → new.now.parts ≡ old.now.parts }
-    ensures guess { IsTrue result → new.now.guess ≡ old.now.guess }
-{
-    old.max == new.max
-        && old.guess == new.guess
-        && are_equal(old.parts.as_slice(), new.parts.as_slice())
-}
-
 /// Whether the new entry has the times of the old one, but for parts that came or went.
-pub(crate) fn keeps_times(asked: u64, names: &[Bytes], old: &CronEntry, new: &CronEntry) -> bool
-    ensures { IsTrue result → KeepsTimes asked names.now old.now new.now }
+pub(crate) fn keeps_times(names: &[Bytes], old: &CronEntry, new: &CronEntry) -> bool
+    ensures { IsTrue result → KeepsTimes names.now old.now new.now }
 {
-    let have_changed = have_changed(names, old.parts.as_slice());
-    if have_changed && are_renewed(asked, names, old, new) {
+    let (before, parts) = (old.parts.as_slice(), new.parts.as_slice());
+    if old.max == new.max && old.guess == new.guess && are_same_parts(before, parts) {
         return true;
     }
-    if have_changed && !are_too_long(1, old.parts.as_slice(), names) {
-        return false;
-    }
-    have_same_times(old, new)
+    !names.is_empty()
+        && !before.is_empty()
+        && has_parts(names, new)
+        && keep_parts(before, parts)
+        && new.guess == (old.guess || !all_are_parts(names, before))
 }

@@ -1,8 +1,8 @@
 //! Which file the path of a lock file is, and how often it stands in a text.
 ghost use Rattle.std.specs.Prelude.{◌≡◌, ◌==◌, option_map};
 ghost use Rattle.std.specs.List.{count_by, slice_split};
-ghost use Rattle.cs_draft.specs.Paths.{behind_place, behind_var, common_path, has_one_place, is_below};
-ghost use Rattle.cs_draft.specs.Paths.{is_file, is_off};
+ghost use Rattle.cs_draft.specs.Locks.{behind_place, behind_var, common_path, has_one_place, is_below};
+ghost use Rattle.cs_draft.specs.Locks.{is_file, is_off};
 
 use cs_table::text::is_among;
 
@@ -29,7 +29,7 @@ pub(crate) fn is_below(folder: &[u8], path: &[u8]) -> bool
 }
 
 /// Whether the path is that of one file, whichever folder and process it is of.
-#[tactic(auto, unfolding(crate::specs::Paths::is_file))]
+#[tactic(auto, unfolding(crate::specs::Locks::is_file))]
 pub(crate) fn is_file(path: &[u8]) -> bool
     ensures { result ≡ is_file path.now }
 {
@@ -40,7 +40,7 @@ pub(crate) fn is_file(path: &[u8]) -> bool
 }
 
 /// The path without its `/var`, where it is below `/var/run` or `/var/lock`.
-#[tactic(auto, unfolding(crate::specs::Paths::behind_var), using(crate::proofs::Longer::is_longer))]
+#[tactic(auto, unfolding(crate::specs::Locks::behind_var), using(crate::proofs::Longer::is_longer))]
 pub(crate) fn behind_var(path: &[u8]) -> &[u8]
     ensures { result.now ≡ behind_var path.now }
 {
@@ -54,7 +54,7 @@ pub(crate) fn behind_var(path: &[u8]) -> &[u8]
 }
 
 /// What all spellings of a path have.
-#[tactic(auto, unfolding(crate::specs::Paths::common_path), using(crate::proofs::Longer::is_longer))]
+#[tactic(auto, unfolding(crate::specs::Locks::common_path), using(crate::proofs::Longer::is_longer))]
 pub(crate) fn common_path(path: &[u8]) -> &[u8]
     ensures { result.now ≡ common_path path.now }
 {
@@ -66,7 +66,7 @@ pub(crate) fn common_path(path: &[u8]) -> &[u8]
 }
 
 /// What stands behind the first byte of the first place of a text in another one.
-#[tactic(auto, unfolding(crate::specs::Paths::behind_place))]
+#[tactic(auto, unfolding(crate::specs::Locks::behind_place))]
 pub(crate) fn behind_place<'t>(part: &[u8], text: &'t [u8]) -> Option<&'t [u8]>
     ensures { option_map (λ rest. rest.now) result ≡ behind_place part.now text.now }
 {

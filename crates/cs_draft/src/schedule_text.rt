@@ -79,7 +79,7 @@ fn push_field(
     Ok(())
 }
 
-/// Five fields, or `@reboot`. The only error is want of memory.
+/// Five fields, or `@reboot`.
 pub(crate) fn schedule_text(alloc: Global, when: &When) -> Result<String, AllocError> {
     let When::At(schedule) = when else {
         return String::from_str(alloc, "@reboot");

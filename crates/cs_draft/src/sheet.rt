@@ -1,6 +1,6 @@
 //! Declarations as they are drawn up, job by job.
 
-use crate::layout::{Front, Listing, Object};
+use crate::layout::Object;
 use crate::lock::{Lock, lock_of};
 use crate::named::names_lock;
 use crate::names::{count_like, is_shared};
@@ -10,11 +10,12 @@ use crate::paths::behind_place;
 use crate::schedule_text::schedule_text;
 use crate::timeouts::{asked_for, is_killed, limit_in, time_limit};
 use crate::times::{add_max, add_new_times, add_old_times, add_renewed_times, room_for};
-use crate::told::{IN_ANACRONTAB, IN_CRONTAB, Told};
+use crate::told::{ANACRONTAB, CRONTAB, Told};
 use cs_anacrontab::Job;
 use cs_civil::Bytes;
 use cs_crontab::Line;
 use cs_decl::{MAX_GROUPS, MAX_MINUTES, PartEntry, is_told_when};
+use cs_diagnostics::shown;
 use cs_gather::Place;
 use cs_history::Mode;
 use cs_schedule::Schedule;
@@ -28,10 +29,10 @@ pub(crate) struct Sheet<'a> {
     places: &'a [Place],
     max: u64,
     names: Vec<String>,
-    groups: Listing,
-    cron: Listing,
-    anacron: Listing,
-    left_out: Listing,
+    groups: Vec<Object>,
+    cron: Vec<Object>,
+    anacron: Vec<Object>,
+    left_out: Vec<Object>,
     pub(crate) told: Told,
 }
 
@@ -59,12 +60,6 @@ fn mode_text(mode: Mode) -> &'static str {
     }
 }
 
-/// The mode that flock(1) of a command has, as a member of its entry, and the group.
-fn add_lock(alloc: Global, entry: &mut Object, file: &str, mode: Mode) -> Result<(), AllocError> {
-    entry.add_text(alloc, "group", file)?;
-    entry.add_text(alloc, "mode", mode_text(mode))
-}
-
 impl<'a> Sheet<'a> {
     /// No entries, for lines and their places and a longest time of new jobs in minutes.
     pub(crate) fn new(
@@ -78,15 +73,15 @@ impl<'a> Sheet<'a> {
             places,
             max,
             names: Vec::new(alloc),
-            groups: Listing::new(alloc),
-            cron: Listing::new(alloc),
-            anacron: Listing::new(alloc),
-            left_out: Listing::new(alloc),
+            groups: Vec::new(alloc),
+            cron: Vec::new(alloc),
+            anacron: Vec::new(alloc),
+            left_out: Vec::new(alloc),
             told: Told::new(alloc),
         }
     }
 
-    /// Adds a group as it was declared. The only error is want of memory.
+    /// Adds a group as it was declared.
     pub(crate) fn add_group(
         &mut self,
         alloc: Global,
@@ -95,12 +90,12 @@ impl<'a> Sheet<'a> {
     ) -> Result<(), AllocError> {
         let mut entry = Object::new(alloc);
         entry.add_members(alloc, group, ["name", "exclusive", "note"].as_slice())?;
-        self.groups.add(alloc, &entry)?;
+        self.groups.push(entry)?;
         self.names.push(name.to_string(alloc)?)?;
         Ok(())
     }
 
-    /// Whether the file has a group now. The only error is want of memory.
+    /// Whether the file has a group now.
     fn takes(&mut self, alloc: Global, file: &str) -> Result<bool, AllocError> {
         if self.names.iter().any(|name| name.as_str() == file) {
             return Ok(true);
@@ -111,13 +106,12 @@ impl<'a> Sheet<'a> {
         let mut entry = Object::new(alloc);
         entry.add_text(alloc, "name", file)?;
         entry.add("exclusive", "true")?;
-        self.groups.add(alloc, &entry)?;
+        self.groups.push(entry)?;
         self.names.push(file.to_string(alloc)?)?;
         Ok(true)
     }
 
-    /// Adds the members of the lock that a command takes, or tells why there are none. The only
-    /// error is want of memory.
+    /// Adds the members of the lock that a command takes, or tells why there are none.
     fn add_lock_of(
         &mut self,
         alloc: Global,
@@ -130,18 +124,18 @@ impl<'a> Sheet<'a> {
                 // plain words are ASCII
                 let file = str::from_utf8(file.as_slice()).unwrap_or("");
                 if self.takes(alloc, file)? {
-                    return add_lock(alloc, entry, file, mode);
+                    entry.add_text(alloc, "group", file)?;
+                    return entry.add_text(alloc, "mode", mode_text(mode));
                 }
                 "its lock file would be group 65 of at most 64"
             }
             Lock::Unread => UNREAD,
         };
-        self.told.unlocked(alloc, line.number(), reason)
+        self.told.unlocked(alloc, CRONTAB, line.number(), reason)
     }
 
-    /// An entry with the number of the line, if it is to be told: no old entry is that of the line, or
-    /// that told the number, or another line has the same command and schedule. The only error is want
-    /// of memory.
+    /// An entry with the number of the line, if it is to be told: no old entry is that of the line,
+    /// or that told the number, or another line has the same command and schedule.
     fn entry_of(
         &self,
         alloc: Global,
@@ -159,9 +153,9 @@ impl<'a> Sheet<'a> {
         Ok(entry)
     }
 
-    /// Adds the members that bind an entry to its line: the command, unless it isn't UTF-8, as no text
-    /// of JSON is like it then; and the schedule, if the old entry told one, or another line has the
-    /// command. The only error is want of memory.
+    /// Adds the members that bind an entry to its line: the command, unless it isn't UTF-8, as no
+    /// text of JSON is like it then; and the schedule, if the old entry told one, or another line
+    /// has the command.
     fn bind(
         &mut self,
         alloc: Global,
@@ -178,15 +172,28 @@ impl<'a> Sheet<'a> {
             if is_told_when(&old.name.when, line.when()) {
                 return entry.add_members(alloc, old.value, ["when"].as_slice());
             }
-            self.told.other_schedule(alloc, line.number())?;
+            let number = line.number();
+            self.told.note(format!(in alloc;
+                "line {number} has another schedule than its entry: the entry is kept"
+            )?)?;
         } else if !is_shared(self.lines, line) {
             return Ok(());
         }
         entry.add_text(alloc, "when", schedule_text(alloc, line.when())?.as_str())
     }
 
+    /// Warns of what the command on that line of that table has.
+    fn warn(
+        &mut self,
+        alloc: Global,
+        table: &str,
+        number: u32,
+        what: &str,
+    ) -> Result<(), AllocError> {
+        self.told.warn(format!(in alloc; "the command on line {number} of the {table} has {what}")?)
+    }
+
     /// The names of the parts of a line; none where declarations can't have them, which is told.
-    /// The only error is want of memory.
     fn parts_of(&mut self, alloc: Global, line: &Line) -> Result<&'a [Bytes], AllocError> {
         let names = names_at(self.places, line.number());
         let parts = declarable(names);
@@ -198,64 +205,58 @@ impl<'a> Sheet<'a> {
         } else {
             "two parts of one name: they aren't declared"
         };
-        self.told.warn(alloc, line.number(), IN_CRONTAB, reason)?;
+        self.warn(alloc, CRONTAB, line.number(), reason)?;
         Ok(parts)
     }
 
-    /// Tells what the longest time of a new command may not hold. The only error is want of memory.
+    /// Tells what the longest time of a new command may not hold.
     fn tell_times(
         &mut self,
         alloc: Global,
+        table: &str,
         number: u32,
-        behind: &'static str,
         command: &[u8],
     ) -> Result<(), AllocError> {
         if sleeps_at_random(command) {
             let what = "a random sleep, which its longest time has to include";
-            self.told.warn(alloc, number, behind, what)?;
+            self.warn(alloc, table, number, what)?;
         }
         match limit_in(command) {
             Some(limit) if limit > u64::from(MAX_MINUTES) => {
                 let what = "a timeout of more than 4320 minutes, which no longest time can be";
-                self.told.warn(alloc, number, behind, what)
+                self.warn(alloc, table, number, what)
             }
-            Some(_) if !is_killed(command) => self.told.unkilled(alloc, number, behind),
+            Some(_) if !is_killed(command) => self.told.note(format!(in alloc;
+                "the command on line {number} of the {table} has a timeout without -k: a program \
+                 that ignores its signal goes on"
+            )?),
             _ => Ok(()),
         }
     }
 
-    /// Adds the entry of a new command. The only error is want of memory.
+    /// Adds the entry of a new command, which has the default's times, where there is that.
     pub(crate) fn add_new(
         &mut self,
         alloc: Global,
         line: &'a Line,
         schedule: &Schedule,
+        default: Option<&Value>,
     ) -> Result<(), AllocError> {
         let mut entry = self.entry_of(alloc, line, None)?;
-        let names = self.parts_of(alloc, line)?;
-        add_new_times(alloc, &mut entry, line.command(), schedule, self.max, names)?;
-        self.tell_times(alloc, line.number(), IN_CRONTAB, line.command())?;
+        if let Some(default) = default {
+            entry.add_members(alloc, default, ["max", "weight"].as_slice())?;
+        } else {
+            let names = self.parts_of(alloc, line)?;
+            add_new_times(alloc, &mut entry, line.command(), schedule, self.max, names)?;
+            self.tell_times(alloc, CRONTAB, line.number(), line.command())?;
+        }
         self.add_lock_of(alloc, &mut entry, line)?;
         self.bind(alloc, &mut entry, line, None)?;
-        self.cron.add(alloc, &entry)
+        self.cron.push(entry)?;
+        Ok(())
     }
 
-    /// Adds the entry of a new command that takes a lock, where there is that default. The only error
-    /// is want of memory.
-    pub(crate) fn add_locked(
-        &mut self,
-        alloc: Global,
-        line: &'a Line,
-        default: &Value,
-    ) -> Result<(), AllocError> {
-        let mut entry = self.entry_of(alloc, line, None)?;
-        entry.add_members(alloc, default, ["max", "weight"].as_slice())?;
-        self.add_lock_of(alloc, &mut entry, line)?;
-        self.bind(alloc, &mut entry, line, None)?;
-        self.cron.add(alloc, &entry)
-    }
-
-    /// Tells which parts came and which ones went. The only error is want of memory.
+    /// Tells which parts came and which ones went.
     fn tell_parts(
         &mut self,
         alloc: Global,
@@ -265,29 +266,33 @@ impl<'a> Sheet<'a> {
     ) -> Result<(), AllocError> {
         for name in names {
             if !has_part(old, name.as_slice()) {
-                self.told.new_part(alloc, number, name.as_slice())?;
+                let name = shown(alloc, name.as_slice())?;
+                self.told
+                    .note(format!(in alloc; "line {number} has a new part: {name}")?)?;
             }
         }
         for part in old {
             if !has_name(part.name.as_slice(), names) {
-                self.told.gone_part(alloc, number, part.name.as_slice())?;
+                let name = shown(alloc, part.name.as_slice())?;
+                self.told.note(format!(in alloc; "line {number} has no part {name} any more")?)?;
             }
         }
         Ok(())
     }
 
     /// Tells that parts are kept of which the table tells nothing, if it tells where the line comes
-    /// from. The only error is want of memory.
+    /// from.
     fn tell_kept_parts(&mut self, alloc: Global, number: u32) -> Result<(), AllocError> {
         if is_placed(self.places, number) && names_at(self.places, number).is_empty() {
-            return self.told.no_parts(alloc, number);
+            return self.told.note(format!(in alloc;
+                "line {number} has no parts in the crontab: those of its entry are kept"
+            )?);
         }
         Ok(())
     }
 
     /// Adds the longest time and the parts of an old entry, which has some: those that the table
     /// has.
-    /// The only error is want of memory.
     fn add_parts(
         &mut self,
         alloc: Global,
@@ -301,17 +306,16 @@ impl<'a> Sheet<'a> {
             self.tell_kept_parts(alloc, number)?;
             return add_old_times(alloc, entry, old.value);
         }
-        let Some(share) = room_for(self.max, old.parts, names) else {
+        let Some(times) = room_for(self.max, old.parts, names) else {
             let reason = "more parts than a job may have minutes: its entry is kept";
-            self.told.warn(alloc, number, IN_CRONTAB, reason)?;
+            self.warn(alloc, CRONTAB, number, reason)?;
             return add_old_times(alloc, entry, old.value);
         };
         self.tell_parts(alloc, number, old.parts, names)?;
-        add_renewed_times(alloc, entry, share, old, names)
+        add_renewed_times(alloc, entry, times, old, names)
     }
 
-    /// Adds the entry of a command as it was declared, but for parts that came or went. The only error
-    /// is want of memory.
+    /// Adds the entry of a command as it was declared, but for parts that came or went.
     pub(crate) fn add_kept(
         &mut self,
         alloc: Global,
@@ -327,10 +331,11 @@ impl<'a> Sheet<'a> {
         let names = ["weight", "group", "mode", "note"];
         entry.add_members(alloc, old.value, names.as_slice())?;
         self.bind(alloc, &mut entry, line, Some(old))?;
-        self.cron.add(alloc, &entry)
+        self.cron.push(entry)?;
+        Ok(())
     }
 
-    /// Leaves a line out, with the note of an old entry. The only error is want of memory.
+    /// Leaves a line out, with the note of an old entry.
     pub(crate) fn leave_out(
         &mut self,
         alloc: Global,
@@ -342,29 +347,28 @@ impl<'a> Sheet<'a> {
             entry.add_members(alloc, old.value, ["note"].as_slice())?;
         }
         self.bind(alloc, &mut entry, line, old)?;
-        self.left_out.add(alloc, &entry)
+        self.left_out.push(entry)?;
+        Ok(())
     }
 
-    /// Tells that the command of a line without an entry may take a lock that isn't declared. The only
-    /// error is want of memory.
+    /// Tells that the command of a line without an entry may take a lock that isn't declared.
     pub(crate) fn tell_line(&mut self, alloc: Global, line: &Line) -> Result<(), AllocError> {
         if names_lock(line.command()) {
-            return self.told.unlocked(alloc, line.number(), UNREAD);
+            return self.told.unlocked(alloc, CRONTAB, line.number(), UNREAD);
         }
         Ok(())
     }
 
-    /// Tells that the command of an anacron job may take a lock that isn't declared. The only error is
-    /// want of memory.
+    /// Tells that the command of an anacron job may take a lock that isn't declared.
     pub(crate) fn tell_job(&mut self, alloc: Global, job: &Job) -> Result<(), AllocError> {
         if names_lock(job.command()) {
-            return self.told.unlocked_job(alloc, job.number());
+            let reason = "anacron jobs have no mode";
+            return self.told.unlocked(alloc, ANACRONTAB, job.number(), reason);
         }
         Ok(())
     }
 
-    /// Adds the entry of an anacron job: as it was declared, or that of a new one. The only error
-    /// is want of memory.
+    /// Adds the entry of an anacron job: as it was declared, or that of a new one.
     pub(crate) fn add_job(
         &mut self,
         alloc: Global,
@@ -383,27 +387,31 @@ impl<'a> Sheet<'a> {
                 let command = job.command();
                 let max = asked_for(self.max, command);
                 add_max(alloc, &mut entry, max, time_limit(command).is_none())?;
-                self.tell_times(alloc, job.number(), IN_ANACRONTAB, command)?;
+                self.tell_times(alloc, ANACRONTAB, job.number(), command)?;
                 self.tell_job(alloc, job)?;
             }
         }
-        self.anacron.add(alloc, &entry)
+        self.anacron.push(entry)?;
+        Ok(())
     }
 
-    /// The text of the declarations behind a front, and what is told. The only error is want of
-    /// memory.
+    /// The text of the declarations, of which these members come first, and what is told.
     pub(crate) fn into_text(
         self,
         alloc: Global,
-        front: &Front,
+        mut members: Object,
     ) -> Result<(Vec<u8>, Told), AllocError> {
-        let mut text = Vec::from_slice(alloc, b"{".as_slice())?;
-        text.extend_from_slice(front.as_bytes())?;
-        self.groups.push_to(&mut text, "groups")?;
-        self.cron.push_to(&mut text, "cron")?;
-        self.anacron.push_to(&mut text, "anacron")?;
-        self.left_out.push_to(&mut text, "left_out")?;
-        text.extend_from_slice(b"\n}\n")?;
-        Ok((text, self.told))
+        let lists = [
+            ("groups", self.groups.as_slice()),
+            ("cron", self.cron.as_slice()),
+            ("anacron", self.anacron.as_slice()),
+            ("left_out", self.left_out.as_slice()),
+        ];
+        for (name, list) in lists {
+            if !list.is_empty() {
+                members.add_list(alloc, name, list)?;
+            }
+        }
+        Ok((members.text(alloc)?.into_bytes(), self.told))
     }
 }

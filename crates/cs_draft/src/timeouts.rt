@@ -3,7 +3,7 @@ ghost use Rattle.std.specs.Prelude.{◌≡◌, ◌∷◌, [], ◌==◌, codes, o
 ghost use Rattle.std.specs.List.{list_any};
 ghost use Rattle.cs_json.specs.Shape.{is_among};
 ghost use Rattle.cs_draft.specs.Timeouts.{asked_for, behind_kill, behind_options, behind_signal};
-ghost use Rattle.cs_draft.specs.Timeouts.{declarable, is_kill, is_timeout, kill_at, limit_at, limit_for};
+ghost use Rattle.cs_draft.specs.Timeouts.{is_kill, is_timeout, kill_at, limit_at, limit_for};
 ghost use Rattle.cs_draft.specs.Timeouts.{limit_in, limit_of, run_in, time_limit};
 
 use crate::durations::seconds_of;
@@ -156,22 +156,15 @@ pub(crate) fn limit_in(text: &[u8]) -> Option<u64>
     }
 }
 
-/// The limit, if it may be declared.
-fn declarable(limit: Option<u64>) -> Option<u64>
-    ensures { result ≡ declarable limit }
-{
-    match limit {
-        Some(minutes) if minutes >= 1 && minutes <= u64::from(MAX_MINUTES) => Some(minutes),
-        _ => None,
-    }
-}
-
 /// Returns the limit in minutes, at most 4,320, that timeout(1) sets to a command as its last runner.
 /// `None` where it sets none that can be declared.
 pub fn time_limit(command: &[u8]) -> Option<u64>
     ensures { result ≡ time_limit command.now }
 {
-    declarable(limit_in(command))
+    match limit_in(command) {
+        Some(minutes) if minutes >= 1 && minutes <= u64::from(MAX_MINUTES) => Some(minutes),
+        _ => None,
+    }
 }
 
 /// The longest time of a run in minutes: the asked one, unless timeout(1) sets a limit.

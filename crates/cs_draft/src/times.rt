@@ -1,9 +1,9 @@
 //! The longest times of entries and of their parts, as they are laid out.
 
-use crate::brief::{brief_max, is_guess, share_of};
+use crate::added::{brief_max, is_guess};
 use crate::layout::Object;
 use crate::old::{Bound, items, text_of};
-use crate::parts::{all_are_parts, has_part, minutes_left};
+use crate::parts::{all_are_parts, part_of};
 use crate::timeouts::asked_for;
 use cs_civil::Bytes;
 use cs_decl::{MAX_MINUTES, PartEntry};
@@ -29,8 +29,7 @@ fn old_part(alloc: Global, old: &Value) -> Result<Object, AllocError> {
     Ok(part)
 }
 
-/// Adds the longest time of an entry in minutes, and whether it is a guess. The only error is want of
-/// memory.
+/// Adds the longest time of an entry in minutes, and whether it is a guess.
 pub(crate) fn add_max(
     alloc: Global,
     entry: &mut Object,
@@ -44,8 +43,17 @@ pub(crate) fn add_max(
     Ok(())
 }
 
-/// Adds the longest time of a new command in minutes, and its parts. The only error is want of
-/// memory.
+/// The longest time of each of so many parts of a new command in minutes: an equal share of a time
+/// that is brief, but at least one minute.
+fn share_of(schedule: &Schedule, asked: u64, count: u64) -> u64 {
+    let all = asked.saturating_mul(count).min(u64::from(MAX_MINUTES));
+    match brief_max(schedule, all).checked_div(count) {
+        Some(share) => share.max(1),
+        None => 1,
+    }
+}
+
+/// Adds the longest time of a new command in minutes, and its parts.
 pub(crate) fn add_new_times(
     alloc: Global,
     entry: &mut Object,
@@ -59,8 +67,9 @@ pub(crate) fn add_new_times(
         let max = brief_max(schedule, asked);
         return add_max(alloc, entry, max, is_guess(command, i128::from(max)));
     }
-    let share = share_of(schedule, asked, names.len());
-    let max = share.saturating_mul(names.len() as u64);
+    let count = names.len() as u64;
+    let share = share_of(schedule, asked, count);
+    let max = share.saturating_mul(count);
     add_max(alloc, entry, max, is_guess(command, i128::from(max)))?;
     let mut parts = Vec::new(alloc);
     for name in names {
@@ -69,7 +78,7 @@ pub(crate) fn add_new_times(
     entry.add_list(alloc, "parts", parts.as_slice())
 }
 
-/// Adds the longest time of an old entry, and its parts. The only error is want of memory.
+/// Adds the longest time of an old entry, and its parts.
 pub(crate) fn add_old_times(
     alloc: Global,
     entry: &mut Object,
@@ -86,19 +95,24 @@ pub(crate) fn add_old_times(
     entry.add_list(alloc, "parts", parts.as_slice())
 }
 
-/// The longest time of the new ones among parts of those names: the asked one, or as many minutes
-/// as there is room for; none where there is no room for a minute of each.
-pub(crate) fn room_for(asked: u64, old: &[PartEntry], names: &[Bytes]) -> Option<u64> {
-    let left = minutes_left(MOST, 0, old, names)?;
-    let new = names
-        .iter()
-        .filter(|name| !has_part(old, name.as_slice()))
-        .count() as u128;
-    let share = match left.checked_div(new) {
-        Some(share) => share.min(u128::from(asked)),
-        None => u128::from(asked),
-    };
-    if share == 0 { None } else { Some(share as u64) }
+/// The longest time of the new ones among parts of those names, which is the asked one or as many
+/// minutes as there is room for, and that of all; none where there is no room for a minute of each.
+pub(crate) fn room_for(asked: u64, old: &[PartEntry], names: &[Bytes]) -> Option<(u64, u64)> {
+    let (mut kept, mut new) = (0u128, 0u128);
+    for name in names {
+        match part_of(old, name.as_slice()) {
+            Some(part) => kept = kept.saturating_add(part.max.unsigned_abs()),
+            None => new = new.saturating_add(1),
+        }
+    }
+    let most = u128::from(asked);
+    let room = MOST.checked_sub(kept)?;
+    let share = room.checked_div(new).unwrap_or(most).min(most);
+    if share == 0 {
+        return None;
+    }
+    let all = kept.saturating_add(share.saturating_mul(new)).min(MOST);
+    Some((share as u64, all as u64))
 }
 
 /// The old part of that name, as its JSON has it.
@@ -107,17 +121,16 @@ fn part_in<'v>(old: &'v Value, name: &[u8]) -> Option<&'v Value> {
 }
 
 /// Adds parts of those names, of which the new ones have that longest time and the others are as in
-/// an old entry, and their sum. The only error is want of memory.
+/// an old entry, and that of all.
 pub(crate) fn add_renewed_times(
     alloc: Global,
     entry: &mut Object,
-    share: u64,
+    (share, all): (u64, u64),
     old: Bound<'_>,
     names: &[Bytes],
 ) -> Result<(), AllocError> {
-    let left = minutes_left(MOST, share, old.parts, names).unwrap_or(0);
     let is_guess = old.is_guess || !all_are_parts(names, old.parts);
-    add_max(alloc, entry, MOST.saturating_sub(left) as u64, is_guess)?;
+    add_max(alloc, entry, all, is_guess)?;
     let mut parts = Vec::new(alloc);
     for name in names {
         let name = name.as_slice();

@@ -1,12 +1,13 @@
-//! The draft of tables of which something is declared already.
+//! The declarations of tables, beside those that there are already.
 
-use crate::layout::{Front, Object, value_text};
+use crate::layout::Object;
 use crate::lock::own_lock;
 use crate::old::{Bound, Old, Pair, bound_in, items, pairs_of, text_of};
 use crate::sheet::Sheet;
 use crate::told::Told;
 use cs_anacrontab::{Anacrontab, Job};
 use cs_crontab::{Crontab, Line, When};
+use cs_diagnostics::shown;
 use cs_gather::Place;
 use cs_schedule::Schedule;
 use serde_json::Value;
@@ -32,6 +33,7 @@ struct Update<'a> {
     default: Option<&'a Value>,
     /// How many jobs have the default.
     defaulted: usize,
+    is_draft: bool,
 }
 
 impl<'a> Update<'a> {
@@ -52,6 +54,7 @@ impl<'a> Update<'a> {
             pairs,
             default: old.value.get("default"),
             defaulted: 0,
+            is_draft: old.is_draft,
         })
     }
 
@@ -61,55 +64,41 @@ impl<'a> Update<'a> {
         self.bound.get(pair.entry).copied()
     }
 
-    /// Adds a line that has an old entry as that has it.
-    fn add_kept(&mut self, alloc: Global, line: &Line, old: Bound<'a>) -> Result<(), AllocError> {
-        if old.is_left_out {
-            self.sheet.told.left_out(alloc, line.number())?;
-            return self.sheet.leave_out(alloc, line, Some(old));
-        }
-        self.sheet.add_kept(alloc, line, old)
-    }
-
-    /// Adds a line that has none.
+    /// Adds a line that has none. Where there is a default, it has no entry, unless its command takes
+    /// a lock.
     fn add_new(
         &mut self,
         alloc: Global,
         line: &'a Line,
         schedule: &Schedule,
     ) -> Result<(), AllocError> {
-        if let Some(default) = self.default {
-            return self.add_defaulted(alloc, line, default);
+        if self.default.is_some() && own_lock(alloc, line.command())?.is_none() {
+            self.defaulted = self.defaulted.saturating_add(1);
+            return self.sheet.tell_line(alloc, line);
         }
-        self.sheet
-            .told
-            .new_line(alloc, line.number(), line.command())?;
-        self.sheet.add_new(alloc, line, schedule)
-    }
-
-    /// The same where there is a default: the line has no entry, unless its command takes a lock.
-    fn add_defaulted(
-        &mut self,
-        alloc: Global,
-        line: &'a Line,
-        default: &Value,
-    ) -> Result<(), AllocError> {
-        if own_lock(alloc, line.command())?.is_some() {
-            self.sheet
-                .told
-                .new_line(alloc, line.number(), line.command())?;
-            return self.sheet.add_locked(alloc, line, default);
+        if !self.is_draft {
+            let (number, command) = (line.number(), shown(alloc, line.command())?);
+            let note = format!(in alloc; "line {number} is new: {command}")?;
+            self.sheet.told.note(note)?;
         }
-        self.defaulted = self.defaulted.saturating_add(1);
-        self.sheet.tell_line(alloc, line)
+        self.sheet.add_new(alloc, line, schedule, self.default)
     }
 
     fn add_line(&mut self, alloc: Global, place: usize, line: &'a Line) -> Result<(), AllocError> {
+        let number = line.number();
         match (line.when(), self.entry_at(place)) {
             (When::Reboot, entry) => {
-                self.sheet.told.reboot(alloc, line.number())?;
+                self.sheet.told.warn(format!(in alloc;
+                    "@reboot on line {number} of the crontab is left out: no plan has startup jobs"
+                )?)?;
                 self.sheet.leave_out(alloc, line, entry)
             }
-            (When::At(_), Some(old)) => self.add_kept(alloc, line, old),
+            (When::At(_), Some(old)) if old.is_left_out => {
+                let note = format!(in alloc; "line {number} is left out of the plan")?;
+                self.sheet.told.note(note)?;
+                self.sheet.leave_out(alloc, line, Some(old))
+            }
+            (When::At(_), Some(old)) => self.sheet.add_kept(alloc, line, old),
             (When::At(schedule), None) => self.add_new(alloc, line, schedule),
         }
     }
@@ -118,7 +107,8 @@ impl<'a> Update<'a> {
     fn tell_gone(&mut self, alloc: Global) -> Result<(), AllocError> {
         for (i, entry) in self.bound.iter().enumerate() {
             if !self.pairs.iter().any(|pair| pair.entry == i) {
-                self.sheet.told.gone(alloc, entry.command())?;
+                let command = shown(alloc, entry.command())?;
+                self.sheet.told.note(format!(in alloc; "gone: {command}")?)?;
             }
         }
         Ok(())
@@ -137,11 +127,42 @@ impl<'a> Update<'a> {
             self.defaulted = self.defaulted.saturating_add(1);
             return self.sheet.tell_job(alloc, job);
         }
-        if entry.is_none() {
-            self.sheet.told.job(alloc, identifier, "new")?;
+        if entry.is_none() && !self.is_draft {
+            tell_job(alloc, &mut self.sheet.told, identifier, "new")?;
         }
         self.sheet.add_job(alloc, job, identifier, entry)
     }
+}
+
+/// No entry is of that job, or none is left.
+fn tell_job(
+    alloc: Global,
+    told: &mut Told,
+    identifier: &str,
+    what: &str,
+) -> Result<(), AllocError> {
+    let identifier = shown(alloc, identifier.as_bytes())?;
+    told.note(format!(in alloc; "job {identifier} is {what}")?)
+}
+
+/// So many jobs have the default.
+fn tell_defaulted(alloc: Global, told: &mut Told, jobs: usize) -> Result<(), AllocError> {
+    match jobs {
+        0 => Ok(()),
+        1 => told.note(format!(in alloc; "1 job without an entry has the default")?),
+        _ => told.note(format!(in alloc; "{jobs} jobs without an entry have the default")?),
+    }
+}
+
+/// A draft doesn't declare the hours that the anacrontab sets.
+fn tell_hours(alloc: Global, told: &mut Told, jobs: &Anacrontab) -> Result<(), AllocError> {
+    let mut settings = jobs.settings().iter();
+    if settings.any(|setting| setting.name() == b"START_HOURS_RANGE".as_slice()) {
+        return told.note(format!(in alloc;
+            "START_HOURS_RANGE is not declared, since Debian's anacron doesn't know it: all hours are"
+        )?);
+    }
+    Ok(())
 }
 
 /// The old entry of the anacron job.
@@ -167,21 +188,17 @@ fn tell_gone_jobs(
         if let Some(identifier) = text_of(entry, "id")
             && !has_job(jobs, identifier)
         {
-            told.job(alloc, identifier, "gone")?;
+            tell_job(alloc, told, identifier, "gone")?;
         }
     }
     Ok(())
 }
 
-/// The members that stand before the lists, as they were declared. The only error is want of
-/// memory.
-fn front(alloc: Global, old: &Value) -> Result<Front, AllocError> {
-    let mut front = Front::new(alloc);
-    for name in ["note", "capacity", "offset", "hours", "pass"] {
-        if let Some(value) = old.get(name) {
-            front.add(name, value_text(alloc, value)?.as_str())?;
-        }
-    }
+/// The members that stand before the lists, as they were declared.
+fn front(alloc: Global, old: &Value) -> Result<Object, AllocError> {
+    let mut front = Object::outermost(alloc);
+    let names = ["note", "capacity", "offset", "hours", "pass"];
+    front.add_members(alloc, old, names.as_slice())?;
     if let Some(default) = old.get("default") {
         let mut members = Object::new(alloc);
         members.add_members(alloc, default, ["max", "weight", "note"].as_slice())?;
@@ -190,8 +207,7 @@ fn front(alloc: Global, old: &Value) -> Result<Front, AllocError> {
     Ok(front)
 }
 
-/// The text of declarations, and what is told, where a new job has a longest time in minutes. The
-/// only error is want of memory.
+/// The text of declarations, and what is told, where a new job has a longest time in minutes.
 pub(crate) fn updated_text<'a>(
     alloc: Global,
     table: &'a Crontab,
@@ -202,6 +218,9 @@ pub(crate) fn updated_text<'a>(
 ) -> Result<(Vec<u8>, Told), AllocError> {
     let lines = table.lines();
     let mut update = Update::of(alloc, lines, places, old, max)?;
+    if old.is_draft {
+        tell_hours(alloc, &mut update.sheet.told, jobs)?;
+    }
     for (place, line) in lines.iter().enumerate() {
         update.add_line(alloc, place, line)?;
     }
@@ -218,6 +237,6 @@ pub(crate) fn updated_text<'a>(
         ..
     } = update;
     tell_gone_jobs(alloc, &mut sheet.told, jobs.lines(), old.value)?;
-    sheet.told.defaulted(alloc, defaulted)?;
-    sheet.into_text(alloc, &front(alloc, old.value)?)
+    tell_defaulted(alloc, &mut sheet.told, defaulted)?;
+    sheet.into_text(alloc, front(alloc, old.value)?)
 }

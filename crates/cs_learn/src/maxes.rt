@@ -1,7 +1,6 @@
 //! Declarations with the longest times that logs give.
-ghost use Rattle.std.specs.Prelude.{◌≡◌, ◌≤◌, IfOk, IfSome, IsTrue, Ok, option_map, position};
+ghost use Rattle.std.specs.Prelude.{◌≡◌, IfOk, IfSome, IsTrue, option_map, position};
 ghost use Rattle.std.specs.List.{find};
-ghost use Rattle.cs_decl.specs.Meaning.{declared_by};
 ghost use Rattle.cs_decl.specs.Join.{is_named};
 ghost use Rattle.cs_learn.specs.Maxes.{AreEach, AreMaxes, HasMax, HasMaxes, HaveMaxes, IsMaxOf, IsSameRest};
 ghost use Rattle.cs_learn.specs.Maxes.{allowed, greater, jobs_of, max_at, max_of, minute_more, seconds_since, with_max};
@@ -10,17 +9,11 @@ use crate::anacron::with_jobs;
 use crate::evidence::{Evidence, Ran};
 use crate::job_evidence::JobEvidence;
 use crate::max::{Factor, LONGEST_MAX, max_for};
-use crate::same::{
-    are_same_groups, are_same_jobs, are_same_names, are_same_parts, is_same_default, is_same_name,
-    is_same_text,
-};
+use crate::same::{are_same_groups, are_same_jobs, are_same_names, is_same_name, is_same_text};
 use crate::spliced::spliced;
 use cs_crontab::Line;
-use cs_decl::{
-    AnacronEntry, CronEntry, DeclError, Declarations, Entries, LineName, is_named,
-    read_declarations,
-};
-use cs_draft::time_limit;
+use cs_decl::{AnacronEntry, CronEntry, Declarations, Entries, LineName, is_named};
+use cs_draft::{are_same_parts, declared, time_limit};
 use cs_history::Mode;
 use std::alloc::{AllocError, Global};
 
@@ -182,7 +175,7 @@ fn are_same_terms(old: &Entries, new: &Entries) -> bool
         && old.offset == new.offset
         && old.hours == new.hours
         && old.pass == new.pass
-        && is_same_default(&old.default, &new.default)
+        && old.default == new.default
 }
 
 /// Whether all but the entries of jobs is the same.
@@ -218,17 +211,6 @@ fn has_maxes(
     have_maxes(lines, maxes, old.cron.as_slice(), new.cron.as_slice())
         && are_same_jobs(jobs_of(kept, old), new.anacron.as_slice())
         && is_same_rest(old, new)
-}
-
-/// What bytes declare, if they do. The only error is out of memory.
-fn declared(alloc: Global, bytes: &[u8]) -> Result<Option<Declarations>, AllocError>
-    ensures { IfOk result (λ found. IfSome found (λ d. declared_by bytes.now ≡ Ok d)) }
-{
-    match read_declarations(alloc, bytes) {
-        Ok(declarations) => Ok(Some(declarations)),
-        Err(DeclError::OutOfMemory) => Err(AllocError),
-        Err(DeclError::At { .. }) => Ok(None),
-    }
 }
 
 /// Declarations that were drawn up, and what they are once longest times are learned.

@@ -4,7 +4,7 @@ ghost use Rattle.cs_learn.specs.Maxes.{AreEach, IsSameName, tell_one};
 
 use cs_civil::Bytes;
 use cs_crontab::When;
-use cs_decl::{AnacronEntry, DefaultEntry, GroupEntry, LineName, PartEntry, is_told_when};
+use cs_decl::{AnacronEntry, GroupEntry, LineName, is_told_when};
 
 pub(crate) fn is_same_text(old: &Option<Bytes>, new: &Option<Bytes>) -> bool
     ensures { IsTrue result → new.now ≡ old.now }
@@ -50,26 +50,6 @@ pub(crate) fn are_same_names(old: &[LineName], new: &[LineName]) -> bool
     news.is_empty()
 }
 
-fn is_same_part(old: &PartEntry, new: &PartEntry) -> bool
-    ensures { IsTrue result → new.now ≡ old.now }
-{
-    old.name.as_slice() == new.name.as_slice() && old.max == new.max
-}
-
-pub(crate) fn are_same_parts(old: &[PartEntry], new: &[PartEntry]) -> bool
-    ensures { IsTrue result → new.now ≡ old.now }
-{
-    if new.len() != old.len() {
-        return false;
-    }
-    for i in 0..old.len() {
-        if !is_same_part(&old[i], &new[i]) {
-            return false;
-        }
-    }
-    true
-}
-
 fn is_same_group(old: &GroupEntry, new: &GroupEntry) -> bool
     ensures { IsTrue result → new.now ≡ old.now }
 {
@@ -113,14 +93,4 @@ pub(crate) fn are_same_jobs(old: &[AnacronEntry], new: &[AnacronEntry]) -> bool
         }
     }
     true
-}
-
-pub(crate) fn is_same_default(old: &Option<DefaultEntry>, new: &Option<DefaultEntry>) -> bool
-    ensures { IsTrue result → new.now ≡ old.now }
-{
-    match (old, new) {
-        (Some(old), Some(new)) => old.max == new.max && old.weight == new.weight,
-        (None, None) => true,
-        _ => false,
-    }
 }

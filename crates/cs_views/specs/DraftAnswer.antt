@@ -6,7 +6,7 @@ use Rattle.cs_anacrontab.specs.Anacrontab.{Table as JobTable}
 use Rattle.cs_gather.specs.declared.places.Place.{Place}
 use Rattle.cs_decl.specs.Plain.{is_possible_max}
 use Rattle.cs_decl.specs.declared.entries.Entries.{Entries}
-use Rattle.cs_draft.specs.Draft.{IsDraft, IsUpdate}
+use Rattle.cs_draft.specs.Draft.{IsUpdate, Warn, nothing}
 use Rattle.cs_args.specs.CommandLine.{AskedDraft}
 use Rattle.cs_args.specs.declared.question.WordFault.TheVariants.{BadMax}
 use Rattle.cs_io.specs.Files.{Failed}
@@ -19,13 +19,14 @@ abbrev pub IsPrinted : (List ℕ → Type 0) → Ending → Type 0
 IsPrinted Is ending =
     ((ending.status ≡ 0) × Is ending.out) ⊎ ((ending.status ≡ 2) × (ending.out ≡ []))
 
--- so is a draft
-abbrev pub PrintsDraft : Table → JobTable → List Place → ℕ → ℤ → Ending → Type 0
-PrintsDraft table jobs places max offset = IsPrinted (IsDraft table jobs places max offset)
-
--- .. or an update of old declarations
+-- so is an update of old declarations, and standard error warns of the locks that what is new lacks
 abbrev pub PrintsUpdate : Table → JobTable → List Place → Entries → ℕ → Ending → Type 0
-PrintsUpdate table jobs places old max = IsPrinted (IsUpdate table jobs places old max)
+PrintsUpdate table jobs places old max ending = IsPrinted
+    (λ out. IsUpdate table jobs places old max out × Warn table jobs old out ending.err) ending
+
+-- a draft updates nothing
+abbrev pub PrintsDraft : Table → JobTable → List Place → ℕ → ℤ → Ending → Type 0
+PrintsDraft table jobs places max offset = PrintsUpdate table jobs places (nothing offset) max
 
 -- and so with the places of the table at a path
 abbrev pub IsPrintedAt : (List ℕ → Option (List ℕ)) → Text → Table → (List Place → Ending → Type 0)

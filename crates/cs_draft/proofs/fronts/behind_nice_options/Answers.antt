@@ -1,5 +1,5 @@
 use Rattle.std.proofs.Common.{◌∙◌, ℕ, List, Bor, ap, option_map, sym}
-use Rattle.cs_draft.specs.Fronts.{behind_nice_option}
+use Rattle.cs_draft.specs.Words.{behind_nice_option}
 use Rattle.cs_draft.proofs.Passed.{next_passed}
 use Rattle.cs_draft.proofs.fronts.behind_nice_options.Goals as goal
 

@@ -1,5 +1,5 @@
 use Rattle.std.proofs.Common.{◌≡◌, ◌-◌, length}
-use Rattle.cs_draft.specs.Fronts.{behind_nice_option}
+use Rattle.cs_draft.specs.Words.{behind_nice_option}
 use Rattle.cs_draft.specs.Words.{passed}
 use Rattle.cs_draft.proofs.fronts.behind_nice_options.Given as goal
 

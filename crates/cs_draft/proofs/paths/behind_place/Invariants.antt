@@ -1,5 +1,5 @@
 use Rattle.std.proofs.Common.{◌≡◌, length}
-use Rattle.cs_draft.specs.Paths.{behind_place}
+use Rattle.cs_draft.specs.Locks.{behind_place}
 use Rattle.cs_draft.proofs.paths.behind_place.Given as goal
 
 abbrev pub invariant-loop-rest : goal.invariant-loop-rest

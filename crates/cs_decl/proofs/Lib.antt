@@ -12,6 +12,7 @@ pub mod Rests
 pub mod Joins
 pub mod Wholes
 pub mod Uniques
+pub mod Untimed
 pub mod Minutes
 pub mod Makeup
 pub mod Commands

@@ -1,5 +1,6 @@
 -- What a plan has of the lines of a crontab.
-use Rattle.std.specs.Prelude.{◌≡◌, ◌⊎◌, ◌++◌, ℕ, List, [], ◌∷◌, map, Some, None, true, false, All, Contains, IfSome, unsigned_abs, Bool, None}
+use Rattle.std.specs.Prelude.{◌≡◌, ◌⊎◌, ◌++◌, ◌<◌, ℕ, List, [], ◌∷◌, map, Some, None, true, false, All, Contains, IfSome, IsSome, bytes_eq, unsigned_abs, Bool, None}
+use Rattle.std.specs.List.{count_by}
 use Rattle.cs_crontab.specs.Crontab.{CommandLine}
 use Rattle.cs_history.specs.declared.mode.Mode.TheVariants.{Plain}
 use Rattle.cs_decl.specs.declared.entries.LineName.{LineName}
@@ -23,6 +24,12 @@ TellsOf name line = is_named name line ≡ true
 -- by its command, and the schedule that it tells, it names the line
 abbrev pub is_told : LineName → CommandLine → Bool
 is_told name = names_line None name.command name.when
+
+-- an entry names the line, tells a command and no schedule, and other lines have the line's command
+abbrev pub IsUntimed : Entries → List CommandLine → CommandLine → Type 0
+IsUntimed d lines line = (name : LineName) × Contains (names_of d) name
+    × (is_named name line ≡ true) × IsSome name.command × (name.when ≡ None)
+    × (1 < count_by (λ other. bytes_eq other.command line.command) lines)
 
 -- an entry of `left_out` names the line
 abbrev pub IsLeftOut : Entries → CommandLine → Type 0

@@ -1,5 +1,5 @@
 //! Which fault of declarations is returned, and what there is where none is.
-ghost use Rattle.std.specs.Prelude.{◌≡◌, ◌++◌, ℕ, ◌<◌, map, List, Some, None, Ok, All, IsUtf8, true};
+ghost use Rattle.std.specs.Prelude.{◌≡◌, ◌↔◌, ◌++◌, ℕ, ◌<◌, map, List, Some, None, Ok, All, IsUtf8, true, false};
 ghost use Rattle.std.specs.Prelude.{Contains};
 ghost use Rattle.json.specs.Json.{Json, document};
 ghost use Rattle.json.specs.Strict.{HasUniqueKeys};
@@ -12,7 +12,7 @@ ghost use Rattle.cs_decl.specs.declared.entries.LineName.{LineName};
 ghost use Rattle.cs_decl.specs.Faults.{Fault, faults_of, first_fault};
 ghost use Rattle.cs_decl.specs.Join.{is_named, joined};
 ghost use Rattle.cs_decl.specs.Law.{IsFirst, stands};
-ghost use Rattle.cs_decl.specs.Lines.{TellsOf, IsLeftOut, HasNoEntry, AreParted, IsDeclared};
+ghost use Rattle.cs_decl.specs.Lines.{TellsOf, IsLeftOut, HasNoEntry, AreParted, IsDeclared, IsUntimed};
 ghost use Rattle.cs_decl.specs.Lines.{is_told, names_of};
 ghost use Rattle.cs_decl.specs.Meaning.{IsValid};
 ghost use Rattle.cs_decl.specs.Parts.{AreItsParts};
@@ -80,6 +80,21 @@ pub fn each_line_has_its_job()
         → IsDeclared d (command_of plan j) (job_at plan j) }
     ensures defaulted { (table : Table) (jobs : JobTable) (d : Entries) (plan : Declared)
         → joined table jobs d ≡ Ok plan → d.default ≡ None → plan.defaulted ≡ 0 }
+{}
+
+/// Lemma. Where tables and declarations make a plan, it tells no guess exactly if no entry is one;
+/// and of the lines whose entry tells a command that several lines have, and no schedule, it tells
+/// one, if there is one.
+pub fn guesses_and_untimed_lines_are_told()
+    ensures guesses { (table : Table) (jobs : JobTable) (d : Entries) (plan : Declared)
+        → joined table jobs d ≡ Ok plan → (plan.guessed ≡ 0) ↔ (All (λ e. e.guess ≡ false) d.cron
+        × All (λ e. e.guess ≡ false) d.anacron) }
+    ensures untimed { (table : Table) (jobs : JobTable) (d : Entries) (plan : Declared) (n : ℕ)
+        → joined table jobs d ≡ Ok plan → plan.untimed ≡ Some n → (line : CommandLine)
+        × Contains table.lines line × (line.number ≡ n) × IsUntimed d table.lines line }
+    ensures timed { (table : Table) (jobs : JobTable) (d : Entries) (plan : Declared)
+        → joined table jobs d ≡ Ok plan → plan.untimed ≡ None
+        → All (λ line. IsUntimed d table.lines line → ⊥) table.lines }
 {}
 
 /// Lemma. Where declarations are read, the parts of an entry, if it has some, have names of their own,

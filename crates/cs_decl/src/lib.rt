@@ -36,7 +36,7 @@ pub use joining::join;
 pub use laws::{
     commands_are_those_of_lines, doubled_members_are_told, each_entry_names_one_line,
     each_line_has_its_job, entries_stay_with_commands, first_of_faults,
-    left_out_lines_have_no_entry, parts_make_up_the_whole,
+    guesses_and_untimed_lines_are_told, left_out_lines_have_no_entry, parts_make_up_the_whole,
 };
 pub use limits::{MAX_CAPACITY, MAX_GROUPS, MAX_MINUTES, MAX_OFFSET, MAX_WEIGHT};
 pub use naming::is_named;

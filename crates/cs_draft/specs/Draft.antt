@@ -1,9 +1,7 @@
 -- What is drawn up: declarations that join with the tables, and that keep what older ones declare.
-use Rattle.std.specs.Prelude.{◌≡◌, ◌≢◌, ◌⊎◌, ◌++◌, ◌≤◌, ℕ, ℤ, pos, List, [], ◌∷◌, All, codes, length, map, take, drop, Bool, true, false, not, ◌==◌, ◌&&◌, ◌||◌, nat_le, nat_lt, bytes_eq, if◌then◌else◌, Option, None, Some, is_none, is_some, option_map, unwrap_or, IfSome, IsSomeAnd, Ok}
-use Rattle.std.specs.Fmt.{decimal}
+use Rattle.std.specs.Prelude.{◌≡◌, ◌≢◌, ◌⊎◌, ◌++◌, ◌≤◌, ℕ, ℤ, pos, List, [], ◌∷◌, All, codes, count_by, decimal, filter, find, length, map, take, drop, Bool, true, false, not, ◌==◌, ◌&&◌, ◌||◌, nat_le, nat_lt, bytes_eq, if◌then◌else◌, Option, None, Some, is_none, is_some, option_map, unwrap_or, IfSome, IsSomeAnd, IsUtf8, Ok}
 use Rattle.std.specs.Ordering.{int_eq}
-use Rattle.std.specs.List.{count_by, filter, find, list_all, list_any}
-use Rattle.std.specs.Str.{IsUtf8}
+use Rattle.std.specs.List.{list_all, list_any}
 use Rattle.cs_civil.specs.declared.minute.TheConstants.{MINUTES_OF_DAY}
 use Rattle.cs_table.specs.SettingReading.{◌>>=◌}
 use Rattle.cs_table.specs.Text.{lines_of}
@@ -11,7 +9,6 @@ use Rattle.cs_crontab.specs.Crontab.{Table as Crontab, CommandLine}
 use Rattle.cs_crontab.specs.declared.table.When.{When}
 use Rattle.cs_crontab.specs.declared.table.When.TheVariants.{At, Reboot}
 use Rattle.cs_anacrontab.specs.Anacrontab.{Table as Anacrontab, JobLine}
-use Rattle.cs_schedule.specs.Times.{Times}
 use Rattle.cs_gap.specs.Gap.{AreApart, can_be_apart}
 use Rattle.cs_gather.specs.Places.{place_of}
 use Rattle.cs_gather.specs.declared.places.Place.{Place}
@@ -31,24 +28,23 @@ use Rattle.cs_decl.specs.Join.{is_left_out, is_named, is_of_job, is_reboot, join
 use Rattle.cs_decl.specs.Lines.{names_of}
 use Rattle.cs_decl.specs.Plain.{is_possible_max}
 use Rattle.cs_decl.specs.When.{is_told_when, same_when}
+use Rattle.cs_draft.specs.Words.{names_lock}
 use Rattle.cs_draft.specs.Locks.{lock_of, is_below}
-use Rattle.cs_draft.specs.Named.{names_lock}
-use Rattle.cs_draft.specs.Timeouts.{asked_for, time_limit}
+use Rattle.cs_draft.specs.Timeouts.{asked_for, program_of, time_limit}
 use Rattle.cs_draft.specs.declared.draft.Drawing.{Drawing}
 use Rattle.cs_draft.specs.declared.draft.Drawing.TheVariants.{BadMax, NotConfirmed, Drawn}
 
--- ---- entries and lines
-
--- another line has that command too
-abbrev pub is_shared : List CommandLine → CommandLine → Bool
-is_shared lines line = nat_lt 1 (count_by (λ l. bytes_eq l.command line.command) lines)
+-- the lines have one command; and one schedule, if that is asked for
+abbrev pub are_like : Bool → CommandLine → CommandLine → Bool
+are_like timed line other = bytes_eq other.command line.command
+    && (not timed || same_when line.when other.when)
 
 -- An entry that names the line tells its command, where declarations can; and its schedule, where
 -- another line has that command.
 abbrev pub TellsLine : List CommandLine → LineName → CommandLine → Type 0
 TellsLine lines name line = is_named name line ≡ true
     → (IsUtf8 line.command → name.command ≡ Some line.command)
-    × (is_shared lines line ≡ true → is_some name.when ≡ true)
+    × (nat_lt 1 (count_by (are_like false line) lines) ≡ true → is_some name.when ≡ true)
 
 abbrev pub IsBound : List CommandLine → LineName → Type 0
 IsBound lines name = All (TellsLine lines name) lines
@@ -65,16 +61,12 @@ pub record IsSound (crontab : Crontab) (anacrontab : Anacrontab) (bytes : List �
 
 -- ---- parts
 
--- no name stands twice
-abbrev pub have_own : List (List ℕ) → Bool
-have_own [] = true
-have_own (name ∷ names) = not (list_any (λ other. bytes_eq other name) names) && have_own names
-
--- All of them; or none where declarations can't have them: two have one name, or there are more
--- than a job may have minutes.
+-- All of them; or none where declarations can't have them: one stands twice, or there are more than
+-- a job may have minutes.
 abbrev pub declarable : List (List ℕ) → List (List ℕ)
-declarable names =
-    if nat_le (length names) MAX_MINUTES && have_own names then names else []
+declarable names = if nat_le (length names) MAX_MINUTES
+    && list_all (λ name. count_by (λ other. bytes_eq other name) names == 1) names
+    then names else []
 
 -- the parts of the line, by its place in a gathered table
 abbrev pub parts_of : List Place → CommandLine → List (List ℕ)
@@ -95,17 +87,13 @@ all_are_parts names parts = list_all (λ name. list_any (is_part name) parts) na
 
 -- ---- what is new
 
--- The longest time is the asked one, or one that can be from a due minute to the next; it isn't
--- more than the asked one, nor than any from a due minute to the next.
-abbrev pub IsBrief : ℕ → Times → ℕ → Type 0
-IsBrief asked schedule brief = (brief ≤ asked) × AreApart schedule brief
-    × ((brief ≡ asked) ⊎ (can_be_apart schedule brief ≡ true))
-
--- the longest time of a command without parts is brief
+-- The longest time of a command without parts is the asked one, or one that can be from a due
+-- minute to the next; it isn't more than the asked one, nor than any from a due minute to the next.
 abbrev pub IsTimed : ℕ → When → List (List ℕ) → CronEntry → Type 0
 IsTimed asked Reboot names e = Unit {0}
-IsTimed asked (At schedule) [] e =
-    (brief : ℕ) × IsBrief asked schedule brief × (e.max ≡ pos brief) × (e.parts ≡ [])
+IsTimed asked (At schedule) [] e = (brief : ℕ) × (e.max ≡ pos brief) × (e.parts ≡ [])
+    × (brief ≤ asked) × AreApart schedule brief
+    × ((brief ≡ asked) ⊎ (can_be_apart schedule brief ≡ true))
 IsTimed asked (At schedule) (name ∷ names) e = HasParts (name ∷ names) e
 
 -- a longest time is a guess, unless the command's timeout(1) sets it
@@ -119,18 +107,14 @@ abbrev pub IsNewEntry : ℕ → List (List ℕ) → CommandLine → CronEntry �
 IsNewEntry asked names line e = IsTimed (asked_for asked line.command) line.when names e
     × (e.weight ≡ pos 1) × (e.guess ≡ is_guess line.command e.max)
 
--- the entry has the longest time and the weight of the default, which is no guess, and no parts
-abbrev pub HasDefault : DefaultEntry → CronEntry → Type 0
-HasDefault default e =
-    (e.max ≡ default.max) × (e.weight ≡ default.weight) × (e.parts ≡ []) × (e.guess ≡ false)
-
--- A new command has an entry that is new; or where there is a default, one that has that if the
--- command takes a lock, and else none.
+-- A new command has an entry that is new; or where there is a default, one with its longest time,
+-- which is no guess, its weight and no parts if the command takes a lock, and else none.
 abbrev pub IsAdded : (CronEntry → Type 0) → Option (List ℕ × Mode) → Option DefaultEntry
     → Option CronEntry → Type 0
 IsAdded New lock None entry = IsSomeAnd entry New
 IsAdded New None (Some default) entry = entry ≡ None
-IsAdded New (Some lock) (Some default) entry = IsSomeAnd entry (HasDefault default)
+IsAdded New (Some lock) (Some default) entry = IsSomeAnd entry (λ e. (e.max ≡ default.max)
+    × (e.weight ≡ default.weight) × (e.parts ≡ []) × (e.guess ≡ false))
 
 -- the text is this one
 abbrev pub is_text : List ℕ → Option (List ℕ) → Bool
@@ -146,22 +130,10 @@ IsLocked groups (Some lock) e = ((e.group ≡ Some lock.0) × (e.mode ≡ lock.1
     × (e.group ≡ None) × (e.mode ≡ Plain))
 
 -- the group is exclusive, and that of an entry
-abbrev pub IsNewGroup : Entries → GroupEntry → Type 0
-IsNewGroup d g =
-    (g.exclusive ≡ true) × (list_any (λ e. is_text g.name e.group) d.cron ≡ true)
-
--- an entry of a new anacron job has the asked time, or that of its command, the least weight and no
--- group, and is marked as a guess if it is one
-abbrev pub IsNewJobEntry : ℕ → List ℕ → AnacronEntry → Type 0
-IsNewJobEntry asked command e = (e.max ≡ pos (asked_for asked command)) × (e.weight ≡ pos 1)
-    × (e.group ≡ None) × (e.guess ≡ is_guess command e.max)
+abbrev pub is_new_group : Entries → GroupEntry → Bool
+is_new_group d g = g.exclusive && list_any (λ e. is_text g.name e.group) d.cron
 
 -- ---- what is kept
-
--- the lines have one command; and one schedule, if that is asked for
-abbrev pub are_like : Bool → CommandLine → CommandLine → Bool
-are_like timed line other = bytes_eq other.command line.command
-    && (not timed || same_when line.when other.when)
 
 -- the name tells the command of the line; and its schedule, if that is asked for
 abbrev pub tells : Bool → CommandLine → LineName → Bool
@@ -176,8 +148,7 @@ is_lone timed lines old line = not (is_reboot line.when)
 
 -- the line isn't an `@reboot`, and no entry tells its command
 abbrev pub is_new : Entries → CommandLine → Bool
-is_new old line =
-    not (is_reboot line.when) && count_by (tells false line) (names_of old) == 0
+is_new old line = not (is_reboot line.when) && count_by (tells false line) (names_of old) == 0
 
 -- a part that was there has the longest time that it had
 abbrev pub KeepsPart : List PartEntry → PartEntry → Type 0
@@ -203,26 +174,44 @@ IsKept timed places lines old new line = is_lone timed lines old line ≡ true
     (find (λ e. is_named e.name line) new.cron) (AreAlike (parts_of places line) o))
     × (list_any (tells timed line) old.left_out ≡ true → is_left_out new line ≡ true)
 
--- What one old entry alone tells of a line is declared of that line. A new command is added, isn't
--- left out, and its entry has the lock of its command.
-pub record IsUpdatedLine (lines : List CommandLine) (places : List Place) (old : Entries) (max : ℕ)
-    (new : Entries) (line : CommandLine) : Type 0 where
+-- the name tells the command of no line
+abbrev pub is_gone : List CommandLine → LineName → Bool
+is_gone lines name = list_all (λ line. not (is_text line.command name.command)) lines
+
+-- the old entry that alone is gone, where one line alone is new
+abbrev pub left_behind : List CommandLine → Entries → Option CronEntry
+left_behind lines old =
+    if count_by (is_new old) lines == 1 && count_by (is_gone lines) (names_of old) == 1
+    then find (λ e. is_gone lines e.name) old.cron else None
+
+-- The line may have that entry: both commands run one program, and no other schedule is told.
+abbrev pub may_follow : CommandLine → CronEntry → Bool
+may_follow line o = unwrap_or (option_map (λ program. is_text program (program_of line.command))
+    (o.name.command >>= program_of)) false && is_told_when o.name.when line.when
+
+-- What one old entry alone tells of a line is declared of that line. A new command is added, or has
+-- what the entry left behind declares; it isn't left out, and its entry has the command's lock.
+pub record IsUpdatedLine (lines : List CommandLine) (places : List Place) (old : Entries)
+    (behind : Option CronEntry) (max : ℕ) (new : Entries) (line : CommandLine) : Type 0 where
   pub kept : IsKept false places lines old new line
   pub timed : IsKept true places lines old new line
-  pub added : is_new old line ≡ true → IsAdded (IsNewEntry max (parts_of places line) line)
+  pub added : is_new old line ≡ true → (IsAdded (IsNewEntry max (parts_of places line) line)
       (lock_of line.command) old.default (find (λ e. is_named e.name line) new.cron)
+      ⊎ IsSomeAnd behind (λ o. (may_follow line o ≡ true) × IsSomeAnd
+      (find (λ e. is_named e.name line) new.cron) (AreAlike (parts_of places line) o)))
       × (is_left_out new line ≡ false)
       × IfSome (find (λ e. is_named e.name line) new.cron)
       (IsLocked new.groups (lock_of line.command))
 
--- An anacron job keeps what its old entry declares. One that has none has a new one, or none if
--- there is a default.
+-- An anacron job keeps what its old entry declares. One that has none has a new one, with the asked
+-- time, or that of its command, the least weight and no group; or none if there is a default.
 abbrev pub IsJobEntry : ℕ → List ℕ → Option DefaultEntry → Option AnacronEntry
     → Option AnacronEntry → Type 0
 IsJobEntry max command default (Some o) new = IsSomeAnd new (λ n. (n.max ≡ o.max)
     × (n.weight ≡ o.weight) × (n.group ≡ o.group) × (n.guess ≡ o.guess))
 IsJobEntry max command (Some default) None new = new ≡ None
-IsJobEntry max command None None new = IsSomeAnd new (IsNewJobEntry max command)
+IsJobEntry max command None None new = IsSomeAnd new (λ n. (n.weight ≡ pos 1) × (n.group ≡ None)
+    × (n.max ≡ pos (asked_for max command)) × (n.guess ≡ is_guess command n.max))
 
 abbrev pub IsUpdatedJob : Entries → ℕ → Entries → JobLine → Type 0
 IsUpdatedJob old max new line = IsJobEntry max line.command old.default
@@ -232,7 +221,8 @@ IsUpdatedJob old max new line = IsJobEntry max line.command old.default
 -- entry.
 pub record AreUpdates (crontab : Crontab) (anacrontab : Anacrontab) (places : List Place)
     (old : Entries) (max : ℕ) (new : Entries) : Type 0 where
-  pub lines : All (IsUpdatedLine crontab.lines places old max new) crontab.lines
+  pub lines : All (IsUpdatedLine crontab.lines places old (left_behind crontab.lines old) max new)
+      crontab.lines
   pub jobs : All (IsUpdatedJob old max new) anacrontab.lines
   pub capacity : new.capacity ≡ old.capacity
   pub offset : new.offset ≡ old.offset
@@ -240,32 +230,28 @@ pub record AreUpdates (crontab : Crontab) (anacrontab : Anacrontab) (places : Li
   pub pass : new.pass ≡ old.pass
   pub default : new.default ≡ old.default
   pub groups : take (length old.groups) new.groups ≡ old.groups
-  pub new_groups : All (IsNewGroup new) (drop (length old.groups) new.groups)
+  pub new_groups : list_all (is_new_group new) (drop (length old.groups) new.groups) ≡ true
 
 -- .. by the text that is read back
 abbrev pub IsUpdate : Crontab → Anacrontab → List Place → Entries → ℕ → List ℕ → Type 0
 IsUpdate crontab anacrontab places old max bytes = (new : Entries)
     × IsSound crontab anacrontab bytes new × AreUpdates crontab anacrontab places old max new
 
--- Nothing is declared of jobs; the capacity is the greatest, clocks are ahead of UTC by so many
--- minutes, and catch-up is at all hours.
+-- A draft updates this: nothing is declared of jobs; the capacity is the greatest, clocks are ahead
+-- of UTC by so many minutes, and catch-up is at all hours.
 abbrev pub nothing : ℤ → Entries
 nothing east = record {
   capacity = pos MAX_CAPACITY;
   offset = east;
-  hours = (pos 0, pos MINUTES_OF_DAY);
   pass = None;
+  default = None;
+  hours = (pos 0, pos MINUTES_OF_DAY);
   groups = [];
   cron = [];
   anacron = [];
-  default = None;
   left_out = [];
   doubled = None;
 }
-
--- a draft updates nothing
-abbrev pub IsDraft : Crontab → Anacrontab → List Place → ℕ → ℤ → List ℕ → Type 0
-IsDraft crontab anacrontab places max east = IsUpdate crontab anacrontab places (nothing east) max
 
 -- ---- warnings
 
@@ -293,20 +279,14 @@ warn_of table (number ∷ numbers) (line ∷ lines) =
     if is_below (warning_of table number) line then warn_of table numbers lines
     else warn_of table (number ∷ numbers) lines
 
--- The warnings have a line for each such command, and for each such job.
-pub record AreWarned (crontab : Crontab) (anacrontab : Anacrontab) (old d : Entries)
-    (warnings : List ℕ) : Type 0 where
-  pub lines : warn_of (codes "crontab")
-      (map (λ line. line.number) (filter (is_unlocked old d) crontab.lines)) (lines_of warnings)
-      ≡ true
-  pub jobs : warn_of (codes "anacrontab")
-      (map (λ job. job.number) (filter (is_unlocked_job old) anacrontab.lines))
-      (lines_of warnings) ≡ true
-
--- .. by the entries that the bytes declare
+-- The warnings have a line for each such command, and for each such job, by the entries that the
+-- bytes declare.
 abbrev pub Warn : Crontab → Anacrontab → Entries → List ℕ → List ℕ → Type 0
-Warn crontab anacrontab old bytes warnings =
-    (d : Entries) × (declared_by bytes ≡ Ok d) × AreWarned crontab anacrontab old d warnings
+Warn crontab anacrontab old bytes warnings = (d : Entries) × (declared_by bytes ≡ Ok d)
+    × (warn_of (codes "crontab") (map (λ line. line.number)
+    (filter (is_unlocked old d) crontab.lines)) (lines_of warnings) ≡ true)
+    × (warn_of (codes "anacrontab") (map (λ job. job.number)
+    (filter (is_unlocked_job old) anacrontab.lines)) (lines_of warnings) ≡ true)
 
 -- An update where the longest time may be declared, with these warnings, and none where it may not.
 abbrev pub IsDrawing : Crontab → Anacrontab → List Place → Entries → ℕ → Drawing → Type 0

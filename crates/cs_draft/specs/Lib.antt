@@ -1,4 +1,3 @@
-pub mod Named
 pub mod Words
 pub mod Locks
 pub mod Timeouts

@@ -1,15 +1,18 @@
 //! Whether lines and jobs are declared as an update has them: what old declarations tell is kept, and
 //! what they don't is new.
-ghost use Rattle.std.specs.Prelude.{◌≡◌, ◌⊎◌, ◌≤◌, All, IfOk, IfSome, IsTrue, drop, false, length, option_map, true};
-ghost use Rattle.std.specs.List.{find};
+ghost use Rattle.std.specs.Prelude.{◌≡◌, ◌⊎◌, ◌≤◌, [], IfOk, IfSome, IsSomeAnd, IsTrue, None};
+ghost use Rattle.std.specs.Prelude.{drop, false, find, length, option_map, pos, true};
+ghost use Rattle.std.specs.List.{list_all, list_any};
 ghost use Rattle.cs_decl.specs.Join.{is_left_out, is_named};
 ghost use Rattle.cs_gap.specs.Gap.{AreApart, can_be_apart};
 ghost use Rattle.cs_gap.specs.declared.gap.TheConstants.{MAX_GAP};
-ghost use Rattle.cs_draft.specs.Draft.{HasDefault, IsAdded, IsLocked, IsNewEntry, IsNewGroup};
-ghost use Rattle.cs_draft.specs.Draft.{IsNewJobEntry, IsTimed, IsUpdatedJob, IsUpdatedLine, is_guess, parts_of};
+ghost use Rattle.cs_draft.specs.Draft.{AreAlike, IsAdded, IsLocked, IsNewEntry, IsTimed};
+ghost use Rattle.cs_draft.specs.Draft.{IsUpdatedJob, IsUpdatedLine, is_guess, is_new_group, is_text};
+ghost use Rattle.cs_draft.specs.Draft.{may_follow, parts_of};
 ghost use Rattle.cs_draft.specs.Locks.{lock_of};
+ghost use Rattle.cs_draft.specs.Timeouts.{asked_for};
 
-use crate::kept::{are_alike_jobs, is_kept, is_new};
+use crate::kept::{are_alike_jobs, follows, is_kept, is_new};
 use crate::lock::own_lock;
 use crate::names::{entry_of, is_left_out, is_text, job_entry};
 use crate::parts::{has_parts, parts_of};
@@ -78,7 +81,10 @@ fn is_new_entry(asked: u64, names: &[Bytes], line: &Line, entry: &CronEntry) -> 
 
 /// Whether the entry has the longest time and the weight of the default, and no parts.
 fn has_default(default: &DefaultEntry, entry: &CronEntry) -> bool
-    ensures { IsTrue result → HasDefault default.now entry.now }
+    ensures max { IsTrue result → entry.now.max ≡ default.now.max }
+    ensures weight { IsTrue result → entry.now.weight ≡ default.now.weight }
+    ensures parts { IsTrue result → entry.now.parts ≡ [] }
+    ensures guess { IsTrue result → entry.now.guess ≡ false }
 {
     entry.max == default.max
         && entry.weight == default.weight
@@ -87,7 +93,11 @@ fn has_default(default: &DefaultEntry, entry: &CronEntry) -> bool
 }
 
 /// Whether the entry takes the lock, or none if there can be no group of the file's name.
-fn is_locked(groups: &[GroupEntry], lock: &Option<(Bytes, Mode)>, entry: &CronEntry) -> bool
+pub(crate) fn is_locked(
+    groups: &[GroupEntry],
+    lock: &Option<(Bytes, Mode)>,
+    entry: &CronEntry,
+) -> bool
     ensures { IsTrue result → IsLocked groups.now lock.now entry.now }
 {
     let takes_none = entry.group.is_none() && entry.mode == Mode::Plain;
@@ -104,19 +114,25 @@ fn is_locked(groups: &[GroupEntry], lock: &Option<(Bytes, Mode)>, entry: &CronEn
             .all(|group| group.name.as_slice() != file.as_slice())
 }
 
-/// Whether a new command has an entry that is new, or where there is a default, one that has that if
-/// the command takes a lock, and else none.
+/// Whether a new command has what the entry left behind declares; or an entry that is new, or where
+/// there is a default, one that has that if the command takes a lock, and else none.
 fn is_added(
     asked: u64,
     names: &[Bytes],
     line: &Line,
     lock: &Option<(Bytes, Mode)>,
     default: &Option<DefaultEntry>,
+    behind: Option<&CronEntry>,
     entry: Option<&CronEntry>,
 ) -> bool
     ensures { IsTrue result → IsAdded (IsNewEntry asked names.now line.now) lock.now default.now
-        (option_map (λ e. e.now) entry.entry) }
+        (option_map (λ e. e.now) entry.entry)
+        ⊎ IsSomeAnd (option_map (λ e. e.now) behind.entry) (λ o. (may_follow line.now o ≡ true)
+        × IsSomeAnd (option_map (λ e. e.now) entry.entry) (AreAlike names.now o)) }
 {
+    if follows(behind, names, line, entry) {
+        return true;
+    }
     match (default, entry) {
         (None, Some(entry)) => is_new_entry(asked, names, line, entry),
         (None, None) => false,
@@ -125,12 +141,13 @@ fn is_added(
     }
 }
 
-/// Whether the line of a new command has such an entry, which takes the lock of the command, and
-/// isn't left out.
+/// Whether the line of a new command has such an entry, or what the entry left behind declares; and
+/// that takes the lock of the command, and isn't left out.
 fn is_new_line(
     alloc: Global,
     places: &[Place],
     old: &Entries,
+    behind: Option<&CronEntry>,
     max: u64,
     new: &Entries,
     line: &Line,
@@ -138,7 +155,10 @@ fn is_new_line(
     ensures added { IfOk result (λ b. IsTrue b
         → IsAdded (IsNewEntry max (parts_of places.now line.now) line.now)
         (lock_of line.now.command) old.now.default
-        (find (λ e. is_named e.name line.now) new.now.cron)) }
+        (find (λ e. is_named e.name line.now) new.now.cron)
+        ⊎ IsSomeAnd (option_map (λ e. e.now) behind.entry) (λ o. (may_follow line.now o ≡ true)
+        × IsSomeAnd (find (λ e. is_named e.name line.now) new.now.cron)
+        (AreAlike (parts_of places.now line.now) o))) }
     ensures left_out { IfOk result (λ b. IsTrue b → is_left_out new.now line.now ≡ false) }
     ensures locked { IfOk result (λ b. IsTrue b
         → IfSome (find (λ e. is_named e.name line.now) new.now.cron)
@@ -147,7 +167,7 @@ fn is_new_line(
     let lock = own_lock(alloc, line.command())?;
     let names = parts_of(places, line);
     let entry = entry_of(new, line);
-    if is_left_out(new, line) || !is_added(max, names, line, &lock, &old.default, entry) {
+    if is_left_out(new, line) || !is_added(max, names, line, &lock, &old.default, behind, entry) {
         return Ok(false);
     }
     match entry {
@@ -162,12 +182,14 @@ pub(crate) fn is_updated_line(
     lines: &[Line],
     places: &[Place],
     old: &Entries,
+    behind: Option<&CronEntry>,
     max: u64,
     new: &Entries,
     line: &Line,
 ) -> Result<bool, AllocError>
     ensures { IfOk result (λ b. IsTrue b
-        → IsUpdatedLine lines.now places.now old.now max new.now line.now) }
+        → IsUpdatedLine lines.now places.now old.now (option_map (λ e. e.now) behind.entry) max
+        new.now line.now) }
 {
     if !is_kept(false, places, lines, old, new, line)
         || !is_kept(true, places, lines, old, new, line)
@@ -177,7 +199,7 @@ pub(crate) fn is_updated_line(
     if !is_new(old, line) {
         return Ok(true);
     }
-    is_new_line(alloc, places, old, max, new, line)
+    is_new_line(alloc, places, old, behind, max, new, line)
 }
 
 // ---- anacron jobs and groups
@@ -185,7 +207,9 @@ pub(crate) fn is_updated_line(
 /// Whether the entry has the asked time, or that of its command, the least weight and no group, and
 /// is marked as a guess if it is one.
 fn is_new_job_entry(asked: u64, command: &[u8], entry: &AnacronEntry) -> bool
-    ensures { IsTrue result → IsNewJobEntry asked command.now entry.now }
+    ensures { IsTrue result → (entry.now.weight ≡ pos 1) × (entry.now.group ≡ None)
+        × (entry.now.max ≡ pos (asked_for asked command.now))
+        × (entry.now.guess ≡ is_guess command.now entry.now.max) }
 {
     entry.max == i128::from(asked_for(asked, command))
         && entry.weight == 1
@@ -211,30 +235,29 @@ pub(crate) fn is_updated_job(old: &Entries, max: u64, new: &Entries, job: &Job) 
     }
 }
 
+fn has_entry(entries: &[CronEntry], name: &[u8]) -> bool
+    ensures { result ≡ list_any (λ e. is_text name.now e.group) entries.now }
+{
+    entries.iter().any(|entry| is_text(name, &entry.group))
+}
+
 /// Whether the group is exclusive, and that of an entry.
 fn is_new_group(entries: &Entries, group: &GroupEntry) -> bool
-    ensures { IsTrue result → IsNewGroup entries.now group.now }
+    ensures { result ≡ is_new_group entries.now group.now }
 {
-    let name = group.name.as_slice();
-    let cron = entries.cron.as_slice();
-    group.exclusive && cron.iter().any(|entry| is_text(name, &entry.group))
+    group.exclusive && has_entry(entries.cron.as_slice(), group.name.as_slice())
 }
 
 fn are_all_new(entries: &Entries, groups: &[GroupEntry]) -> bool
-    ensures { IsTrue result → All (IsNewGroup entries.now) groups.now }
+    ensures { result ≡ list_all (is_new_group entries.now) groups.now }
 {
-    for group in groups {
-        if !is_new_group(entries, group) {
-            return false;
-        }
-    }
-    true
+    groups.iter().all(|group| is_new_group(entries, group))
 }
 
 /// Whether each group that is added is.
 pub(crate) fn are_new_groups(old: &Entries, new: &Entries) -> bool
     ensures { IsTrue result
-        → All (IsNewGroup new.now) (drop (length old.now.groups) new.now.groups) }
+        → list_all (is_new_group new.now) (drop (length old.now.groups) new.now.groups) ≡ true }
 {
     let (count, groups) = (old.groups.len(), new.groups.as_slice());
     count <= groups.len() && are_all_new(new, &groups[count..])

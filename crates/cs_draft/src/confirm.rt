@@ -4,9 +4,10 @@ ghost use Rattle.cs_decl.specs.Faults.{first_fault};
 ghost use Rattle.cs_decl.specs.Join.{join_faults};
 ghost use Rattle.cs_decl.specs.Meaning.{declared_by};
 ghost use Rattle.cs_draft.specs.Draft.{AreUpdates, IsBound, IsUpdate, IsUpdatedJob, IsUpdatedLine, Warn};
+ghost use Rattle.cs_draft.specs.Draft.{left_behind};
 
 use crate::added::{are_new_groups, is_updated_job, is_updated_line};
-use crate::kept::are_terms;
+use crate::kept::{are_terms, left_behind};
 use crate::names::{are_bound, entries_are_bound};
 use crate::warned::are_warned;
 use cs_anacrontab::{Anacrontab, Job};
@@ -69,11 +70,12 @@ fn are_updated_lines(
     max: u64,
     new: &Entries,
 ) -> Result<bool, AllocError>
-    ensures { IfOk result (λ b. IsTrue b
-        → All (IsUpdatedLine lines.now places.now old.now max new.now) lines.now) }
+    ensures { IfOk result (λ b. IsTrue b → All (IsUpdatedLine lines.now places.now old.now
+        (left_behind lines.now old.now) max new.now) lines.now) }
 {
+    let behind = left_behind(lines, old);
     for line in lines {
-        if !is_updated_line(alloc, lines, places, old, max, new, line)? {
+        if !is_updated_line(alloc, lines, places, old, behind, max, new, line)? {
             return Ok(false);
         }
     }

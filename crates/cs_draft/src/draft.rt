@@ -118,15 +118,13 @@ fn drawn(
 /// Each job has that longest time, or that of timeout(1) where it limits the whole command; a
 /// command has the time to its own next due minute if that is shorter. A longest time that isn't
 /// that of timeout(1) is marked as a guess. The capacity is the greatest, and the catch-up hours
-/// are all. Where two lines have one command, their entries tell the schedule too. A command that
-/// has parts, as the places tell, has them in its entry: each has an equal share of the time to the
-/// next due minute, but at most `max` minutes and at least one, and the longest time is their sum.
-/// A command that is a plain call of flock(1), behind settings, guards and nice(1), has the group of
-/// the lock file, which is exclusive and has the file's name, and the mode that the options ask for:
-/// `try` for `-n`, `shared` for `-s`, else `wait`. Each other command that names a program that locks
-/// files has no lock, and a warning says how to declare one. `@reboot` lines are left out, each with
-/// a warning. What is drawn up was read back, compared with the commands and joined with the tables.
-/// The only error is want of memory.
+/// are all. A command that has parts, as the places tell, has them in its entry: each has an equal
+/// share of the time to the next due minute, but at most `max` minutes and at least one. A command
+/// that is a plain call of flock(1), behind settings, guards and nice(1), has the group of the lock
+/// file, which is exclusive, and the mode that the options ask for. Each other command that names a
+/// program that locks files has no lock, and a warning says how to declare one. `@reboot` lines are
+/// left out, each with a warning. What is drawn up was read back, compared with the commands and
+/// joined with the tables. The only error is want of memory.
 pub fn draw_up(
     alloc: Global,
     table: &Crontab,
@@ -149,11 +147,13 @@ pub fn draw_up(
 /// schedule; of those that tell none, if there are as many of both, the first is that of the first,
 /// and so on; and one entry that is left is that of the one line that is left. Where its entry has
 /// parts, and the places tell others, those that stay keep their longest times, and the longest time
-/// is the new sum. An anacron job keeps what is declared of its identifier, and all else is as
-/// before. What is new is declared as by [`draw_up`]; where there is a default, only a new command
-/// with a lock has an entry, with the default's longest time. What is new or gone is told. What is
-/// drawn up was read back, compared with the old declarations and the commands, and joined with the
-/// tables. The only error is want of memory.
+/// is the new sum. Where one entry alone is left and one command alone is new, that has the entry if
+/// it runs the same program, no other schedule is told, and it takes the entry's lock. An anacron job
+/// keeps what is declared of its identifier, and all else is as before. What is new is declared as by
+/// [`draw_up`]; where there is a default, only a new command with a lock has an entry, with the
+/// default's longest time. What is new or gone is told. What is drawn up was read back, compared with
+/// the old declarations and the commands, and joined with the tables. The only error is want of
+/// memory.
 pub fn update(
     alloc: Global,
     table: &Crontab,

@@ -1,7 +1,8 @@
 //! Durations, as timeout(1) reads them: a number and a unit.
-ghost use Rattle.std.specs.Prelude.{◌≡◌, ◌≤◌, ◌*◌, ◌+◌, ◌^◌, IfSome, min};
+ghost use Rattle.std.specs.Prelude.{◌≡◌, ◌≤◌, ◌*◌, ◌+◌, ◌^◌, IfSome, drop, if◌then◌else◌, min, not};
 ghost use Rattle.std.specs.Int.{div_ceil};
-ghost use Rattle.cs_draft.specs.Timeouts.{MOST, begins_with_digit, behind_point, seconds_of, unit_of};
+ghost use Rattle.cs_table.specs.Text.{begins_with, front, is_digit, is_nothing};
+ghost use Rattle.cs_draft.specs.Timeouts.{MOST, seconds_of, unit_of};
 
 use cs_table::text::digits;
 
@@ -23,8 +24,9 @@ fn unit_of(suffix: &[u8]) -> Option<u32>
     }
 }
 
-pub(crate) fn begins_with_digit(word: &[u8]) -> bool
-    ensures { result ≡ begins_with_digit word.now }
+#[tactic(auto, unfolding(cs_table::specs::Text::front))]
+fn begins_with_digit(word: &[u8]) -> bool
+    ensures { result ≡ not (is_nothing (front is_digit word.now)) }
 {
     match word {
         [byte, ..] => byte.is_ascii_digit(),
@@ -34,7 +36,7 @@ pub(crate) fn begins_with_digit(word: &[u8]) -> bool
 
 /// What stands behind a point at the front.
 fn behind_point(text: &[u8]) -> &[u8]
-    ensures { result.now ≡ behind_point text.now }
+    ensures { result.now ≡ drop (if begins_with 46 text.now then 1 else 0) text.now }
 {
     match text {
         [b'.', behind @ ..] => behind,

@@ -1,59 +1,40 @@
 //! A plain call of flock(1), as util-linux has it: options, the path of a file, and a program.
-ghost use Rattle.std.specs.Prelude.{◌≡◌, ◌∷◌, [], codes, false, length, option_map};
-ghost use Rattle.cs_json.specs.Shape.{is_among};
+ghost use Rattle.std.specs.Prelude.{◌≡◌, false, length, option_map};
 ghost use Rattle.cs_draft.specs.Locks.{asked_in, behind_c, behind_option, behind_redirection};
 ghost use Rattle.cs_draft.specs.Locks.{behind_sign, call_in, called, is_at_once, is_exclusive};
-ghost use Rattle.cs_draft.specs.Locks.{is_flock, is_held, is_program, is_shared, mode_of, with_option};
+ghost use Rattle.cs_draft.specs.Locks.{is_held, is_program, is_shared, mode_of, with_option};
 ghost use Rattle.cs_draft.specs.Words.{behind_all};
 
-use crate::fronts::{begins_with_dash, behind_fronts};
+use crate::fronts::{begins_with, behind_fronts};
 use crate::named::{Kind, count_of};
 use crate::paths::{common_path, has_one_place, is_below, is_file};
-use crate::words::{behind_plain, behind_this, behind_word, behind_words, first_word, word_at};
+use crate::words::{
+    behind_plain, behind_this, behind_word, behind_words, first_word, is_one_of, word_at,
+};
 use cs_history::Mode;
-use cs_table::text::{is_among, skip_blanks};
+use cs_table::text::skip_blanks;
 
 // ---- options
 
 fn is_shared(word: &[u8]) -> bool
     ensures { result ≡ is_shared word.now }
 {
-    word == b"-s".as_slice() || word == b"--shared".as_slice()
+    is_one_of(b"-s --shared", word)
 }
 
 fn is_exclusive(word: &[u8]) -> bool
     ensures { result ≡ is_exclusive word.now }
 {
-    let words: [&[u8]; 3] = [b"-x", b"-e", b"--exclusive"];
-    is_among(&words, word)
+    is_one_of(b"-x -e --exclusive", word)
 }
 
 fn is_at_once(word: &[u8]) -> bool
     ensures { result ≡ is_at_once word.now }
 {
-    let words: [&[u8]; 11] = [
-        b"-n",
-        b"-xn",
-        b"-nx",
-        b"-en",
-        b"-ne",
-        b"--nb",
-        b"--nonblock",
-        b"--nonblocking",
-        b"-w0",
-        b"--wait=0",
-        b"--timeout=0",
-    ];
-    is_among(&words, word)
-}
-
-/// Whether the option has the time of a wait in the next word.
-fn is_wait(word: &[u8]) -> bool
-    ensures { result
-        ≡ is_among (codes "-w" ∷ codes "--wait" ∷ codes "--timeout" ∷ []) word.now }
-{
-    let words: [&[u8]; 3] = [b"-w", b"--wait", b"--timeout"];
-    is_among(&words, word)
+    is_one_of(
+        b"-n -xn -nx -en -ne --nb --nonblock --nonblocking -w0 --wait=0 --timeout=0",
+        word,
+    )
 }
 
 /// What stands behind an option that a mode is like.
@@ -62,7 +43,7 @@ fn behind_option(text: &[u8]) -> Option<&[u8]>
     ensures { option_map (λ rest. rest.now) result ≡ behind_option text.now }
 {
     let word = first_word(text);
-    if is_wait(word) {
+    if is_one_of(b"-w --wait --timeout", word) {
         return behind_this(b"0", behind_word(text));
     }
     if is_shared(word) || is_exclusive(word) || is_at_once(word) {
@@ -106,7 +87,7 @@ fn options(text: &[u8]) -> ((bool, bool), &[u8])
 }
 
 fn mode_of(asked: (bool, bool)) -> Option<Mode>
-    ensures { result ≡ mode_of asked.0 asked.1 }
+    ensures { result ≡ mode_of asked }
 {
     match asked {
         (false, false) => Some(Mode::Wait),
@@ -166,7 +147,7 @@ fn behind_redirections(text: &[u8]) -> &[u8]
 pub(crate) fn is_program(text: &[u8]) -> bool
     ensures { result ≡ is_program text.now }
 {
-    !begins_with_dash(text)
+    !begins_with(b'-', text)
         && word_at(text).is_some()
         && behind_redirections(behind_words(text)).is_empty()
 }
@@ -176,21 +157,13 @@ pub(crate) fn is_program(text: &[u8]) -> bool
 fn behind_c(text: &[u8]) -> &[u8]
     ensures { result.now ≡ behind_c text.now }
 {
-    let first = first_word(text);
-    if first == b"-c".as_slice() || first == b"--command".as_slice() {
+    if is_one_of(b"-c --command", first_word(text)) {
         return behind_word(text);
     }
     text
 }
 
 // ---- the lock
-
-fn is_flock(word: &[u8]) -> bool
-    ensures { result ≡ is_flock word.now }
-{
-    let words: [&[u8]; 3] = [b"flock", b"/bin/flock", b"/usr/bin/flock"];
-    is_among(&words, word)
-}
 
 /// Whether the program behind the path of a file keeps its lock to its end.
 #[tactic(auto, unfolding(crate::specs::Locks::is_held))]
@@ -226,7 +199,7 @@ pub(crate) fn call_in(text: &[u8]) -> Option<((&[u8], Mode), &[u8])>
         ≡ call_in text.now }
 {
     let behind = behind_fronts(text);
-    if !is_flock(first_word(behind)) {
+    if !is_one_of(b"flock /bin/flock /usr/bin/flock", first_word(behind)) {
         return None;
     }
     called(text, behind_word(behind))

@@ -1,15 +1,13 @@
 //! What may stand before a plain call of flock(1) or timeout(1): settings, guards, nice(1) and
 //! ionice(1).
-ghost use Rattle.std.specs.Prelude.{◌≡◌, ◌∷◌, [], codes, option_map};
-ghost use Rattle.cs_json.specs.Shape.{is_among};
+ghost use Rattle.std.specs.Prelude.{◌≡◌, option_map};
 ghost use Rattle.cs_table.specs.Text.{after, begins_with};
-ghost use Rattle.cs_draft.specs.Words.{behind_front, behind_guard, behind_nice_option, is_nice, is_setting};
+ghost use Rattle.cs_draft.specs.Words.{behind_front, behind_guard, behind_nice_option, is_setting};
 ghost use Rattle.cs_draft.specs.Words.{behind_all, is_name_byte};
 
 use crate::words::{
-    behind_plain, behind_this, behind_word, behind_words, first_word, is_name_byte,
+    behind_plain, behind_this, behind_word, behind_words, first_word, is_name_byte, is_one_of,
 };
-use cs_table::text::is_among;
 
 /// What stands behind the bytes of a name.
 #[tactic(auto, unfolding(cs_table::specs::Text::after))]
@@ -26,12 +24,12 @@ fn behind_name(text: &[u8]) -> &[u8]
     rest
 }
 
-fn begins_with_equals_sign(text: &[u8]) -> bool
-    ensures { result ≡ begins_with 61 text.now }
+pub(crate) fn begins_with(byte: u8, text: &[u8]) -> bool
+    ensures { result ≡ begins_with byte text.now }
 {
     match text {
-        [b'=', ..] => true,
-        _ => false,
+        [first, ..] => *first == byte,
+        [] => false,
     }
 }
 
@@ -44,7 +42,7 @@ fn is_setting(word: &[u8]) -> bool
         [first, others @ ..] => {
             is_name_byte(*first)
                 && !first.is_ascii_digit()
-                && begins_with_equals_sign(behind_name(others))
+                && begins_with(b'=', behind_name(others))
         }
         [] => false,
     }
@@ -59,28 +57,10 @@ fn behind_guard(text: &[u8]) -> Option<&[u8]>
     if first == b"[".as_slice() {
         return behind_this(b"&&", behind_this(b"]", behind_words(behind_word(text)))?);
     }
-    if first == b"test".as_slice() || first == b"cd".as_slice() {
+    if is_one_of(b"test cd", first) {
         return behind_this(b"&&", behind_words(behind_word(text)));
     }
     None
-}
-
-pub(crate) fn begins_with_dash(text: &[u8]) -> bool
-    ensures { result ≡ begins_with 45 text.now }
-{
-    match text {
-        [b'-', ..] => true,
-        _ => false,
-    }
-}
-
-/// Whether the option has its value in the next word.
-fn is_valued(word: &[u8]) -> bool
-    ensures { result ≡ is_among (codes "-n" ∷ codes "-c" ∷ codes "--adjustment" ∷ codes "--class"
-        ∷ codes "--classdata" ∷ []) word.now }
-{
-    let words: [&[u8]; 5] = [b"-n", b"-c", b"--adjustment", b"--class", b"--classdata"];
-    is_among(&words, word)
 }
 
 /// What stands behind an option of nice(1) or ionice(1), and its value.
@@ -88,10 +68,10 @@ fn is_valued(word: &[u8]) -> bool
 fn behind_nice_option(text: &[u8]) -> Option<&[u8]>
     ensures { option_map (λ rest. rest.now) result ≡ behind_nice_option text.now }
 {
-    if !begins_with_dash(text) {
+    if !begins_with(b'-', text) {
         return None;
     }
-    if is_valued(first_word(text)) {
+    if is_one_of(b"-n -c --adjustment --class --classdata", first_word(text)) {
         return behind_plain(behind_word(text));
     }
     behind_plain(text)
@@ -112,20 +92,6 @@ fn behind_nice_options(text: &[u8]) -> &[u8]
     rest
 }
 
-fn is_nice(word: &[u8]) -> bool
-    ensures { result ≡ is_nice word.now }
-{
-    let words: [&[u8]; 6] = [
-        b"nice",
-        b"/bin/nice",
-        b"/usr/bin/nice",
-        b"ionice",
-        b"/bin/ionice",
-        b"/usr/bin/ionice",
-    ];
-    is_among(&words, word)
-}
-
 /// What stands behind a setting, a guard, or a call of nice(1) or ionice(1).
 #[tactic(auto, unfolding(crate::specs::Words::behind_front))]
 fn behind_front(text: &[u8]) -> Option<&[u8]>
@@ -135,7 +101,8 @@ fn behind_front(text: &[u8]) -> Option<&[u8]>
     if is_setting(first) {
         return behind_plain(text);
     }
-    if is_nice(first) {
+    let nice = b"nice /bin/nice /usr/bin/nice ionice /bin/ionice /usr/bin/ionice";
+    if is_one_of(nice, first) {
         return Some(behind_nice_options(behind_word(text)));
     }
     behind_guard(text)

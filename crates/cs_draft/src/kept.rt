@@ -1,15 +1,17 @@
 //! Whether new declarations keep what old ones declare.
-ghost use Rattle.std.specs.Prelude.{◌≡◌, IfSome, IsSomeAnd, IsTrue, length, option_map, take};
+ghost use Rattle.std.specs.Prelude.{◌≡◌, IfSome, IsSomeAnd, IsTrue, length, option_map, take, true};
 ghost use Rattle.std.specs.List.{count_by, find, list_any};
 ghost use Rattle.cs_decl.specs.Join.{is_named};
 ghost use Rattle.cs_decl.specs.Lines.{names_of};
-ghost use Rattle.cs_draft.specs.Draft.{AreAlike, IsKept, is_lone, is_new, parts_of, tells};
+ghost use Rattle.cs_draft.specs.Draft.{AreAlike, IsKept, is_gone, is_lone, is_new, left_behind};
+ghost use Rattle.cs_draft.specs.Draft.{is_text, may_follow, parts_of, tells};
 
-use crate::names::{count_like, entry_of, is_left_out, is_reboot, tells};
+use crate::names::{count_like, entry_of, is_left_out, is_reboot, is_text, tells};
 use crate::parts::{keeps_times, parts_of};
+use crate::timeouts::program_of;
 use cs_civil::Bytes;
 use cs_crontab::Line;
-use cs_decl::{AnacronEntry, CronEntry, Entries, GroupEntry, LineName};
+use cs_decl::{AnacronEntry, CronEntry, Entries, GroupEntry, LineName, is_told_when};
 use cs_gather::Place;
 
 fn are_alike(names: &[Bytes], old: &CronEntry, new: &CronEntry) -> bool
@@ -72,6 +74,78 @@ pub(crate) fn is_new(old: &Entries, line: &Line) -> bool
     ensures { result ≡ is_new old.now line.now }
 {
     !is_reboot(line) && times_told(false, old, line) == 0
+}
+
+/// Whether the name tells the command of no line.
+fn is_gone(lines: &[Line], name: &LineName) -> bool
+    ensures { result ≡ is_gone lines.now name.now }
+{
+    let mut all = lines.iter();
+    all.all(|line| !is_text(line.command(), &name.command))
+}
+
+fn count_new(lines: &[Line], old: &Entries) -> usize
+    ensures { result ≡ count_by (is_new old.now) lines.now }
+{
+    lines.iter().filter(|line| is_new(old, line)).count()
+}
+
+#[tactic(auto, using(crate::proofs::Counts::counted_gone))]
+fn count_gone(lines: &[Line], old: &Entries) -> usize
+    ensures { result ≡ count_by (is_gone lines.now) (names_of old.now) }
+{
+    let (cron, names) = (old.cron.as_slice(), old.left_out.as_slice());
+    let entries = cron.iter().filter(|entry| is_gone(lines, &entry.name));
+    let left_out = names.iter().filter(|name| is_gone(lines, name));
+    entries.count() + left_out.count()
+}
+
+fn first_gone<'e>(lines: &[Line], entries: &'e [CronEntry]) -> Option<&'e CronEntry>
+    ensures { option_map (λ e. e.now) result ≡ find (λ e. is_gone lines.now e.name) entries.now }
+{
+    entries.iter().find(|entry| is_gone(lines, &entry.name))
+}
+
+/// The old entry that alone is gone, where one line alone is new.
+pub(crate) fn left_behind<'e>(lines: &[Line], old: &'e Entries) -> Option<&'e CronEntry>
+    ensures { option_map (λ e. e.now) result ≡ left_behind lines.now old.now }
+{
+    if count_new(lines, old) == 1 && count_gone(lines, old) == 1 {
+        return first_gone(lines, old.cron.as_slice());
+    }
+    None
+}
+
+/// Whether the line may have that entry: one program is run, and no other schedule is told.
+pub(crate) fn may_follow(line: &Line, old: &CronEntry) -> bool
+    ensures { result ≡ may_follow line.now old.now }
+{
+    let Some(command) = &old.name.command else {
+        return false;
+    };
+    match (program_of(command.as_slice()), program_of(line.command())) {
+        (Some(before), Some(program)) => {
+            program == before && is_told_when(&old.name.when, line.when())
+        }
+        _ => false,
+    }
+}
+
+/// Whether the line has what the entry left behind declares, and may have it.
+pub(crate) fn follows(
+    behind: Option<&CronEntry>,
+    names: &[Bytes],
+    line: &Line,
+    entry: Option<&CronEntry>,
+) -> bool
+    ensures { IsTrue result → IsSomeAnd (option_map (λ e. e.now) behind.entry)
+        (λ o. (may_follow line.now o ≡ true)
+        × IsSomeAnd (option_map (λ e. e.now) entry.entry) (AreAlike names.now o)) }
+{
+    match (behind, entry) {
+        (Some(old), Some(entry)) => may_follow(line, old) && are_alike(names, old, entry),
+        _ => false,
+    }
 }
 
 /// The first entry that tells the line.

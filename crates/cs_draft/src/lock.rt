@@ -1,9 +1,7 @@
 //! The lock that a command of a crontab holds.
 ghost use Rattle.std.specs.Prelude.{◌≡◌, IfOk, option_map};
 ghost use Rattle.cs_crontab.specs.Command.{parts_from, pieces_of};
-ghost use Rattle.cs_draft.specs.Locks.{alone, call_in, lock_of};
-ghost use Rattle.cs_draft.specs.Locks.{real_path};
-ghost use Rattle.cs_draft.specs.Locks.{IsLock};
+ghost use Rattle.cs_draft.specs.Locks.{IsLock, alone, call_in, lock_of, real_path};
 
 use crate::flock::call_in;
 use crate::named::names_lock;

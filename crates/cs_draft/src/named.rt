@@ -1,8 +1,10 @@
 //! Which programs a text names, whatever a shell makes of it.
 ghost use Rattle.std.specs.Prelude.{◌≡◌};
-ghost use Rattle.cs_draft.specs.Named.{count_of, is_kind, is_leaver, is_locker, is_parting, later, name_from, name_of, names_lock};
+ghost use Rattle.cs_draft.specs.Words.{count_of, is_kind, is_leaver, is_locker, is_own};
+ghost use Rattle.cs_draft.specs.Words.{is_parting, is_runner, name_from, names_lock};
 
-use cs_table::text::is_among;
+use crate::fronts::begins_with;
+use crate::words::is_one_of;
 
 /// What a program does that a draft has to know of.
 #[derive(Clone, Copy, Debug)]
@@ -15,82 +17,61 @@ pub(crate) enum Kind {
     Limits,
 }
 
-/// What stands behind the byte, if it is a slash, or else the name so far.
-fn later<'t>(byte: u8, behind: &'t [u8], name: &'t [u8]) -> &'t [u8]
-    ensures { result.now ≡ later byte behind.now name.now }
-{
-    if byte == b'/' { behind } else { name }
-}
-
 /// What stands behind the last slash of a word.
-#[tactic(auto, unfolding(crate::specs::Named::name_from))]
+#[tactic(auto, unfolding(crate::specs::Words::name_from))]
 fn name_of(word: &[u8]) -> &[u8]
-    ensures { result.now ≡ name_of word.now }
+    ensures { result.now ≡ name_from word.now word.now }
 {
     let mut name = word;
     let mut rest = word;
     while let [byte, others @ ..] = rest {
-        name = later(*byte, others, name);
+        if *byte == b'/' {
+            name = others;
+        }
         rest = others;
     }
     name
 }
 
-#[tactic(auto, unfolding(crate::specs::Named::is_locker))]
+#[tactic(auto, unfolding(crate::specs::Words::is_locker))]
 fn is_locker(name: &[u8]) -> bool
     ensures { result ≡ is_locker name.now }
 {
-    let names: [&[u8]; 13] = [
-        b"flock",
-        b"lockfile",
-        b"lockfile-create",
-        b"dotlockfile",
-        b"setlock",
-        b"s6-setlock",
-        b"chpst",
-        b"run-one",
-        b"solo",
-        b"lckdo",
-        b"with-lock-ex",
-        b"sem",
-        b"lockrun",
-    ];
-    is_among(&names, name)
+    let names = b"flock lockfile lockfile-create dotlockfile setlock s6-setlock chpst run-one solo \
+        lckdo with-lock-ex sem lockrun";
+    is_one_of(names, name)
 }
 
-#[tactic(auto, unfolding(crate::specs::Named::is_leaver))]
+#[tactic(auto, unfolding(crate::specs::Words::is_leaver))]
 fn is_leaver(name: &[u8]) -> bool
     ensures { result ≡ is_leaver name.now }
 {
-    let names: [&[u8]; 22] = [
-        b"sudo",
-        b"doas",
-        b"su",
-        b"ssh",
-        b"at",
-        b"batch",
-        b"systemd-run",
-        b"start-stop-daemon",
-        b"screen",
-        b"tmux",
-        b"script",
-        b"docker",
-        b"podman",
-        b"setsid",
-        b"nohup",
-        b"sh",
-        b"bash",
-        b"env",
-        b"xargs",
-        b"rm",
-        b"mv",
-        b"unlink",
-    ];
-    is_among(&names, name)
+    let names =
+        b"sudo doas su ssh at batch systemd-run start-stop-daemon screen tmux script docker \
+        podman setsid nohup sh bash env xargs rm mv unlink daemonize";
+    is_one_of(names, name)
+}
+
+/// Whether it runs a file that a word behind it names, in any version.
+fn is_runner(name: &[u8]) -> bool
+    ensures { result ≡ is_runner name.now }
+{
+    b"run-parts python perl php ruby node java dash ksh zsh"
+        .split(|byte| *byte == b' ')
+        .any(|known| name.starts_with(known))
+}
+
+/// Whether the word names one program, in whichever folder, that runs no other one.
+#[tactic(auto, unfolding(crate::specs::Words::is_own))]
+pub(crate) fn is_own(word: &[u8]) -> bool
+    ensures { result ≡ is_own word.now }
+{
+    let name = name_of(word);
+    (begins_with(b'/', word) || name == word) && !is_leaver(name) && !is_runner(name)
 }
 
 /// Whether the word is a program of that kind, or a path to one.
-#[tactic(auto, unfolding(crate::specs::Named::is_kind))]
+#[tactic(auto, unfolding(crate::specs::Words::is_kind))]
 fn is_kind(kind: Kind, word: &[u8]) -> bool
     ensures { result ≡ is_kind kind word.now }
 {
@@ -102,7 +83,7 @@ fn is_kind(kind: Kind, word: &[u8]) -> bool
 }
 
 /// Whether the byte can't stand in the path of a program.
-#[tactic(auto, unfolding(crate::specs::Named::is_parting))]
+#[tactic(auto, unfolding(crate::specs::Words::is_parting))]
 fn is_parting(byte: u8) -> bool
     ensures { result ≡ is_parting byte }
 {

@@ -1,8 +1,7 @@
 //! The lines and jobs that entries name, and whether they tell the commands of these.
-ghost use Rattle.std.specs.Prelude.{◌≡◌, All, IsTrue, option_map};
-ghost use Rattle.std.specs.List.{count_by, find};
+ghost use Rattle.std.specs.Prelude.{◌≡◌, All, IsTrue, count_by, find, option_map};
 ghost use Rattle.cs_decl.specs.Join.{is_left_out, is_named, is_of_job, is_reboot};
-ghost use Rattle.cs_draft.specs.Draft.{IsBound, TellsLine, are_like, is_shared, is_text, tells};
+ghost use Rattle.cs_draft.specs.Draft.{IsBound, TellsLine, are_like, is_text, tells};
 
 use cs_civil::Bytes;
 use cs_crontab::{Line, When};
@@ -42,17 +41,6 @@ pub(crate) fn count_like(timed: bool, lines: &[Line], line: &Line) -> usize
         .count()
 }
 
-/// Whether another line has the line's command too.
-pub(crate) fn is_shared(lines: &[Line], line: &Line) -> bool
-    ensures { result ≡ is_shared lines.now line.now }
-{
-    lines
-        .iter()
-        .filter(|other| other.command() == line.command())
-        .count()
-        > 1
-}
-
 pub(crate) fn is_left_out(entries: &Entries, line: &Line) -> bool
     ensures { result ≡ is_left_out entries.now line.now }
 {
@@ -84,10 +72,7 @@ pub(crate) fn job_entry<'e>(entries: &'e Entries, identifier: &[u8]) -> Option<&
 pub(crate) fn is_reboot(line: &Line) -> bool
     ensures { result ≡ is_reboot line.now.when }
 {
-    match line.when() {
-        When::At(_) => false,
-        When::Reboot => true,
-    }
+    matches!(line.when(), When::Reboot)
 }
 
 // ---- whether entries are bound to the commands of their lines
@@ -103,7 +88,7 @@ fn tells_line(lines: &[Line], name: &LineName, line: &Line) -> bool
     if str::from_utf8(line.command()).is_ok() && !is_text(line.command(), &name.command) {
         return false;
     }
-    name.when.is_some() || !is_shared(lines, line)
+    name.when.is_some() || count_like(false, lines, line) <= 1
 }
 
 fn is_bound(lines: &[Line], name: &LineName) -> bool

@@ -130,13 +130,6 @@ fn fits(tells: Tells, entry: &Bound<'_>, line: &Line, has_reboot: bool) -> bool 
     is_told && can_be && entry.command() == line.command()
 }
 
-/// Whether a line with that command is started at startup.
-fn has_reboot(lines: &[Line], command: &[u8]) -> bool {
-    lines
-        .iter()
-        .any(|line| line.command() == command && is_reboot(line))
-}
-
 /// The place of the entry of a line, of which it tells so much: of the entries and the lines that are
 /// left the first is that of the first, if there are as many of both; but where entries tell other
 /// schedules, if there is one of both.
@@ -147,10 +140,8 @@ fn owner_of(
     pairs: &[Pair],
     line: &Line,
 ) -> Option<usize> {
-    let has_reboot = match tells {
-        Tells::This => false,
-        _ => has_reboot(lines, line.command()),
-    };
+    let has_reboot = !matches!(tells, Tells::This)
+        && lines.iter().any(|other| other.command() == line.command() && is_reboot(other));
     let mut owner = None;
     let mut entries = 0usize;
     for (i, entry) in bound.iter().enumerate() {

@@ -1,9 +1,10 @@
 //! The parts of commands: those that a gathered table tells, and those that entries have.
-ghost use Rattle.std.specs.Prelude.{◌≡◌, [], All, IsTrue, bytes_eq, map, option_map, pos, unwrap_or};
-ghost use Rattle.std.specs.List.{find, list_any};
+ghost use Rattle.std.specs.Prelude.{◌≡◌, ◌==◌, [], All, IsTrue, bytes_eq, count_by, find, map, option_map};
+ghost use Rattle.std.specs.Prelude.{pos, unwrap_or};
+ghost use Rattle.std.specs.List.{list_all, list_any};
 ghost use Rattle.cs_decl.specs.Faults.{minutes_of};
 ghost use Rattle.cs_draft.specs.Draft.{HasParts, KeepsPart, KeepsTimes, all_are_parts, declarable};
-ghost use Rattle.cs_draft.specs.Draft.{have_own, is_part, parts_of};
+ghost use Rattle.cs_draft.specs.Draft.{is_part, parts_of};
 ghost use Rattle.cs_gather.specs.Places.{place_of};
 
 use cs_civil::Bytes;
@@ -12,11 +13,6 @@ use cs_decl::{CronEntry, MAX_MINUTES, PartEntry};
 use cs_gather::{Place, place_of};
 
 // ---- the table's
-
-/// Whether a place is that of the line with that number.
-pub(crate) fn is_placed(places: &[Place], number: u32) -> bool {
-    place_of(places, number).is_some()
-}
 
 /// The names of the parts that the place of a line tells.
 pub(crate) fn names_at(places: &[Place], number: u32) -> &[Bytes]
@@ -36,18 +32,24 @@ pub(crate) fn has_name(name: &[u8], names: &[Bytes]) -> bool
     names.iter().any(|other| other.as_slice() == name)
 }
 
+/// How often the name stands among them.
+fn count_of(name: &[u8], names: &[Bytes]) -> usize
+    ensures { result ≡ count_by (λ other. bytes_eq other name.now) names.now }
+{
+    names
+        .iter()
+        .filter(|other| other.as_slice() == name)
+        .count()
+}
+
 /// Whether no name stands twice.
 fn have_own(names: &[Bytes]) -> bool
-    ensures { result ≡ have_own names.now }
+    ensures { result ≡ list_all (λ name. count_by (λ other. bytes_eq other name) names.now == 1)
+        names.now }
 {
-    let mut rest = names;
-    while let [name, behind @ ..] = rest {
-        if has_name(name.as_slice(), behind) {
-            return false;
-        }
-        rest = behind;
-    }
-    true
+    names
+        .iter()
+        .all(|name| count_of(name.as_slice(), names) == 1)
 }
 
 /// All of the names, or none where declarations can't have them.

@@ -1,21 +1,23 @@
 //! Which file the path of a lock file is, and how often it stands in a text.
-ghost use Rattle.std.specs.Prelude.{◌≡◌, ◌==◌, option_map};
-ghost use Rattle.std.specs.List.{count_by, slice_split};
+ghost use Rattle.std.specs.Prelude.{◌≡◌, ◌==◌, ◌∷◌, [], codes, count_by, option_map};
+ghost use Rattle.std.specs.List.{slice_split};
+ghost use Rattle.cs_gather.specs.RunParts.{is_among};
 ghost use Rattle.cs_draft.specs.Locks.{behind_place, behind_var, common_path, has_one_place, is_below};
-ghost use Rattle.cs_draft.specs.Locks.{is_file, is_off};
+ghost use Rattle.cs_draft.specs.Locks.{is_file};
 
 use cs_table::text::is_among;
 
 /// Whether the part of a path has no name or leads off.
 fn is_off(part: &[u8]) -> bool
-    ensures { result ≡ is_off part.now }
+    ensures { result ≡ is_among ([] ∷ codes "." ∷ codes ".." ∷ []) part.now }
 {
     let words: [&[u8]; 3] = [b"", b".", b".."];
     is_among(&words, part)
 }
 
 fn parts_off(path: &[u8]) -> usize
-    ensures { result ≡ count_by is_off (slice_split (λ b. b == 47) path.now) }
+    ensures { result ≡ count_by (is_among ([] ∷ codes "." ∷ codes ".." ∷ []))
+        (slice_split (λ b. b == 47) path.now) }
 {
     path.split(|byte| *byte == b'/')
         .filter(|part| is_off(part))

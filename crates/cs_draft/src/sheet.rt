@@ -3,9 +3,9 @@
 use crate::layout::Object;
 use crate::lock::{Lock, lock_of};
 use crate::named::names_lock;
-use crate::names::{count_like, is_shared};
+use crate::names::count_like;
 use crate::old::Bound;
-use crate::parts::{declarable, has_name, has_part, have_changed, is_placed, names_at};
+use crate::parts::{declarable, has_name, has_part, have_changed, names_at};
 use crate::paths::behind_place;
 use crate::schedule_text::schedule_text;
 use crate::timeouts::{asked_for, is_killed, limit_in, time_limit};
@@ -16,7 +16,7 @@ use cs_civil::Bytes;
 use cs_crontab::Line;
 use cs_decl::{MAX_GROUPS, MAX_MINUTES, PartEntry, is_told_when};
 use cs_diagnostics::shown;
-use cs_gather::Place;
+use cs_gather::{Place, place_of};
 use cs_history::Mode;
 use cs_schedule::Schedule;
 use serde_json::Value;
@@ -176,7 +176,7 @@ impl<'a> Sheet<'a> {
             self.told.note(format!(in alloc;
                 "line {number} has another schedule than its entry: the entry is kept"
             )?)?;
-        } else if !is_shared(self.lines, line) {
+        } else if count_like(false, self.lines, line) <= 1 {
             return Ok(());
         }
         entry.add_text(alloc, "when", schedule_text(alloc, line.when())?.as_str())
@@ -283,7 +283,7 @@ impl<'a> Sheet<'a> {
     /// Tells that parts are kept of which the table tells nothing, if it tells where the line comes
     /// from.
     fn tell_kept_parts(&mut self, alloc: Global, number: u32) -> Result<(), AllocError> {
-        if is_placed(self.places, number) && names_at(self.places, number).is_empty() {
+        if place_of(self.places, number).is_some() && names_at(self.places, number).is_empty() {
             return self.told.note(format!(in alloc;
                 "line {number} has no parts in the crontab: those of its entry are kept"
             )?);

@@ -1,29 +1,17 @@
 //! How long a command may run at most, as timeout(1) ends it.
-ghost use Rattle.std.specs.Prelude.{◌≡◌, ◌∷◌, [], ◌==◌, codes, option_map};
+ghost use Rattle.std.specs.Prelude.{◌≡◌, ◌==◌, option_map};
 ghost use Rattle.std.specs.List.{list_any};
-ghost use Rattle.cs_json.specs.Shape.{is_among};
-ghost use Rattle.cs_draft.specs.Timeouts.{asked_for, behind_kill, behind_options, behind_signal};
-ghost use Rattle.cs_draft.specs.Timeouts.{is_kill, is_timeout, kill_at, limit_at, limit_for};
-ghost use Rattle.cs_draft.specs.Timeouts.{limit_in, limit_of, run_in, time_limit};
+ghost use Rattle.cs_draft.specs.Timeouts.{asked_for, behind_signal, kill_at, limit_at, limit_for};
+ghost use Rattle.cs_draft.specs.Timeouts.{limit_in, limit_of, program_of, run_in, time_limit};
 
 use crate::durations::seconds_of;
 use crate::flock::{call_in, is_program};
 use crate::fronts::behind_fronts;
-use crate::named::{Kind, count_of, names_lock};
-use crate::words::{behind_word, first_word};
+use crate::named::{Kind, count_of, is_own, names_lock};
+use crate::words::{behind_word, first_word, is_one_of, word_at};
 use cs_decl::MAX_MINUTES;
-use cs_table::text::is_among;
 
 // ---- one call of timeout(1)
-
-/// Whether the signal ends a program.
-fn is_ending(signal: &[u8]) -> bool
-    ensures { result
-        ≡ is_among (codes "TERM" ∷ codes "INT" ∷ codes "KILL" ∷ []) signal.now }
-{
-    let signals: [&[u8]; 3] = [b"TERM", b"INT", b"KILL"];
-    is_among(&signals, signal)
-}
 
 /// What stands behind `-s` and such a signal, if they are there.
 #[tactic(auto, unfolding(crate::specs::Timeouts::behind_signal))]
@@ -31,44 +19,22 @@ fn behind_signal(text: &[u8]) -> &[u8]
     ensures { result.now ≡ behind_signal text.now }
 {
     let behind = behind_word(text);
-    if first_word(text) == b"-s".as_slice() && is_ending(first_word(behind)) {
+    if first_word(text) == b"-s".as_slice() && is_one_of(b"TERM INT KILL", first_word(behind)) {
         return behind_word(behind);
     }
     text
 }
 
-fn is_kill(word: &[u8]) -> bool
-    ensures { result ≡ is_kill word.now }
+/// The seconds to the signal KILL, which are 0 where none are told, and what stands behind them.
+fn kill_at(text: &[u8]) -> (Option<u32>, &[u8])
+    ensures seconds { result.0 ≡ (kill_at text.now).0 }
+    ensures behind { result.1.now ≡ (kill_at text.now).1 }
 {
-    word == b"-k".as_slice()
-}
-
-/// The seconds to the signal KILL, which are 0 where none are told.
-fn kill_at(text: &[u8]) -> Option<u32>
-    ensures { result ≡ kill_at text.now }
-{
-    if is_kill(first_word(text)) {
-        seconds_of(first_word(behind_word(text)))
-    } else {
-        Some(0)
+    if first_word(text) == b"-k".as_slice() {
+        let time = behind_word(text);
+        return (seconds_of(first_word(time)), behind_word(time));
     }
-}
-
-/// What stands behind `-k` and its time, if they are there.
-fn behind_kill(text: &[u8]) -> &[u8]
-    ensures { result.now ≡ behind_kill text.now }
-{
-    if is_kill(first_word(text)) {
-        behind_word(behind_word(text))
-    } else {
-        text
-    }
-}
-
-fn behind_options(text: &[u8]) -> &[u8]
-    ensures { result.now ≡ behind_options text.now }
-{
-    behind_signal(behind_kill(behind_signal(text)))
+    (Some(0), text)
 }
 
 /// The minutes of both, rounded up, and one more, or two for a run that waits; none where there is
@@ -91,48 +57,23 @@ fn limit_for(waits: bool, seconds: Option<u32>, kill: Option<u32>) -> Option<u64
 fn limit_of(waits: bool, rest: &[u8]) -> Option<u64>
     ensures { result ≡ limit_of waits rest.now }
 {
-    let duration = behind_options(rest);
+    let (kill, behind) = kill_at(behind_signal(rest));
+    let duration = behind_signal(behind);
     if !is_program(behind_word(duration)) || count_of(Kind::Leaves, rest) != 0 {
         return None;
     }
-    limit_for(
-        waits,
-        seconds_of(first_word(duration)),
-        kill_at(behind_signal(rest)),
-    )
+    limit_for(waits, seconds_of(first_word(duration)), kill)
 }
 
 // ---- the command
 
-fn is_timeout(word: &[u8]) -> bool
-    ensures { result ≡ is_timeout word.now }
-{
-    let words: [&[u8]; 3] = [b"timeout", b"/bin/timeout", b"/usr/bin/timeout"];
-    is_among(&words, word)
-}
-
 fn limit_at(waits: bool, text: &[u8]) -> Option<u64>
     ensures { result ≡ limit_at (waits, text.now) }
 {
-    if is_timeout(first_word(text)) {
+    if is_one_of(b"timeout /bin/timeout /usr/bin/timeout", first_word(text)) {
         limit_of(waits, behind_word(text))
     } else {
         None
-    }
-}
-
-/// Whether the run waits for its lock, and what stands behind the lock's file; or what stands behind
-/// settings, guards and nice(1).
-#[tactic(auto, unfolding(crate::specs::Timeouts::run_in))]
-fn run_in(text: &[u8]) -> Option<(bool, &[u8])>
-    ensures { option_map (λ run. (run.0, run.1.now)) result ≡ run_in text.now }
-{
-    if !names_lock(text) {
-        return Some((false, behind_fronts(text)));
-    }
-    match call_in(text) {
-        Some(((_, mode), behind)) => Some((mode.waits(), behind)),
-        None => None,
     }
 }
 
@@ -142,12 +83,44 @@ fn has_percent(text: &[u8]) -> bool
     text.contains(&b'%')
 }
 
+/// Whether the run waits for its lock, and what stands behind the lock's file; or what stands behind
+/// settings, guards and nice(1).
+#[tactic(auto, unfolding(crate::specs::Timeouts::run_in))]
+fn run_in(text: &[u8]) -> Option<(bool, &[u8])>
+    ensures { option_map (λ run. (run.0, run.1.now)) result ≡ run_in text.now }
+{
+    if has_percent(text) {
+        return None;
+    }
+    if !names_lock(text) {
+        return Some((false, behind_fronts(text)));
+    }
+    match call_in(text) {
+        Some(((_, mode), behind)) => Some((mode.waits(), behind)),
+        None => None,
+    }
+}
+
+/// The program that the command runs there, behind nice(1) again: none that runs another one, or a
+/// file of a folder that isn't told.
+pub(crate) fn program_of(command: &[u8]) -> Option<&[u8]>
+    ensures { option_map (λ word. word.now) result ≡ program_of command.now }
+{
+    let (_, behind) = run_in(command)?;
+    let behind = behind_fronts(behind);
+    let (word, _) = word_at(behind)?;
+    if is_program(behind) && is_own(word) && count_of(Kind::Limits, command) == 0 {
+        return Some(word);
+    }
+    None
+}
+
 /// The limit in minutes that the one timeout(1) of the text sets.
 #[tactic(auto, unfolding(crate::specs::Timeouts::limit_in))]
 pub(crate) fn limit_in(text: &[u8]) -> Option<u64>
     ensures { result ≡ limit_in text.now }
 {
-    if has_percent(text) || count_of(Kind::Limits, text) != 1 {
+    if count_of(Kind::Limits, text) != 1 {
         return None;
     }
     match run_in(text) {
@@ -181,6 +154,6 @@ pub(crate) fn is_killed(command: &[u8]) -> bool {
     };
     let options = behind_word(behind);
     let signal = first_word(behind_word(options));
-    is_kill(first_word(behind_signal(options)))
+    !matches!(kill_at(behind_signal(options)).0, Some(0))
         || first_word(options) == b"-s".as_slice() && signal == b"KILL".as_slice()
 }

@@ -36,16 +36,18 @@ impl Told {
         }
     }
 
-    pub(crate) fn note(&mut self, note: String) -> Result<(), AllocError> {
-        self.text.extend_from_slice(b"note: ")?;
-        self.text.extend_from_slice(note.as_bytes())?;
+    fn tell(&mut self, front: &[u8], text: &[u8]) -> Result<(), AllocError> {
+        self.text.extend_from_slice(front)?;
+        self.text.extend_from_slice(text)?;
         self.text.extend_from_slice(b"\n")
     }
 
+    pub(crate) fn note(&mut self, note: String) -> Result<(), AllocError> {
+        self.tell(b"note: ", note.as_bytes())
+    }
+
     pub(crate) fn warn(&mut self, warning: String) -> Result<(), AllocError> {
-        self.text.extend_from_slice(b"warning: ")?;
-        self.text.extend_from_slice(warning.as_bytes())?;
-        self.text.extend_from_slice(b"\n")
+        self.tell(b"warning: ", warning.as_bytes())
     }
 
     /// The command on that line of that table may take a lock that isn't declared.
@@ -57,8 +59,6 @@ impl Told {
         reason: &str,
     ) -> Result<(), AllocError> {
         let front = warning_of(alloc, table.as_bytes(), number)?;
-        self.text.extend_from_slice(front.as_slice())?;
-        self.text.extend_from_slice(reason.as_bytes())?;
-        self.text.extend_from_slice(b"\n")
+        self.tell(front.as_slice(), reason.as_bytes())
     }
 }

@@ -1,26 +1,44 @@
 //! The declarations of tables, beside those that there are already.
 
+use crate::added::is_locked;
+use crate::kept::{is_new, left_behind, may_follow};
 use crate::layout::Object;
 use crate::lock::own_lock;
+use crate::names::is_text;
 use crate::old::{Bound, Old, Pair, bound_in, items, pairs_of, text_of};
 use crate::sheet::Sheet;
 use crate::told::Told;
 use cs_anacrontab::{Anacrontab, Job};
 use cs_crontab::{Crontab, Line, When};
+use cs_decl::Entries;
 use cs_diagnostics::shown;
 use cs_gather::Place;
 use cs_schedule::Schedule;
 use serde_json::Value;
 use std::alloc::{AllocError, Global};
 
-/// Adds the groups as they were declared.
-fn add_groups<'a>(alloc: Global, sheet: &mut Sheet<'a>, old: &'a Value) -> Result<(), AllocError> {
-    for group in items(old, "groups") {
-        if let Some(name) = text_of(group, "name") {
-            sheet.add_group(alloc, name, group)?;
+/// The line that is new and the entry left behind, if the line may have that, and takes its lock.
+fn follower_of(
+    alloc: Global,
+    bound: &[Bound<'_>],
+    lines: &[Line],
+    old: &Entries,
+) -> Result<Option<Pair>, AllocError> {
+    let Some(behind) = left_behind(lines, old) else {
+        return Ok(None);
+    };
+    for (place, line) in lines.iter().enumerate() {
+        if is_new(old, line) && may_follow(line, behind) {
+            let lock = own_lock(alloc, line.command())?;
+            if is_locked(&[], &lock, behind) {
+                let command = &behind.name.command;
+                let mut entries = bound.iter();
+                let entry = entries.position(|entry| is_text(entry.command(), command));
+                return Ok(entry.map(|entry| Pair { line: place, entry }));
+            }
         }
     }
-    Ok(())
+    Ok(None)
 }
 
 /// Declarations as they are updated.
@@ -45,9 +63,16 @@ impl<'a> Update<'a> {
         max: u64,
     ) -> Result<Update<'a>, AllocError> {
         let mut sheet = Sheet::new(alloc, lines, places, max);
-        add_groups(alloc, &mut sheet, old.value)?;
+        for group in items(old.value, "groups") {
+            if let Some(name) = text_of(group, "name") {
+                sheet.add_group(alloc, name, group)?;
+            }
+        }
         let bound = bound_in(alloc, &mut sheet.told, old)?;
-        let pairs = pairs_of(alloc, bound.as_slice(), lines)?;
+        let mut pairs = pairs_of(alloc, bound.as_slice(), lines)?;
+        if let Some(pair) = follower_of(alloc, bound.as_slice(), lines, old.entries)? {
+            pairs.push(pair)?;
+        }
         Ok(Update {
             sheet,
             bound,
@@ -98,7 +123,16 @@ impl<'a> Update<'a> {
                 self.sheet.told.note(note)?;
                 self.sheet.leave_out(alloc, line, Some(old))
             }
-            (When::At(_), Some(old)) => self.sheet.add_kept(alloc, line, old),
+            (When::At(_), Some(old)) => {
+                if old.command() != line.command() {
+                    let command = shown(alloc, old.command())?;
+                    self.sheet.told.note(format!(in alloc;
+                        "the command on line {number} changed; its entry keeps the longest time \
+                         of {command}"
+                    )?)?;
+                }
+                self.sheet.add_kept(alloc, line, old)
+            }
             (When::At(schedule), None) => self.add_new(alloc, line, schedule),
         }
     }
@@ -122,7 +156,8 @@ impl<'a> Update<'a> {
         job: &Job,
         identifier: &str,
     ) -> Result<(), AllocError> {
-        let entry = job_entry(old, identifier);
+        let mut entries = items(old, "anacron").iter();
+        let entry = entries.find(|entry| text_of(entry, "id") == Some(identifier));
         if entry.is_none() && self.default.is_some() {
             self.defaulted = self.defaulted.saturating_add(1);
             return self.sheet.tell_job(alloc, job);
@@ -165,18 +200,6 @@ fn tell_hours(alloc: Global, told: &mut Told, jobs: &Anacrontab) -> Result<(), A
     Ok(())
 }
 
-/// The old entry of the anacron job.
-fn job_entry<'v>(old: &'v Value, identifier: &str) -> Option<&'v Value> {
-    items(old, "anacron")
-        .iter()
-        .find(|entry| text_of(entry, "id") == Some(identifier))
-}
-
-fn has_job(jobs: &[Job], identifier: &str) -> bool {
-    jobs.iter()
-        .any(|job| job.identifier() == identifier.as_bytes())
-}
-
 /// Tells of the old entries of anacron jobs that are gone.
 fn tell_gone_jobs(
     alloc: Global,
@@ -186,7 +209,9 @@ fn tell_gone_jobs(
 ) -> Result<(), AllocError> {
     for entry in items(old, "anacron") {
         if let Some(identifier) = text_of(entry, "id")
-            && !has_job(jobs, identifier)
+            && !jobs
+                .iter()
+                .any(|job| job.identifier() == identifier.as_bytes())
         {
             tell_job(alloc, told, identifier, "gone")?;
         }

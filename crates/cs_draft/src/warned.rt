@@ -1,8 +1,7 @@
 //! Whether the locks that declarations lack are warned of.
-ghost use Rattle.std.specs.Prelude.{◌≡◌, IfOk, IsTrue, map};
-ghost use Rattle.std.specs.List.{filter};
+ghost use Rattle.std.specs.Prelude.{◌≡◌, IfOk, IsTrue, codes, filter, map, true};
 ghost use Rattle.cs_table.specs.Text.{lines_of};
-ghost use Rattle.cs_draft.specs.Draft.{AreWarned, is_unlocked, is_unlocked_job, warn_of};
+ghost use Rattle.cs_draft.specs.Draft.{is_unlocked, is_unlocked_job, warn_of};
 
 use crate::kept::is_new;
 use crate::named::names_lock;
@@ -92,8 +91,10 @@ pub(crate) fn are_warned(
     entries: &Entries,
     text: &[u8],
 ) -> Result<bool, AllocError>
-    ensures { IfOk result
-        (λ b. IsTrue b → AreWarned table.now jobs.now old.now entries.now text.now) }
+    ensures lines { IfOk result (λ b. IsTrue b → warn_of (codes "crontab") (map (λ line. line.number)
+        (filter (is_unlocked old.now entries.now) table.now.lines)) (lines_of text.now) ≡ true) }
+    ensures jobs { IfOk result (λ b. IsTrue b → warn_of (codes "anacrontab") (map (λ job. job.number)
+        (filter (is_unlocked_job old.now) jobs.now.lines)) (lines_of text.now) ≡ true) }
 {
     let lines = unlocked_lines(alloc, old, entries, table.lines())?;
     if !warn_of(alloc, b"crontab", lines.as_slice(), text)? {

@@ -3,10 +3,17 @@ ghost use Rattle.std.specs.Prelude.{◌≡◌, option_map};
 ghost use Rattle.std.specs.List.{list_all};
 ghost use Rattle.cs_table.specs.Text.{after, front};
 ghost use Rattle.cs_draft.specs.Words.{behind_all, behind_one, behind_plain, behind_this, behind_word};
-ghost use Rattle.cs_draft.specs.Words.{first_word, is_name_byte, is_plain, is_plain_byte};
+ghost use Rattle.cs_draft.specs.Words.{first_word, is_name_byte, is_one_of, is_plain_byte};
 ghost use Rattle.cs_draft.specs.Words.{is_quoted_byte, quoted_at, word_at};
 
 use cs_table::text::{is_blank, skip_blanks, word};
+
+/// Whether the word is one of those in the list, which have a blank between them.
+pub(crate) fn is_one_of(list: &[u8], word: &[u8]) -> bool
+    ensures { result ≡ is_one_of list.now word.now }
+{
+    list.split(|byte| *byte == b' ').any(|known| known == word)
+}
 
 pub(crate) fn first_word(text: &[u8]) -> &[u8]
     ensures { result.now ≡ first_word text.now }
@@ -42,24 +49,16 @@ fn are_plain(word: &[u8]) -> bool
     word.iter().all(|byte| is_plain_byte(*byte))
 }
 
-/// Whether there is a word, of such bytes alone.
-#[tactic(auto, unfolding(crate::specs::Words::is_plain))]
-fn is_plain(word: &[u8]) -> bool
-    ensures { result ≡ is_plain word.now }
-{
-    !word.is_empty() && are_plain(word)
-}
-
 /// What stands behind a plain word.
 #[tactic(auto, unfolding(crate::specs::Words::behind_plain))]
 pub(crate) fn behind_plain(text: &[u8]) -> Option<&[u8]>
     ensures { option_map (λ rest. rest.now) result ≡ behind_plain text.now }
 {
-    if is_plain(first_word(text)) {
-        Some(behind_word(text))
-    } else {
-        None
+    let first = first_word(text);
+    if first.is_empty() || !are_plain(first) {
+        return None;
     }
+    Some(behind_word(text))
 }
 
 /// What stands behind that word.

@@ -4,7 +4,7 @@ use Rattle.cs_crontab.specs.Crontab.{Table as Crontab}
 use Rattle.cs_anacrontab.specs.Anacrontab.{Table as Anacrontab}
 use Rattle.cs_gather.specs.declared.places.Place.{Place}
 use Rattle.cs_decl.specs.declared.entries.Entries.{Entries}
-use Rattle.cs_draft.specs.Draft.{IsDraft, IsUpdate}
+use Rattle.cs_draft.specs.Draft.{IsUpdate, nothing}
 use Rattle.cs_learn.specs.Jobs.{job_on}
 use Rattle.cs_learn.specs.Learning.{Told}
 use Rattle.cs_learn.specs.Log.{HaveRuns}
@@ -14,7 +14,7 @@ use Rattle.cs_learn.specs.declared.job_evidence.JobEvidence.{JobEvidence}
 
 -- a draft, or an update of old declarations, where a new job has the longest time of `draft`
 abbrev pub IsDrawn : Crontab → Anacrontab → List Place → ℤ → Option Entries → List ℕ → Type 0
-IsDrawn table jobs places offset None = IsDraft table jobs places NEW_MAX offset
+IsDrawn table jobs places offset None = IsUpdate table jobs places (nothing offset) NEW_MAX
 IsDrawn table jobs places offset (Some old) = IsUpdate table jobs places old NEW_MAX
 
 -- The bytes are what is drawn up, but each entry without parts has the longest time that the runs of

@@ -1,6 +1,6 @@
 //! Declarations whose longest times logs give.
 ghost use Rattle.std.specs.Prelude.{◌≡◌, ◌++◌, IfOk, IfSome, map, option_map};
-ghost use Rattle.cs_draft.specs.Draft.{IsDraft, IsUpdate};
+ghost use Rattle.cs_draft.specs.Draft.{IsUpdate, nothing};
 ghost use Rattle.cs_learn.specs.Jobs.{job_on};
 ghost use Rattle.cs_learn.specs.Learned.{IsDrawn, IsLearned};
 ghost use Rattle.cs_learn.specs.Learning.{Told};
@@ -42,7 +42,7 @@ fn fresh(
     offset: i16,
 ) -> Result<Option<Draft>, AllocError>
     ensures { IfOk result (λ found. IfSome found
-        (λ draft. IsDraft table.now jobs.now places.now NEW_MAX offset draft.text)) }
+        (λ draft. IsUpdate table.now jobs.now places.now (nothing offset) NEW_MAX draft.text)) }
 {
     match draw_up(alloc, table, jobs, places, NEW_MAX, offset)? {
         Drawing::Drawn(draft) => Ok(Some(draft)),

@@ -8,7 +8,7 @@ use Rattle.cs_history.specs.declared.mode.Mode.{Mode}
 use Rattle.cs_decl.specs.Job.{DeclaredJob}
 use Rattle.cs_decl.specs.Plan.{Declared, job_at}
 use Rattle.cs_draft.specs.Locks.{lock_of}
-use Rattle.cs_draft.specs.Named.{names_lock}
+use Rattle.cs_draft.specs.Words.{names_lock}
 use Rattle.cs_draft.specs.Timeouts.{asked_for}
 use Rattle.cs_lint.specs.Wanted.{is_wanted}
 use Rattle.cs_lint.specs.declared.wanted.Wanted.{Wanted}

@@ -2,7 +2,7 @@
 ghost use Rattle.std.specs.Prelude.{◌≡◌, ◌≤◌, ◌++◌, ◌&&◌, is_none, length, not, IfOk, OnOk};
 ghost use Rattle.cs_crontab.specs.declared.limits.TheConstants.{MAX_COMMANDS};
 ghost use Rattle.cs_draft.specs.Locks.{lock_of};
-ghost use Rattle.cs_draft.specs.Named.{names_lock};
+ghost use Rattle.cs_draft.specs.Words.{names_lock};
 ghost use Rattle.cs_lint.specs.Planned.{held_by, held_from, held_in, is_of_line};
 
 use cs_civil::Bytes;

@@ -1,9 +1,10 @@
 //! The lines of the crontab that entries name: by number, by command or by both.
 use crate::declared::Declared;
 use crate::object::{Kind, Tell};
+use crate::shape::when_in;
 use crate::table::{Begun, Table};
 use cs_crontab::When;
-use cs_decl::{DeclFault, MAX_MINUTES};
+use cs_decl::{DeclFault, MAX_MINUTES, is_same_when};
 use cs_diagnostics::{Done, Object, Span, Words, shown};
 use cs_gap::least_gap;
 use std::alloc::Global;
@@ -20,7 +21,8 @@ pub(crate) struct Name<'v> {
     command: Option<(&'v str, Span)>,
     /// Whether it tells a command, of whatever type.
     is_bound: bool,
-    /// Whether it tells a schedule, of whatever type.
+    /// The schedule that it tells, and whether it tells one, of whatever type.
+    when: Option<(&'v str, Span)>,
     tells_when: bool,
     /// The longest time of its runs, where they take no lock.
     max: Option<(i128, Span)>,
@@ -42,6 +44,7 @@ impl<'v> Name<'v> {
             number: entry.whole("line"),
             command: entry.text("command"),
             is_bound: entry.has("command"),
+            when: entry.text("when"),
             tells_when: entry.has("when"),
             max: max.filter(|_| tell.kind == Kind::Cron && !takes_lock),
             parts,
@@ -243,6 +246,7 @@ impl<'v> Declared<'v> {
         }
         match line.and_then(|(line, _)| table.begun_on(line)) {
             Some(begun) => {
+                self.find_other_schedule(name, begun)?;
                 self.find_overlap(name, begun)?;
                 self.find_moved_parts(name, begun, table)
             }
@@ -290,6 +294,24 @@ impl<'v> Declared<'v> {
                 let advice = advice.unwrap_or("correct \"line\" or \"command\"");
                 let why = format_args!("{why}: {advice}");
                 self.tell.fault(span, DeclFault::OtherCommand, why)
+            }
+            _ => Ok(()),
+        }
+    }
+
+    /// Adds that the line of an entry has another schedule than it tells.
+    fn find_other_schedule(&mut self, name: &Name<'_>, begun: &Begun<'_>) -> Done {
+        let (Some((told, span)), Some(when)) = (name.when, &begun.when) else {
+            return Ok(());
+        };
+        let (fault, advice) = match name.number {
+            Some(_) => (DeclFault::OtherSchedule, "correct \"line\" or \"when\""),
+            None => (DeclFault::NoSuchLine, "correct \"when\""),
+        };
+        match when_in(self.tell.findings.alloc, told)? {
+            Some(told) if name.may_be_on(begun) && !is_same_when(&told, when) => {
+                let why = format_args!("line {} has another schedule: {advice}", begun.number);
+                self.tell.fault(span, fault, why)
             }
             _ => Ok(()),
         }

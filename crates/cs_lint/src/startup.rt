@@ -4,7 +4,7 @@ ghost use Rattle.std.specs.List.{list_any};
 ghost use Rattle.std.specs.Option.{option_map};
 ghost use Rattle.cs_crontab.specs.Reading.{line_of};
 ghost use Rattle.cs_draft.specs.Locks.{lock_of};
-ghost use Rattle.cs_draft.specs.Named.{names_lock};
+ghost use Rattle.cs_draft.specs.Words.{names_lock};
 ghost use Rattle.cs_lint.specs.Startup.{command_may_take, is_locked, is_odd_startup, is_of_file};
 ghost use Rattle.cs_lint.specs.Startup.{locks_file, may_take, startup_in};
 

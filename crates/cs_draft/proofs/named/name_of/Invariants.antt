@@ -1,5 +1,5 @@
 use Rattle.std.proofs.Common.{◌≡◌, length}
-use Rattle.cs_draft.specs.Named.{name_from}
+use Rattle.cs_draft.specs.Words.{name_from}
 use Rattle.cs_draft.proofs.named.name_of.Given as goal
 
 abbrev pub invariant-loop-rest : goal.invariant-loop-rest

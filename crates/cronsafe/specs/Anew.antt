@@ -7,6 +7,7 @@ use Rattle.cs_check.specs.Checked.{IsHeadline, certificate_in, plan_in}
 use Rattle.cs_check.specs.declared.checked.Checked.{Checked}
 use Rattle.cs_cli.specs.Answer.{is_of_gathered}
 use Rattle.cs_cli.specs.declared.answer.Order.{Order}
+use Rattle.cs_cli.specs.declared.check.Digests.{Digests}
 use Rattle.cs_decl.specs.Plan.{Declared, as_plan}
 use Rattle.cs_report.specs.Warning.{plan_notes}
 use Rattle.cronsafe.specs.declared.anew.Rejection.{Rejection}
@@ -19,13 +20,13 @@ pub record IsOrderOf (a : AskedRun) (order : Order) : Type 0 where
   pub headline : IsHeadline (as_plan (plan_in order.checked))
   pub own : is_of_gathered order.checked ≡ false
 
--- what is accepted of a plan, a certificate, its digest and what is to be warned of that were read: the
--- same, with the notes on the plan behind the warnings
-pub record IsTaken (d : Declared) (c : Content) (read warnings : List ℕ) (checked : Checked)
-    (taken warned : List ℕ) : Type 0 where
+-- what is accepted of a plan, a certificate, the digests and what is to be warned of that were read:
+-- the same, with the notes on the plan behind the warnings
+pub record IsTaken (d : Declared) (c : Content) (read : Digests) (warnings : List ℕ)
+    (checked : Checked) (taken : Digests) (warned : List ℕ) : Type 0 where
   pub plan : plan_in checked ≡ d
   pub certificate : certificate_in checked ≡ c
-  pub digest : taken ≡ read
+  pub digests : taken ≡ read
   pub told : warned ≡ warnings ++ plan_notes d
 
 -- the status of a reload whose files aren't accepted

@@ -12,10 +12,10 @@ use cs_args::{CheckWords, RunWords};
 use cs_check::{CheckError, Checked, check};
 use cs_civil::Bytes;
 use cs_claims::Certificate;
-use cs_cli::{Order, certificate_from};
+use cs_cli::{Digests, Order, certificate_from};
 use cs_decl::Plan;
-use cs_files::{Fault, Response, Status, declared_plan_from, read_tables, text_behind};
-use cs_gather::is_gathered;
+use cs_files::{Fault, Response, Status, placed_plan_and_text, read_tables_and_text, text_behind};
+use cs_gather::{is_gathered, read_places};
 use cs_io::Machine;
 use cs_report::{fault_text, plan_notes, warnings};
 use std::alloc::{AllocError, Global};
@@ -23,12 +23,12 @@ use std::fs::OpenOptions;
 use std::rt::Files;
 use std::{fs, io};
 
-/// A plan that the checker has accepted, what is to be warned of, and the SHA-256 of its certificate.
+/// A plan that the checker has accepted, what is to be warned of, and the SHA-256 of its files.
 #[derive(Drop)]
 pub(crate) struct Accepted {
     checked: Checked,
     warnings: Bytes,
-    digest: [u8; 32],
+    digests: Digests,
     ghost own: { is_of_gathered checked ≡ false },
 }
 
@@ -157,11 +157,11 @@ fn accept(
     alloc: Global,
     checked: Checked,
     warnings: Bytes,
-    digest: [u8; 32],
+    digests: Digests,
 ) -> Result<Accepted, Rejection>
     ensures { IfOk result (λ accepted. (accepted.checked ≡ checked)
         × (accepted.warnings ≡ warnings ++ plan_notes (plan_in checked))
-        × (accepted.digest ≡ digest)) }
+        × (accepted.digests ≡ digests)) }
 {
     if is_gathered(checked.plan().crontab().settings()) {
         let fault = b"crontab: GatheredTable: run can't start commands as other users".as_slice();
@@ -173,7 +173,7 @@ fn accept(
         Ok(warnings) => Ok(Accepted {
             checked,
             warnings,
-            digest,
+            digests,
         }),
         Err(_) => Err(Rejection::NoMemory),
     }
@@ -181,17 +181,17 @@ fn accept(
 
 /// What the checker rules of a plan and a certificate.
 fn rule(alloc: Global, read: Read) -> Result<Accepted, Rejection>
-    ensures { IfOk result (λ accepted. IsTaken read.plan (content read.certificate) read.digest
-        read.warnings accepted.checked accepted.digest accepted.warnings) }
+    ensures { IfOk result (λ accepted. IsTaken read.plan (content read.certificate) read.digests
+        read.warnings accepted.checked accepted.digests accepted.warnings) }
 {
     let Read {
         plan,
         certificate,
         warnings,
-        digest,
+        digests,
     } = read;
     match check(alloc, &plan, certificate) {
-        Ok(checked) => accept(alloc, checked, warnings, digest),
+        Ok(checked) => accept(alloc, checked, warnings, digests),
         Err(CheckError::Fault(fault)) => {
             let mut text = fault_text(alloc, &plan, &fault)?.into_vec();
             text.extend_from_slice(b"\n")?;
@@ -201,14 +201,13 @@ fn rule(alloc: Global, read: Read) -> Result<Accepted, Rejection>
     }
 }
 
-/// What files hold: a plan and a certificate, what is to be warned of, and the SHA-256 of the
-/// certificate.
+/// What files hold: a plan and a certificate, what is to be warned of, and the SHA-256 of the files.
 #[derive(Drop)]
 struct Read {
     plan: Plan,
     certificate: Certificate,
     warnings: Bytes,
-    digest: [u8; 32],
+    digests: Digests,
 }
 
 /// Reads a plan and a certificate.
@@ -218,15 +217,19 @@ fn read_files<'a, R: Files + Input>(
     files: &CheckWords<'a>,
 ) -> Result<Read, Fault<'a>> {
     let mut inputs = Machine::new(rt);
-    let (table, jobs) = read_tables(alloc, &mut inputs, files.table, files.anacrontab)?;
-    let warnings = warnings(alloc, &table, &jobs)?;
-    let plan = declared_plan_from(alloc, &mut inputs, files.declarations, table, jobs)?;
+    let (tables, text) = read_tables_and_text(alloc, &mut inputs, files.table, files.anacrontab)?;
+    let warnings = warnings(alloc, &tables.0, &tables.1)?;
+    let (table, jobs) = tables;
+    let read = read_places(alloc, text.as_slice(), &table)?;
+    let places = read.as_slice();
+    let path = files.declarations;
+    let (plan, terms) = placed_plan_and_text(alloc, &mut inputs, path, table, jobs, places)?;
     let (certificate, digest) = certificate_from(alloc, &mut inputs, files.certificate)?;
     Ok(Read {
         plan,
         certificate,
         warnings,
-        digest,
+        digests: Digests::of(text.as_slice(), terms.as_slice(), digest),
     })
 }
 
@@ -266,14 +269,14 @@ impl Accepted {
     pub(crate) fn order<'a>(self, words: RunWords<'a>) -> Order<'a>
         ensures of { IsOrderOf (asked_run words.entry) result }
         ensures taken { (result.checked ≡ self.checked) × (result.warnings ≡ self.warnings)
-            × (result.digest ≡ self.digest) }
+            × (result.digests ≡ self.digests) }
     {
         self.checked.is_safe();
         Order {
             checked: self.checked,
             warnings: self.warnings,
             words,
-            digest: self.digest,
+            digests: self.digests,
         }
     }
 }

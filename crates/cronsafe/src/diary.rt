@@ -111,7 +111,7 @@ pub(crate) fn setup_of<'a>(order: &Order<'a>, jobs: &'a [JobNote]) -> Setup<'a> 
         table: files.table,
         declarations: files.declarations,
         certificate: files.certificate,
-        digest: order.digest,
+        digest: order.digests.certificate,
         anacrontab: files.anacrontab,
         capacity: u64::from(order.checked.plan().capacity()),
         offset: order.checked.plan().offset(),
@@ -141,10 +141,10 @@ fn opening(alloc: Global, order: &Order<'_>) -> io::Result<Vec<u8>> {
     Ok(line)
 }
 
-/// The SHA-256 of the certificate, by which it is told apart from another.
-fn digest_line(alloc: Global, digest: &[u8]) -> io::Result<Vec<u8>> {
+/// The SHA-256 of a file, by which it is told apart from another.
+fn digest_line(alloc: Global, file: &str, digest: &[u8]) -> io::Result<Vec<u8>> {
     let mut line = Vec::new(alloc);
-    line.write_all(b"certificate sha256 ")?;
+    write!(line, "{file} sha256 ")?;
     push_hex(&mut line, digest)?;
     Ok(line)
 }
@@ -195,11 +195,14 @@ impl<'a, 'r, R: Clock + Files + Wait, W: Write> Hand<'a, 'r, R, W> {
         }
     }
 
-    /// Notes what a daemon begins with: its files, its certificate, the settings that have no
+    /// Notes what a daemon begins with: its files and their digests, the settings that have no
     /// effect, and its commands.
     pub(crate) fn note_opening(&mut self, alloc: Global, order: &Order<'_>) {
         self.note_made(opening(alloc, order));
-        self.note_made(digest_line(alloc, &order.digest));
+        let digests = &order.digests;
+        self.note_made(digest_line(alloc, "table", &digests.table));
+        self.note_made(digest_line(alloc, "declarations", &digests.declarations));
+        self.note_made(digest_line(alloc, "certificate", &digests.certificate));
         let plan = order.checked.plan();
         self.note_mail(alloc, plan.crontab().settings(), "crontab");
         self.note_mail(alloc, plan.anacrontab().settings(), "anacrontab");

@@ -34,7 +34,7 @@ fn answer_asked<'a, R: Threads + Sync, I: Folders>(
     inputs: &mut I,
 ) -> Result<Answer<'a>, RanOut>
     ensures value { IsFresh (I.whole inputs.old) (I.left inputs.old)
-        → IfOk result (AnswersAsked now (asking request.entry) (I.tree inputs.old)
+        → IfOk result (AnswersAsked now (asking request.entry) I.tree
         (I.whole inputs.old) (I.failed inputs.old) (I.failed inputs.new)) }
     ensures status { IfOk result
         (IfEnds (IsHonest (I.failed inputs.new) (I.reads inputs.new))) }
@@ -84,7 +84,7 @@ pub(crate) fn respond<'a, R: Threads + Sync, S: AsStr, I: Folders>(
 ) -> Result<Answer<'a>, RanOut>
     // Where each path of known bytes stands at its front.
     ensures value { IsFresh (I.whole inputs.old) (I.left inputs.old)
-        → IfOk result (Answers now (map S.text words.now) (I.tree inputs.old)
+        → IfOk result (Answers now (map S.text words.now) I.tree
         (I.whole inputs.old) (I.failed inputs.old) (I.failed inputs.new)) }
     ensures status { IfOk result
         (IfEnds (IsHonest (I.failed inputs.new) (I.reads inputs.new))) }

@@ -93,7 +93,7 @@ pub(crate) fn run_words<
     requires { F.IsAlwaysCallable new_runner }
     // Where each path of known bytes stands at its front.
     ensures value { IsFresh (I.whole inputs.old) (I.left inputs.old)
-        → Runs now (map S.text words.now) (I.tree inputs.old)
+        → Runs now (map S.text words.now) I.tree
         (I.whole inputs.old) (I.failed inputs.old) (I.failed inputs.new)
         (I.reads inputs.old) (I.reads inputs.new)
         (sink (O.Output.contents out.old) (O.Output.failed out.old))

@@ -7,24 +7,21 @@ use Rattle.cs_counterexample.specs.ShownText.{shown_text}
 use Rattle.cs_counterexample.specs.declared.shown.Shown.{Shown}
 use Rattle.cs_crontab.specs.Crontab.{Table}
 use Rattle.cs_decl.specs.Plan.{Declared}
-use Rattle.cs_files.specs.Reads.{AndThen, Answered, DeclaredIn, GivesSome, ReadsDeclared}
-use Rattle.cs_files.specs.Reads.{ReadsTables, TextIn}
+use Rattle.cs_files.specs.Reads.{AndThen, Answered, FittingIn, GivesSome, ReadsFitting}
+use Rattle.cs_files.specs.Reads.{ReadsTables, TextIn, WithPlaces}
 use Rattle.cs_files.specs.Response.{Ending}
 use Rattle.cs_files.specs.Trouble.{Trouble}
 use Rattle.cs_gather.specs.Places.{places_of}
-use Rattle.cs_gather.specs.declared.places.Place.{Place}
 use Rattle.cs_io.specs.Files.{Failed}
-use Rattle.cs_judge.specs.Answer.{unknown_outcome, verdict_text}
+use Rattle.cs_judge.specs.Answer.{IsUnknown, unknown_outcome}
 use Rattle.cs_judge.specs.Judged.{IsJudgement}
-use Rattle.cs_judge.specs.Story.{broken_lines}
+use Rattle.cs_judge.specs.Story.{comment}
 use Rattle.cs_judge.specs.declared.answers.Outcome.{Outcome}
 use Rattle.cs_judge.specs.declared.answers.Outcome.TheVariants as outcome
-use Rattle.cs_judge.specs.declared.breach.Breach.{Breach}
 use Rattle.cs_judge.specs.declared.judged.Judged.{Judged}
 use Rattle.cs_judge.specs.declared.judged.Judged.TheVariants.{Safe, Unknown, Unsafe}
 use Rattle.cs_report.specs.Warning.{plan_notes}
 use Rattle.cs_advise.specs.Advice.{IsAdvice}
-use Rattle.cs_advise.specs.Places.{change_jobs, job_places, shown_jobs}
 use Rattle.cs_advise.specs.Room.{AreRooms, room_text}
 use Rattle.cs_advise.specs.declared.answers.Question.{Question}
 use Rattle.cs_advise.specs.declared.answers.Question.TheVariants.{Advice, Rooms}
@@ -42,19 +39,18 @@ pub record TellsRooms (plan : Declared) (head out : List ℕ) : Type 0 where
 abbrev pub shown_line : Declared → Shown → List ℕ
 shown_line plan shown = shown_text plan shown ++ 10 ∷ []
 
--- that line, and below it what is broken, as `judge` tells it
-unfoldable pub breach_text : Declared → Shown → Breach → List ℕ
-breach_text plan shown breach = shown_line plan shown ++ broken_lines plan shown breach.minute
+-- that line, and comments below it that tell what is broken
+abbrev pub IsBreachText : Declared → Shown → List ℕ → Type 0
+IsBreachText plan shown text =
+    (story : List (List ℕ)) × (text ≡ shown_line plan shown ++ flat_map comment story)
 
--- A line for each change that makes the plan safe, and status 0; or there is none, and what is
--- broken first, and status 1. The notes are the places of the lines that are named.
-pub record TellsAdvice (source : Source) (plan : Declared) (places : List Place) (shown : Shown)
-    (breach : Breach) (status : ℕ) (out notes : List ℕ) : Type 0 where
+-- a line for each change that makes the plan safe, and status 0; or there is none, and what is
+-- broken first, and status 1
+pub record TellsAdvice (source : Source) (plan : Declared) (shown : Shown) (status : ℕ)
+    (out : List ℕ) : Type 0 where
   pub changes : List Change
-  pub told : ((status ≡ 0) × (changes ≢ []) × IsAdvice source plan changes out
-      × (notes ≡ job_places plan places (flat_map change_jobs changes)))
-      ⊎ ((status ≡ 1) × (changes ≡ []) × (out ≡ breach_text plan shown breach)
-      × (notes ≡ job_places plan places (shown_jobs shown)))
+  pub told : ((status ≡ 0) × (changes ≢ []) × IsAdvice source plan changes out)
+      ⊎ ((status ≡ 1) × (changes ≡ []) × IsBreachText plan shown out)
 
 -- what stands before the rooms of a safe plan
 abbrev pub head_of : Question → List ℕ
@@ -62,13 +58,9 @@ head_of Rooms = []
 head_of (Advice within) = codes "safe\n"
 
 -- what is printed of an unsafe plan: advice, or what it breaks first
-abbrev pub IsTold : Question → Source → Declared → List Place → Shown → Breach → ℕ → List ℕ
-    → List ℕ → Type 0
-IsTold Rooms source plan places shown breach status out notes =
-    (status ≡ 1) × (out ≡ shown_line plan shown)
-    × (notes ≡ job_places plan places (shown_jobs shown))
-IsTold (Advice within) source plan places shown breach status out notes =
-    TellsAdvice source plan places shown breach status out notes
+abbrev pub IsTold : Question → Source → Declared → Shown → ℕ → List ℕ → Type 0
+IsTold Rooms source plan shown status out = (status ≡ 1) × (out ≡ shown_line plan shown)
+IsTold (Advice within) source plan shown status out = TellsAdvice source plan shown status out
 
 -- nothing is known, and whether that is since memory ran out
 abbrev pub unknown_status : Outcome → ℕ
@@ -77,46 +69,45 @@ unknown_status outcome.Safe = 2
 unknown_status outcome.Unsafe = 2
 unknown_status outcome.Unknown = 2
 
--- What is printed of a plan that was judged, and the notes beside it: the room of each job of a
--- safe one, what is told of an unsafe one, and what `judge` prints where nothing is known.
-abbrev pub IsPrinted : Question → Source → Declared → List Place → Judged → ℕ → List ℕ → List ℕ
-    → Type 0
-IsPrinted question source plan places (Safe checked) status out notes =
-    (status ≡ 0) × TellsRooms plan (head_of question) out × (notes ≡ [])
-IsPrinted question source plan places (Unsafe script shown breach) status out notes =
-    IsTold question source plan places shown breach status out notes
-IsPrinted question source plan places (Unknown reason refusal) status out notes =
-    (status ≡ unknown_status (unknown_outcome reason))
-    × (out ≡ verdict_text plan places (Unknown reason refusal)) × (notes ≡ [])
+-- what is printed of a plan that was judged: the room of each job of a safe one, what is told of an
+-- unsafe one, and what `judge` prints where nothing is known
+abbrev pub IsPrinted : Question → Source → Declared → Judged → ℕ → List ℕ → Type 0
+IsPrinted question source plan (Safe checked) status out =
+    (status ≡ 0) × TellsRooms plan (head_of question) out
+IsPrinted question source plan (Unsafe script shown breach) status out =
+    IsTold question source plan shown status out
+IsPrinted question source plan (Unknown reason refusal) status out =
+    (status ≡ unknown_status (unknown_outcome reason)) × IsUnknown plan reason refusal out
 
--- That is printed, and its notes are behind those on the plan.
-pub record IsAdvised (question : Question) (source : Source) (plan : Declared) (places : List Place)
-    (ending : Ending) : Type 0 where
+-- that is printed, and behind the notes on the plan there may be more, on the places of lines
+pub record IsAdvised (question : Question) (source : Source) (plan : Declared) (ending : Ending)
+    : Type 0 where
   pub judged : Judged
   pub known : IsJudgement plan judged
+  pub printed : IsPrinted question source plan judged ending.status ending.out
   pub notes : List ℕ
-  pub printed : IsPrinted question source plan places judged ending.status ending.out notes
   pub err : ending.err ≡ plan_notes plan ++ notes
 
 -- the texts are those of the files at these paths, which denote the table and make the plan
 pub record AreTexts (files : List ℕ → Option (List ℕ)) (a : AskedJudge) (tables : Table × JobTable)
     (plan : Declared) (source : Source) : Type 0 where
   pub table : TextIn files a.table tables.0 source.table
-  pub declarations : DeclaredIn files a.declarations tables plan source.declarations
+  pub declarations : FittingIn files a.declarations (places_of source.table tables.0) tables plan
+      source.declarations
 
--- and so with the texts of the files, and the places of the table
+-- and so with the texts of the files
 abbrev pub IsAdvisedAt : Question → (List ℕ → Option (List ℕ)) → AskedJudge → Table × JobTable
     → Declared → Ending → Type 0
 IsAdvisedAt question files a tables plan ending =
     (source : Source) × AreTexts files a tables plan source
-    × IsAdvised question source plan (places_of source.table tables.0) ending
+    × IsAdvised question source plan ending
 
 -- the declarations are read, and the plan is judged
 abbrev pub AdvisesPlan : Question → (List ℕ → Option (List ℕ)) → AskedJudge → Table × JobTable
     → Failed → Failed → Result Ending Trouble → Type 0
-AdvisesPlan question files a tables =
-    AndThen (ReadsDeclared files tables a.declarations)
-    (λ plan. GivesSome (IsAdvisedAt question files a tables plan))
+AdvisesPlan question files a tables = WithPlaces files a.table tables.0 (λ places.
+    AndThen (ReadsFitting files places tables a.declarations)
+    (λ plan. GivesSome (IsAdvisedAt question files a tables plan)))
 
 -- what is answered to a question: that, or the first fault of a file, and no file is read before
 -- its own turn

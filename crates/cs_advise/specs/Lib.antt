@@ -6,5 +6,4 @@ pub mod Edit
 pub mod Change
 pub mod Told
 pub mod Advice
-pub mod Places
 pub mod Answer

@@ -10,32 +10,15 @@ use Rattle.cs_advise.specs.declared.change.Change.TheVariants.{Both, Member as O
 use Rattle.cs_advise.specs.declared.change.Change.TheVariants.{Start as Alone}
 use Rattle.cs_advise.specs.declared.change.Member.{Member}
 use Rattle.cs_advise.specs.declared.change.Member.TheVariants.{Capacity, Hours, Max, Mode}
-use Rattle.cs_advise.specs.declared.change.Shift.{Shift}
-use Rattle.cs_advise.specs.declared.change.Shift.TheVariants.{Earlier, Later}
 use Rattle.cs_advise.specs.declared.change.Start.{Start}
-
--- `1 minute` or `N minutes`
-unfoldable pub minutes_text : ℕ → List ℕ
-minutes_text n = if n == 1 then codes "1 minute" else decimal n ++ codes " minutes"
-
--- `N minutes later` or `N minutes earlier`
-unfoldable pub shift_text : Shift → List ℕ
-shift_text (Later n) = minutes_text n ++ codes " later: "
-shift_text (Earlier n) = minutes_text n ++ codes " earlier: "
 
 -- a byte as a terminal may show it: a control byte other than a tab as `?`
 abbrev pub seen : ℕ → ℕ
 seen b = if (nat_lt b 32 && not (b == 9)) || b == 127 then 63 else b
 
--- `JOB, N minutes later: LINE`
-unfoldable pub start_line : Declared → Start → List ℕ
-start_line d start =
-    job_label d start.job
-    ++ (codes ", " ++ (shift_text start.shift ++ (map seen start.line ++ codes "\n")))
-
--- `both:`, a line, and one for each
-unfoldable pub both_lines : Declared → Start → Start → List ℕ
-both_lines d one other = codes "both:\n" ++ (start_line d one ++ start_line d other)
+-- `1 minute` or `N minutes`
+unfoldable pub minutes_text : ℕ → List ℕ
+minutes_text n = if n == 1 then codes "1 minute" else decimal n ++ codes " minutes"
 
 -- how late a run of so many minutes may start, some words, and how late it may end, by its reach
 unfoldable pub wait_words : List ℕ → ℕ → ℕ → List ℕ
@@ -50,9 +33,16 @@ TellReach d reach (Max j max) words = ⊤
 TellReach d reach (Capacity capacity) words = ⊤
 TellReach d reach (Hours hours) words = ⊤
 
--- The line tells a change, or the lines. What is pasted into declarations stands behind such words.
+-- the line names the job, and ends with its line of the table
+abbrev pub IsStartLine : Declared → Start → List ℕ → Type 0
+IsStartLine d start line = (front : List ℕ) × (words : List ℕ) × (line
+    ≡ front ++ (job_label d start.job ++ (words ++ (map seen start.line ++ codes "\n"))))
+
+-- So it is, or there is such a line for each of two. What is pasted into declarations stands behind
+-- words.
 abbrev pub IsLine : Declared → (ℕ → ℕ) → Change → List ℕ → List ℕ → Type 0
-IsLine d reach (Alone start) pasted line = line ≡ start_line d start
-IsLine d reach (Both one other) pasted line = line ≡ both_lines d one other
+IsLine d reach (Alone start) pasted line = IsStartLine d start line
+IsLine d reach (Both one other) pasted lines = (first : List ℕ) × (last : List ℕ)
+    × IsStartLine d one first × IsStartLine d other last × (lines ≡ first ++ last)
 IsLine d reach (Other member) pasted line = (words : List ℕ) × TellReach d reach member words
     × (line ≡ words ++ (pasted ++ codes "\n"))

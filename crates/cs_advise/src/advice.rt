@@ -1,14 +1,11 @@
 //! The changes that make a plan safe, as they are told.
-ghost use Rattle.std.specs.Prelude.{◌≡◌, IfOk, IfSome};
-ghost use Rattle.cs_judge.specs.Called.{reach_in};
+ghost use Rattle.std.specs.Prelude.{IfOk, IfSome};
 ghost use Rattle.cs_advise.specs.Advice.{IsAdvice, IsSafeLine};
-ghost use Rattle.cs_advise.specs.Told.{IsLine};
 
 use crate::change::Change;
 use crate::changing::changed_plan;
 use crate::source::Source;
-use crate::told::{both_lines, member_line, start_line};
-use cs_check::Checked;
+use crate::told::change_line;
 use cs_decl::Plan;
 use cs_judge::called_safe;
 use std::alloc::{AllocError, Global};
@@ -19,24 +16,6 @@ use std::thread::Threads;
 pub(crate) struct Advice {
     pub(crate) changes: Vec<Change>,
     pub(crate) text: Vec<u8>,
-}
-
-/// The line that tells a change, of which the plan was accepted, with what is pasted.
-fn change_line(
-    alloc: Global,
-    plan: &Plan,
-    checked: &Checked,
-    change: &Change,
-    pasted: &[u8],
-) -> Result<Vec<u8>, AllocError>
-    ensures { IfOk result
-        (λ line. IsLine plan.now (reach_in checked.now) change.now pasted.now line.items) }
-{
-    match change {
-        Change::Start(start) => start_line(alloc, plan, start),
-        Change::Both(one, other) => both_lines(alloc, plan, one, other),
-        Change::Member(member) => member_line(alloc, plan, checked, member, pasted),
-    }
 }
 
 /// The line that tells a change, if the plan is called safe with it.

@@ -15,7 +15,7 @@ use cs_anacrontab::Anacrontab;
 use cs_args::{AdviseWords, JudgeWords};
 use cs_civil::Bytes;
 use cs_crontab::Crontab;
-use cs_files::{Fault, RanOut, Response, declared_plan_and_text, read_tables_and_text};
+use cs_files::{Fault, RanOut, Response, placed_plan_and_text, read_tables_and_text};
 use cs_gather::read_places;
 use cs_io::Inputs;
 use cs_report::warnings;
@@ -43,19 +43,15 @@ fn told<'a, R: Threads + Sync, I: Inputs>(
         (I.reads inputs.old) (I.reads inputs.new) }
 {
     let (table, jobs) = tables;
-    let places = read_places(alloc, text.as_slice(), &table)?;
-    let (plan, declarations) = declared_plan_and_text(
-        alloc,
-        inputs,
-        request.declarations,
-        table,
-        jobs,
-    )?;
+    let read = read_places(alloc, text.as_slice(), &table)?;
+    let places = read.as_slice();
+    let path = request.declarations;
+    let (plan, declarations) = placed_plan_and_text(alloc, inputs, path, table, jobs, places)?;
     let source = Source {
         table: Bytes::from_vec(text),
         declarations: Bytes::from_vec(declarations),
     };
-    Ok(advised(rt, alloc, &source, &plan, places.as_slice(), question)?)
+    Ok(advised(rt, alloc, &source, &plan, places, question)?)
 }
 
 /// Answers a question about the plan in the files.

@@ -1,5 +1,5 @@
 //! What is answered of a plan that was judged.
-ghost use Rattle.std.specs.Prelude.{◌≡◌, ◌++◌, [], IfOk};
+ghost use Rattle.std.specs.Prelude.{◌≡◌, IfOk};
 ghost use Rattle.cs_files.specs.Response.{status_of};
 ghost use Rattle.cs_judge.specs.Called.{IsCalledSafe};
 ghost use Rattle.cs_counterexample.specs.Shown.{IsTellable};
@@ -7,8 +7,7 @@ ghost use Rattle.cs_decl.specs.Plan.{as_plan};
 ghost use Rattle.cs_judge.specs.Judged.{IsJudgement};
 ghost use Rattle.cs_advise.specs.Advice.{IsAdvice};
 ghost use Rattle.cs_advise.specs.Answer.{IsAdvised, IsPrinted, IsTold, TellsAdvice, TellsRooms};
-ghost use Rattle.cs_advise.specs.Places.{job_places, shown_jobs};
-ghost use Rattle.cs_advise.specs.Answer.{breach_text, head_of, shown_line, unknown_status};
+ghost use Rattle.cs_advise.specs.Answer.{IsBreachText, head_of, shown_line, unknown_status};
 
 use crate::advice::{Advice, told_changes};
 use crate::breach::jobs_of;
@@ -49,7 +48,6 @@ impl Reply {
     fn alone(alloc: Global, status: Status, text: Vec<u8>) -> Reply
         ensures status { result.status ≡ status }
         ensures text { result.text.items ≡ text.items }
-        ensures notes { result.notes.items ≡ [] }
     {
         Reply {
             status,
@@ -86,7 +84,6 @@ fn shown_line(alloc: Global, plan: &Plan, shown: &Shown) -> Result<Vec<u8>, Allo
 }
 
 /// That line, and below it what is broken.
-#[tactic(auto, unfolding(crate::specs::Answer::breach_text))]
 fn breach_text(
     alloc: Global,
     plan: &Plan,
@@ -94,7 +91,7 @@ fn breach_text(
     breach: &Breach,
 ) -> Result<Vec<u8>, AllocError>
     requires { IsTellable (as_plan plan.now) shown.now }
-    ensures { IfOk result (λ text. text.items ≡ breach_text plan.now shown.now breach.now) }
+    ensures { IfOk result (λ text. IsBreachText plan.now shown.now text.items) }
 {
     let mut text = shown_line(alloc, plan, shown)?;
     push_broken(alloc, &mut text, plan, *shown, breach.minute)?;
@@ -125,7 +122,7 @@ fn advice_on<R: Threads + Sync>(
     told_changes(rt, alloc, source, plan, changes)
 }
 
-/// What an unsafe plan breaks first, where no change was found.
+/// What an unsafe plan breaks first, as this text says it.
 fn told_breach(
     alloc: Global,
     plan: &Plan,
@@ -133,8 +130,8 @@ fn told_breach(
     shown: &Shown,
     text: Vec<u8>,
 ) -> Result<Reply, AllocError>
-    ensures { IfOk result (λ told. (status_of told.status ≡ 1) × (told.text.items ≡ text.items)
-        × (told.notes.items ≡ job_places plan.now places.now (shown_jobs shown.now))) }
+    ensures { IfOk result
+        (λ told. (status_of told.status ≡ 1) × (told.text.items ≡ text.items)) }
 {
     let notes = shown_places(alloc, plan, places, shown)?;
     Ok(Reply {
@@ -142,22 +139,6 @@ fn told_breach(
         text,
         notes,
     })
-}
-
-/// What an unsafe plan breaks first, where rooms are asked for.
-fn told_no_rooms(
-    alloc: Global,
-    plan: &Plan,
-    places: &[Place],
-    shown: &Shown,
-) -> Result<Reply, AllocError>
-    requires { IsTellable (as_plan plan.now) shown.now }
-    ensures { IfOk result (λ told. (status_of told.status ≡ 1)
-        × (told.text.items ≡ shown_line plan.now shown.now)
-        × (told.notes.items ≡ job_places plan.now places.now (shown_jobs shown.now))) }
-{
-    let text = shown_line(alloc, plan, shown)?;
-    told_breach(alloc, plan, places, shown, text)
 }
 
 /// A line for each change that makes an unsafe plan safe; or what it breaks first, where none was
@@ -172,8 +153,8 @@ fn advice_text<R: Threads + Sync>(
     within: u64,
 ) -> Result<Reply, AllocError>
     requires { IsTellable (as_plan plan.now) broken.0.now }
-    ensures { IfOk result (λ told. TellsAdvice source.now plan.now places.now broken.entry.0.now
-        broken.entry.1.now (status_of told.status) told.text.items told.notes.items) }
+    ensures { IfOk result (λ told. TellsAdvice source.now plan.now broken.entry.0.now
+        (status_of told.status) told.text.items) }
 {
     let (shown, breach) = broken;
     let advice = advice_on(rt, alloc, source, plan, broken, within)?;
@@ -210,12 +191,14 @@ fn told<R: Threads + Sync>(
     broken: (&Shown, &Breach),
 ) -> Result<Reply, AllocError>
     requires { IsTellable (as_plan plan.now) broken.0.now }
-    ensures { IfOk result (λ told. IsTold question source.now plan.now places.now
-        broken.entry.0.now broken.entry.1.now (status_of told.status) told.text.items
-        told.notes.items) }
+    ensures { IfOk result (λ told. IsTold question source.now plan.now broken.entry.0.now
+        (status_of told.status) told.text.items) }
 {
     match question {
-        Question::Rooms => told_no_rooms(alloc, plan, places, broken.0),
+        Question::Rooms => {
+            let text = shown_line(alloc, plan, broken.0)?;
+            told_breach(alloc, plan, places, broken.0, text)
+        }
         Question::Advice(within) => advice_text(rt, alloc, source, plan, places, broken, within),
     }
 }
@@ -241,8 +224,8 @@ fn printed<R: Threads + Sync>(
     judged: &Judged,
 ) -> Result<Reply, AllocError>
     requires { IsJudgement plan.now judged.now }
-    ensures { IfOk result (λ told. IsPrinted question source.now plan.now places.now judged.now
-        (status_of told.status) told.text.items told.notes.items) }
+    ensures { IfOk result (λ told. IsPrinted question source.now plan.now judged.now
+        (status_of told.status) told.text.items) }
 {
     match judged {
         Judged::Safe(_) => {
@@ -269,7 +252,7 @@ pub(crate) fn advised<R: Threads + Sync>(
     places: &[Place],
     question: Question,
 ) -> Result<Response, AllocError>
-    ensures { IfOk result (IsAdvised question source.now plan.now places.now) }
+    ensures { IfOk result (IsAdvised question source.now plan.now) }
 {
     let mut notes = plan_notes(alloc, plan)?.into_vec();
     let judged = judge(rt, alloc, plan, Wanted::Verdict);

@@ -1,6 +1,4 @@
 //! Where the lines come from that advice names.
-ghost use Rattle.std.specs.Prelude.{◌≡◌, ◌++◌, IfOk, OnOk, flat_map};
-ghost use Rattle.cs_advise.specs.Places.{change_jobs, job_places, shown_jobs};
 
 use crate::change::{Change, Member};
 use cs_counterexample::Shown;
@@ -9,9 +7,7 @@ use cs_gather::{Place, push_places_told};
 use std::alloc::{AllocError, Global};
 
 /// Adds the jobs that a change names.
-fn push_change_jobs(jobs: &mut Vec<usize>, change: &Change) -> Result<(), AllocError>
-    ensures { OnOk result (jobs.new.items ≡ jobs.old.items ++ change_jobs change.now) }
-{
+fn push_change_jobs(jobs: &mut Vec<usize>, change: &Change) -> Result<(), AllocError> {
     match change {
         Change::Start(start) => jobs.extend_from_slice(&[usize::from(start.job)]),
         Change::Both(one, other) => {
@@ -31,9 +27,7 @@ fn job_places(
     plan: &Plan,
     places: &[Place],
     jobs: &[usize],
-) -> Result<Vec<u8>, AllocError>
-    ensures { IfOk result (λ text. text.items ≡ job_places plan.now places.now jobs.now) }
-{
+) -> Result<Vec<u8>, AllocError> {
     let mut text = Vec::new(alloc);
     let lines = plan.crontab().lines();
     push_places_told(alloc, &mut text, b"note: ".as_slice(), places, jobs, lines)?;
@@ -46,10 +40,7 @@ pub(crate) fn changed_places(
     plan: &Plan,
     places: &[Place],
     changes: &[Change],
-) -> Result<Vec<u8>, AllocError>
-    ensures { IfOk result (λ text. text.items
-        ≡ job_places plan.now places.now (flat_map change_jobs changes.now)) }
-{
+) -> Result<Vec<u8>, AllocError> {
     let mut jobs = Vec::new(alloc);
     for change in changes {
         push_change_jobs(&mut jobs, change)?;
@@ -64,10 +55,7 @@ pub(crate) fn shown_places(
     plan: &Plan,
     places: &[Place],
     shown: &Shown,
-) -> Result<Vec<u8>, AllocError>
-    ensures { IfOk result
-        (λ text. text.items ≡ job_places plan.now places.now (shown_jobs shown.now)) }
-{
+) -> Result<Vec<u8>, AllocError> {
     match shown {
         Shown::Together(one, other) => {
             let jobs = [usize::from(one.job), usize::from(other.job)];

@@ -2,11 +2,10 @@
 ghost use Rattle.std.specs.Prelude.{◌≡◌, ◌++◌, ℕ, List, IfOk, OnOk, codes, map};
 ghost use Rattle.cs_history.specs.declared.mode.Mode.TheVariants.{Wait};
 ghost use Rattle.cs_judge.specs.Called.{reach_in};
-ghost use Rattle.cs_advise.specs.Told.{TellReach, both_lines};
-ghost use Rattle.cs_advise.specs.Told.{minutes_text, seen, shift_text, start_line, wait_words};
+ghost use Rattle.cs_advise.specs.Told.{IsLine, IsStartLine, TellReach, minutes_text, seen, wait_words};
 ghost use Rattle.cs_advise.specs.declared.change.Member.TheVariants.{Mode as OtherMode};
 
-use crate::change::{Member, Shift, Start};
+use crate::change::{Change, Member, Shift, Start};
 use crate::label::push_label;
 use cs_check::Checked;
 use cs_civil::push_number;
@@ -124,7 +123,7 @@ fn words_on(
 }
 
 /// The line of another value of a member, with what is pasted.
-pub(crate) fn member_line(
+fn member_line(
     alloc: Global,
     plan: &Plan,
     checked: &Checked,
@@ -139,23 +138,6 @@ pub(crate) fn member_line(
     line.extend_from_slice(pasted)?;
     line.push(b'\n')?;
     Ok(line)
-}
-
-/// Adds how much later or earlier.
-#[tactic(auto, unfolding(crate::specs::Told::shift_text))]
-fn push_shift(alloc: Global, text: &mut Vec<u8>, shift: Shift) -> Result<(), AllocError>
-    ensures { OnOk result (text.new.items ≡ text.old.items ++ shift_text shift) }
-{
-    match shift {
-        Shift::Later(minutes) => {
-            push_minutes(alloc, text, minutes)?;
-            text.extend_from_slice(b" later: ")
-        }
-        Shift::Earlier(minutes) => {
-            push_minutes(alloc, text, minutes)?;
-            text.extend_from_slice(b" earlier: ")
-        }
-    }
 }
 
 /// A byte as a terminal may show it.
@@ -179,44 +161,55 @@ fn push_seen(text: &mut Vec<u8>, line: &[u8]) -> Result<(), AllocError>
     Ok(())
 }
 
-/// Adds the line of another start.
-#[tactic(auto, unfolding(crate::specs::Told::start_line))]
-pub(crate) fn push_start_line(
+/// The words on another start: how much later or earlier it is.
+fn shift_words(alloc: Global, shift: Shift) -> Result<Vec<u8>, AllocError> {
+    let (minutes, way) = match shift {
+        Shift::Later(minutes) => (minutes, b" later: ".as_slice()),
+        Shift::Earlier(minutes) => (minutes, b" earlier: ".as_slice()),
+    };
+    let mut words = Vec::from_slice(alloc, b", ".as_slice())?;
+    push_minutes(alloc, &mut words, minutes)?;
+    words.extend_from_slice(way)?;
+    Ok(words)
+}
+
+/// The line of another start, behind other words.
+fn start_line(
     alloc: Global,
-    text: &mut Vec<u8>,
+    front: &[u8],
     plan: &Plan,
     start: &Start,
-) -> Result<(), AllocError>
-    ensures { OnOk result (text.new.items ≡ text.old.items ++ start_line plan.now start.now) }
+) -> Result<Vec<u8>, AllocError>
+    ensures { IfOk result (λ line. IsStartLine plan.now start.now line.items) }
 {
-    push_label(alloc, text, plan, start.job)?;
-    text.extend_from_slice(b", ")?;
-    push_shift(alloc, text, start.shift)?;
-    push_seen(text, start.line.as_slice())?;
-    text.extend_from_slice(b"\n")
+    let words = shift_words(alloc, start.shift)?;
+    let mut line = Vec::from_slice(alloc, front)?;
+    push_label(alloc, &mut line, plan, start.job)?;
+    line.extend_from_slice(words.as_slice())?;
+    push_seen(&mut line, start.line.as_slice())?;
+    line.extend_from_slice(b"\n")?;
+    Ok(line)
 }
 
-/// The line of another start.
-pub(crate) fn start_line(alloc: Global, plan: &Plan, start: &Start) -> Result<Vec<u8>, AllocError>
-    ensures { IfOk result (λ text. text.items ≡ start_line plan.now start.now) }
-{
-    let mut text = Vec::new(alloc);
-    push_start_line(alloc, &mut text, plan, start)?;
-    Ok(text)
-}
-
-/// The lines of two other starts.
-#[tactic(auto, unfolding(crate::specs::Told::both_lines))]
-pub(crate) fn both_lines(
+/// The line that tells a change, or the lines, with what is pasted into declarations, of a plan
+/// that was accepted with it. The only error is want of memory.
+pub(crate) fn change_line(
     alloc: Global,
     plan: &Plan,
-    one: &Start,
-    other: &Start,
+    checked: &Checked,
+    change: &Change,
+    pasted: &[u8],
 ) -> Result<Vec<u8>, AllocError>
-    ensures { IfOk result (λ text. text.items ≡ both_lines plan.now one.now other.now) }
+    ensures { IfOk result
+        (λ line. IsLine plan.now (reach_in checked.now) change.now pasted.now line.items) }
 {
-    let mut text = Vec::from_slice(alloc, b"both:\n".as_slice())?;
-    push_start_line(alloc, &mut text, plan, one)?;
-    push_start_line(alloc, &mut text, plan, other)?;
-    Ok(text)
+    match change {
+        Change::Start(start) => start_line(alloc, b"", plan, start),
+        Change::Both(one, other) => {
+            let mut lines = start_line(alloc, b"both:\n", plan, one)?;
+            lines.extend_from_slice(start_line(alloc, b"", plan, other)?.as_slice())?;
+            Ok(lines)
+        }
+        Change::Member(member) => member_line(alloc, plan, checked, member, pasted),
+    }
 }

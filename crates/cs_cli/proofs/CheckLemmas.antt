@@ -1,6 +1,7 @@
 -- What was accepted, and the files that denote it.
-use Rattle.std.proofs.Common.{◌≡◌, ◌≢◌, ◌<◌, ◌∙◌, ℕ, true, List, Option, Some, None, IfSome, Result, Ok, Err, IfOk, ap, inl, inr, length, nat_lt, option_map, subst, sym}
+use Rattle.std.proofs.Common.{◌≡◌, ◌≢◌, ◌<◌, ◌∙◌, ℕ, true, List, Option, Some, None, IfSome, Result, Ok, Err, IfOk, ap, inl, inr, length, nat_lt, option_map, refl, subst, sym}
 use Rattle.std.proofs.lemmas.Bool.{lt-ltb}
+use Rattle.std.proofs.lemmas.Option.{IfSome_then}
 use Rattle.cs_crontab.specs.Crontab.{Table}
 use Rattle.cs_anacrontab.specs.Anacrontab.{Table as JobTable}
 use Rattle.cs_decl.specs.Plan.{Declared}
@@ -14,7 +15,8 @@ use Rattle.cs_claims.specs.declared.limits.TheConstants.{MAX_CERTIFICATE}
 use Rattle.cs_check.specs.Checked.{certificate_in, plan_in}
 use Rattle.cs_check.specs.declared.checked.Checked.{Checked}
 use Rattle.cs_args.specs.CommandLine.{AskedCheck}
-use Rattle.cs_cli.specs.Check.{AreRead, IsDigestOf, ReadsCertificate, said}
+use Rattle.cs_cli.specs.Check.{AreDigestsOf, AreRead, IsDigestAt, IsDigestOf, ReadsCertificate, said}
+use Rattle.cs_cli.specs.declared.check.Digests.{Digests}
 use Rattle.cs_files.specs.Reads.{IsRead, MeansIt, PlacesIn, ReadsFitting, without_rest}
 use Rattle.cs_files.specs.declared.fault.Fault.{Fault}
 use Rattle.clap.specs.Words.{Text}
@@ -63,18 +65,31 @@ digest_read files left path bytes (Ok found) fresh read tells hashed = record {
     by_file None rest same_rest up = same_rest
     by_file (Some text) rest same_rest up = same text (subst (λ (o : Option (List ℕ)). IfSome o (λ t. IsUpTo MAX_CERTIFICATE t bytes)) same_rest up)
 
--- the digest of the certificate that was read is that of the one that was accepted
-pub digest_accepted : (files : List ℕ → Option (List ℕ)) (path : Text) (plan : Declared) (x : Content) (digest : List ℕ) (found : Result Checked Ending)
-    → IsDigestOf files path x digest → IfOk found (λ checked. (plan_in checked ≡ plan) × (certificate_in checked ≡ x))
-    → IfOk found (λ checked. IsDigestOf files path (certificate_in checked) digest)
-digest_accepted files path plan x digest (Err answer) is same = same
-digest_accepted files path plan x digest (Ok checked) is same = subst (λ (c : Content). IsDigestOf files path c digest) (sym same.1) is
+-- the digest of a text is that of the file that holds it
+pub digest_at : (files : List ℕ → Option (List ℕ)) (path : Text) (text digest : List ℕ)
+    → IfSome (files path) (λ bytes. text ≡ bytes) → digest ≡ sha256 text → IsDigestAt files path digest
+digest_at files path text digest held is = IfSome_then (files path) held (λ bytes same. is ∙ ap sha256 same)
 
--- the digest is that of what the file holds
-pub digest_of : (files : List ℕ → Option (List ℕ)) (path : Text) (c : Content) (digest text : List ℕ)
-    → files path ≡ Some text → IsDigestOf files path c digest → digest ≡ sha256 text
-digest_of files path c digest text holds is =
-    is.hashed ∙ ap sha256 (subst (λ (o : Option (List ℕ)). IfSome o (λ t. is.bytes ≡ t)) holds is.held)
+-- the digests of what was read are those of what was accepted
+pub digests_accepted : (files : List ℕ → Option (List ℕ)) (a : AskedCheck) (plan : Declared) (x : Content) (digests : Digests) (found : Result Checked Ending)
+    → AreDigestsOf files a x digests → IfOk found (λ checked. (plan_in checked ≡ plan) × (certificate_in checked ≡ x))
+    → IfOk found (λ checked. AreDigestsOf files a (certificate_in checked) digests)
+digests_accepted files a plan x digests (Err answer) are same = same
+digests_accepted files a plan x digests (Ok checked) are same = subst (λ (c : Content). AreDigestsOf files a c digests) (sym same.1) are
+
+-- they are those of what the files hold
+pub digests_of : (files : List ℕ → Option (List ℕ)) (a : AskedCheck) (c : Content) (digests : Digests) (table declarations certificate : List ℕ)
+    → files a.table ≡ Some table → files a.declarations ≡ Some declarations → files a.certificate ≡ Some certificate → AreDigestsOf files a c digests
+    → digests ≡ record { table = sha256 table; declarations = sha256 declarations; certificate = sha256 certificate }
+digests_of files a c digests table declarations certificate one two three are =
+    let at : (path : Text) (text digest : List ℕ) → files path ≡ Some text → IsDigestAt files path digest → digest ≡ sha256 text =
+    λ path text digest holds is. subst (λ (o : Option (List ℕ)). IfSome o (λ t. digest ≡ sha256 t)) holds is in
+    let first = at a.table table digests.table one are.table in
+    let second = at a.declarations declarations digests.declarations two are.declarations in
+    let third = are.certificate.hashed ∙ ap sha256 (subst (λ (o : Option (List ℕ)). IfSome o (λ t. are.certificate.bytes ≡ t)) three are.certificate.held) in
+    subst (λ (t : List ℕ). digests ≡ record { table = t; declarations = sha256 declarations; certificate = sha256 certificate }) first
+    (subst (λ (t : List ℕ). digests ≡ record { table = digests.table; declarations = t; certificate = sha256 certificate }) second
+    (subst (λ (t : List ℕ). digests ≡ record { table = digests.table; declarations = digests.declarations; certificate = t }) third refl))
 
 -- a fault never has status 0
 fails : (t : Trouble) → trouble_status t ≢ 0

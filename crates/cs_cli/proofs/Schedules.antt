@@ -23,7 +23,7 @@ use Rattle.cs_judge.specs.declared.answers.Wanted.{Wanted}
 use Rattle.cs_judge.specs.declared.answers.Wanted.TheVariants.{Verdict}
 use Rattle.cs_judge.specs.declared.judged.Judged.{Judged}
 use Rattle.cs_judge.specs.declared.judged.Judged.TheVariants as judged_as
-use Rattle.cs_judge.specs.Answer.{IsAnswer, IsMade, refusal_text, unknown_outcome, unknown_text, verdict_text as judged_text}
+use Rattle.cs_judge.specs.Answer.{IsAnswer, IsMade, IsUnknown, IsUnknownText, IsUnsafeText, refusal_text, unknown_outcome}
 use Rattle.cs_judge.specs.Judged.{IfRefused, IsJudgement, IsRefusal}
 use Rattle.cs_maker.specs.declared.reason.Reason.{Reason}
 use Rattle.cs_maker.specs.declared.reason.Reason.TheVariants.{LeafTooLong, NoMemory, NoReach, NoScript, NotChecked, TooDeep, TooManyClasses}
@@ -39,7 +39,7 @@ use Rattle.cs_cli.specs.Answer.{IsOfOthers, IsOrder}
 use Rattle.cs_cli.specs.Check.{AnswersCheck, IsProofOf, verdict_text}
 use Rattle.cs_cli.specs.Judge.{AnswersJudge, AnswersMake, AnswersWanted, IsJudged, JudgesPlan, outcome_status, wanted_of}
 use Rattle.cs_cli.specs.Safe.{IsChecked, IsSafe}
-use Rattle.cs_cli.proofs.CheckLemmas.{digest_of}
+use Rattle.cs_cli.proofs.CheckLemmas.{digests_of}
 use Rattle.cs_cli.specs.Theorem.{DenoteJobs, DenotesPlan, Given, Hold, HoldsIt, IsCalmPlan, IsCalmSchedule, IsGatheredSchedule, IsJudgedSafe, IsJudgedUnknown, IsJudgedUnsafe, IsOrdered, IsPrintedSchedule, IsRefused, IsSafePlan, IsSafeSchedule}
 use Rattle.cs_gather.specs.Places.{places_of}
 use Rattle.cs_gather.specs.declared.places.Place.{Place}
@@ -160,7 +160,7 @@ ordered_schedule files a before after order given certificate hold holds ordered
   content = refl;
   own = ordered.own;
   words = ordered.words;
-  digest = digest_of files a.check.certificate (certificate_in order.checked) order.digest certificate holds ordered.digest;
+  digests = digests_of files a.check (certificate_in order.checked) order.digests given.crontab given.declarations certificate hold.crontab hold.declarations holds ordered.digests;
 }
 
 pub ordered_checked : (files : List ℕ → Option (List ℕ)) (a : AskedRun) (before after : Failed) (order : Order)
@@ -293,23 +293,22 @@ wanted_unsafe wanted files a before after ending given hold is one =
       places = k.places;
       script = story.script;
       shown = story.shown;
-      breach = story.breach;
-      printed = sym k.same_out ∙ story.told;
+      printed = subst (IsUnsafeText k.plan k.places story.script story.shown) k.same_out story.told;
       legal = story.shows.breaks.unsafe.legal;
       in_time = story.shows.breaks.unsafe.in_time;
       unsafe = story.shows.breaks.unsafe.unsafe;
-      told = story.shows.running;
+      first = story.shows.breaks.first;
     }
 
 pub judged_unsafe : (files : List ℕ → Option (List ℕ)) (a : AskedJudge) (before after : Failed) (ending : Ending) (given : Given)
     → Hold files a.table a.anacrontab a.declarations given → AnswersJudge a files before after ending → ending.status ≡ 1 → IsJudgedUnsafe given ending.out
 judged_unsafe = wanted_unsafe Verdict
 
-refusal_behind : (plan : Declared) (places : List Place) (reason : Reason) (refusal : Option CheckFault) (text : List ℕ) → IfRefused (judged_as.Unknown reason refusal) (IsRefusal plan)
-    → text ≡ judged_text plan places (judged_as.Unknown reason refusal) → (text ≡ unknown_text plan reason) ⊎ IsRefused plan reason text
+refusal_behind : (plan : Declared) (reason : Reason) (refusal : Option CheckFault) (text : List ℕ) → IfRefused (judged_as.Unknown reason refusal) (IsRefusal plan)
+    → IsUnknown plan reason refusal text → IsUnknownText reason text ⊎ IsRefused plan reason text
 unfolding refusal_text verdict_text
-refusal_behind plan places reason None text known is = inl is
-refusal_behind plan places reason (Some fault) text (content, compact, first) is = inr (record { content = content; compact = compact; fault = told fault; first = first; printed = is })
+refusal_behind plan reason None text known is = inl is
+refusal_behind plan reason (Some fault) text (content, compact, first) (comments, is) = inr (record { comments = comments; content = content; compact = compact; fault = told fault; first = first; printed = is })
 
 not_known : (given : Given) (plan : Declared) (places : List Place) (judged : Judged) (found : Outcome) (text : List ℕ) → DenotesPlan given plan
     → IsJudgement plan judged → IsAnswer Verdict plan places judged found text → outcome_status found ≡ 2 → IsJudgedUnknown given text
@@ -319,7 +318,7 @@ not_known given plan places (judged_as.Unknown reason refusal) found text denote
   plan = plan;
   is_plan = denotes;
   reason = reason;
-  printed = refusal_behind plan places reason refusal text known.refused is.1;
+  printed = refusal_behind plan reason refusal text known.refused is.1;
 }
 
 pub judged_unknown : (files : List ℕ → Option (List ℕ)) (a : AskedJudge) (before after : Failed) (ending : Ending) (given : Given)

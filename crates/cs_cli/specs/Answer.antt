@@ -9,7 +9,7 @@ use Rattle.cs_check.specs.Checked.{IsHeadline, certificate_in, plan_in}
 use Rattle.cs_args.specs.Asked.{asked_run}
 use Rattle.cs_args.specs.CommandLine.{AskedRun}
 use Rattle.cs_io.specs.Files.{Failed}
-use Rattle.cs_cli.specs.Check.{AnswersCheck, IsDigestOf, IsProofOf, safe_text}
+use Rattle.cs_cli.specs.Check.{AnswersCheck, AreDigestsOf, IsProofOf, safe_text}
 use Rattle.cs_cli.specs.Safe.{IsAcceptance}
 use Rattle.cs_files.specs.Response.{Ending, complaint, done}
 use Rattle.cs_cli.specs.declared.answer.Answer.{Answer}
@@ -38,7 +38,7 @@ is_of_gathered checked = is_gathered (plan_in checked).crontab.settings
 
 -- `check` would answer `safe` and the same warnings and notes, and what is to be run is the plan
 -- and the certificate that the files denote, of which every legal history in time is safe, as it
--- was asked, with the digest of the certificate's bytes
+-- was asked, with the digests of the files
 pub record IsOrder (a : AskedRun) (files : List ℕ → Option (List ℕ)) (before failed : Failed)
     (order : Order) : Type 0 where
   pub safe : AnswersCheck a.check files before failed (done safe_text order.warnings)
@@ -46,7 +46,7 @@ pub record IsOrder (a : AskedRun) (files : List ℕ → Option (List ℕ)) (befo
   pub headline : IsHeadline (as_plan (plan_in order.checked))
   pub own : is_of_gathered order.checked ≡ false
   pub words : asked_run order.words ≡ a
-  pub digest : IsDigestOf files a.check.certificate (certificate_in order.checked) order.digest
+  pub digests : AreDigestsOf files a.check (certificate_in order.checked) order.digests
 
 -- the fault of a crontab that was gathered: `run` starts each command as its own user
 abbrev pub gathered_fault : List ℕ

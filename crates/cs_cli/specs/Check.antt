@@ -18,7 +18,6 @@ use Rattle.cs_claims.specs.declared.certificate.Certificate.{Certificate}
 use Rattle.cs_check.specs.Case.{fault_of}
 use Rattle.cs_check.specs.Checked.{certificate_in, plan_in}
 use Rattle.cs_check.specs.declared.checked.Checked.{Checked}
-use Rattle.cs_judge.specs.Waiters.{taker_notes}
 use Rattle.cs_report.specs.Refused.{fault_text}
 use Rattle.cs_report.specs.Warning.{plan_notes}
 use Rattle.cs_args.specs.CommandLine.{AskedCheck}
@@ -26,6 +25,7 @@ use Rattle.cs_io.specs.Files.{Failed}
 use Rattle.cs_files.specs.Response.{Ending, done}
 use Rattle.cs_files.specs.Reads.{AndThen, Answered, GivesSome, PlacesIn, ReadsAs, ReadsFitting, ReadsTables, WithPlaces}
 use Rattle.cs_files.specs.Trouble.{InCertificate, Trouble}
+use Rattle.cs_cli.specs.declared.check.Digests.{Digests}
 use Rattle.cs_cli.specs.declared.check.Examined.{Examined}
 use Rattle.cs_cli.specs.declared.check.Examined.TheVariants.{Accepted, Ended}
 
@@ -53,23 +53,11 @@ jobs_of (Collision at one other) = one.job ∷ other.job ∷ []
 jobs_of (OverCapacity at load) = []
 jobs_of (SkipBlocked at skip other) = skip.job ∷ other.job ∷ []
 
--- beside a bound that rises, the jobs that take the lock of its group
-abbrev pub fault_takers : Declared → Fault → List ℕ
-fault_takers plan (ClassNotDue kind) = []
-fault_takers plan (Missing kinds) = []
-fault_takers plan (BacklogRises group at) = taker_notes plan group at 0 plan.crontab.lines
-fault_takers plan (ReachTooShort job) = []
-fault_takers plan (WindowMissing window at) = []
-fault_takers plan (Collision at one other) = []
-fault_takers plan (OverCapacity at load) = []
-fault_takers plan (SkipBlocked at skip other) = []
-
 -- `note: line 14 is /etc/cron.d/munin:12 (munin): COMMAND` for each line that a fault names and
--- that has a place, and what is told of jobs that it concerns without their names
-unfoldable pub fault_places : Declared → List Place → Fault → List ℕ
+-- that has a place
+abbrev pub fault_places : Declared → List Place → Fault → List ℕ
 fault_places plan places fault =
     places_told (codes "note: ") places (jobs_of fault) 0 plan.crontab.lines
-    ++ fault_takers plan fault
 
 -- beside a fault that the certificate of other tables or declarations has
 unfoldable pub stale_text : List ℕ
@@ -97,7 +85,8 @@ verdict plan places more (Some fault) = record {
   err = plan_notes plan ++ (fault_places plan places fault ++ (more ++ stale_note fault));
 }
 
--- so it is, with some notes on the jobs that may run at a minute that is over the capacity
+-- so it is, with some notes on the jobs that take a lock of which a bound rises, or that may run at
+-- a minute that is over the capacity
 abbrev pub IsVerdict : Declared → List Place → Option Fault → Ending → Type 0
 IsVerdict plan places fault ending = (more : List ℕ) × (ending ≡ verdict plan places more fault)
 
@@ -109,6 +98,17 @@ pub record IsDigestOf (files : List ℕ → Option (List ℕ)) (path : Text) (c 
   pub denote : certificate_by bytes ≡ Ok c
   pub held : IfSome (files path) (λ text. bytes ≡ text)
   pub hashed : digest ≡ sha256 bytes
+
+-- this is the SHA-256 of the bytes of the file at a path
+abbrev pub IsDigestAt : (List ℕ → Option (List ℕ)) → Text → List ℕ → Type 0
+IsDigestAt files path digest = IfSome (files path) (λ bytes. digest ≡ sha256 bytes)
+
+-- each is that of the file that is asked for, and the certificate's is of bytes that denote it
+pub record AreDigestsOf (files : List ℕ → Option (List ℕ)) (a : AskedCheck) (c : Content)
+    (digests : Digests) : Type 0 where
+  pub table : IsDigestAt files a.table digests.table
+  pub declarations : IsDigestAt files a.declarations digests.declarations
+  pub certificate : IsDigestOf files a.certificate c digests.certificate
 
 -- the certificate at a path
 abbrev pub ReadsCertificate : (List ℕ → Option (List ℕ)) → Text → Failed → Failed
@@ -155,16 +155,16 @@ AnswersCheck a files =
 -- the answer to `check` by what the files come to: `safe`, with what is to be warned of and then
 -- the notes on the plan, or another
 abbrev pub ending_of : Examined → Ending
-ending_of (Accepted checked warnings digest) =
+ending_of (Accepted checked warnings digests) =
     done safe_text (warnings ++ plan_notes (plan_in checked))
 ending_of (Ended answer) = answer
 
--- what holds of the plan, of the warnings and of the digest where the checker has accepted it
-abbrev pub IfAccepted : Examined → (Checked → List ℕ → List ℕ → Type 0) → Type 0
-IfAccepted (Accepted checked warnings digest) P = P checked warnings digest
+-- what holds of the plan, of the warnings and of the digests where the checker has accepted it
+abbrev pub IfAccepted : Examined → (Checked → List ℕ → Digests → Type 0) → Type 0
+IfAccepted (Accepted checked warnings digests) P = P checked warnings digests
 IfAccepted (Ended answer) P = ⊤
 
 -- and of the answer where it has not
 abbrev pub IfEnded : Examined → (Ending → Type 0) → Type 0
-IfEnded (Accepted checked warnings digest) P = ⊤
+IfEnded (Accepted checked warnings digests) P = ⊤
 IfEnded (Ended answer) P = P answer

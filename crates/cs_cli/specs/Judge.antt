@@ -28,12 +28,14 @@ outcome_status outcome.Unsafe = 1
 outcome_status outcome.Unknown = 2
 outcome_status outcome.NoMemory = 5
 
--- the places of the lines that a refusal behind `unknown` names
-abbrev pub refusal_places : Declared → List Place → Judged → List ℕ
-refusal_places plan places (Safe checked) = []
-refusal_places plan places (Unsafe script shown breach) = []
-refusal_places plan places (Unknown reason None) = []
-refusal_places plan places (Unknown reason (Some fault)) = fault_places plan places (told fault)
+-- the notes on a refusal behind `unknown`: the places of the lines that it names, behind which more
+-- may stand, on the jobs that take a lock
+abbrev pub AreRefusalNotes : Declared → List Place → Judged → List ℕ → Type 0
+AreRefusalNotes plan places (Safe checked) notes = notes ≡ []
+AreRefusalNotes plan places (Unsafe script shown breach) notes = notes ≡ []
+AreRefusalNotes plan places (Unknown reason None) notes = notes ≡ []
+AreRefusalNotes plan places (Unknown reason (Some fault)) notes =
+    (more : List ℕ) × (notes ≡ fault_places plan places (told fault) ++ more)
 
 -- what is known of a plan is printed, beside the notes on it, and the status is by how it was found
 pub record IsJudged (wanted : Wanted) (plan : Declared) (places : List Place) (ending : Ending)
@@ -43,7 +45,9 @@ pub record IsJudged (wanted : Wanted) (plan : Declared) (places : List Place) (e
   pub found : Outcome
   pub printed : IsAnswer wanted plan places judged found ending.out
   pub status : ending.status ≡ outcome_status found
-  pub err : ending.err ≡ plan_notes plan ++ refusal_places plan places judged
+  pub notes : List ℕ
+  pub refused : AreRefusalNotes plan places judged notes
+  pub err : ending.err ≡ plan_notes plan ++ notes
 
 -- the declarations are read, and the plan is judged, with the places of the table
 abbrev pub JudgesPlan : Wanted → (List ℕ → Option (List ℕ)) → AskedJudge → Table × JobTable → Failed

@@ -22,11 +22,10 @@ use Rattle.cs_cert.specs.Denoted.{certificate_by}
 use Rattle.cs_theorem.specs.Faults.{Fault}
 use Rattle.cs_check.specs.Case.{fault_of, reach_for}
 use Rattle.cs_check.specs.Checked.{certificate_in, plan_in}
+use Rattle.cs_counterexample.specs.Break.{first_break}
 use Rattle.cs_counterexample.specs.declared.shown.Shown.{Shown}
 use Rattle.cs_maker.specs.declared.reason.Reason.{Reason}
-use Rattle.cs_judge.specs.Answer.{unknown_text, unsafe_text}
-use Rattle.cs_judge.specs.Breach.{IsBreach}
-use Rattle.cs_judge.specs.declared.breach.Breach.{Breach}
+use Rattle.cs_judge.specs.Answer.{IsUnknownText, IsUnsafeText, unknown_text}
 use Rattle.cs_args.specs.Asked.{asked_run}
 use Rattle.cs_args.specs.CommandLine.{AskedRun}
 use Rattle.cs_files.specs.Fitting.{has_other_parts}
@@ -98,7 +97,7 @@ pub record IsCalmSchedule (given : Given) (certificate : List ℕ) : Type 0 wher
   pub calm : IsCalmPlan schedule.plan schedule.content
 
 -- an order to run is of such a plan and certificate, of a crontab that wasn't gathered, as it was
--- asked, with the SHA-256 (FIPS 180-4) of the certificate
+-- asked, with the SHA-256 (FIPS 180-4) of the crontab, the declarations and the certificate
 pub record IsOrdered (given : Given) (certificate : List ℕ) (a : AskedRun) (order : Order) : Type 0
   where
     pub schedule : IsSafeSchedule given certificate
@@ -106,7 +105,11 @@ pub record IsOrdered (given : Given) (certificate : List ℕ) (a : AskedRun) (or
     pub content : certificate_in order.checked ≡ schedule.content
     pub own : is_gathered schedule.plan.crontab.settings ≡ false
     pub words : asked_run order.words ≡ a
-    pub digest : order.digest ≡ sha256 certificate
+    pub digests : order.digests ≡ record {
+      table = sha256 given.crontab;
+      declarations = sha256 given.declarations;
+      certificate = sha256 certificate;
+    }
 
 -- the crontab of such a plan was gathered, which is told on standard error alone
 pub record IsGatheredSchedule (given : Given) (certificate : List ℕ) (ending : Ending) : Type 0
@@ -131,34 +134,34 @@ pub record IsJudgedSafe (given : Given) : Type 0 where
   pub calm : IsCalmPlan plan content
 
 -- what is given denotes a plan, and the text is a line, comments, and the script of a legal history
--- of it, in which each run ends within its declared time, and which isn't safe; the comments tell
--- what runs when it first breaks the plan, and the places of lines
+-- of it, in which each run ends within its declared time, and which isn't safe; the line says what
+-- that history breaks first
 pub record IsJudgedUnsafe (given : Given) (text : List ℕ) : Type 0 where
   pub plan : Declared
   pub is_plan : DenotesPlan given plan
   pub places : List Place
   pub script : Script
   pub shown : Shown
-  pub breach : Breach
-  pub printed : text ≡ unsafe_text plan places script shown breach
+  pub printed : IsUnsafeText plan places script shown text
   pub legal : IsLegal (as_plan plan) (history script.start script.events)
   pub in_time : IsInTime (as_plan plan) (history script.start script.events)
   pub unsafe : IsSafe (as_plan plan) (history script.start script.events) → ⊥
-  pub told : IsBreach (as_plan plan) script shown breach
+  pub first : first_break (as_plan plan) (history script.start script.events) ≡ Some shown
 
--- behind the reason stands what `check` would print of a certificate of version 3 of the plan: the
--- first rule that it doesn't meet
+-- behind the reason and comments stands what `check` would print of a certificate of version 3 of
+-- the plan: the first rule that it doesn't meet
 pub record IsRefused (plan : Declared) (reason : Reason) (text : List ℕ) : Type 0 where
+  pub comments : List (List ℕ)
   pub content : Content
   pub compact : content.version ≡ 3
   pub fault : Fault
   pub first : fault_of plan content ≡ Some fault
-  pub printed : text ≡ unknown_text plan reason ++ verdict_text plan (Some fault)
+  pub printed : text ≡ unknown_text reason comments ++ verdict_text plan (Some fault)
 
--- what is given denotes a plan, and the text is a reason and what is told of it, alone or with such
--- a refusal behind it
+-- what is given denotes a plan, and the text is a reason and comments, alone or with such a refusal
+-- behind them
 pub record IsJudgedUnknown (given : Given) (text : List ℕ) : Type 0 where
   pub plan : Declared
   pub is_plan : DenotesPlan given plan
   pub reason : Reason
-  pub printed : (text ≡ unknown_text plan reason) ⊎ IsRefused plan reason text
+  pub printed : IsUnknownText reason text ⊎ IsRefused plan reason text

@@ -2,6 +2,7 @@
 ghost use Rattle.std.specs.Prelude.{◌≡◌, ◌++◌, [], IfOk, codes};
 ghost use Rattle.cs_files.specs.Response.{complaint};
 
+use crate::check::Digests;
 use cs_args::{RunWords, StatusWords, StopWords};
 use cs_check::Checked;
 use cs_civil::Bytes;
@@ -32,8 +33,8 @@ pub struct Order<'a> {
     pub warnings: Bytes,
     /// What `run` is asked.
     pub words: RunWords<'a>,
-    /// The SHA-256 (FIPS 180-4) of the certificate's bytes, as they were read.
-    pub digest: [u8; 32],
+    /// The SHA-256 of the files, as they were read.
+    pub digests: Digests,
 }
 
 impl Order<'_> {

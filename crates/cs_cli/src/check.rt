@@ -3,17 +3,18 @@ ghost use Rattle.std.specs.Prelude.{◌≡◌, ◌≢◌, ◌∷◌, ◌++◌, [
 ghost use Rattle.std.specs.Result.{result_map_both};
 ghost use Rattle.cs_check.specs.Checked.{certificate_in, plan_in};
 ghost use Rattle.cs_claims.specs.Certificate.{content};
+ghost use Rattle.cs_crontab.specs.Faults.{IsCrontab};
 ghost use Rattle.cs_check.specs.Case.{fault_of};
 ghost use Rattle.cs_report.specs.Told.{told};
 ghost use Rattle.cs_report.specs.Warning.{plan_notes};
 ghost use Rattle.cs_args.specs.Asked.{asked_check};
 ghost use Rattle.cs_io.specs.Files.{AreReadInTurn, IsFresh, IsReadAlone};
-ghost use Rattle.cs_cli.specs.Check.{AnswersCheck, AreRead, IfAccepted, IfEnded, IsDigestOf};
-ghost use Rattle.cs_cli.specs.Check.{IsVerdict, Judges, ReadsCertificate, answer_of, ending_of};
-ghost use Rattle.cs_cli.specs.Check.{fault_places, safe_text, said, stale_note};
+ghost use Rattle.cs_cli.specs.Check.{AnswersCheck, AreDigestsOf, AreRead, IfAccepted, IfEnded};
+ghost use Rattle.cs_cli.specs.Check.{IsDigestOf, IsVerdict, Judges, ReadsCertificate, answer_of};
+ghost use Rattle.cs_cli.specs.Check.{ending_of, fault_places, safe_text, said, stale_note};
 ghost use Rattle.cs_files.specs.RanOut.{IsWarned};
 ghost use Rattle.cs_files.specs.Response.{done};
-ghost use Rattle.cs_files.specs.Reads.{MeansIt, PlacesIn, without_rest};
+ghost use Rattle.cs_files.specs.Reads.{MeansIt, TextIn, without_rest};
 ghost use Rattle.cs_cli.specs.Safe.{AreSafe, IsAcceptance, IsSafe};
 ghost use Rattle.cs_files.specs.Trouble.{CameTo, InCertificate, IsHonest, IsHonestOf, IsOfContent};
 ghost use Rattle.cs_files.specs.Turn.{check_paths};
@@ -21,7 +22,7 @@ ghost use Rattle.cs_cert.specs.Denoted.{certificate_by};
 ghost use Rattle.sha2.specs.Sha256.{sha256};
 
 use crate::overload::overload_notes;
-use crate::places::{push_fault_places, push_stale_note};
+use crate::places::{fault_takers, push_fault_places, push_stale_note};
 use cs_anacrontab::Anacrontab;
 use cs_args::CheckWords;
 use cs_cert::read_certificate;
@@ -31,14 +32,42 @@ use cs_claims::{Certificate, JobReach, MAX_CERTIFICATE};
 use cs_crontab::Crontab;
 use cs_decl::Plan;
 use cs_files::{
-    Fault, RanOut, Response, bytes_at, placed_plan_from, read_placed_tables, text_behind,
+    Fault, RanOut, Response, bytes_at, placed_plan_and_text, read_tables_and_text, text_behind,
 };
-use cs_gather::Place;
+use cs_gather::{Place, read_places};
 use cs_io::Inputs;
 use cs_report::{fault_text, plan_notes, warnings};
 use sha2::{Digest, Sha256};
 use std::alloc::{AllocError, Global};
 use std::thread::Threads;
+
+/// The SHA-256 (FIPS 180-4) of the bytes of each of these files, as they were read.
+#[derive(Drop)]
+pub struct Digests {
+    /// The crontab's.
+    pub table: [u8; 32],
+    /// The declarations'.
+    pub declarations: [u8; 32],
+    /// The certificate's.
+    pub certificate: [u8; 32],
+}
+
+impl Digests {
+    /// Those of the bytes of a crontab and of declarations, with that of a certificate.
+    pub fn of(table: &[u8], declarations: &[u8], certificate: [u8; 32]) -> Digests
+        ensures { result ≡ record {
+          table = sha256 table.now;
+          declarations = sha256 declarations.now;
+          certificate = certificate;
+        } }
+    {
+        Digests {
+            table: Sha256::digest(table),
+            declarations: Sha256::digest(declarations),
+            certificate,
+        }
+    }
+}
 
 /// The certificate that the bytes denote, and their SHA-256.
 fn certificate_in<'a>(alloc: Global, bytes: &[u8]) -> Result<(Certificate, [u8; 32]), Fault<'a>>
@@ -86,7 +115,8 @@ fn refusal_notes(
         ++ (fault_places plan.now places.now (told fault.now)
         ++ (more ++ stale_note (told fault.now))))) }
 {
-    let more = overload_notes(alloc, plan, reach, fault)?;
+    let mut more = fault_takers(alloc, plan, fault)?;
+    more.extend_from_slice(overload_notes(alloc, plan, reach, fault)?.as_slice())?;
     let mut notes = plan_notes(alloc, plan)?.into_vec();
     push_fault_places(alloc, &mut notes, plan, places, fault)?;
     notes.extend_from_slice(more.as_slice())?;
@@ -141,28 +171,30 @@ fn ruling<R: Threads + Sync>(
     }
 }
 
-/// What the checker rules of the declarations and the certificate, once both tables were read, and
-/// the SHA-256 of the certificate's bytes.
+/// What the checker rules of the declarations and the certificate, once both tables were read, with
+/// the crontab's text; and the SHA-256 of each file.
 fn ruling_on_files<'a, R: Threads + Sync, I: Inputs>(
     rt: &R,
     alloc: Global,
     inputs: &mut I,
     request: &CheckWords<'a>,
     tables: (Crontab, Anacrontab),
-    places: &[Place],
-) -> Result<(Result<Checked, Response>, [u8; 32]), Fault<'a>>
+    text: Vec<u8>,
+) -> Result<(Result<Checked, Response>, Digests), Fault<'a>>
+    requires { IsCrontab text.items tables.0 }
     ensures step { IsFresh (I.whole inputs.old) (I.left inputs.old)
-        → PlacesIn (I.whole inputs.old) (asked_check request.now).table tables.0 places.now
+        → TextIn (I.whole inputs.old) (asked_check request.now).table tables.0 text.items
         → CameTo (Judges (I.whole inputs.old) (asked_check request.now) tables
         (I.failed inputs.old) (I.failed inputs.new)) (result_map_both answer_of (λ e. e)
         (without_rest result)) }
     ensures read { IsFresh (I.whole inputs.old) (I.left inputs.old)
-        → PlacesIn (I.whole inputs.old) (asked_check request.now).table tables.0 places.now
+        → TextIn (I.whole inputs.old) (asked_check request.now).table tables.0 text.items
         → IfOk result (λ found. IfOk found.0 (AreRead (I.whole inputs.old)
         (asked_check request.now) tables (I.failed inputs.old))) }
-    ensures digest { IsFresh (I.whole inputs.old) (I.left inputs.old)
-        → IfOk result (λ found. IfOk found.0 (λ checked. IsDigestOf (I.whole inputs.old)
-        (asked_check request.now).certificate (certificate_in checked) found.1)) }
+    ensures digests { IsFresh (I.whole inputs.old) (I.left inputs.old)
+        → TextIn (I.whole inputs.old) (asked_check request.now).table tables.0 text.items
+        → IfOk result (λ found. IfOk found.0 (λ checked. AreDigestsOf (I.whole inputs.old)
+        (asked_check request.now) (certificate_in checked) found.1)) }
     ensures safe { IfOk result (λ found. IfOk found.0 IsSafe) }
     ensures refused { IfOk result (λ found. IfErr found.0 (λ answer. answer.status ≡ 1)) }
     ensures status { IfErr result (IsHonestOf (I.failed inputs.new) (I.reads inputs.new)) }
@@ -171,18 +203,21 @@ fn ruling_on_files<'a, R: Threads + Sync, I: Inputs>(
         (I.reads inputs.old) (I.reads inputs.new) }
 {
     let (table, jobs) = tables;
+    let read = read_places(alloc, text.as_slice(), &table)?;
+    let places = read.as_slice();
     let path = request.declarations;
-    let plan = placed_plan_from(alloc, inputs, path, table, jobs, places)?;
+    let (plan, terms) = placed_plan_and_text(alloc, inputs, path, table, jobs, places)?;
     let (certificate, digest) = certificate_from(alloc, inputs, request.certificate)?;
-    Ok((ruling(rt, alloc, plan, places, certificate)?, digest))
+    let digests = Digests::of(text.as_slice(), terms.as_slice(), digest);
+    Ok((ruling(rt, alloc, plan, places, certificate)?, digests))
 }
 
 /// What the files of a call come to.
 #[derive(Drop)]
 pub(crate) enum Examined {
     /// The plan, with the certificate that the checker has accepted, what is to be warned of, and
-    /// the SHA-256 of the certificate's bytes.
-    Accepted(Checked, Bytes, [u8; 32]),
+    /// the SHA-256 of the files.
+    Accepted(Checked, Bytes, Digests),
     /// A fault, or the first rule that isn't met, ends the call.
     Ended(Response),
 }
@@ -199,13 +234,13 @@ pub(crate) fn examine<R: Threads + Sync, I: Inputs>(
         → IfOk result (λ found. AnswersCheck (asked_check request.now) (I.whole inputs.old)
         (I.failed inputs.old) (I.failed inputs.new) (ending_of found)) }
     ensures accepted { IsFresh (I.whole inputs.old) (I.left inputs.old)
-        → IfOk result (λ found. IfAccepted found (λ checked warnings digest.
+        → IfOk result (λ found. IfAccepted found (λ checked warnings digests.
         IsAcceptance (I.whole inputs.old) (asked_check request.now) (I.failed inputs.old)
         checked warnings)) }
-    ensures digest { IsFresh (I.whole inputs.old) (I.left inputs.old)
-        → IfOk result (λ found. IfAccepted found (λ checked warnings digest.
-        IsDigestOf (I.whole inputs.old) (asked_check request.now).certificate
-        (certificate_in checked) digest)) }
+    ensures digests { IsFresh (I.whole inputs.old) (I.left inputs.old)
+        → IfOk result (λ found. IfAccepted found (λ checked warnings digests.
+        AreDigestsOf (I.whole inputs.old) (asked_check request.now) (certificate_in checked)
+        digests)) }
     ensures ended { IfOk result (λ found. IfEnded found (λ answer. (answer.status ≢ 0)
         × IsHonest (I.failed inputs.new) (I.reads inputs.new) answer)) }
     ensures warned { IsFresh (I.whole inputs.old) (I.left inputs.old)
@@ -215,19 +250,18 @@ pub(crate) fn examine<R: Threads + Sync, I: Inputs>(
     ensures turn { AreReadInTurn (check_paths (asked_check request.now))
         (I.reads inputs.old) (I.reads inputs.new) }
 {
-    let read = read_placed_tables(alloc, inputs, request.table, request.anacrontab);
-    let (tables, places) = match read {
+    let read = read_tables_and_text(alloc, inputs, request.table, request.anacrontab);
+    let (tables, text) = match read {
         Ok(found) => found,
         Err(fault) => return Ok(Examined::Ended(fault.response(alloc, b"".as_slice())?)),
     };
     let warnings = warnings(alloc, &tables.0, &tables.1)?;
-    let places = places.as_slice();
-    let (ruling, digest) = match ruling_on_files(rt, alloc, inputs, request, tables, places) {
+    let (ruling, digests) = match ruling_on_files(rt, alloc, inputs, request, tables, text) {
         Ok(found) => found,
         Err(fault) => return Ok(Examined::Ended(fault.response_behind(alloc, warnings)?)),
     };
     match ruling {
-        Ok(checked) => Ok(Examined::Accepted(checked, warnings, digest)),
+        Ok(checked) => Ok(Examined::Accepted(checked, warnings, digests)),
         Err(answer) => Ok(Examined::Ended(answer.behind(warnings)?)),
     }
 }

@@ -1,17 +1,17 @@
 //! The subcommands `judge` and `make`.
-ghost use Rattle.std.specs.Prelude.{◌≡◌, ◌≢◌, ◌++◌, IfErr, IfOk};
+ghost use Rattle.std.specs.Prelude.{◌≡◌, ◌≢◌, ◌++◌, ℕ, IfErr, IfOk, List};
 ghost use Rattle.cs_report.specs.Warning.{plan_notes};
 ghost use Rattle.cs_args.specs.Asked.{asked_judge, asked_make};
 ghost use Rattle.cs_io.specs.Files.{AreReadInTurn, IsFresh, IsReadAlone};
-ghost use Rattle.cs_cli.specs.Judge.{AnswersJudge, AnswersMake, AnswersWanted, IsJudged};
-ghost use Rattle.cs_cli.specs.Judge.{JudgesPlan, outcome_status, refusal_places, wanted_of};
+ghost use Rattle.cs_cli.specs.Judge.{AnswersJudge, AnswersMake, AnswersWanted, AreRefusalNotes};
+ghost use Rattle.cs_cli.specs.Judge.{IsJudged, JudgesPlan, outcome_status, wanted_of};
 ghost use Rattle.cs_files.specs.Reads.{PlacesIn};
 ghost use Rattle.cs_files.specs.RanOut.{IsWarned};
 ghost use Rattle.cs_files.specs.Response.{status_of};
 ghost use Rattle.cs_files.specs.Trouble.{CameTo, IsHonest, IsHonestOf};
 ghost use Rattle.cs_files.specs.Turn.{judge_paths};
 
-use crate::places::push_fault_places;
+use crate::places::{fault_takers, push_fault_places};
 use cs_anacrontab::Anacrontab;
 use cs_args::{JudgeWords, MakeWords};
 use cs_civil::Bytes;
@@ -37,20 +37,37 @@ fn status_for(outcome: Outcome) -> Status
     }
 }
 
-/// The notes on a plan, and the places of the lines that a refusal names.
+/// The notes on a refusal: the places of the lines that it names, and the jobs that it concerns
+/// without their names.
+fn refusal_notes(
+    alloc: Global,
+    plan: &Plan,
+    places: &[Place],
+    judged: &Judged,
+) -> Result<Vec<u8>, AllocError>
+    ensures { IfOk result (λ notes. AreRefusalNotes plan.now places.now judged.now notes.items) }
+{
+    let mut notes = Vec::new(alloc);
+    if let Judged::Unknown(_, Some(refusal)) = judged {
+        push_fault_places(alloc, &mut notes, plan, places, refusal)?;
+        notes.extend_from_slice(fault_takers(alloc, plan, refusal)?.as_slice())?;
+    }
+    Ok(notes)
+}
+
+/// The notes on a plan, and on a refusal.
 fn judged_notes(
     alloc: Global,
     plan: &Plan,
     places: &[Place],
     judged: &Judged,
 ) -> Result<Bytes, AllocError>
-    ensures { IfOk result
-        (λ notes. notes ≡ plan_notes plan.now ++ refusal_places plan.now places.now judged.now) }
+    ensures { IfOk result (λ notes. (more : List ℕ)
+        × AreRefusalNotes plan.now places.now judged.now more
+        × (notes ≡ plan_notes plan.now ++ more)) }
 {
     let mut notes = plan_notes(alloc, plan)?.into_vec();
-    if let Judged::Unknown(_, Some(refusal)) = judged {
-        push_fault_places(alloc, &mut notes, plan, places, refusal)?;
-    }
+    notes.extend_from_slice(refusal_notes(alloc, plan, places, judged)?.as_slice())?;
     Ok(Bytes::from_vec(notes))
 }
 

@@ -60,8 +60,8 @@ pub fn what_an_order_says()
 
 /// Lemma. Where `judge` ends with status 0, the rules accept a certificate for the plan that its
 /// files denote: every legal history in time is safe, and each minute is calm. Where it ends with
-/// status 1, it prints the script of a history that isn't safe; with 2, a reason, and perhaps the
-/// first rule that a certificate doesn't meet.
+/// status 1, it prints what a history that isn't safe breaks first, and its script; with 2, a
+/// reason, and perhaps the first rule that a certificate doesn't meet.
 pub fn what_judge_says()
     ensures safe { (files : List ℕ → Option (List ℕ)) (a : AskedJudge) (before after : Failed)
         (ending : Ending) (given : Given)

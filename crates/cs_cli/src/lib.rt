@@ -11,7 +11,7 @@ mod overload;
 mod places;
 
 pub use answer::{Answer, Order};
-pub use check::{answer_check, certificate_from};
+pub use check::{Digests, answer_check, certificate_from};
 pub use judge::{answer_judge, answer_make};
 pub use laws::{
     what_an_order_says, what_check_says, what_judge_says, what_make_says, what_version_1_says,

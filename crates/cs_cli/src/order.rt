@@ -56,7 +56,7 @@ pub fn answer_run<'a, R: Threads + Sync, I: Inputs>(
         (I.reads inputs.old) (I.reads inputs.new) }
 {
     match examine(rt, alloc, &request.check, inputs)? {
-        Examined::Accepted(checked, warnings, digest) => {
+        Examined::Accepted(checked, warnings, digests) => {
             if is_gathered(checked.plan().crontab().settings()) {
                 return Ok(Answer::Ends(refuse_gathered(alloc, warnings)?));
             }
@@ -65,7 +65,7 @@ pub fn answer_run<'a, R: Threads + Sync, I: Inputs>(
                 checked,
                 warnings,
                 words: *request,
-                digest,
+                digests,
             }))
         }
         Examined::Ended(answer) => Ok(Answer::Ends(answer)),

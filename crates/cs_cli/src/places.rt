@@ -1,11 +1,11 @@
 //! Where the lines that a refusal names come from, and what is told beside it.
 ghost use Rattle.std.specs.Prelude.{◌≡◌, ◌++◌, IfOk, OnOk};
 ghost use Rattle.cs_report.specs.Told.{told};
-ghost use Rattle.cs_cli.specs.Check.{fault_places, fault_takers, jobs_of, stale_note, stale_text};
+ghost use Rattle.cs_cli.specs.Check.{fault_places, jobs_of, stale_note, stale_text};
 
 use cs_decl::Plan;
 use cs_gather::{Place, push_places_told};
-use cs_judge::push_taker_notes;
+use cs_judge::taker_notes;
 use cs_report::CheckFault;
 use std::alloc::{AllocError, Global};
 
@@ -32,31 +32,19 @@ fn jobs_of(alloc: Global, fault: &CheckFault) -> Result<Vec<usize>, AllocError>
     }
 }
 
-/// Adds a note for each job that takes the lock of a group whose bound rises.
-fn push_fault_takers(
+/// A note for each job that takes the lock of a group whose bound rises.
+pub(crate) fn fault_takers(
     alloc: Global,
-    text: &mut Vec<u8>,
     plan: &Plan,
     fault: &CheckFault,
-) -> Result<(), AllocError>
-    ensures { OnOk result
-        (text.new.items ≡ text.old.items ++ fault_takers plan.now (told fault.now)) }
-{
+) -> Result<Vec<u8>, AllocError> {
     match fault {
-        CheckFault::BacklogRises { group, at } => push_taker_notes(alloc, text, plan, *group, *at),
-        CheckFault::ClassNotDue(_)
-        | CheckFault::MissingPair(_)
-        | CheckFault::ReachTooShort { .. }
-        | CheckFault::WindowMissing { .. }
-        | CheckFault::Collision { .. }
-        | CheckFault::OverCapacity { .. }
-        | CheckFault::SkipBlocked { .. } => Ok(()),
+        CheckFault::BacklogRises { group, at } => taker_notes(alloc, plan, *group, *at),
+        _ => Ok(Vec::new(alloc)),
     }
 }
 
-/// Adds a note for each line that the fault names and that has a place, and one for each job that
-/// takes the lock of a group whose bound rises.
-#[tactic(auto, unfolding(crate::specs::Check::fault_places))]
+/// Adds a note for each line that the fault names and that has a place.
 pub(crate) fn push_fault_places(
     alloc: Global,
     text: &mut Vec<u8>,
@@ -76,8 +64,7 @@ pub(crate) fn push_fault_places(
         places,
         jobs.as_slice(),
         lines,
-    )?;
-    push_fault_takers(alloc, text, plan, fault)
+    )
 }
 
 /// Adds that the certificate may be of other files.

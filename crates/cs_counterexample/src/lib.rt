@@ -13,5 +13,5 @@ mod trial;
 pub use laws::first_breaks;
 pub use proving::prove_unsafe;
 pub use shown::{NotShown, Shown};
-pub use text::shown_text;
+pub use text::{push_run_name, shown_text};
 pub use trial::Trial;

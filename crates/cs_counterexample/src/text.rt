@@ -22,8 +22,14 @@ fn push_at(text: &mut Vec<u8>, plan: &Plan, job: usize) -> Result<(), AllocError
     text.extend_from_slice(b" at ")
 }
 
-/// Adds `line N due ` of a cron job, `job ID at ` of an anacron job.
-fn push_name(alloc: Global, text: &mut Vec<u8>, plan: &Plan, job: usize) -> Result<(), AllocError>
+/// Adds `line N due ` of a cron job, `job ID at ` of an anacron job. The only error is out of
+/// memory.
+pub fn push_run_name(
+    alloc: Global,
+    text: &mut Vec<u8>,
+    plan: &Plan,
+    job: usize,
+) -> Result<(), AllocError>
     ensures { OnOk result (text.new.items ≡ text.old.items ++ run_name plan.now job) }
 {
     if job < plan.crons() {
@@ -40,7 +46,7 @@ fn push_run(alloc: Global, text: &mut Vec<u8>, plan: &Plan, run: Run) -> Result<
     ensures { OnOk result (text.new.items ≡ text.old.items ++ run_text plan.now run) }
 {
     let at = Minute::new(run.at).unwrap();
-    push_name(alloc, text, plan, usize::from(run.job))?;
+    push_run_name(alloc, text, plan, usize::from(run.job))?;
     text.extend_from_slice(&date_text(at))
 }
 

@@ -11,7 +11,6 @@ use Rattle.cs_gather.specs.Places.{places_of}
 use Rattle.cs_gather.specs.declared.places.Place.{Place}
 use Rattle.cs_anacrontab.specs.Anacrontab.{Table as JobTable}
 use Rattle.cs_decl.specs.Faults.{Fault as DeclaredFault}
-use Rattle.cs_decl.specs.Join.{joined}
 use Rattle.cs_decl.specs.Meaning.{declared_by}
 use Rattle.cs_decl.specs.Plan.{Declared}
 use Rattle.cs_decl.specs.declared.entries.Entries.{Entries}
@@ -26,7 +25,8 @@ use Rattle.cs_claims.specs.declared.limits.TheConstants.{MAX_CERTIFICATE}
 use Rattle.cs_report.specs.Warning.{warnings as warnings_text}
 use Rattle.cs_io.specs.Files.{Failed, IsFresh, IsReadOut, IsTooLong, IsUpTo, Reads}
 use Rattle.cs_io.specs.declared.inputs.TheConstants.{MOST_READS}
-use Rattle.cs_files.specs.Reads.{DeclaredIn, TextIn, AndThen, Answered, IsRead, IsUnreadWhole, MeansIt, MeansTable, PlacesIn, ReadsAs, ReadsPlan, WithPlaces}
+use Rattle.cs_files.specs.Fitting.{fitting}
+use Rattle.cs_files.specs.Reads.{FittingIn, TextIn, AndThen, Answered, IsRead, IsUnreadWhole, MeansIt, MeansTable, PlacesIn, ReadsAs, ReadsPlan, WithPlaces}
 use Rattle.cs_files.specs.Response.{Ending, complaint}
 use Rattle.cs_files.specs.Trouble.{CameTo, IsHonest, IsHonestOf, IsUnread, TellsPath, Trouble, ends, trouble, trouble_status, trouble_text}
 use Rattle.cs_files.specs.declared.fault.Fault.{Fault}
@@ -99,9 +99,9 @@ with_places files path table next before after places (Err e) placed is = by_tro
     by_trouble (Some t) h = (places, placed, h)
 
 -- the bytes of declarations that were read are those of the file
-pub declared : (files left : List ℕ → Option (List ℕ)) (path : Text) (bytes : List ℕ) (tables : Table × JobTable) (d : Entries) (plan : Declared) → IsFresh files left → IfSome (left path) (λ text. bytes ≡ text)
-    → declared_by bytes ≡ Ok d → joined tables.0 tables.1 d ≡ Ok plan → DeclaredIn files path tables plan bytes
-declared files left path bytes tables d plan fresh read is joins = ((d, is, joins), by_file (files path) (left path) (fresh path) read)
+pub declared : (files left : List ℕ → Option (List ℕ)) (path : Text) (bytes : List ℕ) (places : List Place) (tables : Table × JobTable) (d : Entries) (plan : Declared) → IsFresh files left → IfSome (left path) (λ text. bytes ≡ text)
+    → declared_by bytes ≡ Ok d → fitting places tables d ≡ Ok plan → FittingIn files path places tables plan bytes
+declared files left path bytes places tables d plan fresh read is joins = ((d, is, joins), by_file (files path) (left path) (fresh path) read)
   where
     by_file : (whole rest : Option (List ℕ)) → IfSome whole (λ text. rest ≡ Some text) → IfSome rest (λ text. bytes ≡ text) → IfSome whole (λ text. bytes ≡ text)
     by_file None rest same_rest up = same_rest

@@ -104,11 +104,6 @@ PlacesIn files path table places = IfSome (files path) (λ bytes. places ≡ pla
 abbrev pub planned : Result Declared DeclaredFault → Result Declared Trouble
 planned plan = result_map_both (λ p. p) InDeclarations plan
 
--- bytes are declarations, by which both tables make the plan
-abbrev pub Declares : List ℕ → Table × JobTable → Declared → Type 0
-Declares bytes tables plan =
-    (d : Entries) × (declared_by bytes ≡ Ok d) × (joined tables.0 tables.1 d ≡ Ok plan)
-
 -- the declarations at a path: of any length, but of no more reads than a path may take
 abbrev pub ReadsEntries : (List ℕ → Option (List ℕ)) → Text → Failed → Failed
     → Result Entries Trouble → Type 0
@@ -117,11 +112,13 @@ ReadsEntries files path before after r =
     ⊎ ((after ≡ before) × IsTooLong path files
     × ((t : Trouble) × TellsPath path t × (r ≡ Err t)))
 
--- these bytes are declarations by which both tables make the plan, and the file at a path holds them
-abbrev pub DeclaredIn : (List ℕ → Option (List ℕ)) → Text → Table × JobTable → Declared → List ℕ
-    → Type 0
-DeclaredIn files path tables plan text =
-    Declares text tables plan × IfSome (files path) (λ bytes. text ≡ bytes)
+-- this text is declarations by which both tables, of which the crontab has these places, make the
+-- plan, and the file at a path holds it
+abbrev pub FittingIn : (List ℕ → Option (List ℕ)) → Text → List Place → Table × JobTable → Declared
+    → List ℕ → Type 0
+FittingIn files path places tables plan text =
+    ((d : Entries) × (declared_by text ≡ Ok d) × (fitting places tables d ≡ Ok plan))
+    × IfSome (files path) (λ bytes. text ≡ bytes)
 
 -- the plan that the declarations at a path make
 abbrev pub ReadsPlan : (Entries → Result Declared DeclaredFault) → (List ℕ → Option (List ℕ))

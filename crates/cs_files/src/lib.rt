@@ -10,7 +10,7 @@ mod response;
 pub use fault::Fault;
 pub use ran_out::{RanOut, text_behind};
 pub use reads::{
-    all_bytes_at, are_jobs, bytes_at, declared_plan_and_text, declared_plan_from, placed_plan_from,
+    all_bytes_at, are_jobs, bytes_at, declared_plan_from, placed_plan_and_text, placed_plan_from,
     read_placed_tables, read_tables, read_tables_and_text,
 };
 pub use response::{Response, Status};

@@ -7,7 +7,7 @@ ghost use Rattle.cs_crontab.specs.Faults.{IsCrontab};
 ghost use Rattle.cs_decl.specs.Meaning.{declared_by};
 ghost use Rattle.cs_io.specs.Files.{AreReadInTurn, IsFresh, IsReadAlone};
 ghost use Rattle.cs_files.specs.Reads.{HoldsJobs, IsRead, IsUnreadAt, IsUnreadWhole, MeansIt};
-ghost use Rattle.cs_files.specs.Reads.{DeclaredIn, MeansTable, PlacesIn, ReadsAs, TextIn, are_named, is_letter};
+ghost use Rattle.cs_files.specs.Reads.{FittingIn, MeansTable, PlacesIn, ReadsAs, TextIn, are_named, is_letter};
 ghost use Rattle.cs_files.specs.Reads.{ReadsDeclared, ReadsEntries, ReadsFitting, ReadsJobs, ReadsTables};
 ghost use Rattle.cs_files.specs.Reads.{without_rest};
 ghost use Rattle.cs_files.specs.Turn.{some_path, table_paths};
@@ -272,33 +272,6 @@ pub fn read_tables<'a, I: Inputs>(
     Ok(tables)
 }
 
-/// The plan of both tables as the declarations at a path have it, and the bytes of the declarations.
-pub fn declared_plan_and_text<'a, I: Inputs>(
-    alloc: Global,
-    inputs: &mut I,
-    path: &'a str,
-    table: Crontab,
-    jobs: Anacrontab,
-) -> Result<(Plan, Vec<u8>), Fault<'a>>
-    ensures step { IsFresh (I.whole inputs.old) (I.left inputs.old)
-        → CameTo (ReadsDeclared (I.whole inputs.old) (table, jobs) path.now
-        (I.failed inputs.old) (I.failed inputs.new)) (without_rest result) }
-    ensures text { IsFresh (I.whole inputs.old) (I.left inputs.old)
-        → IfOk result (λ found. DeclaredIn (I.whole inputs.old) path.now (table, jobs) found.0
-        found.1.items) }
-    ensures works { OnOk result (I.failed inputs.new ≡ I.failed inputs.old) }
-    ensures whole { I.whole inputs.new ≡ I.whole inputs.old }
-    ensures fresh { OnOk result (IsFresh (I.whole inputs.old) (I.left inputs.old)
-        → IsFresh (I.whole inputs.new) (I.left inputs.new)) }
-    ensures status { IfErr result (IsHonestOf (I.failed inputs.new) (I.reads inputs.new)) }
-    ensures alone { IsReadAlone path.now (I.reads inputs.old) (I.reads inputs.new) }
-{
-    let bytes = all_bytes_at(alloc, inputs, path)?;
-    let declarations = read_declarations(alloc, bytes.as_slice())?;
-    let plan = join(alloc, table, jobs, declarations)?;
-    Ok((plan, bytes))
-}
-
 /// The plan of both tables as the declarations at a path have it.
 pub fn declared_plan_from<'a, I: Inputs>(
     alloc: Global,
@@ -317,11 +290,41 @@ pub fn declared_plan_from<'a, I: Inputs>(
     ensures status { IfErr result (IsHonestOf (I.failed inputs.new) (I.reads inputs.new)) }
     ensures alone { IsReadAlone path.now (I.reads inputs.old) (I.reads inputs.new) }
 {
-    let (plan, _) = declared_plan_and_text(alloc, inputs, path, table, jobs)?;
-    Ok(plan)
+    let bytes = all_bytes_at(alloc, inputs, path)?;
+    let declarations = read_declarations(alloc, bytes.as_slice())?;
+    Ok(join(alloc, table, jobs, declarations)?)
 }
 
 /// The same where the crontab has these places: an entry may also have other parts than they tell.
+/// With the bytes of the declarations.
+pub fn placed_plan_and_text<'a, I: Inputs>(
+    alloc: Global,
+    inputs: &mut I,
+    path: &'a str,
+    table: Crontab,
+    jobs: Anacrontab,
+    places: &[Place],
+) -> Result<(Plan, Vec<u8>), Fault<'a>>
+    ensures step { IsFresh (I.whole inputs.old) (I.left inputs.old)
+        → CameTo (ReadsFitting (I.whole inputs.old) places.now (table, jobs) path.now
+        (I.failed inputs.old) (I.failed inputs.new)) (without_rest result) }
+    ensures text { IsFresh (I.whole inputs.old) (I.left inputs.old)
+        → IfOk result (λ found. FittingIn (I.whole inputs.old) path.now places.now (table, jobs)
+        found.0 found.1.items) }
+    ensures works { OnOk result (I.failed inputs.new ≡ I.failed inputs.old) }
+    ensures whole { I.whole inputs.new ≡ I.whole inputs.old }
+    ensures fresh { OnOk result (IsFresh (I.whole inputs.old) (I.left inputs.old)
+        → IsFresh (I.whole inputs.new) (I.left inputs.new)) }
+    ensures status { IfErr result (IsHonestOf (I.failed inputs.new) (I.reads inputs.new)) }
+    ensures alone { IsReadAlone path.now (I.reads inputs.old) (I.reads inputs.new) }
+{
+    let bytes = all_bytes_at(alloc, inputs, path)?;
+    let declarations = read_declarations(alloc, bytes.as_slice())?;
+    let plan = join_placed(alloc, table, jobs, places, declarations)?;
+    Ok((plan, bytes))
+}
+
+/// The same without the bytes.
 pub fn placed_plan_from<'a, I: Inputs>(
     alloc: Global,
     inputs: &mut I,
@@ -340,7 +343,6 @@ pub fn placed_plan_from<'a, I: Inputs>(
     ensures status { IfErr result (IsHonestOf (I.failed inputs.new) (I.reads inputs.new)) }
     ensures alone { IsReadAlone path.now (I.reads inputs.old) (I.reads inputs.new) }
 {
-    let bytes = all_bytes_at(alloc, inputs, path)?;
-    let declarations = read_declarations(alloc, bytes.as_slice())?;
-    Ok(join_placed(alloc, table, jobs, places, declarations)?)
+    let (plan, _) = placed_plan_and_text(alloc, inputs, path, table, jobs, places)?;
+    Ok(plan)
 }

@@ -31,13 +31,12 @@ pub const MOST_NAMES: usize = 65_536;
 
 /// Folders by their paths. Only a folder is ever opened, so no name in one keeps a call waiting.
 pub trait Folders: Inputs {
-    /// What is known of them.
-    ghost tree: { Self → Tree } = { λ _. unknown };
+    /// What is known of them, which stays while the program runs.
+    ghost tree: { Tree } = { unknown };
 
     /// From now on the links of each path that begins with this one are looked up below it: an absolute
     /// one begins there, and none leads above it. Nothing changes for an empty path.
     fn look_below(&mut self, alloc: Global, root: &str) -> Result<(), AllocError>
-        ensures stays { tree self.new ≡ tree self.old }
         ensures files { (Self.whole self.new ≡ Self.whole self.old)
             × (Self.left self.new ≡ Self.left self.old)
             × (Self.reads self.new ≡ Self.reads self.old) }
@@ -45,9 +44,8 @@ pub trait Folders: Inputs {
 
     /// What a path leads to, `None` if that is nothing.
     fn kind_of(&mut self, path: &str) -> Result<Option<FileKind>, ReadFault>
-        ensures value { IfOk result (λ kind. IfSome ((tree self.old).kind path.now)
+        ensures value { IfOk result (λ kind. IfSome (tree.kind path.now)
             (λ known. kind ≡ known)) }
-        ensures stays { tree self.new ≡ tree self.old }
         ensures files { (Self.whole self.new ≡ Self.whole self.old)
             × (Self.left self.new ≡ Self.left self.old)
             × (Self.reads self.new ≡ Self.reads self.old) }
@@ -57,11 +55,10 @@ pub trait Folders: Inputs {
 
     /// The names in a folder in the order of their bytes, `None` if there is nothing at its path.
     fn names(&mut self, alloc: Global, path: &str) -> Result<Option<Sequence<Bytes>>, ReadFault>
-        ensures value { IfOk result (λ found. IfSome ((tree self.old).names path.now)
+        ensures value { IfOk result (λ found. IfSome (tree.names path.now)
             (λ known. found ≡ known)) }
         ensures few { IfOk result (λ found. IfSome found (λ names. length names ≤ MOST_NAMES)) }
         ensures order { IfOk result (λ found. IfSome found IsInByteOrder) }
-        ensures stays { tree self.new ≡ tree self.old }
         ensures files { (Self.whole self.new ≡ Self.whole self.old)
             × (Self.left self.new ≡ Self.left self.old)
             × (Self.reads self.new ≡ Self.reads self.old) }

@@ -1,5 +1,3 @@
-pub mod Breaches
 pub mod Outcomes
 pub mod Starts
-pub mod Texts
 pub mod Called

@@ -55,10 +55,10 @@ unknown_not_unsafe NotChecked found is unsafe = absurd (cc)
 unknown_not_unsafe NoMemory found is unsafe = absurd (cc)
 
 -- nor is what was accepted, whether a file can hold its certificate or not
-made_not_unsafe : {A : Type 0} (plan : Declared) (c : Content) (found : Outcome) (text : List ℕ)
-    → IsSafeMade plan c found text → found ≡ outcome.Unsafe → A
-made_not_unsafe plan c found text (inl made) unsafe = let found_so = made.0 in absurd (cc)
-made_not_unsafe plan c found text (inr made) unsafe = let found_so = made.0 in absurd (cc)
+made_not_unsafe : {A : Type 0} (c : Content) (found : Outcome) (text : List ℕ)
+    → IsSafeMade c found text → found ≡ outcome.Unsafe → A
+made_not_unsafe c found text (inl made) unsafe = let found_so = made.0 in absurd (cc)
+made_not_unsafe c found text (inr made) unsafe = let found_so = made.0 in absurd (cc)
 
 pub unsafe_stands : (wanted : Wanted) (plan : Declared) (places : List Place) (judged : Judged) (found : Outcome)
     (text : List ℕ) → IsJudgement plan judged → IsAnswer wanted plan places judged found text
@@ -66,15 +66,15 @@ pub unsafe_stands : (wanted : Wanted) (plan : Declared) (places : List Place) (j
 unsafe_stands Verdict plan places (Safe checked) found text known is unsafe =
     let found_so = is.0 in absurd (cc)
 unsafe_stands Certificate plan places (Safe checked) found text known is unsafe =
-    made_not_unsafe plan (certificate_in checked) found text is unsafe
+    made_not_unsafe (certificate_in checked) found text is unsafe
 unsafe_stands Compact plan places (Safe checked) found text known is unsafe =
-    made_not_unsafe plan (certificate_in checked) found text is.1 unsafe
+    made_not_unsafe (certificate_in checked) found text is.1 unsafe
 unsafe_stands Verdict plan places (Unsafe script shown breach) found text known is unsafe =
-    record { script = script; shown = shown; breach = breach; shows = known.shown; told = is.1 }
+    record { script = script; shown = shown; shows = known.shown; told = is.1 }
 unsafe_stands Certificate plan places (Unsafe script shown breach) found text known is unsafe =
-    record { script = script; shown = shown; breach = breach; shows = known.shown; told = is.1 }
+    record { script = script; shown = shown; shows = known.shown; told = is.1 }
 unsafe_stands Compact plan places (Unsafe script shown breach) found text known is unsafe =
-    record { script = script; shown = shown; breach = breach; shows = known.shown; told = is.1.1 }
+    record { script = script; shown = shown; shows = known.shown; told = is.1.1 }
 unsafe_stands Verdict plan places (Unknown reason refusal) found text known is unsafe =
     unknown_not_unsafe reason found is.0 unsafe
 unsafe_stands Certificate plan places (Unknown reason refusal) found text known is unsafe =

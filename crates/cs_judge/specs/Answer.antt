@@ -1,5 +1,5 @@
 -- What is printed of a plan that was judged.
-use Rattle.std.specs.Prelude.{◌≡◌, ◌⊎◌, ◌<◌, ℕ, List, ◌∷◌, ◌++◌, [], Ok, Option, None, Some, codes, length}
+use Rattle.std.specs.Prelude.{◌≡◌, ◌⊎◌, ◌<◌, ℕ, List, ◌∷◌, ◌++◌, [], Ok, Option, None, Some, codes, flat_map, length}
 use Rattle.std.specs.List.{filter_map}
 use Rattle.serde_json.specs.Written.{compact_text}
 use Rattle.cs_gather.specs.Places.{places_told}
@@ -16,6 +16,7 @@ use Rattle.cs_claims.specs.declared.limits.TheConstants.{MAX_CERTIFICATE}
 use Rattle.cs_check.specs.Checked.{certificate_in}
 use Rattle.cs_report.specs.Refused.{fault_text}
 use Rattle.cs_report.specs.Told.{told}
+use Rattle.cs_report.specs.declared.check_fault.CheckFault.{CheckFault}
 use Rattle.cs_maker.specs.Reason.{reason_name}
 use Rattle.cs_maker.specs.declared.reason.Reason.{Reason}
 use Rattle.cs_maker.specs.declared.reason.Reason.TheVariants.{TooManyClasses, LeafTooLong, TooDeep, NoReach, NoScript, NotChecked, NoMemory}
@@ -24,9 +25,7 @@ use Rattle.cs_counterexample.specs.ShownText.{shown_text}
 use Rattle.cs_counterexample.specs.declared.shown.Shown.{Shown}
 use Rattle.cs_judge.specs.Form.{IsJudgedBy}
 use Rattle.cs_judge.specs.Judged.{Shows}
-use Rattle.cs_judge.specs.Story.{story_lines}
-use Rattle.cs_judge.specs.Waiters.{reason_lines}
-use Rattle.cs_judge.specs.declared.breach.Breach.{Breach}
+use Rattle.cs_judge.specs.Story.{comment}
 use Rattle.cs_judge.specs.declared.judged.Judged.{Judged}
 use Rattle.cs_judge.specs.declared.judged.Judged.TheVariants.{Safe, Unsafe, Unknown}
 use Rattle.cs_judge.specs.declared.answers.Outcome.{Outcome}
@@ -50,17 +49,27 @@ unfoldable pub story_places : Declared → List Place → Script → List ℕ
 story_places plan places script =
     places_told (codes "# ") places (filter_map job_of script.events) 0 plan.crontab.lines
 
--- `unsafe: ` and what is broken first, a line, the story of that, the places of the lines that the
--- script names, and then the script
-unfoldable pub unsafe_text : Declared → List Place → Script → Shown → Breach → List ℕ
-unsafe_text plan places script shown breach = shown_text plan shown
-    ++ 10 ∷ (story_lines plan script shown breach
+-- `unsafe: ` and what is broken first, a line, comments that tell the story of that, the places of
+-- the lines that the script names, and then the script
+unfoldable pub unsafe_text : Declared → List Place → Script → Shown → List (List ℕ) → List ℕ
+unsafe_text plan places script shown story = shown_text plan shown
+    ++ 10 ∷ (flat_map comment story
     ++ (story_places plan places script ++ script_text plan script))
 
--- `unknown: REASON`, a line, and what is told of that reason
-unfoldable pub unknown_text : Declared → Reason → List ℕ
-unknown_text plan reason =
-    codes "unknown: " ++ (reason_name reason ++ 10 ∷ reason_lines plan reason)
+-- so it is, with some story
+abbrev pub IsUnsafeText : Declared → List Place → Script → Shown → List ℕ → Type 0
+IsUnsafeText plan places script shown text =
+    (story : List (List ℕ)) × (text ≡ unsafe_text plan places script shown story)
+
+-- `unknown: REASON`, a line, and comments
+unfoldable pub unknown_text : Reason → List (List ℕ) → List ℕ
+unknown_text reason comments =
+    codes "unknown: " ++ (reason_name reason ++ 10 ∷ flat_map comment comments)
+
+-- so it is, with some comments
+abbrev pub IsUnknownText : Reason → List ℕ → Type 0
+IsUnknownText reason text =
+    (comments : List (List ℕ)) × (text ≡ unknown_text reason comments)
 
 -- the line of a refusal
 unfoldable pub refusal_text : Declared → Fault → List ℕ
@@ -82,13 +91,17 @@ outcome_of (Safe checked) = outcome.Safe
 outcome_of (Unsafe script shown breach) = outcome.Unsafe
 outcome_of (Unknown reason refusal) = unknown_outcome reason
 
+-- what is printed where nothing is known, behind which the line of a refusal may stand
+abbrev pub IsUnknown : Declared → Reason → Option CheckFault → List ℕ → Type 0
+IsUnknown plan reason None text = IsUnknownText reason text
+IsUnknown plan reason (Some fault) text = (comments : List (List ℕ))
+    × (text ≡ unknown_text reason comments ++ refusal_text plan (told fault))
+
 -- what `judge` prints
-abbrev pub verdict_text : Declared → List Place → Judged → List ℕ
-verdict_text plan places (Safe checked) = codes "safe\n"
-verdict_text plan places (Unsafe script shown breach) = unsafe_text plan places script shown breach
-verdict_text plan places (Unknown reason None) = unknown_text plan reason
-verdict_text plan places (Unknown reason (Some fault)) =
-    unknown_text plan reason ++ refusal_text plan (told fault)
+abbrev pub IsVerdict : Declared → List Place → Judged → List ℕ → Type 0
+IsVerdict plan places (Safe checked) text = text ≡ codes "safe\n"
+IsVerdict plan places (Unsafe script shown breach) text = IsUnsafeText plan places script shown text
+IsVerdict plan places (Unknown reason refusal) text = IsUnknown plan reason refusal text
 
 -- the text of a certificate, a line of a file that may be read again
 abbrev pub IsCertificate : Content → List ℕ → Type 0
@@ -97,22 +110,22 @@ IsCertificate c text = (written : List ℕ) × (written ≡ compact_text (certif
     × (text ≡ written ++ 10 ∷ [])
 
 -- what `make` prints for a plan accepted with this certificate: it, or that no file can hold it
-abbrev pub IsSafeMade : Declared → Content → Outcome → List ℕ → Type 0
-IsSafeMade plan c found text = ((found ≡ outcome.Safe) × IsCertificate c text)
-    ⊎ ((found ≡ outcome.Unknown) × (text ≡ unknown_text plan LeafTooLong))
+abbrev pub IsSafeMade : Content → Outcome → List ℕ → Type 0
+IsSafeMade c found text = ((found ≡ outcome.Safe) × IsCertificate c text)
+    ⊎ ((found ≡ outcome.Unknown) × IsUnknownText LeafTooLong text)
 
 -- what `make` prints
 abbrev pub IsMade : Declared → List Place → Judged → Outcome → List ℕ → Type 0
-IsMade plan places (Safe checked) found text = IsSafeMade plan (certificate_in checked) found text
+IsMade plan places (Safe checked) found text = IsSafeMade (certificate_in checked) found text
 IsMade plan places (Unsafe script shown breach) found text =
-    (found ≡ outcome.Unsafe) × (text ≡ unsafe_text plan places script shown breach)
+    (found ≡ outcome.Unsafe) × IsUnsafeText plan places script shown text
 IsMade plan places (Unknown reason refusal) found text =
-    (found ≡ unknown_outcome reason) × (text ≡ unknown_text plan reason)
+    (found ≡ unknown_outcome reason) × IsUnknownText reason text
 
 -- what is printed of a plan that was judged, by what is wanted of it
 abbrev pub IsAnswer : Wanted → Declared → List Place → Judged → Outcome → List ℕ → Type 0
 IsAnswer Verdict plan places judged found text =
-    (found ≡ outcome_of judged) × (text ≡ verdict_text plan places judged)
+    (found ≡ outcome_of judged) × IsVerdict plan places judged text
 IsAnswer Certificate plan places judged found text = IsMade plan places judged found text
 IsAnswer Compact plan places judged found text =
     IsJudgedBy Compact judged × IsMade plan places judged found text
@@ -122,6 +135,5 @@ IsAnswer Compact plan places judged found text =
 pub record IsStory (plan : Declared) (places : List Place) (text : List ℕ) : Type 0 where
   pub script : Script
   pub shown : Shown
-  pub breach : Breach
-  pub shows : Shows plan script shown breach
-  pub told : text ≡ unsafe_text plan places script shown breach
+  pub shows : Shows plan script shown
+  pub told : IsUnsafeText plan places script shown text

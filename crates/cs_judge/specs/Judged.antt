@@ -11,8 +11,6 @@ use Rattle.cs_report.specs.declared.check_fault.CheckFault.{CheckFault}
 use Rattle.cs_report.specs.ScriptText.{is_nameable}
 use Rattle.cs_counterexample.specs.Shown.{IsShown, IsTellable}
 use Rattle.cs_counterexample.specs.declared.shown.Shown.{Shown}
-use Rattle.cs_judge.specs.Breach.{IsBreach}
-use Rattle.cs_judge.specs.declared.breach.Breach.{Breach}
 use Rattle.cs_judge.specs.declared.judged.Judged.{Judged}
 use Rattle.cs_judge.specs.declared.judged.Judged.TheVariants.{Safe, Unsafe, Unknown}
 
@@ -22,10 +20,10 @@ IfSafe (Safe checked) P = P checked
 IfSafe (Unsafe script shown breach) P = ⊤
 IfSafe (Unknown reason refusal) P = ⊤
 
--- and of the script, of what it breaks first and of what runs then, where it is unsafe
-abbrev pub IfUnsafe : Judged → (Script → Shown → Breach → Type 0) → Type 0
+-- and of the script and of what it breaks first, where it is unsafe
+abbrev pub IfUnsafe : Judged → (Script → Shown → Type 0) → Type 0
 IfUnsafe (Safe checked) P = ⊤
-IfUnsafe (Unsafe script shown breach) P = P script shown breach
+IfUnsafe (Unsafe script shown breach) P = P script shown
 IfUnsafe (Unknown reason refusal) P = ⊤
 
 -- and of the refusal, where there is one after what is unknown
@@ -46,14 +44,11 @@ IsCalmBy plan checked =
     IsCalmThroughout (as_plan plan) (reach_for plan (certificate_in checked))
 
 -- the script can be written, and shows the plan unsafe: each of its events may come when it comes,
--- each run ends within its declared time, and this, which has a text, is broken first, while this
--- runs
-pub record Shows (plan : Declared) (script : Script) (shown : Shown) (breach : Breach) : Type 0
-  where
-    pub nameable : is_nameable plan script ≡ true
-    pub breaks : IsShown (as_plan plan) script shown
-    pub tellable : IsTellable (as_plan plan) shown
-    pub running : IsBreach (as_plan plan) script shown breach
+-- each run ends within its declared time, and this, which has a text, is broken first
+pub record Shows (plan : Declared) (script : Script) (shown : Shown) : Type 0 where
+  pub nameable : is_nameable plan script ≡ true
+  pub breaks : IsShown (as_plan plan) script shown
+  pub tellable : IsTellable (as_plan plan) shown
 
 -- a compact certificate is one of version 3
 abbrev pub IsCompact : Content → Type 0

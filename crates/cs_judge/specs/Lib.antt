@@ -1,6 +1,4 @@
-pub mod Breach
 pub mod Story
-pub mod Waiters
 pub mod Form
 pub mod Judged
 pub mod Called

@@ -1,21 +1,22 @@
 //! The texts printed for a judged plan.
-ghost use Rattle.std.specs.Prelude.{◌≡◌, ◌++◌, IfOk, IfSome, OnOk};
+ghost use Rattle.std.specs.Prelude.{◌≡◌, ◌++◌, ℕ, List, IfOk, IfSome, OnOk};
 ghost use Rattle.std.specs.List.{filter_map};
 ghost use Rattle.cs_claims.specs.Certificate.{content};
 ghost use Rattle.cs_check.specs.Checked.{certificate_in};
 ghost use Rattle.cs_judge.specs.Answer.{IsAnswer, IsCertificate, IsMade, IsSafeMade};
 ghost use Rattle.cs_judge.specs.Answer.{job_of, outcome_of, refusal_text, story_places, unknown_outcome};
-ghost use Rattle.cs_judge.specs.Answer.{unknown_text, unsafe_text, verdict_text};
+ghost use Rattle.cs_judge.specs.Answer.{IsUnknownText, IsUnsafeText, IsVerdict, unknown_text};
 ghost use Rattle.cs_judge.specs.Form.{IsJudgedBy};
 ghost use Rattle.cs_judge.specs.Judged.{IfUnsafe, Shows};
 ghost use Rattle.cs_report.specs.Told.{told};
 
 use crate::breach::Breach;
 use crate::judged::Judged;
-use crate::story::push_story;
-use crate::waiters::push_reason_lines;
+use crate::story::{push_comments, story};
+use crate::waiters::no_reach;
 use cs_cert::write_certificate;
 use cs_check::Checked;
+use cs_civil::Bytes;
 use cs_claims::{Certificate, MAX_CERTIFICATE, least_text};
 use cs_counterexample::{Shown, shown_text};
 use cs_decl::Plan;
@@ -58,15 +59,24 @@ fn unknown_outcome(reason: Reason) -> Outcome
     }
 }
 
-/// `unknown: REASON`, a line, and what is told of that reason.
+/// The words of the comments on a reason.
+fn comments_on(alloc: Global, plan: &Plan, reason: Reason) -> Result<Vec<Bytes>, AllocError> {
+    match reason {
+        Reason::NoReach => no_reach(alloc, plan),
+        _ => Ok(Vec::new(alloc)),
+    }
+}
+
+/// `unknown: REASON`, a line, and comments on that reason.
 #[tactic(auto, unfolding(crate::specs::Answer::unknown_text))]
 fn unknown_text(alloc: Global, plan: &Plan, reason: Reason) -> Result<Vec<u8>, AllocError>
-    ensures { IfOk result (λ text. text.items ≡ unknown_text plan.now reason) }
+    ensures { IfOk result (λ text. IsUnknownText reason text.items) }
 {
+    let comments = comments_on(alloc, plan, reason)?;
     let mut text = Vec::from_slice(alloc, b"unknown: ".as_slice())?;
     text.extend_from_slice(reason.name().as_bytes())?;
     text.extend_from_slice(b"\n")?;
-    push_reason_lines(alloc, &mut text, plan, reason)?;
+    push_comments(&mut text, comments.as_slice())?;
     Ok(text)
 }
 
@@ -127,13 +137,14 @@ fn unsafe_text(
     shown: &Shown,
     breach: &Breach,
 ) -> Result<Vec<u8>, AllocError>
-    requires { Shows plan.now script.now shown.now breach.now }
+    requires { Shows plan.now script.now shown.now }
     ensures { IfOk result
-        (λ text. text.items ≡ unsafe_text plan.now places.now script.now shown.now breach.now) }
+        (λ text. IsUnsafeText plan.now places.now script.now shown.now text.items) }
 {
+    let story = story(alloc, plan, script, *shown, breach)?;
     let mut text = Vec::from_slice(alloc, shown_text(alloc, plan, shown)?.as_slice())?;
     text.extend_from_slice(b"\n")?;
-    push_story(alloc, &mut text, plan, script, *shown, breach)?;
+    push_comments(&mut text, story.as_slice())?;
     push_story_places(alloc, &mut text, plan, places, script)?;
     text.extend_from_slice(script_text(alloc, plan, script)?.as_slice())?;
     Ok(text)
@@ -157,8 +168,8 @@ fn refused_text(
     reason: Reason,
     refusal: &CheckFault,
 ) -> Result<Vec<u8>, AllocError>
-    ensures { IfOk result (λ text.
-        text.items ≡ unknown_text plan.now reason ++ refusal_text plan.now (told refusal.now)) }
+    ensures { IfOk result (λ text. (comments : List (List ℕ)) × (text.items
+        ≡ unknown_text reason comments ++ refusal_text plan.now (told refusal.now))) }
 {
     let mut text = unknown_text(alloc, plan, reason)?;
     text.extend_from_slice(fault_text(alloc, plan, refusal)?.as_slice())?;
@@ -174,7 +185,7 @@ fn verdict_text(
     judged: &Judged,
 ) -> Result<Vec<u8>, AllocError>
     requires { IfUnsafe judged.now (Shows plan.now) }
-    ensures { IfOk result (λ text. text.items ≡ verdict_text plan.now places.now judged.now) }
+    ensures { IfOk result (λ text. IsVerdict plan.now places.now judged.now text.items) }
 {
     match judged {
         Judged::Safe(_) => Vec::from_slice(alloc, b"safe\n".as_slice()),
@@ -209,7 +220,7 @@ fn safe_made(
     checked: &Checked,
 ) -> Result<(Outcome, Vec<u8>), AllocError>
     ensures { IfOk result (λ told.
-        IsSafeMade plan.now (certificate_in checked.now) told.0 told.1.items) }
+        IsSafeMade (certificate_in checked.now) told.0 told.1.items) }
 {
     match certificate_line(alloc, checked.certificate())? {
         Some(text) => Ok((Outcome::Safe, text)),

@@ -71,7 +71,7 @@ fn accept<R: Threads + Sync>(
 /// What a script breaks first and what runs then, if it shows the plan unsafe.
 fn proved_breach(alloc: Global, plan: &Plan, script: &Script) -> Result<(Shown, Breach), NotShown>
     requires { is_nameable plan.now script.now ≡ true }
-    ensures { IfOk result (λ found. Shows plan.now script.now found.0 found.1) }
+    ensures { IfOk result (λ found. Shows plan.now script.now found.0) }
 {
     let shown = prove_unsafe(alloc, plan, script)?;
     let breach = first_breach(alloc, plan, script)?;
@@ -81,7 +81,7 @@ fn proved_breach(alloc: Global, plan: &Plan, script: &Script) -> Result<(Shown, 
 /// The same, if the script can be written too.
 fn show(alloc: Global, plan: &Plan, script: &Script) -> Result<Option<(Shown, Breach)>, AllocError>
     ensures { IfOk result
-        (λ found. IfSome found (λ it. Shows plan.now script.now it.0 it.1)) }
+        (λ found. IfSome found (λ it. Shows plan.now script.now it.0)) }
 {
     if !is_nameable(plan, script) {
         return Ok(None);
@@ -100,7 +100,7 @@ fn refute(
     plan: &Plan,
     maker: &Maker<'_>,
 ) -> Result<Result<(Script, Shown, Breach), Reason>, AllocError>
-    ensures { IfOk result (λ found. IfOk found (λ it. Shows plan.now it.0 it.1 it.2)) }
+    ensures { IfOk result (λ found. IfOk found (λ it. Shows plan.now it.0 it.1)) }
 {
     let script = match maker.counterexample(alloc)? {
         Ok(script) => script,

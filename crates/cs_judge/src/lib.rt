@@ -18,4 +18,4 @@ pub use judged::Judged;
 pub use judging::judge;
 pub use laws::outcomes_hold;
 pub use story::push_broken;
-pub use waiters::push_taker_notes;
+pub use waiters::taker_notes;

@@ -1,5 +1,5 @@
 -- What is answered to `gather`.
-use Rattle.std.proofs.Common.{◌≡◌, ◌<◌, ◌≤◌, ◌∙◌, ℕ, Bool, Bor, true, List, [], ◌∷◌, ◌++◌, Option, Some, None, IfSome, IfErr, IfOk, Ok, Err, Result, ap, arith, inl, inr, is_some, length, map, option_map, refl, string_bytes, subst, sym, append_assoc}
+use Rattle.std.proofs.Common.{◌≡◌, ◌⊎◌, ◌<◌, ◌≤◌, ◌∙◌, ℕ, true, true≢false, List, [], ◌∷◌, ◌++◌, Option, Some, None, IfSome, IfErr, IfOk, Ok, Err, Result, ap, arith, inl, inr, length, map, option_map, refl, string_bytes, subst, sym, append_assoc}
 use Rattle.std.specs.List.{AllZip}
 use Rattle.std.specs.Result.{IsErrAnd}
 use Rattle.std.proofs.lemmas.List.{map-append}
@@ -20,13 +20,13 @@ use Rattle.cs_io.specs.declared.reason.Reason.{Reason}
 use Rattle.cs_args.specs.CommandLine.{AskedGather}
 use Rattle.cs_files.specs.Reads.{IsRead, IsUnreadAt}
 use Rattle.cs_files.specs.Response.{Ending}
-use Rattle.cs_files.specs.Trouble.{IsHonest, IsUnread, TellsPath, Trouble, Unread, ends, gathered_trouble, trouble, trouble_status}
+use Rattle.cs_files.specs.Trouble.{InGathered, IsHonest, IsUnread, TellsPath, Trouble, Unread, ends, gathered_trouble, trouble, trouble_status}
 use Rattle.cs_files.specs.Turn.{AreReadToGather, gather_paths}
 use Rattle.cs_files.specs.declared.fault.Fault.{Fault}
 use Rattle.cs_files.proofs.TroubleLemmas.{some_is}
 use Rattle.cs_files.proofs.TurnLemmas.{some_read, then_read}
 use Rattle.cs_views.specs.GatherTables.{AreFound, AreNamed, Given, IsUserFile, system_table}
-use Rattle.cs_views.specs.GatherAnswer.{Adds, AddsAs, AreParts, EndsFor, FaultsAs, GathersAll, HaveWorked, ShowsGathered, Stops}
+use Rattle.cs_views.specs.GatherAnswer.{Adds, AddsAs, AreParts, EndsFor, FaultsAs, GathersAll, HaveWorked, NoneFailed, SayCommands, ShowsGathered, Stops}
 use Rattle.cs_views.specs.Listing.{IsUnlisted, unlisted_trouble}
 use Rattle.cs_views.specs.declared.gather_below.Unlisted.{Unlisted}
 use Rattle.cs_views.specs.declared.gather_below.Unlisted.TheVariants.{CannotRead, OutOfMemory as NoMemory}
@@ -37,19 +37,20 @@ pub is_short : (user : Option Text) (path : Text) (bytes : List ℕ) (parts : Li
 is_short None path bytes parts old more (table, is, same) = is.short
 is_short (Some user) path bytes parts old more (table, is, same) = is.short
 
--- what the bytes add the file adds
-pub adds_read : (looks : Bool) (files left : List ℕ → Option (List ℕ)) (given : Given) (bytes : List ℕ) (parts : List Parts) (old more : List GatheredCommand)
-    → IsFresh files left → IsRead MAX_TABLE given.path left bytes → AreParts looks parts → AddsAs given.user given.path bytes parts old more → Adds looks files given old more
-adds_read looks files left given bytes parts old more fresh read are adds = by_file (files given.path) (left given.path) (fresh given.path) read
-  where
-    same : (text : List ℕ) → IsUpTo MAX_TABLE text bytes → (ps : List Parts) × AreParts looks ps × AddsAs given.user given.path text ps old more
-    same text (inl e) = (parts, are, subst (λ (b : List ℕ). AddsAs given.user given.path b parts old more) e adds)
-    same text (inr (long, other)) = absurd (let short = is_short given.user given.path bytes parts old more adds in omega (arith, short, long))
+-- what holds of each text that the bytes may be holds of the file
+by_file : (P : List ℕ → Type 0) (whole rest : Option (List ℕ)) (bytes : List ℕ) → ((text : List ℕ) → IsUpTo MAX_TABLE text bytes → P text)
+    → IfSome whole (λ text. rest ≡ Some text) → IfSome rest (λ text. IsUpTo MAX_TABLE text bytes) → IfSome whole P
+by_file P None rest bytes so is up = tt
+by_file P (Some text) rest bytes so is up = so text (subst (λ (o : Option (List ℕ)). IfSome o (λ t. IsUpTo MAX_TABLE t bytes)) is up)
 
-    by_file : (whole rest : Option (List ℕ)) → IfSome whole (λ text. rest ≡ Some text) → IfSome rest (λ text. IsUpTo MAX_TABLE text bytes)
-        → IfSome whole (λ text. (ps : List Parts) × AreParts looks ps × AddsAs given.user given.path text ps old more)
-    by_file None rest is up = tt
-    by_file (Some text) rest is up = same text (subst (λ (o : Option (List ℕ)). IfSome o (λ t. IsUpTo MAX_TABLE t bytes)) is up)
+-- what the bytes add the file adds
+pub adds_read : (tree : Tree) (front : Option Text) (failed : Failed) (files left : List ℕ → Option (List ℕ)) (given : Given) (bytes : List ℕ) (parts : List Parts) (old more : List GatheredCommand)
+    → IsFresh files left → IsRead MAX_TABLE given.path left bytes → AreParts tree front failed given.user bytes parts → AddsAs given.user given.path bytes parts old more → Adds tree front failed files given old more
+adds_read tree front failed files left given bytes parts old more fresh read are adds = by_file (λ text. (ps : List Parts) × AreParts tree front failed given.user text ps × AddsAs given.user given.path text ps old more) (files given.path) (left given.path) bytes same (fresh given.path) read
+  where
+    same : (text : List ℕ) → IsUpTo MAX_TABLE text bytes → (ps : List Parts) × AreParts tree front failed given.user text ps × AddsAs given.user given.path text ps old more
+    same text (inl e) = (parts, subst (λ (b : List ℕ). AreParts tree front failed given.user b parts) e are, subst (λ (b : List ℕ). AddsAs given.user given.path b parts old more) e adds)
+    same text (inr (long, other)) = absurd (let short = is_short given.user given.path bytes parts old more adds in omega (arith, short, long))
 
 -- a fault of bytes is that of a text that is too long too
 same_fault : {Y F : Type 0} (kind : Kind Y F) (bytes text : List ℕ) (fault : TableFault F) → MAX_TABLE < length bytes → MAX_TABLE < length text → tables.IsFaultOf kind bytes fault → tables.IsFaultOf kind text fault
@@ -63,34 +64,38 @@ long_faults None path bytes text parts old fault long other (inr (table, is, ove
 long_faults (Some user) path bytes text parts old fault long other (inl (inner, is, same)) = inl (inner, same_fault crontab bytes text inner long other is, same)
 long_faults (Some user) path bytes text parts old fault long other (inr (table, is, over)) = absurd (let short = is.short in omega (arith, short, long))
 
--- which fault the bytes have the file has
-faults_read : (looks : Bool) (files left : List ℕ → Option (List ℕ)) (given : Given) (bytes : List ℕ) (parts : List Parts) (old : List GatheredCommand) (fault : TableFault SystemFault)
-    → IsFresh files left → IsRead MAX_TABLE given.path left bytes → AreParts looks parts → FaultsAs given.user given.path bytes parts old fault
-    → IfSome (files given.path) (λ text. (ps : List Parts) × AreParts looks ps × FaultsAs given.user given.path text ps old fault)
-faults_read looks files left given bytes parts old fault fresh read are faults = by_file (files given.path) (left given.path) (fresh given.path) read
-  where
-    same : (text : List ℕ) → IsUpTo MAX_TABLE text bytes → (ps : List Parts) × AreParts looks ps × FaultsAs given.user given.path text ps old fault
-    same text (inl e) = (parts, are, subst (λ (b : List ℕ). FaultsAs given.user given.path b parts old fault) e faults)
-    same text (inr (long, other)) = (parts, are, long_faults given.user given.path bytes text parts old fault long other faults)
+-- a text that is too long says no commands
+no_commands : (user : Option Text) (text : List ℕ) (commands : List (ℕ × Text)) → MAX_TABLE < length text → SayCommands user text commands → ⊥
+no_commands None text commands long (table, is, same) = let short = is.short in omega (arith, short, long)
+no_commands (Some user) text commands long (table, is, same) = let short = is.short in omega (arith, short, long)
 
-    by_file : (whole rest : Option (List ℕ)) → IfSome whole (λ text. rest ≡ Some text) → IfSome rest (λ text. IsUpTo MAX_TABLE text bytes)
-        → IfSome whole (λ text. (ps : List Parts) × AreParts looks ps × FaultsAs given.user given.path text ps old fault)
-    by_file None rest is up = tt
-    by_file (Some text) rest is up = same text (subst (λ (o : Option (List ℕ)). IfSome o (λ t. IsUpTo MAX_TABLE t bytes)) is up)
+long_parts : (tree : Tree) (front : Option Text) (failed : Failed) (user : Option Text) (bytes text : List ℕ) (parts : List Parts) → MAX_TABLE < length text → AreParts tree front failed user bytes parts → AreParts tree front failed user text parts
+long_parts tree None failed user bytes text parts long are = are
+long_parts tree (Some front) failed user bytes text parts long (names, all) = (names, λ none commands say. absurd (no_commands user text commands long say))
+
+-- which fault the bytes have the file has
+faults_read : (tree : Tree) (front : Option Text) (failed : Failed) (files left : List ℕ → Option (List ℕ)) (given : Given) (bytes : List ℕ) (parts : List Parts) (old : List GatheredCommand) (fault : TableFault SystemFault)
+    → IsFresh files left → IsRead MAX_TABLE given.path left bytes → AreParts tree front failed given.user bytes parts → FaultsAs given.user given.path bytes parts old fault
+    → IfSome (files given.path) (λ text. (ps : List Parts) × AreParts tree front failed given.user text ps × FaultsAs given.user given.path text ps old fault)
+faults_read tree front failed files left given bytes parts old fault fresh read are faults = by_file (λ text. (ps : List Parts) × AreParts tree front failed given.user text ps × FaultsAs given.user given.path text ps old fault) (files given.path) (left given.path) bytes same (fresh given.path) read
+  where
+    same : (text : List ℕ) → IsUpTo MAX_TABLE text bytes → (ps : List Parts) × AreParts tree front failed given.user text ps × FaultsAs given.user given.path text ps old fault
+    same text (inl e) = (parts, subst (λ (b : List ℕ). AreParts tree front failed given.user b parts) e are, subst (λ (b : List ℕ). FaultsAs given.user given.path b parts old fault) e faults)
+    same text (inr (long, other)) = (parts, long_parts tree front failed given.user bytes text parts other are, long_faults given.user given.path bytes text parts old fault long other faults)
 
 -- a table with a fault stops the call
-pub stops_read : (looks : Bool) (files left : List ℕ → Option (List ℕ)) (before after : Failed) (given : Given) (bytes : List ℕ) (parts : List Parts) (old : List GatheredCommand) (fault : TableFault SystemFault)
-    → IsFresh files left → HaveWorked looks before after → IsRead MAX_TABLE given.path left bytes → AreParts looks parts → FaultsAs given.user given.path bytes parts old fault
-    → IfSome (gathered_trouble given.path fault) (Stops looks files before after given old)
-stops_read looks files left before after given bytes parts old OutOfMemory fresh works read are faults = tt
-stops_read looks files left before after given bytes parts old (At line column size fault) fresh works read are faults =
-    inr (works, (record { line = line; column = column; size = size; fault = fault }, refl, faults_read looks files left given bytes parts old (At line column size fault) fresh read are faults))
+pub stops_read : (tree : Tree) (front : Option Text) (files left : List ℕ → Option (List ℕ)) (before after : Failed) (given : Given) (bytes : List ℕ) (parts : List Parts) (old : List GatheredCommand) (fault : TableFault SystemFault)
+    → IsFresh files left → HaveWorked front before after → IsRead MAX_TABLE given.path left bytes → AreParts tree front after given.user bytes parts → FaultsAs given.user given.path bytes parts old fault
+    → IfSome (gathered_trouble given.path fault) (Stops tree front files before after given old)
+stops_read tree front files left before after given bytes parts old OutOfMemory fresh works read are faults = tt
+stops_read tree front files left before after given bytes parts old (At line column size fault) fresh works read are faults =
+    inr (works, (record { line = line; column = column; size = size; fault = fault }, refl, faults_read tree front after files left given bytes parts old (At line column size fault) fresh read are faults))
 
 -- and so does one that can't be read
-pub stops_unread : (looks : Bool) (files : List ℕ → Option (List ℕ)) (before after : Failed) (given : Given) (old : List GatheredCommand) (e : Fault) → IsUnreadAt given.path after e → IfSome (trouble e) (Stops looks files before after given old)
-stops_unread looks files before after given old e = by_trouble (trouble e)
+pub stops_unread : (tree : Tree) (front : Option Text) (files : List ℕ → Option (List ℕ)) (before after : Failed) (given : Given) (old : List GatheredCommand) (e : Fault) → IsUnreadAt given.path after e → IfSome (trouble e) (Stops tree front files before after given old)
+stops_unread tree front files before after given old e = by_trouble (trouble e)
   where
-    by_trouble : (o : Option Trouble) → IfSome o (λ t. (after given.path ≡ true) × TellsPath given.path t) → IfSome o (Stops looks files before after given old)
+    by_trouble : (o : Option Trouble) → IfSome o (λ t. (after given.path ≡ true) × TellsPath given.path t) → IfSome o (Stops tree front files before after given old)
     by_trouble None h = h
     by_trouble (Some t) h = inl h
 
@@ -101,9 +106,9 @@ honest_gathered failed reads path (At line column size fault) = λ six. absurd (
 
 -- ---- of tables in turn
 
-pub some_so : (P Q : Trouble → Type 0) (o : Option Trouble) → ((t : Trouble) → P t → Q t) → IfSome o P → IfSome o Q
+pub some_so : {X : Type 0} (P Q : X → Type 0) (o : Option X) → ((x : X) → P x → Q x) → IfSome o P → IfSome o Q
 some_so P Q None so h = h
-some_so P Q (Some t) so h = so t h
+some_so P Q (Some x) so h = so x h
 
 -- ---- what is answered
 
@@ -116,11 +121,37 @@ pub honest_shown : (failed : Failed) (reads : Reads) (commands : List GatheredCo
 honest_shown failed reads commands r (inl (done, gathers)) = λ six. absurd (let e = sym done ∙ six in cc)
 honest_shown failed reads commands r (inr (notes, is)) = λ six. absurd (let e = sym (ap (λ (x : Ending). x.status) is) ∙ six in cc)
 
+-- where none has failed in the end, none had before
+pub not_failed : (failed : Failed) (path : Text) → failed path ≡ true → NoneFailed failed → ⊥
+not_failed failed path is none = true≢false (sym is ∙ none path)
+
+pub none_before : (front : Option Text) (before after : Failed) → HaveWorked front before after → NoneFailed after → NoneFailed before
+none_before front before after works none = subst NoneFailed (works (inr none)) none
+
+pub then_worked : (front : Option Text) (before mid after : Failed) → HaveWorked front before mid → HaveWorked front mid after → HaveWorked front before after
+then_worked front before mid after first next (inl bare) = next (inl bare) ∙ first (inl bare)
+then_worked front before mid after first next (inr none) = next (inr none) ∙ first (inr (none_before front mid after next none))
+
+pub none_stopped : (tree : Tree) (front : Option Text) (files : List ℕ → Option (List ℕ)) (before after : Failed) (given : Given) (old : List GatheredCommand) (t : Trouble) → Stops tree front files before after given old t → NoneFailed after → NoneFailed before
+none_stopped tree front files before after given old t (inl (failed, tells)) none = absurd (not_failed after given.path failed none)
+none_stopped tree front files before after given old t (inr (works, fault)) none = none_before front before after works none
+
+-- what a table adds, as it is said once all is read
+pub adds_until : (tree : Tree) (front : Option Text) (mid after : Failed) (files : List ℕ → Option (List ℕ)) (given : Given) (old more : List GatheredCommand) → (NoneFailed after → NoneFailed mid) → Adds tree front mid files given old more → Adds tree front after files given old more
+adds_until tree front mid after files given old more none = some_so (said mid) (said after) (files given.path) (λ text. λ (parts, h, adds). (parts, are given.user text parts front h, adds))
+  where
+    said : Failed → List ℕ → Type 0
+    said failed text = (parts : List Parts) × AreParts tree front failed given.user text parts × AddsAs given.user given.path text parts old more
+
+    are : (user : Option Text) (text : List ℕ) (parts : List Parts) (asked : Option Text) → AreParts tree asked mid user text parts → AreParts tree asked after user text parts
+    are user text parts None h = h
+    are user text parts (Some f) (names, all) = (names, λ worked. all (none worked))
+
 -- the same where no read of a table has failed yet
-pub stops_same : (looks : Bool) (files whole : List ℕ → Option (List ℕ)) (before mid after : Failed) (given : Given) (old : List GatheredCommand) (t : Trouble) → whole ≡ files → HaveWorked looks before mid → Stops looks whole mid after given old t → Stops looks files before after given old t
-stops_same looks files whole before mid after given old t same worked (inl unread) = inl unread
-stops_same looks files whole before mid after given old t same worked (inr (works, (fault, is, faults))) =
-    inr (λ no. works no ∙ worked no, (fault, is, subst (λ (w : List ℕ → Option (List ℕ)). IfSome (w given.path) (λ text. (parts : List Parts) × AreParts looks parts × FaultsAs given.user given.path text parts old (as_error fault))) same faults))
+pub stops_same : (tree : Tree) (front : Option Text) (files whole : List ℕ → Option (List ℕ)) (before mid after : Failed) (given : Given) (old : List GatheredCommand) (t : Trouble) → whole ≡ files → HaveWorked front before mid → Stops tree front whole mid after given old t → Stops tree front files before after given old t
+stops_same tree front files whole before mid after given old t same worked (inl unread) = inl unread
+stops_same tree front files whole before mid after given old t same worked (inr (works, fault)) =
+    inr (then_worked front before mid after worked works, subst (λ (w : List ℕ → Option (List ℕ)). (f : Found SystemFault) × (t ≡ InGathered given.path f) × IfSome (w given.path) (λ text. (parts : List Parts) × AreParts tree front after given.user text parts × FaultsAs given.user given.path text parts old (as_error f))) same fault)
 
 pub err_so : {T E : Type 0} (P Q : E → Type 0) (r : Result T E) → ((e : E) → P e → Q e) → IsErrAnd r P → IfErr r Q
 err_so P Q (Ok x) so h = absurd h
@@ -182,14 +213,8 @@ all_read a tree paths found named tables old mid new none root are_found are_nam
 pub root_read : (a : AskedGather) (paths : List Text) (old new : Reads) → (a.root ≡ None → paths ≡ []) → AreReadInTurn paths old new → AreReadToGather a old new
 root_read a paths old new none turn = (paths, none, some_read paths (gather_paths a) old new turn)
 
--- a root folder is asked, or none is
-pub some_same : (o : Option (Bor (List ℕ))) → is_some o ≡ is_some (option_map (λ (b : Bor (List ℕ)). b.now) o)
-some_same None = refl
-some_same (Some b) = refl
-
 -- tables that are gathered
-pub gathers_same : (asked looks : Bool) (files whole : List ℕ → Option (List ℕ)) (before mid after : Failed) (tables all : List Given) (r : Ending)
-    → asked ≡ looks → whole ≡ files → mid ≡ before → tables ≡ all → GathersAll asked whole mid after tables r → GathersAll looks files before after all r
-gathers_same asked looks files whole before mid after tables all r so same works is gathers =
-    subst (λ (l : Bool). GathersAll l files before after all r) so
-    (subst (λ (w : List ℕ → Option (List ℕ)). GathersAll asked w before after all r) same (subst (λ (f : Failed). GathersAll asked whole f after all r) works (subst (λ (ts : List Given). GathersAll asked whole mid after ts r) is gathers)))
+pub gathers_same : (tree : Tree) (front : Option Text) (files whole : List ℕ → Option (List ℕ)) (before mid after : Failed) (tables all : List Given) (r : Ending)
+    → whole ≡ files → mid ≡ before → tables ≡ all → GathersAll tree front whole mid after tables r → GathersAll tree front files before after all r
+gathers_same tree front files whole before mid after tables all r same works is gathers =
+    subst (λ (w : List ℕ → Option (List ℕ)). GathersAll tree front w before after all r) same (subst (λ (f : Failed). GathersAll tree front whole f after all r) works (subst (λ (ts : List Given). GathersAll tree front whole mid after ts r) is gathers))

@@ -5,5 +5,6 @@ pub mod DraftLemmas
 pub mod LintLemmas
 pub mod PathLemmas
 pub mod ListingLemmas
+pub mod PartsLemmas
 pub mod GatherLemmas
 pub mod LearnLemmas

@@ -6,7 +6,7 @@ use Rattle.cs_io.specs.Folders.{Tree}
 use Rattle.cs_io.specs.declared.folders.FileKind.{FileKind}
 use Rattle.cs_files.proofs.TroubleLemmas.{some_is}
 use Rattle.cs_views.specs.GatherTables.{Given, IsBelow, IsFile, IsFileAt, IsIn, IsReadByCron, system_table, user_table}
-use Rattle.cs_views.specs.Listing.{AreAmong, FindsAllOn, HasName, given_in, place_of}
+use Rattle.cs_views.specs.Listing.{FindsAllOn, HasName, given_in, place_of}
 use Rattle.cs_views.specs.declared.gather_below.Shelf.{Shelf}
 use Rattle.cs_views.specs.declared.gather_below.Shelf.TheVariants.{CronD, Crontabs}
 
@@ -65,8 +65,3 @@ all_found tree front found crontab system users given (file, inr (inl (name, sig
     subst (Contains found) (sym is) (system name at signs (subst (λ (g : Given). IsFileAt tree g.path) is file))
 all_found tree front found crontab system users given (file, inr (inr (name, signs, at, is))) =
     subst (Contains found) (sym is) (users name at signs (subst (λ (g : Given). IsFileAt tree g.path) is file))
-
--- the same of what is known by another name, and among more
-pub found_among : (tree before : Tree) (front : Text) (shelf : Shelf) (found more : List Given) → tree ≡ before → AreAmong found more → FindsAllOn tree front shelf found → FindsAllOn before front shelf more
-found_among tree before front shelf found more same among finds = λ name at signs file.
-    among _ (subst (λ (t : Tree). FindsAllOn t front shelf found) same finds name at signs file)

@@ -1,5 +1,6 @@
 -- What is found below a root folder, folder by folder.
-use Rattle.std.specs.Prelude.{◌≡◌, ◌++◌, true, Contains, List, Option, Some, None, codes}
+use Rattle.std.specs.Prelude.{◌≡◌, ◌++◌, ℕ, true, Contains, List, Option, Some, None, codes, option_map}
+use Rattle.std.specs.Borrow.{Bor}
 use Rattle.std.specs.Prelude.{string_bytes}
 use Rattle.clap.specs.Words.{Text}
 use Rattle.cs_io.specs.Files.{AreReadInTurn, Failed, Reads}
@@ -37,6 +38,14 @@ abbrev pub FindsAllOn : Tree → Text → Shelf → List Given → Type 0
 FindsAllOn tree front shelf found = (name : Text) → IsIn tree (front ++ place_of shelf) name
     → FindsNamed tree (front ++ place_of shelf) shelf found name
 
+-- a command with the number of its line, as the code has it
+abbrev pub numbered : ℕ × Bor Text → ℕ × Text
+numbered c = (c.0, c.1.now)
+
+-- a text that is asked, as the code has it
+abbrev pub asked : Option (Bor Text) → Option Text
+asked text = option_map (λ t. t.now) text
+
 -- all of these are among those
 abbrev pub AreAmong : List Given → List Given → Type 0
 AreAmong some all = (given : Given) → Contains some given → Contains all given
@@ -45,6 +54,11 @@ AreAmong some all = (given : Given) → Contains some given → Contains all giv
 abbrev pub IsUnlisted : Failed → Reads → Unlisted → Type 0
 IsUnlisted failed reads (CannotRead path reason) = IsUnread (string_bytes path) failed reads
 IsUnlisted failed reads OutOfMemory = Unit {0}
+
+-- a read of that path has failed
+abbrev pub HasFailed : Failed → Unlisted → Type 0
+HasFailed failed (CannotRead path reason) = failed (string_bytes path) ≡ true
+HasFailed failed OutOfMemory = Unit {0}
 
 -- why a call ends at a table, unless it is want of memory
 abbrev pub unlisted_trouble : Unlisted → Option Trouble

@@ -1,11 +1,12 @@
 //! The subcommand `gather`.
-ghost use Rattle.std.specs.Prelude.{◌≡◌, IfErr, IfOk, IfSome, None, OnOk, false, is_some, map, option_map, true};
+ghost use Rattle.std.specs.Prelude.{◌≡◌, IfErr, IfOk, IfSome, None, OnOk, false, map, true};
 ghost use Rattle.cs_args.specs.Asked.{asked_gather};
 ghost use Rattle.cs_io.specs.Files.{AreReadInTurn, IsFresh, IsReadAlone};
 ghost use Rattle.cs_files.specs.Trouble.{IsHonest, IsHonestOf, trouble};
 ghost use Rattle.cs_files.specs.Turn.{AreReadToGather};
 ghost use Rattle.cs_views.specs.GatherAnswer.{Adds, AllAdded, AnswersGather, FirstStops};
 ghost use Rattle.cs_views.specs.GatherAnswer.{GathersAll, HaveWorked, IsBare, ShowsGathered, Stops};
+ghost use Rattle.cs_views.specs.Listing.{asked};
 
 use crate::gather_given::{Given, push_named};
 use crate::gather_note::push_warnings;
@@ -30,13 +31,14 @@ fn add_table<'a, I: Folders>(
     notes: &mut Vec<u8>,
 ) -> Result<(), Fault<'a>>
     ensures adds { IsFresh (I.whole inputs.old) (I.left inputs.old) → OnOk result
-        (Adds (is_some front.entry) (I.whole inputs.old) given.now gathering.old gathering.new) }
+        (Adds I.tree (asked front.entry) (I.failed inputs.new) (I.whole inputs.old)
+        given.now gathering.old gathering.new) }
     ensures stops { IsFresh (I.whole inputs.old) (I.left inputs.old)
-        → IfErr result (λ e. IfSome (trouble e) (Stops (is_some front.entry)
+        → IfErr result (λ e. IfSome (trouble e) (Stops I.tree (asked front.entry)
         (I.whole inputs.old) (I.failed inputs.old) (I.failed inputs.new)
         given.now gathering.old)) }
     ensures works { OnOk result
-        (HaveWorked (is_some front.entry) (I.failed inputs.old) (I.failed inputs.new)) }
+        (HaveWorked (asked front.entry) (I.failed inputs.old) (I.failed inputs.new)) }
     ensures whole { I.whole inputs.new ≡ I.whole inputs.old }
     ensures fresh { OnOk result (IsFresh (I.whole inputs.old) (I.left inputs.old)
         → IsFresh (I.whole inputs.new) (I.left inputs.new)) }
@@ -62,13 +64,14 @@ fn add_tables<'a, I: Folders>(
     notes: &mut Vec<u8>,
 ) -> Result<(), Fault<'a>>
     ensures adds { IsFresh (I.whole inputs.old) (I.left inputs.old) → OnOk result (AllAdded
-        (is_some front.entry) (I.whole inputs.old) tables.now gathering.old gathering.new) }
+        I.tree (asked front.entry) (I.failed inputs.new) (I.whole inputs.old)
+        tables.now gathering.old gathering.new) }
     ensures stops { IsFresh (I.whole inputs.old) (I.left inputs.old)
-        → IfErr result (λ e. IfSome (trouble e) (FirstStops (is_some front.entry)
+        → IfErr result (λ e. IfSome (trouble e) (FirstStops I.tree (asked front.entry)
         (I.whole inputs.old) (I.failed inputs.old) (I.failed inputs.new)
         tables.now gathering.old)) }
     ensures works { OnOk result
-        (HaveWorked (is_some front.entry) (I.failed inputs.old) (I.failed inputs.new)) }
+        (HaveWorked (asked front.entry) (I.failed inputs.old) (I.failed inputs.new)) }
     ensures status { IfErr result (IsHonestOf (I.failed inputs.new) (I.reads inputs.new)) }
     ensures turn { AreReadInTurn (map (λ given. given.path) tables.now)
         (I.reads inputs.old) (I.reads inputs.new) }
@@ -104,7 +107,7 @@ fn gather<I: Folders>(
     notes: Vec<u8>,
 ) -> Result<Response, AllocError>
     ensures value { IsFresh (I.whole inputs.old) (I.left inputs.old)
-        → IfOk result (GathersAll (is_some front.entry) (I.whole inputs.old)
+        → IfOk result (GathersAll I.tree (asked front.entry) (I.whole inputs.old)
         (I.failed inputs.old) (I.failed inputs.new) tables.now) }
     ensures status { IfOk result (IsHonest (I.failed inputs.new) (I.reads inputs.new)) }
     ensures turn { AreReadInTurn (map (λ given. given.path) tables.now)
@@ -120,10 +123,8 @@ fn gather<I: Folders>(
 
 /// Whether a root folder is asked, below which no tables were found.
 fn is_bare(root: Option<&str>, found: &[Given]) -> bool
-    ensures bare { result ≡ true
-        → IsBare (option_map (λ root. root.now) root.entry) found.now }
-    ensures other { result ≡ false
-        → ¬ (IsBare (option_map (λ root. root.now) root.entry) found.now) }
+    ensures bare { result ≡ true → IsBare (asked root.entry) found.now }
+    ensures other { result ≡ false → ¬ (IsBare (asked root.entry) found.now) }
 {
     root.is_some() && found.is_empty()
 }
@@ -135,7 +136,7 @@ pub fn answer_gather<I: Folders>(
     inputs: &mut I,
 ) -> Result<Response, RanOut>
     ensures value { IsFresh (I.whole inputs.old) (I.left inputs.old)
-        → IfOk result (AnswersGather (asked_gather request.now) (I.tree inputs.old)
+        → IfOk result (AnswersGather (asked_gather request.now) I.tree
         (I.whole inputs.old) (I.failed inputs.old) (I.failed inputs.new)) }
     ensures status { IfOk result (IsHonest (I.failed inputs.new) (I.reads inputs.new)) }
     ensures warned { IfErr result (λ e. e.warnings ≡ None) }

@@ -4,7 +4,7 @@ ghost use Rattle.std.specs.Str.{IsUtf8};
 ghost use Rattle.cs_files.specs.Trouble.{ends};
 ghost use Rattle.cs_gather.specs.Places.{is_part_name};
 ghost use Rattle.cs_views.specs.GatherTables.{IsBelow, IsFile, IsFileAt, IsUserName, system_table};
-ghost use Rattle.cs_views.specs.Listing.{AreAmong, FindsAllOn, FindsNamed, HasName, IsUnlisted, given_in, place_of, unlisted_trouble};
+ghost use Rattle.cs_views.specs.Listing.{AreAmong, FindsAllOn, FindsNamed, HasFailed, HasName, IsUnlisted, given_in, place_of, unlisted_trouble};
 
 use crate::gather_given::Given;
 use crate::gather_note::push_passed_over;
@@ -155,13 +155,13 @@ pub(crate) fn found_at<I: Folders>(
     name: &str,
 ) -> Result<(String, Option<FileKind>), Unlisted>
     ensures path { IfOk result (λ found. string_bytes found.0 ≡ front.now ++ name.now) }
-    ensures kind { IfOk result (λ found. IfSome ((I.tree inputs.old).kind (front.now ++ name.now))
+    ensures kind { IfOk result (λ found. IfSome (I.tree.kind (front.now ++ name.now))
         (λ known. found.1 ≡ known)) }
     ensures stays { (I.whole inputs.new ≡ I.whole inputs.old)
         × (I.left inputs.new ≡ I.left inputs.old) × (I.reads inputs.new ≡ I.reads inputs.old) }
-    ensures tree { I.tree inputs.new ≡ I.tree inputs.old }
     ensures works { OnOk result (I.failed inputs.new ≡ I.failed inputs.old) }
     ensures fails { IfErr result (IsUnlisted (I.failed inputs.new) (I.reads inputs.new)) }
+    ensures failed { IfErr result (HasFailed (I.failed inputs.new)) }
 {
     let path = joined(alloc, front, name)?;
     match inputs.kind_of(path.as_str()) {
@@ -177,13 +177,13 @@ pub(crate) fn names_at<I: Folders>(
     inputs: &mut I,
     path: &str,
 ) -> Result<Option<Sequence<Bytes>>, Unlisted>
-    ensures value { IfOk result (λ found. IfSome ((I.tree inputs.old).names path.now)
+    ensures value { IfOk result (λ found. IfSome (I.tree.names path.now)
         (λ known. found ≡ known)) }
     ensures stays { (I.whole inputs.new ≡ I.whole inputs.old)
         × (I.left inputs.new ≡ I.left inputs.old) × (I.reads inputs.new ≡ I.reads inputs.old) }
-    ensures tree { I.tree inputs.new ≡ I.tree inputs.old }
     ensures works { OnOk result (I.failed inputs.new ≡ I.failed inputs.old) }
     ensures fails { IfErr result (IsUnlisted (I.failed inputs.new) (I.reads inputs.new)) }
+    ensures failed { IfErr result (HasFailed (I.failed inputs.new)) }
 {
     match inputs.names(alloc, path) {
         Ok(names) => Ok(names),
@@ -228,11 +228,10 @@ pub(crate) fn push_crontab<I: Folders>(
         → All (IsBelow front.now) found.new.items) }
     ensures keeps { OnOk result (AreAmong found.old.items found.new.items) }
     ensures finds { OnOk result
-        (IsFileAt (I.tree inputs.old) (front.now ++ codes "/etc/crontab")
+        (IsFileAt I.tree (front.now ++ codes "/etc/crontab")
         → Contains found.new.items (system_table (front.now ++ codes "/etc/crontab"))) }
     ensures stays { (I.whole inputs.new ≡ I.whole inputs.old)
         × (I.left inputs.new ≡ I.left inputs.old) × (I.reads inputs.new ≡ I.reads inputs.old) }
-    ensures tree { I.tree inputs.new ≡ I.tree inputs.old }
     ensures works { OnOk result (I.failed inputs.new ≡ I.failed inputs.old) }
     ensures fails { IfErr result (IsUnlisted (I.failed inputs.new) (I.reads inputs.new)) }
 {
@@ -257,10 +256,9 @@ fn push_named<I: Folders>(
         → OnOk result (All (IsBelow front) found.old.items → All (IsBelow front) found.new.items) }
     ensures keeps { OnOk result (AreAmong found.old.items found.new.items) }
     ensures finds { OnOk result
-        (FindsNamed (I.tree inputs.old) folder.now shelf found.new.items name.now) }
+        (FindsNamed I.tree folder.now shelf found.new.items name.now) }
     ensures stays { (I.whole inputs.new ≡ I.whole inputs.old)
         × (I.left inputs.new ≡ I.left inputs.old) × (I.reads inputs.new ≡ I.reads inputs.old) }
-    ensures tree { I.tree inputs.new ≡ I.tree inputs.old }
     ensures works { OnOk result (I.failed inputs.new ≡ I.failed inputs.old) }
     ensures fails { IfErr result (IsUnlisted (I.failed inputs.new) (I.reads inputs.new)) }
 {
@@ -287,10 +285,9 @@ fn push_names<I: Folders>(
         → OnOk result (All (IsBelow front) found.old.items → All (IsBelow front) found.new.items) }
     ensures keeps { OnOk result (AreAmong found.old.items found.new.items) }
     ensures finds { OnOk result
-        (All (FindsNamed (I.tree inputs.old) folder.now shelf found.new.items) names.now) }
+        (All (FindsNamed I.tree folder.now shelf found.new.items) names.now) }
     ensures stays { (I.whole inputs.new ≡ I.whole inputs.old)
         × (I.left inputs.new ≡ I.left inputs.old) × (I.reads inputs.new ≡ I.reads inputs.old) }
-    ensures tree { I.tree inputs.new ≡ I.tree inputs.old }
     ensures works { OnOk result (I.failed inputs.new ≡ I.failed inputs.old) }
     ensures fails { IfErr result (IsUnlisted (I.failed inputs.new) (I.reads inputs.new)) }
 {
@@ -312,11 +309,9 @@ pub(crate) fn push_shelf<I: Folders>(
     ensures below { OnOk result (All (IsBelow front.now) found.old.items
         → All (IsBelow front.now) found.new.items) }
     ensures keeps { OnOk result (AreAmong found.old.items found.new.items) }
-    ensures finds { OnOk result (FindsAllOn (I.tree inputs.old)
-        front.now shelf found.new.items) }
+    ensures finds { OnOk result (FindsAllOn I.tree front.now shelf found.new.items) }
     ensures stays { (I.whole inputs.new ≡ I.whole inputs.old)
         × (I.left inputs.new ≡ I.left inputs.old) × (I.reads inputs.new ≡ I.reads inputs.old) }
-    ensures tree { I.tree inputs.new ≡ I.tree inputs.old }
     ensures works { OnOk result (I.failed inputs.new ≡ I.failed inputs.old) }
     ensures fails { IfErr result (IsUnlisted (I.failed inputs.new) (I.reads inputs.new)) }
 {

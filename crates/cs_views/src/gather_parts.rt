@@ -1,7 +1,9 @@
 //! The parts that the commands of tables run by run-parts(8).
-ghost use Rattle.std.specs.Prelude.{◌≡◌, ◌⊎◌, ◌++◌, [], ◌∷◌, All, IfErr, IfOk, IfSome, OnOk, is_some};
-ghost use Rattle.cs_views.specs.GatherAnswer.{AreParts, HavePartNames, HaveWorked, IsPart};
-ghost use Rattle.cs_views.specs.Listing.{IsUnlisted};
+ghost use Rattle.std.specs.Prelude.{◌≡◌, ◌++◌, [], ◌∷◌, All, IfErr, IfOk, IfSome, IsSome, OnOk, map, option_map, unwrap_or};
+ghost use Rattle.std.specs.List.{AllZip, filter};
+ghost use Rattle.cs_gather.specs.RunParts.{run_parts};
+ghost use Rattle.cs_views.specs.GatherAnswer.{AreParts, AreRun, AreRunIn, HavePartNames, HaveWorked, IsPart, NoneFailed, RunsParts, as_folder, is_program, is_run};
+ghost use Rattle.cs_views.specs.Listing.{HasFailed, asked, numbered};
 
 use crate::gather_below::{Unlisted, found_at, joined, names_at, table_name};
 use crate::gather_given::Given;
@@ -30,8 +32,8 @@ fn push_found(
     names: &mut Vec<Bytes>,
     notes: &mut Vec<u8>,
 ) -> Result<(), AllocError>
-    ensures { OnOk result ((names.new.items ≡ names.old.items)
-        ⊎ (names.new.items ≡ names.old.items ++ name.now ∷ [])) }
+    ensures { OnOk result (names.new.items
+        ≡ names.old.items ++ filter (λ _. is_program kind) (name.now ∷ [])) }
 {
     let why = match kind {
         Some(FileKind::Program) => {
@@ -54,10 +56,12 @@ fn push_part<I: Folders>(
     notes: &mut Vec<u8>,
 ) -> Result<(), Unlisted>
     ensures names { OnOk result (All IsPart names.old.items → All IsPart names.new.items) }
+    ensures finds { OnOk result (IsSome (I.tree.kind (folder.now ++ name.now)) → names.new.items
+        ≡ names.old.items ++ filter (is_run I.tree folder.now) (name.now ∷ [])) }
     ensures stays { (I.whole inputs.new ≡ I.whole inputs.old)
         × (I.left inputs.new ≡ I.left inputs.old) × (I.reads inputs.new ≡ I.reads inputs.old) }
     ensures works { OnOk result (I.failed inputs.new ≡ I.failed inputs.old) }
-    ensures fails { IfErr result (IsUnlisted (I.failed inputs.new) (I.reads inputs.new)) }
+    ensures failed { IfErr result (HasFailed (I.failed inputs.new)) }
 {
     let name = match table_name(name) {
         Ok(name) => name,
@@ -68,7 +72,9 @@ fn push_part<I: Folders>(
 }
 
 /// The slash that a path lacks at its end.
-fn slash_behind(path: &str) -> &'static str {
+fn slash_behind(path: &str) -> &'static str
+    ensures { path.now ++ result.now ≡ as_folder path.now }
+{
     if path.ends_with('/') { "" } else { "/" }
 }
 
@@ -82,10 +88,12 @@ fn names_in<I: Folders>(
     notes: &mut Vec<u8>,
 ) -> Result<Option<Vec<Bytes>>, Unlisted>
     ensures names { IfOk result (λ found. IfSome found (λ names. All IsPart names.items)) }
+    ensures finds { IfOk result (λ found. AreRunIn I.tree path.now is_reversed
+        (unwrap_or (option_map (λ names. names.items) found) [])) }
     ensures stays { (I.whole inputs.new ≡ I.whole inputs.old)
         × (I.left inputs.new ≡ I.left inputs.old) × (I.reads inputs.new ≡ I.reads inputs.old) }
     ensures works { OnOk result (I.failed inputs.new ≡ I.failed inputs.old) }
-    ensures fails { IfErr result (IsUnlisted (I.failed inputs.new) (I.reads inputs.new)) }
+    ensures failed { IfErr result (HasFailed (I.failed inputs.new)) }
 {
     let Some(found) = names_at(alloc, inputs, path)? else {
         return Ok(None);
@@ -108,45 +116,46 @@ fn names_in<I: Folders>(
     Ok(Some(names))
 }
 
-/// Adds the parts of a command, if they are known.
-fn push_parts<I: Folders>(
+/// The parts of a command, none if they aren't known.
+fn parts_of<I: Folders>(
     alloc: Global,
     inputs: &mut I,
     at: &Placed,
-    parts: &mut Vec<Parts>,
     notes: &mut Vec<u8>,
-) -> Result<(), AllocError>
-    ensures parts { OnOk result
-        (All HavePartNames parts.old.items → All HavePartNames parts.new.items) }
+) -> Result<Vec<Bytes>, AllocError>
+    ensures names { IfOk result (λ names. All IsPart names.items) }
+    ensures finds { IfOk result (λ names. NoneFailed (I.failed inputs.new)
+        → (I.failed inputs.new ≡ I.failed inputs.old)
+        × AreRun I.tree at.now.front.now (run_parts at.now.command.now) names.items) }
     ensures stays { (I.whole inputs.new ≡ I.whole inputs.old)
         × (I.left inputs.new ≡ I.left inputs.old) × (I.reads inputs.new ≡ I.reads inputs.old) }
 {
+    let none = Vec::new(alloc);
     let (path, is_reversed) = match run_parts(at.command) {
-        RunParts::Absent => return Ok(()),
+        RunParts::Absent => return Ok(none),
         RunParts::Folder { path, is_reversed } => (path, is_reversed),
         RunParts::Unread(why) => {
-            return push_unknown_parts(alloc, notes, at.line, at.table, &[why]);
+            push_unknown_parts(alloc, notes, at.line, at.table, &[why])?;
+            return Ok(none);
         }
     };
     let path = joined(alloc, at.front, path)?;
     match names_in(alloc, inputs, path.as_str(), is_reversed, notes) {
-        Ok(Some(names)) => {
-            parts.push(Parts {
-                line: at.line,
-                names: Sequence::from_vec(names),
-            })?;
-            Ok(())
+        Ok(Some(names)) => Ok(names),
+        Ok(None) => {
+            push_no_parts(alloc, notes, at.line, at.table, path.as_str())?;
+            Ok(none)
         }
-        Ok(None) => push_no_parts(alloc, notes, at.line, at.table, path.as_str()),
         Err(Unlisted::CannotRead(path, reason)) => {
             let why = ["can't read ", path.as_str(), reason.text()];
-            push_unknown_parts(alloc, notes, at.line, at.table, &why)
+            push_unknown_parts(alloc, notes, at.line, at.table, &why)?;
+            Ok(none)
         }
         Err(Unlisted::OutOfMemory) => Err(AllocError),
     }
 }
 
-/// The parts of these commands of a table.
+/// The parts of each of these commands of a table.
 fn parts_of_commands<I: Folders>(
     alloc: Global,
     inputs: &mut I,
@@ -156,6 +165,9 @@ fn parts_of_commands<I: Folders>(
     notes: &mut Vec<u8>,
 ) -> Result<Vec<Parts>, AllocError>
     ensures parts { IfOk result (λ parts. All HavePartNames parts.items) }
+    ensures finds { IfOk result (λ parts. NoneFailed (I.failed inputs.new)
+        → (I.failed inputs.new ≡ I.failed inputs.old)
+        × AllZip (RunsParts I.tree front.now) (map numbered commands.now) parts.items) }
     ensures stays { (I.whole inputs.new ≡ I.whole inputs.old)
         × (I.left inputs.new ≡ I.left inputs.old) × (I.reads inputs.new ≡ I.reads inputs.old) }
 {
@@ -167,7 +179,11 @@ fn parts_of_commands<I: Folders>(
             line: *line,
             command: *command,
         };
-        push_parts(alloc, inputs, &at, &mut parts, notes)?;
+        let names = parts_of(alloc, inputs, &at, notes)?;
+        parts.push(Parts {
+            line: *line,
+            names: Sequence::from_vec(names),
+        })?;
     }
     Ok(parts)
 }
@@ -183,24 +199,21 @@ pub(crate) fn parts_asked<I: Folders>(
     bytes: &[u8],
     notes: &mut Vec<u8>,
 ) -> Result<Vec<Parts>, AllocError>
-    ensures parts { IfOk result (λ parts. AreParts (is_some front.entry) parts.items) }
+    ensures parts { IfOk result (λ parts. AreParts I.tree (asked front.entry)
+        (I.failed inputs.new) given.now.user bytes.now parts.items) }
     ensures stays { (I.whole inputs.new ≡ I.whole inputs.old)
         × (I.left inputs.new ≡ I.left inputs.old) × (I.reads inputs.new ≡ I.reads inputs.old) }
-    ensures works { HaveWorked (is_some front.entry) (I.failed inputs.old) (I.failed inputs.new) }
+    ensures works { OnOk result
+        (HaveWorked (asked front.entry) (I.failed inputs.old) (I.failed inputs.new)) }
 {
+    let none = Vec::new(alloc);
     let Some(front) = front else {
-        return Ok(Vec::new(alloc));
+        return Ok(none);
     };
     let Some(table) = read_table(alloc, given, bytes)? else {
-        return Ok(Vec::new(alloc));
+        return Ok(none);
     };
     let commands = table.commands(alloc)?;
-    parts_of_commands(
-        alloc,
-        inputs,
-        front,
-        given.path(),
-        commands.as_slice(),
-        notes,
-    )
+    let path = given.path();
+    Ok(parts_of_commands(alloc, inputs, front, path, commands.as_slice(), notes)?)
 }

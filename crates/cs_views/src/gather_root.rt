@@ -1,8 +1,8 @@
 //! The root folder of a machine's tables.
-ghost use Rattle.std.specs.Prelude.{◌≡◌, All, Contains, IfErr, IfOk, OnErr, OnOk, IsSome, None, Some, [], is_some, option_map};
+ghost use Rattle.std.specs.Prelude.{◌≡◌, All, Contains, IfErr, IfOk, OnErr, OnOk, IsSome, None, Some, []};
 ghost use Rattle.cs_io.specs.Files.{AreReadInTurn, IsFresh};
-ghost use Rattle.cs_views.specs.GatherTables.{AreFound, IsBelow, IsFront, IsReadByCron};
-ghost use Rattle.cs_views.specs.Listing.{AreSomeRead, IsUnlisted};
+ghost use Rattle.cs_views.specs.GatherTables.{AreFound, IsBelow, IsFront, IsFrontAsked, IsReadByCron};
+ghost use Rattle.cs_views.specs.Listing.{AreSomeRead, IsUnlisted, asked};
 
 use crate::gather_below::{Shelf, Unlisted, names_at, push_crontab, push_shelf};
 use crate::gather_given::Given;
@@ -30,7 +30,7 @@ fn front(root: &str) -> &str
 
 /// How paths below the root folder begin, if one is asked.
 pub(crate) fn front_asked(root: Option<&str>) -> Option<&str>
-    ensures { is_some result ≡ is_some root.entry }
+    ensures { IsFrontAsked (asked root.entry) (asked result) }
 {
     match root {
         Some(root) => Some(front(root)),
@@ -75,8 +75,7 @@ fn push_all<I: Folders>(
     ensures below { OnOk result (All (IsBelow front.now) found.old.items
         → All (IsBelow front.now) found.new.items) }
     ensures finds { OnOk result ((given : _)
-        → IsReadByCron (I.tree inputs.old) front.now given
-        → Contains found.new.items given) }
+        → IsReadByCron I.tree front.now given → Contains found.new.items given) }
     ensures stays { (I.whole inputs.new ≡ I.whole inputs.old)
         × (I.left inputs.new ≡ I.left inputs.old) × (I.reads inputs.new ≡ I.reads inputs.old) }
     ensures works { OnOk result (I.failed inputs.new ≡ I.failed inputs.old) }
@@ -95,8 +94,7 @@ fn tables_below<I: Folders>(
     root: &str,
     notes: &mut Vec<u8>,
 ) -> Result<Vec<Given>, Unlisted>
-    ensures found { IfOk result (λ found. AreFound (I.tree inputs.old)
-        (Some root.now) found.items) }
+    ensures found { IfOk result (λ found. AreFound I.tree (Some root.now) found.items) }
     ensures works { OnOk result (I.failed inputs.new ≡ I.failed inputs.old) }
     ensures whole { I.whole inputs.new ≡ I.whole inputs.old }
     ensures fresh { OnOk result (IsFresh (I.whole inputs.old) (I.left inputs.old)
@@ -124,15 +122,14 @@ pub(crate) fn found_tables<I: Folders>(
     root: Option<&str>,
     notes: &mut Vec<u8>,
 ) -> Result<Vec<Given>, Unlisted>
-    ensures found { IfOk result (λ found. AreFound (I.tree inputs.old)
-        (option_map (λ root. root.now) root.entry) found.items) }
+    ensures found { IfOk result (λ found. AreFound I.tree (asked root.entry) found.items) }
     ensures works { OnOk result (I.failed inputs.new ≡ I.failed inputs.old) }
     ensures whole { I.whole inputs.new ≡ I.whole inputs.old }
     ensures fresh { OnOk result (IsFresh (I.whole inputs.old) (I.left inputs.old)
         → IsFresh (I.whole inputs.new) (I.left inputs.new)) }
-    ensures asked { OnErr result (IsSome (option_map (λ root. root.now) root.entry)) }
+    ensures asked { OnErr result (IsSome (asked root.entry)) }
     ensures fails { IfErr result (IsUnlisted (I.failed inputs.new) (I.reads inputs.new)) }
-    ensures turn { (paths : _) × (option_map (λ root. root.now) root.entry ≡ None → paths ≡ [])
+    ensures turn { (paths : _) × (asked root.entry ≡ None → paths ≡ [])
         × AreReadInTurn paths (I.reads inputs.old) (I.reads inputs.new) }
 {
     match root {

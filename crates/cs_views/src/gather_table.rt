@@ -1,4 +1,8 @@
 //! A table to gather, as it was read.
+ghost use Rattle.std.specs.Prelude.{◌≡◌, IfOk, Some, map, option_map};
+ghost use Rattle.cs_views.specs.GatherAnswer.{SayCommands, commands_in};
+ghost use Rattle.cs_views.specs.Listing.{numbered};
+
 use crate::gather_given::Given;
 use cs_crontab::{Crontab, Line, read_crontab};
 use cs_system::{SystemLine, SystemTable, read_system_crontab};
@@ -19,18 +23,21 @@ pub(crate) fn read_table(
     alloc: Global,
     given: &Given,
     bytes: &[u8],
-) -> Result<Option<Table>, AllocError> {
-    if given.owner().is_none() {
-        return match read_system_crontab(alloc, bytes) {
+) -> Result<Option<Table>, AllocError>
+    ensures { (commands : _) → SayCommands given.now.user bytes.now commands
+        → IfOk result (λ found. option_map commands_in found ≡ Some commands) }
+{
+    match given.owner() {
+        None => match read_system_crontab(alloc, bytes) {
             Ok(table) => Ok(Some(Table::System(table))),
             Err(TableFault::OutOfMemory) => Err(AllocError),
             Err(TableFault::At { .. }) => Ok(None),
-        };
-    }
-    match read_crontab(alloc, bytes) {
-        Ok(table) => Ok(Some(Table::User(table))),
-        Err(TableFault::OutOfMemory) => Err(AllocError),
-        Err(TableFault::At { .. }) => Ok(None),
+        },
+        Some(_) => match read_crontab(alloc, bytes) {
+            Ok(table) => Ok(Some(Table::User(table))),
+            Err(TableFault::OutOfMemory) => Err(AllocError),
+            Err(TableFault::At { .. }) => Ok(None),
+        },
     }
 }
 
@@ -38,7 +45,10 @@ pub(crate) fn read_table(
 fn system_commands<'t>(
     alloc: Global,
     lines: &'t [SystemLine],
-) -> Result<Vec<(u32, &'t [u8])>, AllocError> {
+) -> Result<Vec<(u32, &'t [u8])>, AllocError>
+    ensures { IfOk result (λ commands. map numbered commands.items
+        ≡ map (λ line. (line.number, line.command)) lines.now) }
+{
     let mut commands = Vec::new(alloc);
     for line in lines {
         commands.push((line.number(), line.command()))?;
@@ -47,7 +57,10 @@ fn system_commands<'t>(
 }
 
 /// The commands of a user's table, each with its line.
-fn user_commands<'t>(alloc: Global, lines: &'t [Line]) -> Result<Vec<(u32, &'t [u8])>, AllocError> {
+fn user_commands<'t>(alloc: Global, lines: &'t [Line]) -> Result<Vec<(u32, &'t [u8])>, AllocError>
+    ensures { IfOk result (λ commands. map numbered commands.items
+        ≡ map (λ line. (line.number, line.command)) lines.now) }
+{
     let mut commands = Vec::new(alloc);
     for line in lines {
         commands.push((line.number(), line.command()))?;
@@ -57,7 +70,9 @@ fn user_commands<'t>(alloc: Global, lines: &'t [Line]) -> Result<Vec<(u32, &'t [
 
 impl Table {
     /// Its commands, each with its line.
-    pub(crate) fn commands(&self, alloc: Global) -> Result<Vec<(u32, &[u8])>, AllocError> {
+    pub(crate) fn commands(&self, alloc: Global) -> Result<Vec<(u32, &[u8])>, AllocError>
+        ensures { IfOk result (λ commands. map numbered commands.items ≡ commands_in self.now) }
+    {
         match self {
             Table::System(table) => system_commands(alloc, table.lines()),
             Table::User(table) => user_commands(alloc, table.lines()),

@@ -14,7 +14,7 @@ returns-in_ok-answer_check-in-Check-clause-value g c = λ fresh.
     let failed = g.I.Inputs.failed c.answer_check.new.inputs in
     let answer = c.in_ok-answer_check-in-Check.field-0 in
     let checked : IsChecked (asked_check c.in-Check.request) files before failed answer = record { answer = c.in_ok-answer_check-in-Check.ensures.value fresh; safe = c.in_ok-answer_check-in-Check.ensures.safe fresh } in
-    subst (λ (r : Request). AnswersAsked c.args.now (asking r) (g.I.Folders.tree c.args.inputs.now) files before failed (Ends answer)) (sym c.in-Check.is) checked
+    subst (λ (r : Request). AnswersAsked c.args.now (asking r) g.I.Folders.tree files before failed (Ends answer)) (sym c.in-Check.is) checked
 
 pub returns-in_ok-answer_draft-in-Draft-clause-value : goal.returns-in_ok-answer_draft-in-Draft-clause-value
 returns-in_ok-answer_draft-in-Draft-clause-value g c = λ fresh.
@@ -26,4 +26,4 @@ returns-in_ok-answer_draft-in-Draft-clause-value g c = λ fresh.
     let fits : SFits w16 c.args.now.offset = search rules in
     let same = to_z-of_z fits in
     let drafted : AnswersDraft asked c.args.now.offset files before failed answer = subst (λ (n : ℤ). AnswersDraft asked n files before failed answer) same (c.in_ok-answer_draft-in-Draft.ensures.value fresh) in
-    subst (λ (r : Request). AnswersAsked c.args.now (asking r) (g.I.Folders.tree c.args.inputs.now) files before failed (Ends answer)) (sym c.in-Draft.is) drafted
+    subst (λ (r : Request). AnswersAsked c.args.now (asking r) g.I.Folders.tree files before failed (Ends answer)) (sym c.in-Draft.is) drafted

@@ -19,12 +19,12 @@ returns-in-Accepted-clause-value g c = λ fresh.
 
 pub returns-in-Accepted-clause-safe : goal.returns-in-Accepted-clause-safe
 returns-in-Accepted-clause-safe g c = λ fresh.
-    let accepted = subst (λ (found : Examined). IfAccepted found (λ checked warnings digest. IsAcceptance (g.I.Inputs.whole c.args.inputs.now) (asked_check c.args.request.now) (g.I.Inputs.failed c.args.inputs.now) checked warnings)) c.in-Accepted.is (c.in_ok-checked.ensures.accepted fresh) in
+    let accepted = subst (λ (found : Examined). IfAccepted found (λ checked warnings digests. IsAcceptance (g.I.Inputs.whole c.args.inputs.now) (asked_check c.args.request.now) (g.I.Inputs.failed c.args.inputs.now) checked warnings)) c.in-Accepted.is (c.in_ok-checked.ensures.accepted fresh) in
     IfOk-weaker c.acceptance.result _ _ (λ r is zero. record { checked = c.in-Accepted.checked; proof = accepted.proof; safe = accepted.safe }) c.acceptance.ensures.told
 
 pub returns-in-Accepted-clause-warned : goal.returns-in-Accepted-clause-warned
 returns-in-Accepted-clause-warned g c = λ fresh.
-    let accepted = subst (λ (found : Examined). IfAccepted found (λ checked warnings digest. IsAcceptance (g.I.Inputs.whole c.args.inputs.now) (asked_check c.args.request.now) (g.I.Inputs.failed c.args.inputs.now) checked warnings)) c.in-Accepted.is (c.in_ok-checked.ensures.accepted fresh) in
+    let accepted = subst (λ (found : Examined). IfAccepted found (λ checked warnings digests. IsAcceptance (g.I.Inputs.whole c.args.inputs.now) (asked_check c.args.request.now) (g.I.Inputs.failed c.args.inputs.now) checked warnings)) c.in-Accepted.is (c.in_ok-checked.ensures.accepted fresh) in
     IfErr-weaker c.acceptance.result _ _ (λ e is. rw is accepted.warned) c.acceptance.ensures.warned
 
 pub returns-in-Accepted-clause-status : goal.returns-in-Accepted-clause-status

@@ -1,8 +1,9 @@
-use Rattle.std.proofs.Common.{◌∙◌, ℕ, is_some, List, subst}
+use Rattle.std.proofs.Common.{◌∙◌, ℕ, List, subst}
 use Rattle.cs_table.specs.declared.limits.TheConstants.{MAX_TABLE}
 use Rattle.cs_gather.specs.declared.programs.Parts.{Parts}
 use Rattle.cs_files.specs.Reads.{IsRead}
-use Rattle.cs_views.specs.GatherAnswer.{FaultsAs, HaveWorked}
+use Rattle.cs_views.specs.GatherAnswer.{AreParts, FaultsAs, HaveWorked}
+use Rattle.cs_views.specs.Listing.{asked}
 use Rattle.cs_views.proofs.GatherLemmas.{stops_read}
 use Rattle.cs_views.proofs.gather.add_table.Goals as goal
 
@@ -17,6 +18,8 @@ returns-clause-stops g c = λ fresh.
     let read = subst (λ (p : List ℕ). IsRead MAX_TABLE p left bytes) c.path-path.ensures c.in_ok-bytes.ensures.bytes in
     let of_bytes = subst (λ (b : List ℕ). FaultsAs given.user given.path b c.as_slice-3.result.now old fault) c.as_slice-2.ensures.value c.in-Err.ensures.err in
     let faults = subst (λ (ps : List Parts). FaultsAs given.user given.path bytes ps old fault) c.as_slice-3.ensures.value of_bytes in
-    let looks = is_some c.args.front in
-    let works : HaveWorked looks (g.I.Inputs.failed c.args.inputs.now) (g.I.Inputs.failed c.parts_asked.new.inputs) = λ no. c.parts_asked.ensures.works no ∙ c.in_ok-bytes.ensures.works in
-    rw c.path-path.ensures (stops_read looks (g.I.Inputs.whole c.args.inputs.now) left _ _ given bytes parts old fault fresh works read c.in_ok-parts.ensures.parts faults)
+    let front = asked c.args.front in
+    let failed = g.I.Inputs.failed c.parts_asked.new.inputs in
+    let works : HaveWorked front (g.I.Inputs.failed c.args.inputs.now) failed = λ no. c.in_ok-parts.ensures.works no ∙ c.in_ok-bytes.ensures.works in
+    let are = subst (λ (b : List ℕ). AreParts g.I.Folders.tree front failed given.user b parts) c.as_slice.ensures.value c.in_ok-parts.ensures.parts in
+    rw c.path-path.ensures (stops_read g.I.Folders.tree front (g.I.Inputs.whole c.args.inputs.now) left _ failed given bytes parts old fault fresh works read are faults)

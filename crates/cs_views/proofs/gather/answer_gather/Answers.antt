@@ -1,9 +1,10 @@
 use Rattle.std.proofs.Common.{◌≡◌, ◌∙◌, List, [], ap, inl, inr, rules, subst}
 use Rattle.cs_args.specs.Asked.{asked_gather}
 use Rattle.cs_files.specs.Response.{Ending}
+use Rattle.cs_views.specs.Listing.{asked}
 use Rattle.cs_views.specs.GatherAnswer.{IsBare}
 use Rattle.cs_views.specs.GatherTables.{Given}
-use Rattle.cs_views.proofs.GatherLemmas.{all_read, gathers_same, honest_unlisted, root_read, some_same, tells_unlisted}
+use Rattle.cs_views.proofs.GatherLemmas.{all_read, gathers_same, honest_unlisted, root_read, tells_unlisted}
 use Rattle.cs_views.proofs.gather.answer_gather.Goals as goal
 
 pub returns-in_err-response-in-Err-clause-turn : goal.returns-in_err-response-in-Err-clause-turn
@@ -32,7 +33,7 @@ pub returns-in_err-gather-clause-turn : goal.returns-in_err-gather-clause-turn
 returns-in_err-gather-clause-turn g c =
     let (paths, none, turn) = c.found_tables.ensures.turn in
     let (named, is, are) = c.in_ok-push_named.ensures in
-    all_read (asked_gather c.args.request.now) (g.I.Folders.tree c.args.inputs.now) paths c.in-Ok.found.items named _ _ _ _ none turn c.in-Ok.ensures.found are (c.as_slice-3.ensures.value ∙ is) c.gather.ensures.turn
+    all_read (asked_gather c.args.request.now) g.I.Folders.tree paths c.in-Ok.found.items named _ _ _ _ none turn c.in-Ok.ensures.found are (c.as_slice-3.ensures.value ∙ is) c.gather.ensures.turn
 
 pub returns-clause-value : goal.returns-clause-value
 returns-clause-value g c = λ fresh.
@@ -43,7 +44,7 @@ returns-clause-value g c = λ fresh.
       e.found,
       inr (
         subst (λ (ts : List Given). ¬ (IsBare (asked_gather c.args.request.now).root ts)) c.as_slice-2.ensures.value (c.is_bare.ensures.other c.if-is_bare.false),
-        (named, are, gathers_same _ _ _ _ _ _ _ _ _ _ (c.front_asked.ensures ∙ some_same c.args.request.now.root) e.whole e.works (c.as_slice-3.ensures.value ∙ is) (c.in_ok-gather.ensures.value (e.fresh fresh))),
+        (named, are, (asked c.front_asked.result, c.front_asked.ensures, gathers_same g.I.Folders.tree (asked c.front_asked.result) _ _ _ _ _ _ _ _ e.whole e.works (c.as_slice-3.ensures.value ∙ is) (c.in_ok-gather.ensures.value (e.fresh fresh)))),
       ),
     )
 
@@ -51,7 +52,7 @@ pub returns-clause-turn : goal.returns-clause-turn
 returns-clause-turn g c =
     let (paths, none, turn) = c.found_tables.ensures.turn in
     let (named, is, are) = c.in_ok-push_named.ensures in
-    all_read (asked_gather c.args.request.now) (g.I.Folders.tree c.args.inputs.now) paths c.in-Ok.found.items named _ _ _ _ none turn c.in-Ok.ensures.found are (c.as_slice-3.ensures.value ∙ is) c.gather.ensures.turn
+    all_read (asked_gather c.args.request.now) g.I.Folders.tree paths c.in-Ok.found.items named _ _ _ _ none turn c.in-Ok.ensures.found are (c.as_slice-3.ensures.value ∙ is) c.gather.ensures.turn
 
 pub returns-then-is_bare-clause-value : goal.returns-then-is_bare-clause-value
 returns-then-is_bare-clause-value g c = λ fresh.

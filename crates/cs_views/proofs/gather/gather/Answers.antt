@@ -1,15 +1,17 @@
-use Rattle.std.proofs.Common.{◌≡◌, [], List, IfSome, Some, inr, is_some, option_map, subst}
+use Rattle.std.proofs.Common.{◌≡◌, [], List, IfSome, Some, inr, option_map, subst}
 use Rattle.cs_gather.specs.Gathered.{GatheredCommand}
 use Rattle.cs_files.specs.Response.{Ending}
 use Rattle.cs_files.specs.Trouble.{IsHonest, ends, trouble}
 use Rattle.cs_files.proofs.TroubleLemmas.{honest_fault}
+use Rattle.cs_views.specs.Listing.{asked}
 use Rattle.cs_views.specs.GatherAnswer.{FirstStops, GathersAll}
 use Rattle.cs_views.proofs.GatherLemmas.{ends_for, if_ok}
 use Rattle.cs_views.proofs.gather.gather.Goals as goal
 
 pub returns-in-Err-clause-value : goal.returns-in-Err-clause-value
 returns-in-Err-clause-value g c = λ fresh.
-    let looks = is_some c.args.front in
+    let tree = g.I.Folders.tree in
+    let front = asked c.args.front in
     let files = g.I.Inputs.whole c.args.inputs.now in
     let before = g.I.Inputs.failed c.args.inputs.now in
     let after = g.I.Inputs.failed c.add_tables.new.inputs in
@@ -17,8 +19,8 @@ returns-in-Err-clause-value g c = λ fresh.
     let fault = c.in-Err.fault in
     let notes = c.as_slice.result.now in
     let told = λ (r : Ending). option_map (ends notes) (trouble fault) ≡ Some r in
-    let first = subst (λ (old : List GatheredCommand). IfSome (trouble fault) (FirstStops looks files before after tables old)) c.new-gathering.ensures (c.in-Err.ensures.stops fresh) in
-    if_ok told (GathersAll looks files before after tables) c.response.result (λ r is. inr (ends_for (FirstStops looks files before after tables []) notes (trouble fault) r first is)) c.response.ensures
+    let first = subst (λ (old : List GatheredCommand). IfSome (trouble fault) (FirstStops tree front files before after tables old)) c.new-gathering.ensures (c.in-Err.ensures.stops fresh) in
+    if_ok told (GathersAll tree front files before after tables) c.response.result (λ r is. inr (ends_for (FirstStops tree front files before after tables []) notes (trouble fault) r first is)) c.response.ensures
 
 pub returns-in-Err-clause-status : goal.returns-in-Err-clause-status
 returns-in-Err-clause-status g c =

@@ -20,7 +20,7 @@ returns-clause-keeps g c = kept c.args.found.now.items c.push_found.new.found.it
 
 pub returns-clause-finds : goal.returns-clause-finds
 returns-clause-finds g c =
-    let tree = g.I.Folders.tree c.args.inputs.now in
+    let tree = g.I.Folders.tree in
     let name = c.in-Ok.name.now in
     let more = c.push_found.new.found.items in
     let given = c.in_ok-given.ensures ∙ ap (λ (path : Text). given_in c.args.shelf path name) c.in_ok-path.ensures.path in

@@ -7,11 +7,8 @@ use Rattle.cs_views.proofs.gather_below.push_names.Given as goal
 pub record Finding (g : goal.Over) (l : goal.Live-loop-name g) : Type 0 where
   pub below : (front : Text) → l.fn.folder ≡ front ++ place_of l.fn.shelf → All (IsBelow front) l.initial.found.items → All (IsBelow front) l.found.items
   pub keeps : AreAmong l.initial.found.items l.found.items
-  pub finds : All (FindsNamed (g.I.Folders.tree l.initial.inputs) l.fn.folder l.fn.shelf l.found.items) (take l.name-index l.names)
-  pub whole : g.I.Inputs.whole l.inputs ≡ g.I.Inputs.whole l.initial.inputs
-  pub left : g.I.Inputs.left l.inputs ≡ g.I.Inputs.left l.initial.inputs
-  pub reads : g.I.Inputs.reads l.inputs ≡ g.I.Inputs.reads l.initial.inputs
-  pub tree : g.I.Folders.tree l.inputs ≡ g.I.Folders.tree l.initial.inputs
+  pub finds : All (FindsNamed g.I.Folders.tree l.fn.folder l.fn.shelf l.found.items) (take l.name-index l.names)
+  pub stays : (g.I.Inputs.whole l.inputs ≡ g.I.Inputs.whole l.initial.inputs) × (g.I.Inputs.left l.inputs ≡ g.I.Inputs.left l.initial.inputs) × (g.I.Inputs.reads l.inputs ≡ g.I.Inputs.reads l.initial.inputs)
   pub works : g.I.Inputs.failed l.inputs ≡ g.I.Inputs.failed l.initial.inputs
 
 abbrev pub invariant-loop-name : goal.invariant-loop-name

@@ -1,7 +1,6 @@
 use Rattle.std.proofs.Common.{◌≡◌, ◌++◌, ◌∙◌, All, IfSome, List, Option, ap, subst}
 use Rattle.std.proofs.lemmas.List.Elements.{All-contains}
 use Rattle.clap.specs.Words.{Text}
-use Rattle.cs_io.specs.Folders.{Tree}
 use Rattle.cs_views.specs.GatherTables.{IsIn}
 use Rattle.cs_views.specs.Listing.{FindsNamed}
 use Rattle.cs_views.proofs.ListingLemmas.{is_listed, none_listed}
@@ -15,20 +14,19 @@ returns-in-Some-clause-below g c = λ all.
 pub returns-in-Some-clause-finds : goal.returns-in-Some-clause-finds
 returns-in-Some-clause-finds g c =
     let at = c.as_str-folder.ensures.value ∙ c.in_ok-path.ensures ∙ ap (λ (place : Text). c.args.front.now ++ place) c.place.ensures in
-    let tree = g.I.Folders.tree c.args.inputs.now in
+    let tree = g.I.Folders.tree in
     let folder = c.as_str-folder.result.now in
     let more = c.push_names.new.found.items in
     let names = c.in-Some.names in
     let same = subst (λ (o : Option (List Text)). IfSome (tree.names folder) (λ known. o ≡ known)) c.in-Some.is c.in_ok-names.ensures.value in
-    let all = subst (λ (ns : List Text). All (FindsNamed (g.I.Folders.tree c.names_at.new.inputs) folder c.args.shelf more) ns) c.as_slice.ensures c.in_ok-push_names-in-Some.ensures.finds in
-    let known = subst (λ (t : Tree). All (FindsNamed t folder c.args.shelf more) names) c.names_at.ensures.tree all in
+    let all = subst (λ (ns : List Text). All (FindsNamed tree folder c.args.shelf more) ns) c.as_slice.ensures c.in_ok-push_names-in-Some.ensures.finds in
     subst (λ (f : Text). (name : Text) → IsIn tree f name → FindsNamed tree f c.args.shelf more name) at
-    (λ name is. All-contains (FindsNamed tree folder c.args.shelf more) names name known (is_listed tree folder name names same is))
+    (λ name is. All-contains (FindsNamed tree folder c.args.shelf more) names name all (is_listed tree folder name names same is))
 
 pub returns-clause-finds : goal.returns-clause-finds
 returns-clause-finds g c =
     let at = c.as_str-folder.ensures.value ∙ c.in_ok-path.ensures ∙ ap (λ (place : Text). c.args.front.now ++ place) c.place.ensures in
-    let tree = g.I.Folders.tree c.args.inputs.now in
+    let tree = g.I.Folders.tree in
     let folder = c.as_str-folder.result.now in
     let same = subst (λ (o : Option (List Text)). IfSome (tree.names folder) (λ known. o ≡ known)) c.in-None.is c.in_ok-names.ensures.value in
     subst (λ (f : Text). (name : Text) → IsIn tree f name → FindsNamed tree f c.args.shelf c.args.found.now.items name) at

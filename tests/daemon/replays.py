@@ -11,7 +11,7 @@ from functools import partial
 
 from harness import wanted
 
-from tests import MINUTE, UNTIL, declared, digest_line, job_lines, minute_of, moments_and_texts
+from tests import MINUTE, UNTIL, declared, digest_lines, job_lines, minute_of, moments_and_texts
 
 JOB = "7 0 a true\n"
 # so many minutes the clock of a plan is ahead of UTC, or behind it
@@ -218,7 +218,7 @@ def wait_for_logged(room, *texts):
         room.wait_for(f"'{text}' in the log", lambda text=text: text in room.read("log"))
 
 
-def look_at_log(log, digest, table, right):
+def look_at_log(log, digests, table, right):
     """Holds the log of a daemon of this table against its lines, whose order isn't promised.
 
     A stamp that can't be written is told each second. How long a run took isn't looked at.
@@ -227,7 +227,7 @@ def look_at_log(log, digest, table, right):
     texts = [re.sub(r" after \d+ s$", "", it) for it in texts]
     often = "stamp not written a"
     texts = [it for it in texts if it != often] + [often] * (often in texts)
-    right = [*right.splitlines(), digest, *job_lines(table)]
+    right = [*right.splitlines(), *digests, *job_lines(table)]
     wanted("log", "\n".join(sorted(right)), "\n".join(sorted(texts)))
 
 
@@ -252,7 +252,7 @@ def replayed_log(room):
     lines = (2, 3, 4, 5, 6, 8, 10, 11, 12)
     room.take(declared(6, lines, ["a"], ["g", "h"], AHEAD, **terms), TABLE, JOB)
     at, until = partial(show, room, AHEAD), partial(wait_for_logged, room)
-    digest = digest_line(room)
+    digests = digest_lines(room)
     (room.folder / "stamps/a").mkdir()
     at("2024-03-10 01:58")
     room.step("--log", "log", "--on-failure", "exit 1", "--on-overrun", "exit 2")
@@ -287,7 +287,7 @@ def replayed_log(room):
     at("2024-03-10 02:15")
     room.write("twelve", "")
     room.ends(0)
-    look_at_log(room.read("log"), digest, TABLE, LOG)
+    look_at_log(room.read("log"), digests, TABLE, LOG)
     wanted("stamp", "20240310\n", room.read("stamps")["a"])
     look_at_replay(room, ("crontab", "log", "declarations"), SCRIPT, ANSWERS)
 
@@ -314,7 +314,7 @@ def replayed_logs_of_two_plans(room):
     old = declared(3, (1, 2), ["a"], ["g"], BEHIND, line1=wait, line2=wait)
     room.take(old, OLD_TABLE, JOB)
     at, until = partial(show, room, BEHIND), partial(wait_for_logged, room)
-    digest = digest_line(room)
+    digests = digest_lines(room)
     at("2024-03-10 00:10")
     room.step("--log", "log")
     until("ended job a")
@@ -334,8 +334,8 @@ def replayed_logs_of_two_plans(room):
     room.holds(printed="", said="cronsafe: the clock went back, or is before 1970-01-04\n")
     log = room.read("log")
     front = log[: log.rindex("\n", 0, log.rindex(" running ")) + 1]
-    look_at_log(front, digest, OLD_TABLE, OLD_LOG)
-    look_at_log(log.removeprefix(front), digest_line(room), NEW_TABLE, NEW_LOG)
+    look_at_log(front, digests, OLD_TABLE, OLD_LOG)
+    look_at_log(log.removeprefix(front), digest_lines(room), NEW_TABLE, NEW_LOG)
     room.write("front", front)
     look_at_replay(room, ("old crontab", "front", "old declarations"), OLD_SCRIPT, OLD_ANSWERS)
     look_at_replay(room, ("crontab", "log", "declarations"), NEW_SCRIPT, NEW_ANSWERS)

@@ -74,10 +74,11 @@ def moments_and_texts(lines):
     return seconds, [it[2] for it in found]
 
 
-def digest_line(room):
-    """Returns the line of a log that tells the certificate's digest."""
-    digest = hashlib.sha256((room.folder / "certificate").read_bytes()).hexdigest()
-    return f"certificate sha256 {digest}"
+def digest_lines(room):
+    """Returns the lines of a log that tell the digests of the files."""
+    files = {"table": "crontab", "declarations": "declarations", "certificate": "certificate"}
+    texts = {name: (room.folder / file).read_bytes() for name, file in files.items()}
+    return [f"{name} sha256 {hashlib.sha256(it).hexdigest()}" for name, it in texts.items()]
 
 
 def job_lines(table):
@@ -320,7 +321,8 @@ def reloaded(room):
     refused = texts.index("reload refused, the old plan goes on")
     wanted("the refusal", told.splitlines(), texts[refused + 1 : -2])
     kinds = [" ".join(it.split()[:2]) for it in texts[:refused] + texts[-2:]]
-    begins = ["running crontab", "certificate sha256", "started job"]
+    digests = [f"{it} sha256" for it in ("table", "declarations", "certificate")]
+    begins = ["running crontab", *digests, "started job"]
     new = [*begins, "ended job", "asked to", "asked to", "stopped"]
     old = [*begins, "asked to", "reload accepted,", "ended job", "stopped"]
     wanted("kinds of lines", old + new, kinds)
@@ -332,8 +334,14 @@ def reloaded(room):
     wanted("what is left", {"a", "b"}, set(room.read("stamps")))
 
 
+# A table of a machine, and declarations of it with a part that isn't among those of its line.
+GATHERED = "CRONSAFE_TABLE=gathered\n#@ /etc/crontab:19 root\n#@ part z\n25 6 * * * run-parts /etc\n"
+OTHER_PARTS = {"cron": [{"line": 4, "max": 1, "parts": [{"name": "a", "max": 1}]}], "capacity": 1}
+
+
 def refused_reload(room):
-    """`reload` with a certificate that `check` refuses: that of a plan with a shorter longest time.
+    """`reload` with what `check` refuses: a certificate of a plan with a shorter longest time, and
+    declarations with other parts than those of their gathered table.
 
     For a daemon that takes it or ends, or says it otherwise than `check`, without the note.
     """
@@ -346,13 +354,20 @@ def refused_reload(room):
     answer = room.call("check", "crontab", "declarations", "certificate")
     wanted("check", (1, refusal, STALE), answer)
     wanted("reload", (1, "", refusal), room.reload())
+    room.take_tables(OTHER_PARTS, GATHERED)
+    fault = "cronsafe: declarations: 20 OtherParts at cron 1\n"
+    fault += "cronsafe: cronsafe lint TABLE DECLS tells where\n"
+    answer = room.call("check", "crontab", "declarations", "certificate")
+    wanted("check of other parts", (3, "", fault), answer)
+    wanted("reload of other parts", answer, room.reload())
     before = len(room.read("ran").split())
     room.wait_for("more runs", lambda: len(room.read("ran").split()) > before + 2)
     room.stop()
     wanted("runs", {"old"}, set(room.read("ran").split()))
     _, texts = moments_and_texts(room.read("log").splitlines())
-    asked = ["asked to reload", "reload refused, the old plan goes on", refusal.strip()]
-    others = [it for it in texts[2:] if not it.startswith(("started ", "ended ", "overrun "))]
+    refused = ["asked to reload", "reload refused, the old plan goes on"]
+    asked = [*refused, refusal.strip(), *refused, *fault.splitlines()]
+    others = [it for it in texts[4:] if not it.startswith(("started ", "ended ", "overrun "))]
     wanted("log", [*job_lines(table), *asked, "asked to stop", "stopped"], others)
 
 
@@ -541,15 +556,16 @@ def timed_log(room):
     wanted("order of times", sorted(times), times)
     wanted("times", True, before <= times[0] and times[-1] <= after)
     opening = "running crontab with declarations and certificate and anacrontab, stamps in stamps"
-    seconds = times[3] - times[2]
+    seconds = times[5] - times[4]
     wanted("seconds", True, 3 <= seconds <= 3 + SOON)
     events = [f"started {run}", f"ended {run} status 4 after {seconds} s", "stopped"]
-    wanted("log", [f"{opening}, capacity 1", digest_line(room), *events], texts)
+    wanted("log", [f"{opening}, capacity 1", *digest_lines(room), *events], texts)
     (room.folder / "stamps" / "a").unlink()
     room.run(*ONCE, "--log", "-", seconds=SOON)
     _, texts = moments_and_texts(it for it in room.read("printed").splitlines() if it != "printed")
     kinds = [it.split()[0] for it in texts]
-    wanted("kinds of lines", ["running", "certificate", "started", "ended", "stopped"], kinds)
+    digests = ["table", "declarations", "certificate"]
+    wanted("kinds of lines", ["running", *digests, "started", "ended", "stopped"], kinds)
 
 
 def log_of_a_stop(room):
@@ -642,7 +658,7 @@ def told_state(room):
         "table": "crontab",
         "declarations": "declarations",
         "certificate": "certificate",
-        "certificate_sha256": digest_line(room).split()[-1],
+        "certificate_sha256": digest_lines(room)[-1].split()[-1],
         "anacrontab": "anacrontab",
         "capacity": 1,
         "stopping": False,
@@ -814,6 +830,7 @@ def states_by_hand(room):
         wanted(f"status of {members}", (status, out, err), room.ask("status", "stamps"))
         as_it_is = room.ask("status", "--json", "stamps")
         wanted(f"status --json of {members}", (status, text, err), as_it_is)
+    fcntl.flock(folder, fcntl.LOCK_UN)  # a child that another test forks may hold the descriptor still
     os.close(folder)
     unused = (2, "", "cronsafe: no daemon uses stamps\n")
     wanted("status of nobody", unused, room.ask("status", "stamps"))
@@ -888,8 +905,8 @@ def shown_name(room):
     early_minute()
     room.run(*ONCE, "--log", "log", seconds=SOON)
     _, texts = moments_and_texts(room.read("log").split("\n")[:-1])
-    wanted("the command", "job line 1: printf 'a\\x5ctb'\\x09|\\x1b[31m cat", texts[2])
-    wanted("the name", "started job a\\x1b[31m\\x0db at", texts[3][: texts[3].index(" at") + 3])
+    wanted("the command", "job line 1: printf 'a\\x5ctb'\\x09|\\x1b[31m cat", texts[4])
+    wanted("the name", "started job a\\x1b[31m\\x0db at", texts[5][: texts[5].index(" at") + 3])
 
 
 def signal_in_a_log(room):
@@ -920,8 +937,8 @@ def mail_in_a_log(room):
     room.run(*ONCE, "--log", "log", seconds=SOON)
     _, texts = moments_and_texts(room.read("log").splitlines())
     lines = [f"MAILTO on line {it} has no effect" for it in ("1 of the crontab", "2 of the anacrontab")]
-    wanted("lines of MAILTO", lines, texts[2:4])
-    wanted("line behind them", "started", texts[4].split()[0])
+    wanted("lines of MAILTO", lines, texts[4:6])
+    wanted("line behind them", "started", texts[6].split()[0])
 
 
 def output_name(minute, job):
@@ -1030,7 +1047,7 @@ def closed_streams(room):
         room.start(["sh", "-c", f'exec "$@" {closed}', "sh", *words])
         room.ends(0)
         room.holds(stamps={"a": stamp_text(minute)})
-        wanted("log", 5, len(room.read("log").splitlines()))
+        wanted("log", 7, len(room.read("log").splitlines()))
         files = [it.split(" -> ")[1] for it in room.read("fds").splitlines() if " -> " in it]
         for stream, what in enumerate(("<&-", ">&-", "2>&-")):
             if what in closed.split():

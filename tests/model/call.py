@@ -412,14 +412,7 @@ class Call:
         self.warned += notes_of(plan)
         return None, None
 
-    make = judge
-
-    def advise(self, found):
-        plan = self.read_plan(found)
-        self.warned += notes_of(plan)
-        return None, None
-
-    room = advise
+    make = advise = room = judge
 
     def check(self, found):
         """Notes are told beside a verdict alone, so not before a fault of the certificate."""

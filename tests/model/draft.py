@@ -8,7 +8,7 @@ from model.calendar import DAY, is_day_due, minutes_of
 from model.claims import chains
 from model.crontab import lines_of, read_crontab
 from model.declarations import GREATEST_CAPACITY, GREATEST_MAX, Part, identifier_text
-from model.declarations import lines_named, plan_of, read_declared
+from model.declarations import has_when, lines_named, plan_of, read_declared
 from model.faults import Fault
 
 # By a setting of this name it is seen that a table was gathered.
@@ -21,6 +21,10 @@ PART = re.compile(rb"#@ part ([A-Za-z0-9_-]+)")
 PATH = re.compile(rb"[A-Za-z0-9/._+-]+")
 LOCKERS = {b"flock", b"lockfile", b"lockfile-create", b"dotlockfile", b"setlock", b"s6-setlock"}
 LOCKERS |= {b"chpst", b"run-one", b"solo", b"lckdo", b"with-lock-ex", b"sem", b"lockrun"}
+
+# What stands before a program, and what runs a file or a text that a word behind it names.
+RUNNER = re.compile(rb"flock|ionice|nice|timeout|sudo|su|sh|bash|env|xargs|"
+                    rb"(run-parts|python|perl|php|ruby|node|java|dash|ksh|zsh).*")
 
 # A longest time is three days at most, so that only due minutes of so many days matter.
 DAYS_LOOKED_AT = 4
@@ -188,6 +192,38 @@ def lone_lines(declared, commands):
     return {it: line for it, line in lines.items() if texts.count(it) == told.count(it) == 1}
 
 
+def changed_line(declared, commands):
+    """Returns the one entry whose command is gone, and the one line that is new.
+
+    None where there are several names that tell the command of no line, or such lines, or none; and
+    where the entry can't be that of the line: it tells another schedule, or no path or word that may
+    be a program's stands in both commands.
+    """
+    texts, told = [it.text for it in commands], list(map(command_of, names_in(declared)))
+    gone = [it for it in names_in(declared) if command_of(it) not in texts]
+    new = [it for it in commands if it.schedule and it.text not in told]
+    entries = [it for it in declared.cron if it.job in gone and it.job.command is not None]
+    if len(gone) != 1 or len(new) != 1 or not entries or not has_when(new[0], gone[0]):
+        return None
+    names = names_of_programs(command_of(gone[0])) & names_of_programs(new[0].text)
+    return (entries[0], new[0].line) if names else None
+
+
+def names_of_programs(command):
+    """Returns which words of a command may be that of its program.
+
+    No options, no numbers, no files of an untold folder, and none that run what a word names.
+    """
+    words = {it for it in PATH.findall(command) if not it.startswith(b"-") and not it.isdigit()}
+    words = {it for it in words if it.startswith(b"/") or b"/" not in it}
+    return {it for it in words if not RUNNER.fullmatch(it.rpartition(b"/")[2])} - {b"cd", b"test"}
+
+
+def has_new_times(entry, line):
+    """Returns whether the longest time of an entry is a guess, or timeout(1) may set it."""
+    return entry.guess or b"timeout" in line.text
+
+
 def is_kept(plan, entry, job, longest):
     """Returns whether a job has what an entry declares, with that longest time."""
     if job is None:
@@ -201,7 +237,8 @@ def is_update(text, files, old, asked):
     """Returns whether a text is an update of older declarations for tables, with that longest time.
 
     It keeps what they say of a command that one line has and one name tells, but for parts that came
-    or went, and of anacron jobs; and their terms and groups.
+    or went, and of anacron jobs; and their terms and groups. The longest time of a new command, where
+    there is no default, is a guess, or that of timeout(1), or that of the one that is gone.
     """
     plan, declared = sound_plan(text, files), read_declared(old)
     if plan is None:
@@ -213,11 +250,19 @@ def is_update(text, files, old, asked):
     kept = [(it, lone.get(command_of(it.job))) for it in declared.cron]
     kept += [(it, it.job) for it in declared.anacron if it.job in jobs]
     out = {lone.get(command_of(it)) for it in declared.left_out} - {None}
+    texts = list(map(command_of, names_in(declared)))
+    new = [it for it in crontab.commands if it.schedule and it.text not in texts]
+    unlike = [it for it in new if it.line in entries and not has_new_times(entries[it.line], it)]
+    if unlike and declared.default is None:
+        if len(unlike) > 1 or changed_line(declared, crontab.commands) is None:
+            return False
+        kept.append(changed_line(declared, crontab.commands))
     terms = "capacity", "offset", "hours", "pass_minute"
-    new = [(*it, *renewed(it[0], told.get(it[1], []), asked)) for it in kept if it[1] is not None]
+    kept = [it for it in kept if it[1] is not None]
+    renewals = [(*it, *renewed(it[0], told.get(it[1], []), asked)) for it in kept]
     return (
-        all(is_kept(plan, entry, jobs.get(job), most) for entry, job, _, most in new)
-        and all(list(entries[job].parts) == it for _, job, it, _ in new if job in entries)
+        all(is_kept(plan, entry, jobs.get(job), most) for entry, job, _, most in renewals)
+        and all(list(entries[job].parts) == it for _, job, it, _ in renewals if job in entries)
         and out <= set(plan.left_out)
         and all(getattr(plan, it) == getattr(declared, it) for it in terms)
         and plan.groups[: len(declared.groups)] == declared.groups

@@ -1,12 +1,2 @@
 pub mod Call
-pub mod Ending
-pub mod Anew
-pub mod Hooks
-pub mod Asking
-pub mod Notes
-pub mod Serve
 pub mod Run
-pub mod Served
-pub mod Reloading
-pub mod Stopping
-pub mod Telling

@@ -10,12 +10,12 @@ use Rattle.cs_files.specs.RanOut.{RanOutOn}
 use Rattle.cs_files.specs.Trouble.{IsHonest}
 use Rattle.cronsafe.specs.Call.{Answers}
 use Rattle.cronsafe.specs.declared.now.Now.{Now}
-use Rattle.cronsafe.specs.Ending.{Ends, RunsOutBehind, Sink}
+use Rattle.cs_serve.specs.Ending.{Ends, RunsOutBehind, Sink}
 use Rattle.cs_args.specs.Asked.{asked_stop}
-use Rattle.cronsafe.specs.Reloading.{Reloads}
-use Rattle.cronsafe.specs.Serve.{Serves}
-use Rattle.cronsafe.specs.Stopping.{Stops}
-use Rattle.cronsafe.specs.Telling.{Tells}
+use Rattle.cs_serve.specs.Reloading.{Reloads}
+use Rattle.cs_serve.specs.Serve.{Serves}
+use Rattle.cs_serve.specs.Stopping.{Stops}
+use Rattle.cs_serve.specs.Telling.{Tells}
 
 -- an ending is carried out, or an order, or a daemon is stopped or reads its files anew, or it's told
 -- what it does

@@ -1,29 +1,15 @@
 //! The program `cronsafe`, over its words, its inputs and two outputs, and over the machine.
 #![tactic(auto)]
 
-mod anew;
-mod asking;
-mod diary;
-mod ending;
-mod hooks;
-mod laws;
-mod notes;
 mod now;
-mod obstacle;
 mod program;
-mod reloading;
-mod reply;
 mod responding;
 mod run;
-mod serve;
-mod stopping;
-mod telling;
-mod watch;
 
-use crate::hooks::Streams;
 use crate::program::run_program;
 use cs_io::Printer;
 use cs_machine::{Home, Remarks, RunnerSetup, ShellRunner, hold_streams};
+use cs_serve::Streams;
 use std::alloc::Global;
 use std::fs::File;
 use std::io::IsTerminal;

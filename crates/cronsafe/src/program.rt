@@ -1,14 +1,13 @@
 //! The program over the machine's words, files and clock.
-use crate::hooks::Streams;
 use crate::now::{Now, local_offset, read_clock};
 use crate::run::run_words;
-use crate::serve::{farewell, status_for};
 use cs_args::{Request, parse_words};
 use cs_daemon::Cause;
 use cs_device::Runner;
 use cs_files::Status;
 use cs_io::{Machine, Output};
 use cs_machine::RunnerSetup;
+use cs_serve::{Streams, farewell, status_for};
 use jiff_core::Timestamp;
 use std::alloc::Global;
 use std::fs::File;

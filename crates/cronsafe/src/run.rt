@@ -1,24 +1,19 @@
 //! The program, as a function of its words, its inputs and two outputs.
 ghost use Rattle.std.specs.Prelude.{map};
 ghost use Rattle.cs_io.specs.Files.{IsFresh};
-ghost use Rattle.cronsafe.specs.Ending.{sink};
+ghost use Rattle.cs_serve.specs.Ending.{sink};
 ghost use Rattle.cs_files.specs.Response.{status_of};
 ghost use Rattle.cs_files.specs.Turn.{ReadsInTurn};
 ghost use Rattle.cronsafe.specs.Run.{CarriesOut, Runs};
 
-use crate::ending::{finish, run_out_behind};
-use crate::hooks::Streams;
 use crate::now::Now;
-use crate::reloading::reload;
 use crate::responding::respond;
-use crate::serve::serve;
-use crate::stopping::stop;
-use crate::telling::tell_status;
 use cs_cli::Answer;
 use cs_device::Runner;
 use cs_files::Status;
 use cs_io::{Folders, Output};
 use cs_machine::RunnerSetup;
+use cs_serve::{Streams, finish, reload, run_out_behind, serve, stop, tell_status};
 use std::alloc::Global;
 use std::convert::AsStr;
 use std::fs::File;

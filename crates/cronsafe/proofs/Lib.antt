@@ -1,3 +1,0 @@
-pub mod Peers
-pub mod Serving
-pub mod Turns

@@ -1,0 +1,3 @@
+pub mod Peers
+pub mod Service
+pub mod Turns

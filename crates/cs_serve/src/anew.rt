@@ -1,0 +1,282 @@
+//! Reading a daemon's files anew.
+ghost use Rattle.std.specs.Prelude.{◌≡◌, ◌++◌, IfOk, false};
+ghost use Rattle.cs_args.specs.Asked.{asked_run};
+ghost use Rattle.cs_cli.specs.Answer.{is_of_gathered};
+ghost use Rattle.cs_files.specs.Response.{status_of};
+ghost use Rattle.cs_claims.specs.Certificate.{content};
+ghost use Rattle.cs_check.specs.Checked.{plan_in};
+ghost use Rattle.cs_report.specs.Warning.{plan_notes};
+ghost use Rattle.cs_serve.specs.Anew.{IsOrderOf, IsTaken, rejected_status, rejected_text};
+
+use cs_args::{CheckWords, RunWords};
+use cs_check::{CheckError, Checked, check};
+use cs_civil::Bytes;
+use cs_claims::Certificate;
+use cs_cli::{Digests, Order, certificate_from};
+use cs_decl::Plan;
+use cs_files::{Fault, Response, Status, placed_plan_and_text, read_tables_and_text, text_behind};
+use cs_gather::{is_gathered, read_places};
+use cs_io::Machine;
+use cs_report::{fault_text, plan_notes, warnings};
+use std::alloc::{AllocError, Global};
+use std::fs::OpenOptions;
+use std::rt::Files;
+use std::{fs, io};
+
+/// A plan that the checker has accepted, what is to be warned of, and the SHA-256 of its files.
+#[derive(Drop)]
+pub(crate) struct Accepted {
+    checked: Checked,
+    warnings: Bytes,
+    digests: Digests,
+    ghost own: { is_of_gathered checked ≡ false },
+}
+
+/// Why a daemon's files aren't accepted.
+#[derive(Drop)]
+pub(crate) enum Rejection {
+    /// It was answered so.
+    Answered(Response),
+    /// One of them is standard input.
+    StandardInput,
+    /// One of them is a pipe, a device or a folder.
+    NoFile,
+    /// The log can't be opened.
+    NoLog,
+    /// The folder for what jobs print isn't there.
+    NoOutput,
+    /// Memory ran out.
+    NoMemory,
+}
+
+impl From<AllocError> for Rejection {
+    fn from(_error: AllocError) -> Rejection {
+        Rejection::NoMemory
+    }
+}
+
+impl Rejection {
+    /// The status of `reload` then.
+    pub(crate) fn status(&self) -> Status
+        ensures { status_of result ≡ rejected_status self.now }
+    {
+        match self {
+            Rejection::Answered(response) => response.status(),
+            Rejection::StandardInput => Status::DeviceFailed,
+            Rejection::NoFile => Status::DeviceFailed,
+            Rejection::NoLog => Status::DeviceFailed,
+            Rejection::NoOutput => Status::DeviceFailed,
+            Rejection::NoMemory => Status::NoMemory,
+        }
+    }
+
+    /// What is told then, one text behind another.
+    pub(crate) fn texts(&self) -> (&[u8], &[u8])
+        ensures { result.0.now ++ result.1.now ≡ rejected_text self.now }
+    {
+        match self {
+            Rejection::Answered(response) => (response.err(), response.out()),
+            Rejection::StandardInput => {
+                (
+                    b"cronsafe: can't read standard input again\n".as_slice(),
+                    b"".as_slice(),
+                )
+            }
+            Rejection::NoFile => {
+                (
+                    b"cronsafe: can't read a pipe, a device or a folder again\n".as_slice(),
+                    b"".as_slice(),
+                )
+            }
+            Rejection::NoLog => (
+                b"cronsafe: can't write the log\n".as_slice(),
+                b"".as_slice(),
+            ),
+            Rejection::NoOutput => (
+                b"cronsafe: no folder for the output of jobs\n".as_slice(),
+                b"".as_slice(),
+            ),
+            Rejection::NoMemory => (b"cronsafe: out of memory\n".as_slice(), b"".as_slice()),
+        }
+    }
+}
+
+/// Whether a file of a daemon is standard input, which can be read once.
+fn reads_standard(words: &RunWords<'_>) -> bool {
+    let files = &words.check;
+    [files.table, files.declarations, files.certificate].contains(&"-")
+        || files.anacrontab == Some("-")
+}
+
+/// Whether what is at a path is no file. A pipe would hold the daemon up.
+fn is_no_file<R: Files>(rt: &R, path: &str) -> bool {
+    match fs::metadata(rt, path) {
+        Ok(found) => !found.is_file(),
+        Err(_) => false,
+    }
+}
+
+/// Whether a daemon's files aren't all files, as far as they are there.
+fn has_no_files<R: Files>(rt: &R, words: &RunWords<'_>) -> bool {
+    let files = &words.check;
+    is_no_file(rt, files.table)
+        || is_no_file(rt, files.declarations)
+        || is_no_file(rt, files.certificate)
+        || match files.anacrontab {
+            Some(path) => is_no_file(rt, path),
+            None => false,
+        }
+}
+
+/// Opens a log, at whose end is written.
+pub(crate) fn open_log<R: Files>(rt: &R, path: &str) -> io::Result<R::File> {
+    OpenOptions::new().append(true).create(true).open(rt, path)
+}
+
+/// Whether the log can be opened, if it is a file.
+fn has_log<R: Files>(rt: &R, log: Option<&str>) -> bool {
+    match log {
+        None | Some("-") => true,
+        Some(path) => open_log(rt, path).is_ok(),
+    }
+}
+
+/// Whether the folder for what jobs print is there, if there is to be one.
+pub(crate) fn has_output<R: Files>(rt: &R, output: Option<&str>) -> bool {
+    let Some(path) = output else {
+        return true;
+    };
+    match fs::metadata(rt, path) {
+        Ok(found) => found.is_dir(),
+        Err(_) => false,
+    }
+}
+
+/// The plan that was checked, unless it was gathered, and what is to be warned of.
+fn accept(
+    alloc: Global,
+    checked: Checked,
+    warnings: Bytes,
+    digests: Digests,
+) -> Result<Accepted, Rejection>
+    ensures { IfOk result (λ accepted. (accepted.checked ≡ checked)
+        × (accepted.warnings ≡ warnings ++ plan_notes (plan_in checked))
+        × (accepted.digests ≡ digests)) }
+{
+    if is_gathered(checked.plan().crontab().settings()) {
+        let fault = b"crontab: GatheredTable: run can't start commands as other users".as_slice();
+        let told = Response::fault(alloc, Status::BadInput, b"".as_slice(), fault)?;
+        return Err(Rejection::Answered(told));
+    }
+    let notes = plan_notes(alloc, checked.plan())?;
+    match text_behind(warnings, notes.as_slice()) {
+        Ok(warnings) => Ok(Accepted {
+            checked,
+            warnings,
+            digests,
+        }),
+        Err(_) => Err(Rejection::NoMemory),
+    }
+}
+
+/// What the checker rules of a plan and a certificate.
+fn rule(alloc: Global, read: Read) -> Result<Accepted, Rejection>
+    ensures { IfOk result (λ accepted. IsTaken read.plan (content read.certificate) read.digests
+        read.warnings accepted.checked accepted.digests accepted.warnings) }
+{
+    let Read {
+        plan,
+        certificate,
+        warnings,
+        digests,
+    } = read;
+    match check(alloc, &plan, certificate) {
+        Ok(checked) => accept(alloc, checked, warnings, digests),
+        Err(CheckError::Fault(fault)) => {
+            let mut text = fault_text(alloc, &plan, &fault)?.into_vec();
+            text.extend_from_slice(b"\n")?;
+            Err(Rejection::Answered(Response::refused(text, Bytes::new(alloc))))
+        }
+        Err(CheckError::OutOfMemory) => Err(Rejection::NoMemory),
+    }
+}
+
+/// What files hold: a plan and a certificate, what is to be warned of, and the SHA-256 of the files.
+#[derive(Drop)]
+struct Read {
+    plan: Plan,
+    certificate: Certificate,
+    warnings: Bytes,
+    digests: Digests,
+}
+
+/// Reads a plan and a certificate.
+fn read_files<'a, R: Files + Input>(
+    rt: &R,
+    alloc: Global,
+    files: &CheckWords<'a>,
+) -> Result<Read, Fault<'a>> {
+    let mut inputs = Machine::new(rt);
+    let (tables, text) = read_tables_and_text(alloc, &mut inputs, files.table, files.anacrontab)?;
+    let warnings = warnings(alloc, &tables.0, &tables.1)?;
+    let (table, jobs) = tables;
+    let read = read_places(alloc, text.as_slice(), &table)?;
+    let places = read.as_slice();
+    let path = files.declarations;
+    let (plan, terms) = placed_plan_and_text(alloc, &mut inputs, path, table, jobs, places)?;
+    let (certificate, digest) = certificate_from(alloc, &mut inputs, files.certificate)?;
+    Ok(Read {
+        plan,
+        certificate,
+        warnings,
+        digests: Digests::of(text.as_slice(), terms.as_slice(), digest),
+    })
+}
+
+/// Reads the files of these words anew, and checks them, with one thread.
+pub(crate) fn read_anew<R: Files + Input>(
+    rt: &R,
+    alloc: Global,
+    words: &RunWords<'_>,
+) -> Result<Accepted, Rejection> {
+    if reads_standard(words) {
+        return Err(Rejection::StandardInput);
+    }
+    if has_no_files(rt, words) {
+        return Err(Rejection::NoFile);
+    }
+    if !has_log(rt, words.log) {
+        return Err(Rejection::NoLog);
+    }
+    if !has_output(rt, words.output) {
+        return Err(Rejection::NoOutput);
+    }
+    match read_files(rt, alloc, &words.check) {
+        Ok(read) => rule(alloc, read),
+        Err(fault) => Err(Rejection::Answered(fault.response(alloc, b"".as_slice())?)),
+    }
+}
+
+impl Accepted {
+    /// What is to be warned of, and behind it the notes on the plan.
+    pub(crate) fn warnings(&self) -> &[u8]
+        ensures { result.now ≡ self.now.warnings }
+    {
+        self.warnings.as_slice()
+    }
+
+    /// What these words of `run` order of it.
+    pub(crate) fn order<'a>(self, words: RunWords<'a>) -> Order<'a>
+        ensures of { IsOrderOf (asked_run words.entry) result }
+        ensures taken { (result.checked ≡ self.checked) × (result.warnings ≡ self.warnings)
+            × (result.digests ≡ self.digests) }
+    {
+        self.checked.is_safe();
+        Order {
+            checked: self.checked,
+            warnings: self.warnings,
+            words,
+            digests: self.digests,
+        }
+    }
+}

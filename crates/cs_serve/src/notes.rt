@@ -1,0 +1,122 @@
+//! What a daemon tells of the jobs of its plan.
+ghost use Rattle.std.specs.Prelude.{◌≡◌, ◌<◌, ◌++◌, IfOk, OnOk, drop, length, map, option_and_then, slice_get};
+ghost use Rattle.cs_decl.specs.Plan.{as_plan};
+ghost use Rattle.cs_history.specs.Lists.{below};
+ghost use Rattle.cs_history.specs.Plan.{rivals, takes_lock};
+ghost use Rattle.cs_serve.specs.Notes.{may_meet, note, peer, peers, schedule_in};
+
+use cs_civil::Bytes;
+use cs_crontab::When;
+use cs_daemon::{push_job_front, push_job_name};
+use cs_decl::{Job, Plan};
+use cs_machine::JobNote;
+use cs_schedule::Schedule;
+use std::alloc::{AllocError, Global};
+
+/// Whether runs of a job take their group's lock.
+fn takes_lock(plan: &Plan, number: usize) -> bool
+    requires { number < length plan.now.jobs }
+    ensures { result ≡ takes_lock (as_plan plan.now) number }
+{
+    plan.jobs()[number].mode().takes_lock()
+}
+
+/// Whether two jobs belong to one exclusive group.
+fn are_rivals(plan: &Plan, number: usize, other: usize) -> bool
+    requires first { number < length plan.now.jobs }
+    requires second { other < length plan.now.jobs }
+    ensures { result ≡ rivals (as_plan plan.now) number other }
+{
+    let jobs = plan.jobs();
+    plan.is_exclusive(jobs[number].group()) && jobs[other].group() == jobs[number].group()
+}
+
+/// Whether a run of one job may meet a late run of another.
+fn may_meet(plan: &Plan, late: usize, other: usize) -> bool
+    requires first { late < length plan.now.jobs }
+    requires second { other < length plan.now.jobs }
+    ensures { result ≡ may_meet (as_plan plan.now) late other }
+{
+    are_rivals(plan, late, other)
+        && (late < plan.crons() || other < plan.crons())
+        && !(takes_lock(plan, late) && takes_lock(plan, other))
+}
+
+/// Adds the name of a job, behind a comma, if its runs may meet a late run of the other.
+fn push_peer(
+    alloc: Global,
+    text: &mut Vec<u8>,
+    plan: &Plan,
+    late: usize,
+    other: usize,
+) -> Result<(), AllocError>
+    requires first { late < length plan.now.jobs }
+    requires second { other < length plan.now.jobs }
+    ensures { OnOk result (text.new.items ≡ text.old.items ++ peer plan.now late other) }
+{
+    if !may_meet(plan, late, other) {
+        return Ok(());
+    }
+    text.extend_from_slice(b", ")?;
+    push_job_name(alloc, text, plan, other)
+}
+
+/// What stands behind the first comma and its blank; nothing of an empty text.
+fn behind_comma(text: &[u8]) -> &[u8]
+    ensures { result.now ≡ drop 2 text.now }
+{
+    match text.split_at_checked(2) {
+        Some((_, names)) => names,
+        None => b"".as_slice(),
+    }
+}
+
+/// The names of the jobs whose runs may meet a late run of this one.
+#[tactic(auto, using(crate::proofs::Peers::more))]
+fn peers(alloc: Global, plan: &Plan, late: usize) -> Result<Bytes, AllocError>
+    requires { late < length plan.now.jobs }
+    ensures { IfOk result (λ text. text ≡ peers plan.now late) }
+{
+    let mut text = Vec::new(alloc);
+    for other in 0..plan.jobs().len() {
+        push_peer(alloc, &mut text, plan, late, other)?;
+    }
+    Bytes::from_slice(alloc, behind_comma(text.as_slice()))
+}
+
+/// The schedule of a job of the crontab.
+fn schedule_of(plan: &Plan, number: usize) -> Option<Schedule>
+    ensures { result ≡ option_and_then schedule_in (slice_get plan.now.crontab.lines number) }
+{
+    match plan.crontab().lines().get(number)?.when() {
+        When::At(schedule) => Some(schedule.copy()),
+        When::Reboot => None,
+    }
+}
+
+fn note(alloc: Global, plan: &Plan, number: usize) -> Result<JobNote, AllocError>
+    requires { number < length plan.now.jobs }
+    ensures { IfOk result (λ n. n ≡ note plan.now number) }
+{
+    let mut front = Vec::new(alloc);
+    push_job_front(alloc, &mut front, plan, number)?;
+    Ok(JobNote {
+        front: Bytes::from_vec(front),
+        max: u64::from(plan.jobs()[number].max()),
+        when: schedule_of(plan, number),
+        peers: peers(alloc, plan, number)?,
+    })
+}
+
+/// What a daemon tells of each job of its plan, in their order. The only error is out of memory.
+#[tactic(auto, using(crate::proofs::Peers::more_notes))]
+pub(crate) fn notes_of(alloc: Global, plan: &Plan) -> Result<Vec<JobNote>, AllocError>
+    ensures { IfOk result
+        (λ notes. notes.items ≡ map (note plan.now) (below (length plan.now.jobs))) }
+{
+    let mut notes = Vec::new(alloc);
+    for number in 0..plan.jobs().len() {
+        notes.push(note(alloc, plan, number)?)?;
+    }
+    Ok(notes)
+}

@@ -1,0 +1,61 @@
+//! Why an order isn't served.
+ghost use Rattle.std.specs.Prelude.{◌≡◌};
+ghost use Rattle.cs_serve.specs.Serve.{in_front, named};
+
+use cs_cli::Order;
+use cs_machine::LockFault;
+
+/// Why an order isn't served.
+#[derive(Clone, Copy)]
+pub(crate) enum Obstacle {
+    /// There is no such folder of stamps.
+    NoFolder,
+    /// Another daemon has locked it.
+    InUse,
+    /// It can't be locked.
+    Unlocked,
+    /// The files by which an earlier daemon was asked can't be removed from it.
+    RequestStays,
+    /// The user of this process has no home folder.
+    NoHome,
+    /// The log can't be opened.
+    NoLog,
+    /// There is no such folder for what jobs print.
+    NoOutput,
+}
+
+impl Obstacle {
+    pub(crate) fn of(fault: LockFault) -> Obstacle {
+        match fault {
+            LockFault::InUse => Obstacle::InUse,
+            LockFault::Failed => Obstacle::Unlocked,
+        }
+    }
+
+    /// What is said of it, in front of the path.
+    pub(crate) fn text(self) -> &'static str
+        ensures { result.now ≡ in_front self }
+    {
+        match self {
+            Obstacle::NoFolder => "no folder ",
+            Obstacle::InUse => "another daemon uses ",
+            Obstacle::Unlocked => "can't lock ",
+            Obstacle::RequestStays => "can't remove old requests from ",
+            Obstacle::NoHome => "no home folder, the user of this process isn't in ",
+            Obstacle::NoLog => "can't write ",
+            Obstacle::NoOutput => "no folder ",
+        }
+    }
+
+    /// The path that it is about.
+    pub(crate) fn path<'a>(self, order: &Order<'a>) -> &'a str
+        ensures { result.now ≡ named self order.now }
+    {
+        match self {
+            Obstacle::NoLog => order.words.log.unwrap_or(""),
+            Obstacle::NoOutput => order.words.output.unwrap_or(""),
+            Obstacle::NoHome => "/etc/passwd",
+            _ => order.words.stamps,
+        }
+    }
+}

@@ -1,0 +1,487 @@
+//! Runs of checked tables on this machine.
+ghost use Rattle.std.specs.Prelude.{◌≡◌, IfOk, IfSome, vec_len};
+ghost use Rattle.cs_check.specs.Checked.{plan_in};
+ghost use Rattle.cs_files.specs.Response.{status_of};
+ghost use Rattle.cs_serve.specs.Ending.{sink};
+ghost use Rattle.cs_args.specs.Asked.{asked_run};
+ghost use Rattle.cs_serve.specs.Serve.{IsFollowed, IsNextOf, IsServedBehind, IsServedBy, Refuses};
+ghost use Rattle.cs_serve.specs.Serve.{RunsOutBehind, Serves, ServesOne, cause_status, farewell};
+
+use crate::anew::{Accepted, has_output, open_log};
+use crate::diary::{Hand, closing, gap_line, setup_of};
+use crate::ending::{finish, run_out, tell};
+use crate::hooks::{Streams, call_hooks};
+use crate::notes::notes_of;
+use crate::obstacle::Obstacle;
+use crate::watch::{DaemonFiles, Idle, Watch};
+use cs_args::RunWords;
+use cs_check::Checked;
+use cs_cli::Order;
+use cs_daemon::{Cause, run_daemon};
+use cs_device::{Gate, Point, Runner, StampStore, Tick};
+use cs_files::Status;
+use cs_history::Run;
+use cs_io::Output;
+use cs_machine::{
+    FolderLock, Home, JobNote, LockFault, MachineClock, RunLog, RunnerSetup, RunnerWords,
+    StampsFolder, runners_by,
+};
+use std::alloc::{AllocError, Global};
+use std::fs::File;
+use std::io::Write;
+use std::process::Processes;
+use std::rt::{Clock, Files};
+use std::sync::{Mutex, Wait};
+use std::thread;
+use std::thread::Threads;
+use std::time::Duration;
+
+/// A gate at which no run is held.
+#[derive(Drop)]
+struct OpenGate;
+
+impl Gate for OpenGate {
+    fn pass(&self, _run: Run, _point: Point) {}
+}
+
+/// The status of a run that ended so.
+pub fn status_for(cause: Cause) -> Status
+    ensures { status_of result ≡ cause_status cause }
+{
+    match cause {
+        Cause::Stopped => Status::Done,
+        Cause::LastMinute => Status::Done,
+        Cause::ClockBack => Status::DeviceFailed,
+        Cause::ClockFailed => Status::DeviceFailed,
+        Cause::HistoryFull => Status::Refused,
+        Cause::NoMemory => Status::NoMemory,
+    }
+}
+
+/// What is told of a run that ended so.
+pub fn farewell(cause: Cause) -> &'static str
+    ensures { result.now ≡ farewell cause }
+{
+    match cause {
+        Cause::Stopped => "",
+        Cause::LastMinute => "cronsafe: the last minute of 9999 has come\n",
+        Cause::ClockBack => "cronsafe: the clock went back, or is before 1970-01-04\n",
+        Cause::ClockFailed => "cronsafe: can't read the clock\n",
+        Cause::HistoryFull => "cronsafe: the history is full\n",
+        Cause::NoMemory => "cronsafe: out of memory\n",
+    }
+}
+
+/// Tells why an order isn't served, behind what is to be warned of.
+fn refuse<O: Output, E: Output>(
+    alloc: Global,
+    order: &Order<'_>,
+    obstacle: Obstacle,
+    out: &mut O,
+    err: &mut E,
+) -> Status
+    ensures { Refuses obstacle order.now
+        (sink (O.contents out.old) (O.failed out.old))
+        (sink (O.contents out.new) (O.failed out.new))
+        (sink (E.contents err.old) (E.failed err.old))
+        (sink (E.contents err.new) (E.failed err.new))
+        (status_of result) }
+{
+    match order.without(alloc, obstacle.text(), obstacle.path(order)) {
+        Ok(response) => finish(&response, out, err),
+        Err(AllocError) => run_out_unserved(order, err),
+    }
+}
+
+/// Tells that memory ran out before anything was run, behind what is to be warned of.
+fn run_out_unserved<E: Output>(order: &Order<'_>, err: &mut E) -> Status
+    ensures { RunsOutBehind order.now
+        (sink (E.contents err.old) (E.failed err.old))
+        (sink (E.contents err.new) (E.failed err.new))
+        (status_of result) }
+{
+    tell(err, order.warnings.as_slice());
+    run_out(err)
+}
+
+/// Runs a checked plan with these devices until it ends, and gives the status and the cause: the events
+/// are written to the log, why it ended to standard error.
+fn serve_by<
+    R: Threads + Wait + Sync,
+    C: cs_device::Clock,
+    W: Runner + Send + Drop,
+    S: StampStore,
+    O: Write + Send,
+    E: Output,
+>(
+    rt: &R,
+    alloc: Global,
+    checked: Checked,
+    clock: &mut C,
+    runners: Vec<W>,
+    store: &mut S,
+    log: &mut O,
+    err: &mut E,
+) -> (Status, Cause)
+    requires { vec_len runners ≡ (plan_in checked).capacity }
+    ensures served { IsServedBy checked
+        (record {
+          last = C.last clock.old;
+          top = C.top clock.old;
+          risen = C.risen clock.old;
+          clock_failures = C.failures clock.old;
+          stamp_failures = S.failures store.old;
+        })
+        (record {
+          last = C.last clock.new;
+          top = C.top clock.new;
+          risen = C.risen clock.new;
+          clock_failures = C.failures clock.new;
+          stamp_failures = S.failures store.new;
+        })
+        (sink (E.contents err.old) (E.failed err.old))
+        (sink (E.contents err.new) (E.failed err.new))
+        (status_of result.0) }
+    ensures cause { status_of result.0 ≡ cause_status result.1 }
+{
+    let end = run_daemon(rt, alloc, checked, clock, runners, &OpenGate, store, log);
+    tell(err, farewell(end.cause).as_bytes());
+    (status_for(end.cause), end.cause)
+}
+
+/// What is served behind an order, and the clock that goes on.
+#[derive(Drop)]
+struct Next<'a, R> {
+    order: Order<'a>,
+    clock: MachineClock<'a, R, Idle>,
+}
+
+/// Lets a clock go on to the minute that it is now, which is that in which the next plan opens, and
+/// notes which minutes belong to no plan.
+fn note_gap<R: Files + Clock + Wait, W: Write>(
+    alloc: Global,
+    hand: &mut Hand<'_, '_, R, W>,
+    clock: &mut MachineClock<'_, R, Idle>,
+) {
+    let Tick::At(latest) = cs_device::Clock::tick(clock, None) else {
+        return;
+    };
+    let Tick::At(now) = cs_device::Clock::tick(clock, Some(latest)) else {
+        return;
+    };
+    if latest != now {
+        if let Ok(line) = gap_line(alloc, latest, now) {
+            hand.note(line.as_slice());
+        }
+    }
+}
+
+/// What is served behind these words, if a plan was accepted and the daemon has stopped for it.
+fn next_of<'a, R: Clock>(
+    cause: Cause,
+    accepted: Option<Accepted>,
+    words: &RunWords<'a>,
+    clock: MachineClock<'a, R, Idle>,
+) -> Option<Next<'a, R>>
+    ensures { IfSome result (λ next. IsNextOf cause (asked_run words.entry.now) next.order) }
+{
+    match (cause, accepted) {
+        (Cause::Stopped, Some(accepted)) => {
+            let order = accepted.order(*words);
+            Some(Next { order, clock })
+        }
+        _ => None,
+    }
+}
+
+/// Warns, and runs what is ordered on the machine's clock until it ends, and answers with what is
+/// served then. Each line of its log has its time if that is asked for.
+fn serve_on<
+    'x,
+    'w,
+    R: Threads + Wait + Sync + Files + Input + Clock + Processes,
+    W: Runner + Send + Drop,
+    L: Write + Send,
+    E: Output,
+>(
+    rt: &'x R,
+    alloc: Global,
+    order: Order<'x>,
+    words: RunWords<'w>,
+    clock: MachineClock<'w, R, Idle>,
+    jobs: &'x [JobNote],
+    streams: Streams<'x>,
+    files: &'x DaemonFiles<'x>,
+    stamps: &mut StampsFolder<'_, '_, R>,
+    runners: Vec<W>,
+    log: &mut L,
+    is_timed: bool,
+    err: &mut E,
+) -> (Status, Option<Next<'w, R>>)
+    requires words { asked_run words ≡ asked_run order.words }
+    requires runners { vec_len runners ≡ (plan_in order.checked).capacity }
+    requires fresh { stamps.old.failures ≡ 0 }
+    ensures served { IsServedBehind order.entry
+        (sink (E.contents err.old) (E.failed err.old))
+        (sink (E.contents err.new) (E.failed err.new))
+        (status_of result.0) }
+    ensures next { IfSome result.1 (λ next. IsFollowed order.entry
+        (sink (E.contents err.old) (E.failed err.old))
+        (sink (E.contents err.new) (E.failed err.new))
+        next.order) }
+{
+    tell(err, order.warnings.as_slice());
+    let setup = setup_of(&order, jobs);
+    let log = Mutex::new(RunLog::new(rt, alloc, &mut *log, is_timed, setup));
+    let mut hand = Hand::new(rt, &log, &files.state, streams.remarks);
+    hand.note_opening(alloc, &order);
+    hand.keep_state();
+    let watch = Watch::new(
+        rt,
+        alloc,
+        files,
+        words,
+        streams,
+        Hand::new(rt, &log, &files.state, streams.remarks),
+    );
+    let (mut clock, _) = clock.resumed(order.checked.plan().offset(), watch);
+    let (status, cause) = serve_by(
+        rt,
+        alloc,
+        order.checked,
+        &mut clock,
+        runners,
+        stamps,
+        &mut hand,
+        err,
+    );
+    call_hooks(rt, alloc, &words, streams, &mut hand);
+    hand.note(closing(cause));
+    let offset = clock.offset();
+    let (mut clock, watch) = clock.resumed(offset, Idle);
+    let accepted = watch.into_accepted();
+    if cause == Cause::Stopped && accepted.is_some() {
+        note_gap(alloc, &mut hand, &mut clock);
+    }
+    (status, next_of(cause, accepted, &words, clock))
+}
+
+/// How many files of each job are kept in the folder for what jobs print, where that isn't said.
+const KEPT: u64 = 30;
+
+/// What the runners are made with, by the words. A log without times doesn't tell signals.
+fn runner_words<'a>(words: &RunWords<'a>) -> RunnerWords<'a> {
+    RunnerWords {
+        has_home: words.home,
+        tells_signals: words.log.is_some(),
+        output: words.output,
+        keep: words.keep.unwrap_or(KEPT),
+    }
+}
+
+/// Runs one order until it ends. Without `--log` the log is written to standard output. A runner is
+/// made for each unit of the plan's capacity.
+fn serve_one<
+    'x,
+    R: Threads + Wait + Sync + Files<File = File> + Input + Clock + Processes,
+    O: Output + Write + Send,
+    E: Output,
+    W: Runner + Send + Drop,
+    F: Fn(RunnerSetup) -> W + Drop,
+>(
+    rt: &'x R,
+    alloc: Global,
+    order: Order<'x>,
+    clock: MachineClock<'x, R, Idle>,
+    streams: Streams<'x>,
+    files: &DaemonFiles<'x>,
+    stamps: &mut StampsFolder<'_, '_, R>,
+    out: &mut O,
+    err: &mut E,
+    new_runner: &F,
+) -> (Status, Option<Next<'x, R>>)
+    requires { F.IsAlwaysCallable new_runner.now }
+    ensures comes { ServesOne order.entry
+        (sink (O.Output.contents out.old) (O.Output.failed out.old))
+        (sink (O.Output.contents out.new) (O.Output.failed out.new))
+        (sink (E.contents err.old) (E.failed err.old))
+        (sink (E.contents err.new) (E.failed err.new))
+        (status_of result.0) }
+    ensures next { IfSome result.1 (λ next. IsFollowed order.entry
+        (sink (E.contents err.old) (E.failed err.old))
+        (sink (E.contents err.new) (E.failed err.new))
+        next.order) }
+{
+    stamps.begin_anew();
+    let Ok(jobs) = notes_of(alloc, order.checked.plan()) else {
+        return (run_out_unserved(&order, err), None);
+    };
+    let words = order.words;
+    let number = order.checked.plan().capacity();
+    let Ok(runners) = runners_by(alloc, number, runner_words(&words), new_runner) else {
+        return (run_out_unserved(&order, err), None);
+    };
+    let jobs = jobs.as_slice();
+    match words.log {
+        None => {
+            serve_on(
+                rt, alloc, order, words, clock, jobs, streams, files, stamps, runners, out, false,
+                err,
+            )
+        }
+        Some("-") => {
+            serve_on(
+                rt, alloc, order, words, clock, jobs, streams, files, stamps, runners, out, true,
+                err,
+            )
+        }
+        Some(path) => match open_log(rt, path) {
+            Ok(mut log) => {
+                let log = &mut log;
+                serve_on(
+                    rt, alloc, order, words, clock, jobs, streams, files, stamps, runners, log,
+                    true, err,
+                )
+            }
+            Err(_) => (refuse(alloc, &order, Obstacle::NoLog, out, err), None),
+        },
+    }
+}
+
+/// Runs an order until it ends, and then each that comes behind it, unless the daemon is asked to
+/// stop by then.
+fn serve_in_turn<
+    'x,
+    R: Threads + Wait + Sync + Files<File = File> + Input + Clock + Processes,
+    O: Output + Write + Send,
+    E: Output,
+    W: Runner + Send + Drop,
+    F: Fn(RunnerSetup) -> W + Drop,
+>(
+    rt: &'x R,
+    alloc: Global,
+    order: Order<'x>,
+    streams: Streams<'x>,
+    files: &DaemonFiles<'x>,
+    stamps: &mut StampsFolder<'_, '_, R>,
+    out: &mut O,
+    err: &mut E,
+    new_runner: &F,
+) -> Status
+    requires { F.IsAlwaysCallable new_runner.now }
+    ensures { Serves order.entry
+        (sink (O.Output.contents out.old) (O.Output.failed out.old))
+        (sink (O.Output.contents out.new) (O.Output.failed out.new))
+        (sink (E.contents err.old) (E.failed err.old))
+        (sink (E.contents err.new) (E.failed err.new))
+        (status_of result) }
+{
+    let offset = order.checked.plan().offset();
+    let mut clock = MachineClock::new(rt, offset, order.words.minutes, Idle);
+    let mut order = order;
+    for _ in rt.forever() {
+        let (status, next) = serve_one(
+            rt, alloc, order, clock, streams, files, stamps, out, err, new_runner,
+        );
+        let Some(next) = next else {
+            return status;
+        };
+        if files.stop.is_there(rt) {
+            return status;
+        }
+        order = next.order;
+        clock = next.clock;
+    }
+    unreachable!()
+}
+
+/// For how many milliseconds a lock is waited for that isn't a daemon's.
+const MOMENT: u64 = 300;
+
+/// Locks a folder of stamps. Who has it locked for a moment alone, to look whether a daemon has, is
+/// waited for.
+fn lock<R: Files<File = File> + Clock>(rt: &R, folder: &str) -> Result<FolderLock, LockFault> {
+    match FolderLock::take(rt, folder) {
+        Err(LockFault::InUse) => {
+            thread::sleep(rt, Duration::from_millis(MOMENT));
+            FolderLock::take(rt, folder)
+        }
+        taken => taken,
+    }
+}
+
+/// Opens and locks a folder of stamps, and removes what an earlier daemon there was asked.
+fn enter<'r, 'f, R: Files<File = File> + Clock>(
+    rt: &'r R,
+    alloc: Global,
+    folder: &'f str,
+    files: &DaemonFiles<'_>,
+) -> Result<(StampsFolder<'r, 'f, R>, FolderLock), Obstacle>
+    ensures { IfOk result (λ entered. entered.0.failures ≡ 0) }
+{
+    let Ok(stamps) = StampsFolder::open(rt, alloc, folder) else {
+        return Err(Obstacle::NoFolder);
+    };
+    let lock = match lock(rt, folder) {
+        Ok(lock) => lock,
+        Err(fault) => return Err(Obstacle::of(fault)),
+    };
+    if files.clear(rt).is_err() {
+        return Err(Obstacle::RequestStays);
+    }
+    Ok((stamps, lock))
+}
+
+/// Runs what is ordered until it ends, and gives the status: nothing is run unless its folder of
+/// stamps is there and can be locked for as long as it runs. Where the daemon is asked to reload, and
+/// accepts what its files hold then, that is run behind it. What is to be warned of and why it ended
+/// goes to standard error.
+pub fn serve<
+    R: Threads + Wait + Sync + Files<File = File> + Input + Clock + Processes,
+    O: Output + Write + Send,
+    E: Output,
+    W: Runner + Send + Drop,
+    F: Fn(RunnerSetup) -> W + Drop,
+>(
+    rt: &R,
+    alloc: Global,
+    order: Order<'_>,
+    streams: Streams<'_>,
+    out: &mut O,
+    err: &mut E,
+    new_runner: F,
+) -> Status
+    requires { F.IsAlwaysCallable new_runner }
+    ensures { Serves order.entry
+        (sink (O.Output.contents out.old) (O.Output.failed out.old))
+        (sink (O.Output.contents out.new) (O.Output.failed out.new))
+        (sink (E.contents err.old) (E.failed err.old))
+        (sink (E.contents err.new) (E.failed err.new))
+        (status_of result) }
+{
+    let Ok(files) = DaemonFiles::of(alloc, order.words.stamps) else {
+        return run_out_unserved(&order, err);
+    };
+    if order.words.home && Home::of_process(rt, alloc).is_none() {
+        return refuse(alloc, &order, Obstacle::NoHome, out, err);
+    }
+    if !has_output(rt, order.words.output) {
+        return refuse(alloc, &order, Obstacle::NoOutput, out, err);
+    }
+    match enter(rt, alloc, order.words.stamps, &files) {
+        Ok((mut stamps, _lock)) => {
+            serve_in_turn(
+                rt,
+                alloc,
+                order,
+                streams,
+                &files,
+                &mut stamps,
+                out,
+                err,
+                &new_runner,
+            )
+        }
+        Err(obstacle) => refuse(alloc, &order, obstacle, out, err),
+    }
+}

@@ -2,20 +2,18 @@
 use Rattle.std.specs.Prelude.{◌⊎◌, ℕ, List, Option}
 use Rattle.clap.specs.Words.{Text}
 use Rattle.cs_io.specs.Files.{Failed, Reads}
-use Rattle.cs_io.specs.Folders.{Tree}
-use Rattle.cs_cli.specs.Answer.{IfEnds}
-use Rattle.cs_cli.specs.declared.answer.Answer.{Answer}
-use Rattle.cs_cli.specs.declared.answer.Answer.TheVariants as answers
-use Rattle.cs_files.specs.RanOut.{RanOutOn}
+use Rattle.cs_ruling.specs.Answer.{IfEnds}
+use Rattle.cs_ruling.specs.declared.answer.Answer.{Answer}
+use Rattle.cs_ruling.specs.declared.answer.Answer.TheVariants as answers
 use Rattle.cs_files.specs.Trouble.{IsHonest}
 use Rattle.cronsafe.specs.Call.{Answers}
-use Rattle.cronsafe.specs.declared.now.Now.{Now}
-use Rattle.cs_serve.specs.Ending.{Ends, RunsOutBehind, Sink}
+use Rattle.cronsafe.specs.Turn.{RanOutOn}
+use Rattle.cs_files.specs.Ending.{Ends, RunsOutBehind, Sink}
 use Rattle.cs_args.specs.Asked.{asked_stop}
-use Rattle.cs_serve.specs.Reloading.{Reloads}
+use Rattle.cs_ask.specs.Reloading.{Reloads}
 use Rattle.cs_serve.specs.Serve.{Serves}
-use Rattle.cs_serve.specs.Stopping.{Stops}
-use Rattle.cs_serve.specs.Telling.{Tells}
+use Rattle.cs_ask.specs.Stopping.{Stops}
+use Rattle.cs_ask.specs.Telling.{Tells}
 
 -- an ending is carried out, or an order, or a daemon is stopped or reads its files anew, or it's told
 -- what it does
@@ -32,19 +30,19 @@ CarriesOut (answers.Tells words) out-old out-new err-old err-new status =
     Tells words.stamps.now out-old out-new err-old err-new status
 
 -- the words are answered so, and the answer is carried out
-abbrev pub Carries : Now → List Text → Tree → (List ℕ → Option (List ℕ)) → Failed → Failed → Reads
+abbrev pub Carries : List Text → (List ℕ → Option (List ℕ)) → Failed → Failed → Reads
     → Answer → Sink → Sink → Sink → Sink → ℕ → Type 0
-Carries now words tree files before failed reads answer out-old out-new err-old err-new status =
-    Answers now words tree files before failed answer
+Carries words files before failed reads answer out-old out-new err-old err-new status =
+    Answers words files before failed answer
     × IfEnds (IsHonest failed reads) answer
     × CarriesOut answer out-old out-new err-old err-new status
 
 -- the words are answered, or memory ran out, behind what is to be warned of by then
-abbrev pub Runs : Now → List Text → Tree → (List ℕ → Option (List ℕ)) → Failed → Failed → Reads
+abbrev pub Runs : List Text → (List ℕ → Option (List ℕ)) → Failed → Failed → Reads
     → Reads → Sink → Sink → Sink → Sink → ℕ → Type 0
-Runs now words tree files before failed reads-old reads-new out-old out-new err-old err-new status =
+Runs words files before failed reads-old reads-new out-old out-new err-old err-new status =
     ((answer : Answer)
-    × Carries now words tree files before failed reads-new answer out-old out-new err-old err-new
+    × Carries words files before failed reads-new answer out-old out-new err-old err-new
     status)
     ⊎ ((warnings : Option (List ℕ)) × RanOutOn words files before reads-old reads-new warnings
     × RunsOutBehind warnings out-old out-new err-old err-new status)

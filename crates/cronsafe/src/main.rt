@@ -1,18 +1,16 @@
 //! The program `cronsafe`, over its words, its inputs and two outputs, and over the machine.
 #![tactic(auto)]
 
-mod now;
 mod program;
 mod responding;
 mod run;
 
 use crate::program::run_program;
-use cs_io::Printer;
-use cs_machine::{Home, Remarks, RunnerSetup, ShellRunner, hold_streams};
+use cs_io::{Printer, hold_streams};
+use cs_machine::{Home, Remarks, RunnerSetup, ShellRunner};
 use cs_serve::Streams;
 use std::alloc::Global;
 use std::fs::File;
-use std::io::IsTerminal;
 use std::process::{ExitCode, Processes};
 use std::rt::Files;
 use std::sync::Wait;
@@ -49,7 +47,6 @@ impl<'x, R: Processes + Files<File = File> + Wait> Ground<'x, R> {
 fn main(rt: HostRuntime) -> ExitCode {
     // before anything else is opened
     let _held = hold_streams(&rt);
-    let is_watched = rt.stderr().is_terminal();
     let mut out = Printer::new(rt.stdout());
     let mut err = Printer::new(rt.stderr());
     let alloc = rt.alloc();
@@ -66,7 +63,6 @@ fn main(rt: HostRuntime) -> ExitCode {
     };
     run_program(
         &rt,
-        is_watched,
         streams,
         &mut out,
         &mut err,

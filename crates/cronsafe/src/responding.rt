@@ -2,39 +2,39 @@
 ghost use Rattle.std.specs.Prelude.{◌≡◌, [], IfErr, IfOk, map};
 ghost use Rattle.cs_io.specs.Files.{IsFresh};
 ghost use Rattle.cs_args.specs.Asked.{asking};
-ghost use Rattle.cs_args.specs.Version.{version_text};
-ghost use Rattle.cs_cli.specs.Answer.{IfEnds};
-ghost use Rattle.cs_files.specs.RanOut.{IsWarnedOf, RanOutOn};
-ghost use Rattle.cs_files.specs.Response.{done};
+ghost use Rattle.cs_ruling.specs.Answer.{IfEnds};
 ghost use Rattle.cs_files.specs.Trouble.{IsHonest};
-ghost use Rattle.cs_files.specs.Turn.{ReadsAsked, ReadsInTurn};
 ghost use Rattle.cronsafe.specs.Call.{Answers, AnswersAsked};
+ghost use Rattle.cronsafe.specs.Turn.{IsWarnedOf, RanOutOn, ReadsAsked, ReadsInTurn};
 
-use crate::now::Now;
-use cs_advise::{answer_advise, answer_room};
-use cs_args::{Request, UsageFault, parse_words, version_text};
+use cs_args::{Request, UsageFault, parse_words};
 use cs_civil::Bytes;
-use cs_cli::{Answer, answer_check, answer_judge, answer_make, answer_run};
+use cs_cli::{answer_judge, answer_make};
 use cs_files::{RanOut, Response};
-use cs_io::Folders;
-use cs_views::{
-    answer_chart, answer_day, answer_draft, answer_explain, answer_gather, answer_learn,
-    answer_lint, answer_replay,
-};
+use cs_io::Inputs;
+use cs_ruling::{Answer, answer_check, answer_run};
+use cs_show::{answer_day, answer_replay};
 use std::alloc::{AllocError, Global};
 use std::convert::AsStr;
 use std::thread::Threads;
 
+/// What is answered to a subcommand of the aids.
+fn elsewhere(alloc: Global) -> Result<Response, AllocError>
+    ensures { IfOk result (λ r. (r.status ≡ 4) × (r.out ≡ [])) }
+{
+    let text = b"cronsafe: the program cronsafe-aids answers this subcommand\n".as_slice();
+    Ok(Response::no_call(alloc, Vec::from_slice(alloc, text)?))
+}
+
 /// Answers what a call asks, or with what is to be run. The only error is want of memory.
-fn answer_asked<'a, R: Threads + Sync, I: Folders>(
+fn answer_asked<'a, R: Threads + Sync, I: Inputs>(
     rt: &R,
     alloc: Global,
     request: Request<'a>,
-    now: Now,
     inputs: &mut I,
 ) -> Result<Answer<'a>, RanOut>
     ensures value { IsFresh (I.whole inputs.old) (I.left inputs.old)
-        → IfOk result (AnswersAsked now (asking request.entry) I.tree
+        → IfOk result (AnswersAsked (asking request.entry)
         (I.whole inputs.old) (I.failed inputs.old) (I.failed inputs.new)) }
     ensures status { IfOk result
         (IfEnds (IsHonest (I.failed inputs.new) (I.reads inputs.new))) }
@@ -43,7 +43,6 @@ fn answer_asked<'a, R: Threads + Sync, I: Folders>(
         (I.failed inputs.old) (I.reads inputs.old) (I.reads inputs.new) e.warnings) }
     ensures turn { ReadsAsked (asking request.entry) (I.reads inputs.old) (I.reads inputs.new) }
 {
-    let Now { offset, instant } = now;
     match request {
         Request::Day(request) => Ok(Answer::Ends(answer_day(alloc, &request, inputs)?)),
         Request::Replay(request) => Ok(Answer::Ends(answer_replay(alloc, &request, inputs)?)),
@@ -54,37 +53,28 @@ fn answer_asked<'a, R: Threads + Sync, I: Folders>(
         Request::Status(words) => Ok(Answer::Tells(words)),
         Request::Judge(request) => Ok(Answer::Ends(answer_judge(rt, alloc, &request, inputs)?)),
         Request::Make(request) => Ok(Answer::Ends(answer_make(rt, alloc, &request, inputs)?)),
-        Request::Advise(request) => Ok(Answer::Ends(answer_advise(rt, alloc, &request, inputs)?)),
-        Request::Room(request) => Ok(Answer::Ends(answer_room(rt, alloc, &request, inputs)?)),
-        Request::Gather(request) => Ok(Answer::Ends(answer_gather(alloc, &request, inputs)?)),
-        Request::Draft(request) => Ok(Answer::Ends(answer_draft(alloc, &request, offset, inputs)?)),
-        Request::Learn(request) => Ok(Answer::Ends(answer_learn(alloc, &request, offset, inputs)?)),
-        Request::Lint(request) => Ok(Answer::Ends(answer_lint(alloc, &request, instant, inputs)?)),
-        Request::Chart(request) => Ok(Answer::Ends(answer_chart(alloc, &request, inputs)?)),
-        Request::Explain(name) => Ok(Answer::Ends(answer_explain(alloc, name)?)),
+        Request::Advise(_words) => Ok(Answer::Ends(elsewhere(alloc)?)),
+        Request::Room(_words) => Ok(Answer::Ends(elsewhere(alloc)?)),
+        Request::Gather(_words) => Ok(Answer::Ends(elsewhere(alloc)?)),
+        Request::Draft(_words) => Ok(Answer::Ends(elsewhere(alloc)?)),
+        Request::Learn(_words) => Ok(Answer::Ends(elsewhere(alloc)?)),
+        Request::Lint(_words) => Ok(Answer::Ends(elsewhere(alloc)?)),
+        Request::Chart(_words) => Ok(Answer::Ends(elsewhere(alloc)?)),
+        Request::Explain(_name) => Ok(Answer::Ends(elsewhere(alloc)?)),
     }
 }
 
-/// What is answered where the version is asked for.
-fn show_version(alloc: Global) -> Result<Response, AllocError>
-    ensures { IfOk result (λ r. r ≡ done version_text []) }
-{
-    let text = Vec::from_slice(alloc, version_text().as_bytes())?;
-    Ok(Response::done(text, Bytes::new(alloc)))
-}
-
-/// The answer to the words of a call, of which the first is the program's name, at that time. A
+/// The answer to the words of a call, of which the first is the program's name. A
 /// certificate is checked by the threads of `rt`. The only error is want of memory.
-pub(crate) fn respond<'a, R: Threads + Sync, S: AsStr, I: Folders>(
+pub(crate) fn respond<'a, R: Threads + Sync, S: AsStr, I: Inputs>(
     rt: &R,
     alloc: Global,
     words: &'a [S],
-    now: Now,
     inputs: &mut I,
 ) -> Result<Answer<'a>, RanOut>
     // Where each path of known bytes stands at its front.
     ensures value { IsFresh (I.whole inputs.old) (I.left inputs.old)
-        → IfOk result (Answers now (map S.text words.now) I.tree
+        → IfOk result (Answers (map S.text words.now)
         (I.whole inputs.old) (I.failed inputs.old) (I.failed inputs.new)) }
     ensures status { IfOk result
         (IfEnds (IsHonest (I.failed inputs.new) (I.reads inputs.new))) }
@@ -95,11 +85,11 @@ pub(crate) fn respond<'a, R: Threads + Sync, S: AsStr, I: Folders>(
         (I.reads inputs.old) (I.reads inputs.new) }
 {
     match parse_words(alloc, words) {
-        Ok(request) => answer_asked(rt, alloc, request, now, inputs),
+        Ok(request) => answer_asked(rt, alloc, request, inputs),
         Err(UsageFault::Help(text)) => {
             Ok(Answer::Ends(Response::done(text.into_bytes(), Bytes::new(alloc))))
         }
-        Err(UsageFault::Version) => Ok(Answer::Ends(show_version(alloc)?)),
+        Err(UsageFault::Version) => Ok(Answer::Ends(Response::version(alloc)?)),
         Err(UsageFault::NoCall(text)) => {
             Ok(Answer::Ends(Response::no_call(alloc, text.into_bytes())))
         }

@@ -1,19 +1,19 @@
 //! The program, as a function of its words, its inputs and two outputs.
 ghost use Rattle.std.specs.Prelude.{map};
 ghost use Rattle.cs_io.specs.Files.{IsFresh};
-ghost use Rattle.cs_serve.specs.Ending.{sink};
+ghost use Rattle.cs_files.specs.Ending.{sink};
 ghost use Rattle.cs_files.specs.Response.{status_of};
-ghost use Rattle.cs_files.specs.Turn.{ReadsInTurn};
+ghost use Rattle.cronsafe.specs.Turn.{ReadsInTurn};
 ghost use Rattle.cronsafe.specs.Run.{CarriesOut, Runs};
 
-use crate::now::Now;
 use crate::responding::respond;
-use cs_cli::Answer;
+use cs_ask::{reload, stop, tell_status};
 use cs_device::Runner;
-use cs_files::Status;
-use cs_io::{Folders, Output};
+use cs_files::{Status, finish, run_out_behind};
+use cs_io::{Inputs, Output};
 use cs_machine::RunnerSetup;
-use cs_serve::{Streams, finish, reload, run_out_behind, serve, stop, tell_status};
+use cs_ruling::Answer;
+use cs_serve::{Streams, serve};
 use std::alloc::Global;
 use std::convert::AsStr;
 use std::fs::File;
@@ -64,12 +64,11 @@ fn carry_out<
 /// folder of stamps, or a clock that can't be read or goes back.
 ///
 /// The words of `run` come back when the run has ended, and its log is written to standard output. Its
-/// commands are run by runners that `new_runner` makes. A draft tells the offset of clocks, and `lint`
-/// the changes of a time zone's clocks after the instant.
+/// commands are run by runners that `new_runner` makes.
 pub(crate) fn run_words<
     R: Threads + Wait + Sync + Files<File = File> + Input + Clock + Processes,
     S: AsStr,
-    I: Folders,
+    I: Inputs,
     O: Output + Write + Send,
     E: Output,
     W: Runner + Send + Drop,
@@ -78,7 +77,6 @@ pub(crate) fn run_words<
     rt: &R,
     alloc: Global,
     words: &[S],
-    now: Now,
     inputs: &mut I,
     streams: Streams<'_>,
     out: &mut O,
@@ -88,7 +86,7 @@ pub(crate) fn run_words<
     requires { F.IsAlwaysCallable new_runner }
     // Where each path of known bytes stands at its front.
     ensures value { IsFresh (I.whole inputs.old) (I.left inputs.old)
-        → Runs now (map S.text words.now) I.tree
+        → Runs (map S.text words.now)
         (I.whole inputs.old) (I.failed inputs.old) (I.failed inputs.new)
         (I.reads inputs.old) (I.reads inputs.new)
         (sink (O.Output.contents out.old) (O.Output.failed out.old))
@@ -99,7 +97,7 @@ pub(crate) fn run_words<
     ensures turn { ReadsInTurn (map S.text words.now)
         (I.reads inputs.old) (I.reads inputs.new) }
 {
-    match respond(rt, alloc, words, now, inputs) {
+    match respond(rt, alloc, words, inputs) {
         Ok(answer) => carry_out(rt, alloc, answer, streams, out, err, new_runner).code(),
         Err(ran_out) => run_out_behind(&ran_out, err).code(),
     }

@@ -1,7 +1,7 @@
 -- A smaller gap is clear too.
 use Rattle.std.proofs.Common.{◌≡◌, ℕ, ◌≤◌, ◌&&◌, ◌==◌, ◌⊎◌, inl, inr, false, Option, Some, None, IfSome, arith, nat_lt, not, subst, sym}
 use Rattle.std.proofs.lemmas.Bool.{and_left, and_right, le-ltb}
-use Rattle.cs_decl.specs.Plan.{Declared, as_plan, crons}
+use Rattle.cs_plan.specs.Plan.{Declared, as_plan, crons}
 use Rattle.cs_history.specs.Plan.{same_group}
 use Rattle.cs_advise.specs.Gap.{IsClear, IsClearOf, IsLeastOf, IsNoGreater, IsReachedBy, are_neighbours}
 use Rattle.cs_advise.specs.declared.gap.Gap.{Gap}

@@ -4,3 +4,4 @@ pub mod Advised
 pub mod Texts
 pub mod Shifts
 pub mod Gaps
+pub mod Changes

@@ -1,8 +1,8 @@
 -- A plan with a longest time that it has.
 use Rattle.std.proofs.Common.{◌≡◌, ℕ, ap, sym, subst}
 use Rattle.std.proofs.lemmas.List.{set-get_or}
-use Rattle.cs_decl.specs.Changed.{with_max}
-use Rattle.cs_decl.specs.Plan.{Declared, job_at, no_job}
+use Rattle.cs_advise.specs.Changed.{with_max}
+use Rattle.cs_plan.specs.Plan.{Declared, job_at, no_job}
 use Rattle.cs_judge.specs.Called.{IsCalledSafe}
 
 -- the longest time that a job has makes no other plan

@@ -6,16 +6,16 @@ use Rattle.cs_args.specs.CommandLine.{AskedAdvise, AskedJudge}
 use Rattle.cs_counterexample.specs.ShownText.{shown_text}
 use Rattle.cs_counterexample.specs.declared.shown.Shown.{Shown}
 use Rattle.cs_crontab.specs.Crontab.{Table}
-use Rattle.cs_decl.specs.Plan.{Declared}
+use Rattle.cs_plan.specs.Plan.{Declared}
 use Rattle.cs_files.specs.Reads.{AndThen, Answered, FittingIn, GivesSome, ReadsFitting}
 use Rattle.cs_files.specs.Reads.{ReadsTables, TextIn, WithPlaces}
 use Rattle.cs_files.specs.Response.{Ending}
 use Rattle.cs_files.specs.Trouble.{Trouble}
-use Rattle.cs_gather.specs.Places.{places_of}
+use Rattle.cs_place.specs.Places.{places_of}
 use Rattle.cs_io.specs.Files.{Failed}
 use Rattle.cs_judge.specs.Answer.{IsUnknown, unknown_outcome}
 use Rattle.cs_judge.specs.Judged.{IsJudgement}
-use Rattle.cs_judge.specs.Story.{comment}
+use Rattle.cs_verdict.specs.Story.{comment}
 use Rattle.cs_judge.specs.declared.answers.Outcome.{Outcome}
 use Rattle.cs_judge.specs.declared.answers.Outcome.TheVariants as outcome
 use Rattle.cs_judge.specs.declared.judged.Judged.{Judged}

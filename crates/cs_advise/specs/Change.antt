@@ -7,7 +7,7 @@ use Rattle.cs_crontab.specs.Faults.{IsCrontab}
 use Rattle.cs_crontab.specs.declared.table.When.{When}
 use Rattle.cs_decl.specs.Join.{joined}
 use Rattle.cs_decl.specs.Meaning.{declared_by}
-use Rattle.cs_decl.specs.Plan.{Declared, is_due, no_command}
+use Rattle.cs_plan.specs.Plan.{Declared, is_due, no_command}
 use Rattle.cs_decl.specs.declared.entries.Entries.{Entries}
 use Rattle.cs_schedule.specs.Times.{Times, is_time_due}
 use Rattle.cs_advise.specs.Edit.{HasValue, IsPut}

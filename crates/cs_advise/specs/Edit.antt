@@ -3,7 +3,7 @@ use Rattle.std.specs.Prelude.{◌≡◌, ◌⊎◌, ℕ, List, ◌++◌, [], IsS
 use Rattle.std.specs.Prelude.{if◌then◌else◌, nat_lt}
 use Rattle.serde_json.specs.Data.{Data, array, item, no_items, number, unsigned}
 use Rattle.serde_json.specs.Written.{compact_text}
-use Rattle.cs_decl.specs.Plan.{Declared, job_at}
+use Rattle.cs_plan.specs.Plan.{Declared, job_at}
 use Rattle.cs_decl.specs.Shape.{anacron_of, cron_of}
 use Rattle.cs_decl.specs.declared.entries.AnacronEntry.{AnacronEntry}
 use Rattle.cs_decl.specs.declared.entries.CronEntry.{CronEntry}

@@ -3,9 +3,9 @@ use Rattle.std.specs.Prelude.{◌≡◌, ◌+◌, ◌<◌, ◌≤◌, ◌==◌, 
 use Rattle.std.specs.Prelude.{IfSome, Option, Some, None, not, nat_lt}
 use Rattle.cs_crontab.specs.declared.table.When.{When}
 use Rattle.cs_crontab.specs.declared.table.When.TheVariants.{At, Reboot}
-use Rattle.cs_decl.specs.Plan.{Declared, as_plan, command_of, crons, is_due, job_at}
-use Rattle.cs_decl.specs.declared.limits.TheConstants.{MAX_MINUTES}
-use Rattle.cs_gap.specs.Gap.{can_follow}
+use Rattle.cs_plan.specs.Plan.{Declared, as_plan, command_of, crons, is_due, job_at}
+use Rattle.cs_plan.specs.declared.limits.TheConstants.{MAX_MINUTES}
+use Rattle.cs_schedule.specs.Gap.{can_follow}
 use Rattle.cs_history.specs.Plan.{same_group}
 use Rattle.cs_advise.specs.declared.gap.Gap.{Gap}
 use Rattle.cs_advise.specs.declared.gap.Gap.TheVariants.{Meet, Minutes}

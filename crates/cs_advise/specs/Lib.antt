@@ -7,3 +7,4 @@ pub mod Change
 pub mod Told
 pub mod Advice
 pub mod Answer
+pub mod Changed

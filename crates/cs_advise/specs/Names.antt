@@ -1,8 +1,8 @@
 -- How a job is named.
 use Rattle.std.specs.Prelude.{ℕ, List, ◌++◌, codes, flat_map, nat_lt, if◌then◌else◌}
-use Rattle.cs_decl.specs.JobNames.{command_name, identifier_of}
-use Rattle.cs_decl.specs.Plan.{Declared, crons}
-use Rattle.cs_gather.specs.Gathered.{shown}
+use Rattle.cs_plan.specs.JobNames.{command_name, identifier_of}
+use Rattle.cs_plan.specs.Plan.{Declared, crons}
+use Rattle.cs_place.specs.Shown.{shown}
 
 -- `line N` of a cron job, and `job ID` of an anacron job, the bytes of its identifier as a terminal
 -- may show them

@@ -4,9 +4,9 @@ use Rattle.std.specs.Prelude.{[], Option, Some, None, if◌then◌else◌}
 use Rattle.std.specs.Fmt.{decimal}
 use Rattle.std.specs.List.{range_with_len}
 use Rattle.std.specs.List.Sorted.{IsNonDecreasingBy, IsPermutation}
-use Rattle.cs_decl.specs.Changed.{with_max}
-use Rattle.cs_decl.specs.Plan.{Declared, job_at}
-use Rattle.cs_decl.specs.declared.limits.TheConstants.{MAX_MINUTES}
+use Rattle.cs_advise.specs.Changed.{with_max}
+use Rattle.cs_plan.specs.Plan.{Declared, job_at}
+use Rattle.cs_plan.specs.declared.limits.TheConstants.{MAX_MINUTES}
 use Rattle.cs_judge.specs.Called.{IsCalledSafe}
 use Rattle.cs_advise.specs.Gap.{IsGap}
 use Rattle.cs_advise.specs.Names.{job_label}

@@ -2,7 +2,7 @@
 use Rattle.std.specs.Prelude.{◌≡◌, ◌-◌, ◌==◌, ◌&&◌, ◌||◌, ⊤, ℕ, List, ◌++◌, codes, map}
 use Rattle.std.specs.Prelude.{if◌then◌else◌, nat_lt, not}
 use Rattle.std.specs.Fmt.{decimal}
-use Rattle.cs_decl.specs.Plan.{Declared, job_at}
+use Rattle.cs_plan.specs.Plan.{Declared, job_at}
 use Rattle.cs_history.specs.declared.mode.Mode.TheVariants.{Wait}
 use Rattle.cs_advise.specs.Names.{job_label}
 use Rattle.cs_advise.specs.declared.change.Change.{Change}

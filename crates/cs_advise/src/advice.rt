@@ -6,8 +6,8 @@ use crate::change::Change;
 use crate::changing::changed_plan;
 use crate::source::Source;
 use crate::told::change_line;
-use cs_decl::Plan;
 use cs_judge::called_safe;
+use cs_plan::Plan;
 use std::alloc::{AllocError, Global};
 use std::thread::Threads;
 

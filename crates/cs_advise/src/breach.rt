@@ -1,8 +1,8 @@
 //! The jobs of a breach. Nothing here is relied on.
 
 use cs_counterexample::Shown;
-use cs_decl::Plan;
-use cs_judge::Breach;
+use cs_plan::Plan;
+use cs_verdict::Breach;
 use std::alloc::{AllocError, Global};
 
 /// Of how many jobs changes are looked for, the more the fewer there are: at most 16, and of two at

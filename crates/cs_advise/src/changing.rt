@@ -4,7 +4,7 @@ ghost use Rattle.cs_crontab.specs.Faults.{IsCrontab};
 ghost use Rattle.cs_crontab.specs.declared.table.When.TheVariants.{At};
 ghost use Rattle.cs_decl.specs.Join.{joined};
 ghost use Rattle.cs_decl.specs.Meaning.{declared_by};
-ghost use Rattle.cs_decl.specs.Plan.{no_command};
+ghost use Rattle.cs_plan.specs.Plan.{no_command};
 ghost use Rattle.cs_advise.specs.Change.{AreMoved, IsChanged, IsEdited, IsMoved, IsMovedLine};
 ghost use Rattle.cs_advise.specs.Change.{IsPlanOf, IsShifted, shift_of};
 ghost use Rattle.cs_advise.specs.Edit.{HasValue};
@@ -17,7 +17,8 @@ use crate::shifting::line_span;
 use crate::source::Source;
 use crate::text::with_line;
 use cs_crontab::{Line, TableFault, When, read_crontab};
-use cs_decl::{DeclError, Plan, join, read_declarations};
+use cs_decl::{join, read_declarations};
+use cs_plan::{DeclError, Plan};
 use std::alloc::{AllocError, Global};
 
 /// A plan with a change.

@@ -6,10 +6,11 @@ ghost use Rattle.cs_json.specs.Bytes.{json_of};
 
 use crate::change::Member;
 use crate::text::{joined, replaced};
-use cs_decl::{AnacronEntry, CronEntry, Plan, identifier_of};
+use cs_decl::{AnacronEntry, CronEntry};
 use cs_diagnostics::{Object, Span, parsed, parts, trimmed};
 use cs_history::Mode;
 use cs_json::{FromJson, Misread, parse, write};
+use cs_plan::{Plan, identifier_of};
 use serde_json::Value;
 use std::alloc::{AllocError, Global};
 

@@ -1,15 +1,15 @@
 //! How close the windows of a job come to those of the others of its group. A window begins in the
 //! minute at which a command is due, and has as many minutes as the longest time of its job.
 ghost use Rattle.std.specs.Prelude.{◌≡◌, ◌+◌, ◌<◌, ◌≤◌, ◌⊎◌, true, IfSome, unwrap_or};
-ghost use Rattle.cs_decl.specs.Plan.{as_plan, crons};
-ghost use Rattle.cs_gap.specs.declared.gap.TheConstants.{MAX_DISTANCE};
+ghost use Rattle.cs_plan.specs.Plan.{as_plan, crons};
+ghost use Rattle.cs_schedule.specs.declared.gap.TheConstants.{MAX_DISTANCE};
 ghost use Rattle.cs_history.specs.Plan.{same_group};
 ghost use Rattle.cs_advise.specs.Gap.{AreApart, IsClear, IsClearOf, IsGap, IsLeastOf, IsNoGreater};
 ghost use Rattle.cs_advise.specs.Gap.{IsReached, IsReachedBy, are_neighbours, can_come};
 
 use cs_crontab::When;
-use cs_decl::{MAX_MINUTES, Plan};
-use cs_gap::{MAX_DISTANCE, least_distance};
+use cs_plan::{MAX_MINUTES, Plan};
+use cs_schedule::{MAX_DISTANCE, least_distance};
 
 /// How close two windows come.
 #[derive(Clone, Copy)]

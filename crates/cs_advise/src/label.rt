@@ -2,8 +2,8 @@
 ghost use Rattle.std.specs.Prelude.{◌≡◌, ◌++◌, OnOk};
 ghost use Rattle.cs_advise.specs.Names.{job_label};
 
-use cs_decl::{Plan, identifier_of, push_command_name};
-use cs_gather::push_shown;
+use cs_place::push_shown;
+use cs_plan::{Plan, identifier_of, push_command_name};
 use std::alloc::{AllocError, Global};
 
 /// Adds `line N` of a cron job, `job ID` of an anacron job.

@@ -12,6 +12,7 @@ mod edit;
 mod gap;
 mod label;
 mod later;
+mod longer;
 mod places;
 mod room;
 mod rooms;

@@ -2,8 +2,8 @@
 
 use crate::change::{Change, Member};
 use cs_counterexample::Shown;
-use cs_decl::Plan;
-use cs_gather::{Place, push_places_told};
+use cs_place::{Place, push_places_told};
+use cs_plan::Plan;
 use std::alloc::{AllocError, Global};
 
 /// Adds the jobs that a change names.

@@ -1,14 +1,15 @@
 //! How long the runs of a job may take while the plan stays safe, and how close its windows come to
 //! those of the others of its group.
 ghost use Rattle.std.specs.Prelude.{◌≡◌, ◌≤◌, ◌<◌, ◌+◌, IfOk, length, true};
-ghost use Rattle.cs_decl.specs.Changed.{with_max};
-ghost use Rattle.cs_decl.specs.declared.limits.TheConstants.{MAX_MINUTES};
+ghost use Rattle.cs_advise.specs.Changed.{with_max};
+ghost use Rattle.cs_plan.specs.declared.limits.TheConstants.{MAX_MINUTES};
 ghost use Rattle.cs_judge.specs.Called.{IsCalledSafe};
 ghost use Rattle.cs_advise.specs.Room.{IsRoom};
 
 use crate::gap::{Gap, gap_of};
-use cs_decl::{MAX_MINUTES, Plan};
+use crate::longer::with_max;
 use cs_judge::is_called_safe;
+use cs_plan::{MAX_MINUTES, Plan};
 use std::alloc::{AllocError, Global};
 use std::thread::Threads;
 
@@ -44,7 +45,7 @@ pub(crate) fn is_safe_with<R: Threads + Sync>(
     requires in_range { (1 ≤ max) × (max ≤ MAX_MINUTES) }
     ensures { IfOk result (λ safe. safe ≡ true → IsCalledSafe (with_max plan.now job max)) }
 {
-    let changed = plan.with_max(alloc, job, max)?;
+    let changed = with_max(alloc, plan, job, max)?;
     is_called_safe(rt, alloc, &changed)
 }
 

@@ -9,7 +9,7 @@ use crate::gap::Gap;
 use crate::label::push_label;
 use crate::room::{Room, room_of};
 use cs_civil::push_number;
-use cs_decl::{MAX_MINUTES, Plan};
+use cs_plan::{MAX_MINUTES, Plan};
 use rayon::prelude::*;
 use std::alloc::{AllocError, Global};
 use std::thread::Threads;

@@ -7,9 +7,9 @@ use crate::shifting::shifted_line;
 use crate::source::Source;
 use cs_civil::Hours;
 use cs_crontab::When;
-use cs_decl::{MAX_CAPACITY, Plan};
 use cs_history::Mode;
 use cs_judge::is_called_safe;
+use cs_plan::{MAX_CAPACITY, Plan};
 use std::alloc::{AllocError, Global};
 use std::thread::Threads;
 

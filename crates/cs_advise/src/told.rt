@@ -9,9 +9,9 @@ use crate::change::{Change, Member, Shift, Start};
 use crate::label::push_label;
 use cs_check::Checked;
 use cs_civil::push_number;
-use cs_decl::Plan;
 use cs_history::Mode;
 use cs_judge::reach_in;
+use cs_plan::Plan;
 use std::alloc::{AllocError, Global};
 
 /// Adds `1 minute` or `N minutes`.

@@ -153,8 +153,8 @@ impl<'a, 'm> Given<'a, 'm> {
 
     /// A fault where the paths of these arguments name standard input more than once.
     fn one_standard(self, ids: &[&str]) -> Result<(), UsageFault>
-        ensures { RefusesIf (is_twice_standard (map (λ id. id.now) ids.now) (words_given self.entry))
-            result }
+        ensures { RefusesIf
+            (is_twice_standard (map (λ id. id.now) ids.now) (words_given self.entry)) result }
     {
         let message = "only one path can be - for standard input";
         self.refuse_if(self.is_twice_standard(ids), message)

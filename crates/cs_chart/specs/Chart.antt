@@ -8,7 +8,7 @@ use Rattle.cs_crontab.specs.declared.table.When.{When}
 use Rattle.cs_crontab.specs.declared.table.When.TheVariants.{At, Reboot}
 use Rattle.cs_anacrontab.specs.Anacrontab.{Table as JobTable}
 use Rattle.cs_history.specs.Lists.{below}
-use Rattle.cs_decl.specs.Plan.{Declared, command_of, crons, job_at}
+use Rattle.cs_plan.specs.Plan.{Declared, command_of, crons, job_at}
 use Rattle.cs_windows.specs.Windows.{Job}
 use Rattle.cs_chart.specs.declared.row.Terms.{Terms}
 use Rattle.cs_chart.specs.Bars.{AreBarsOf, Days, is_held}

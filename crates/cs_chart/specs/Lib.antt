@@ -3,3 +3,4 @@ pub mod Picture
 pub mod Chart
 pub mod Rows
 pub mod Begun
+pub mod Answer

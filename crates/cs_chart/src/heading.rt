@@ -4,7 +4,7 @@ use crate::row::Terms;
 use crate::sheet::{MARGIN, Sheet};
 use crate::span::DaySpan;
 use crate::text::{push_cut, push_day, push_label, push_pair};
-use cs_decl::{Group, Plan};
+use cs_plan::{Group, Plan};
 use std::alloc::{AllocError, Global};
 use std::fmt::Write;
 

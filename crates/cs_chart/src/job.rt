@@ -9,14 +9,14 @@ use crate::load::Load;
 use crate::look::{colour_of, push_lines};
 use crate::marks::{Drawn, marks_of, without_gaps};
 use crate::meeting::Meeting;
-use crate::program::program_of;
 use crate::row::{Name, Row};
 use crate::sheet::{NAME_CELLS, PLOT_LEFT, PLOT_RIGHT};
 use crate::span::DaySpan;
 use crate::svg::{Svg, plain};
 use crate::text::{push_cut, push_label};
-use cs_decl::Group;
+use cs_command::program_text;
 use cs_history::Mode;
+use cs_plan::Group;
 use cs_windows::Occupied;
 use std::alloc::{AllocError, Global};
 use std::fmt::Write;
@@ -53,7 +53,7 @@ fn label_of(alloc: Global, name: Name<'_>) -> Result<String, AllocError>
     let mut text = String::new(alloc);
     push_start(&mut text, name)?;
     let words = match name {
-        Name::Line(_, command) => program_of(command),
+        Name::Line(_, command) => program_text(command),
         Name::Job(identifier) => identifier,
     };
     let mut rest = String::new(alloc);

@@ -2,6 +2,7 @@
 //! due minutes as marks.
 #![tactic(auto)]
 
+mod answer;
 mod axis;
 mod bar;
 mod heading;
@@ -12,13 +13,13 @@ mod look;
 mod marks;
 mod meeting;
 mod picture;
-mod program;
 mod row;
 mod sheet;
 mod span;
 mod svg;
 mod text;
 
+pub use answer::answer_chart;
 pub use laws::rows_have_bars;
 pub use picture::{Subject, chart, plan_chart};
 pub use row::Terms;

@@ -4,7 +4,7 @@ ghost use Rattle.std.specs.Prelude.{◌<◌, length};
 use crate::bar::{Bar, add_bar, bars_of};
 use crate::row::{Name, Row};
 use crate::span::DaySpan;
-use cs_decl::Group;
+use cs_plan::Group;
 use std::alloc::{AllocError, Global};
 
 /// What the windows of a job meet.

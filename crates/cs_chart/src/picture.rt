@@ -17,8 +17,8 @@ use crate::svg::Svg;
 use cs_anacrontab::Anacrontab;
 use cs_civil::Day;
 use cs_crontab::Crontab;
-use cs_decl::{Group, Plan};
-use cs_gather::Place;
+use cs_place::Place;
+use cs_plan::{Group, Plan};
 use std::alloc::{AllocError, Global};
 
 /// From how many rows on the hours come once more below them.

@@ -6,9 +6,9 @@ ghost use Rattle.cs_chart.specs.Rows.{shown_of};
 
 use cs_anacrontab::{Anacrontab, Job};
 use cs_crontab::{Crontab, Line, When};
-use cs_decl::{Job as PlanJob, Plan};
-use cs_gather::{Place, place_of};
 use cs_history::Mode;
+use cs_place::{Place, place_of};
+use cs_plan::{Job as PlanJob, Plan};
 use cs_windows::Occupied;
 use std::alloc::{AllocError, Global};
 

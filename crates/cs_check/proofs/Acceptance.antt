@@ -21,7 +21,7 @@ use Rattle.cs_classes.specs.Said.{said}
 use Rattle.cs_classes.specs.Used.{seen}
 use Rattle.cs_classes.specs.declared.used.UsedStretch.{UsedStretch}
 use Rattle.cs_classes.specs.Claim.{as_certificate}
-use Rattle.cs_decl.specs.Plan.{as_plan}
+use Rattle.cs_plan.specs.Plan.{as_plan}
 use Rattle.cs_classes.specs.Planned.{due_on}
 use Rattle.cs_check.specs.Case.{claim_fault}
 use Rattle.cs_check.specs.declared.case.Case.{Case}

@@ -1,6 +1,6 @@
 -- The first fault of all, by where it is found.
 use Rattle.std.proofs.Common.{◌≡◌, ℕ, Bool, not, ◌||◌, Option, None, Some, refl, ap, sym, ◌∙◌}
-use Rattle.cs_decl.specs.Plan.{Declared, as_plan}
+use Rattle.cs_plan.specs.Plan.{Declared, as_plan}
 use Rattle.cs_classes.specs.Claim.{Claimed, as_certificate}
 use Rattle.cs_civil.specs.Calendar.{Kind}
 use Rattle.cs_history.specs.Lists.{below}

@@ -4,7 +4,7 @@ use Rattle.std.specs.Prelude.{unwrap_or}
 use Rattle.std.specs.List.{list_all}
 use Rattle.std.proofs.lemmas.Bool.{and_parts, leb-true}
 use Rattle.cs_daytree.specs.Rising.{each_next}
-use Rattle.cs_decl.specs.Plan.{Declared, as_plan}
+use Rattle.cs_plan.specs.Plan.{Declared, as_plan}
 use Rattle.cs_claims.specs.Content.{Content}
 use Rattle.cs_claims.specs.Kept.{Keeps}
 use Rattle.cs_claims.specs.Rules.{most_reach}

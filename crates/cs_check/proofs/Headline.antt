@@ -8,7 +8,7 @@ use Rattle.cs_history.specs.declared.run.Going.{Going}
 use Rattle.cs_crontab.specs.declared.table.When.{When}
 use Rattle.cs_crontab.specs.declared.table.When.TheVariants.{At, Reboot}
 use Rattle.cs_schedule.specs.Times.{is_due as is_time_due}
-use Rattle.cs_decl.specs.Plan.{Declared, as_plan, command_of, is_due}
+use Rattle.cs_plan.specs.Plan.{Declared, as_plan, command_of, is_due}
 use Rattle.cs_windows.specs.declared.reach.JobReach.{JobReach}
 use Rattle.cs_classes.specs.Planned.{due_on, is_due_on, reach_by}
 use Rattle.cs_claims.specs.Content.{Content}
@@ -26,7 +26,7 @@ use Rattle.cs_check.specs.Case.{reach_for, claim_fault, fault_of, IsAcceptedClai
 use Rattle.cs_check.specs.Checked.{AreFew, IsBroken, IsHeadline, IsCalmThroughout, StayInWindows, Tells}
 use Rattle.cs_check.specs.declared.fault.CheckError.{CheckError}
 use Rattle.cs_check.specs.declared.fault.CheckError.TheVariants as errors
-use Rattle.cs_report.specs.Told.{told}
+use Rattle.cs_theorem.specs.Told.{told}
 
 due_step : (w : When) (d m : ℕ) → m < 1440 → is_due w (1440 * d + m) ≡ is_due_on w (kind d) m
 due_step (At schedule) d m lt =

@@ -4,7 +4,7 @@ use Rattle.std.specs.Prelude.{slice_get, IfOk, MatchResult, Contains}
 use Rattle.std.specs.List.{AllZip, range_with_len}
 use Rattle.std.specs.declared.alloc.AllocError.{AllocError}
 use Rattle.std.proofs.lemmas.Option.{slice_get_within}
-use Rattle.cs_decl.specs.Plan.{Declared}
+use Rattle.cs_plan.specs.Plan.{Declared}
 use Rattle.cs_classes.specs.Claim.{Claimed}
 use Rattle.cs_check.specs.ClassDays.{AreClassDays, IsClassDay}
 use Rattle.cs_check.specs.declared.class_day.ClassDay.{ClassDay}

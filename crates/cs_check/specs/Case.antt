@@ -1,6 +1,6 @@
 -- A plan and a certificate, as the rules of acceptance see them.
 use Rattle.std.specs.Prelude.{ℕ, List, Option}
-use Rattle.cs_decl.specs.Plan.{Declared, as_plan}
+use Rattle.cs_plan.specs.Plan.{Declared, as_plan}
 use Rattle.cs_windows.specs.declared.reach.JobReach.{JobReach}
 use Rattle.cs_classes.specs.Planned.{due_on, reach_by}
 use Rattle.cs_claims.specs.Content.{Content}

@@ -1,7 +1,7 @@
 -- What is known of a plan that was checked.
 use Rattle.std.specs.Prelude.{◌≡◌, ℕ, ◌≤◌, Option, Some, ⊤, length}
 use Rattle.std.specs.List.{AllByRecursion}
-use Rattle.cs_decl.specs.Plan.{Declared, as_plan}
+use Rattle.cs_plan.specs.Plan.{Declared, as_plan}
 use Rattle.cs_claims.specs.Content.{Content}
 use Rattle.cs_claims.specs.Certificate.{content}
 use Rattle.cs_check.specs.declared.checked.Checked.{Checked}
@@ -12,7 +12,7 @@ use Rattle.cs_theorem.specs.Accepted.{IsLength}
 use Rattle.cs_theorem.specs.Faults.{Fault}
 use Rattle.cs_classes.specs.Planned.{due_on}
 use Rattle.cs_check.specs.Case.{IsAcceptedWith, reach_for}
-use Rattle.cs_report.specs.Told.{told}
+use Rattle.cs_theorem.specs.Told.{told}
 use Rattle.cs_check.specs.declared.fault.CheckError.{CheckError}
 use Rattle.cs_check.specs.declared.fault.CheckError.TheVariants as errors
 

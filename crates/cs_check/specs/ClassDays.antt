@@ -1,6 +1,6 @@
 -- What is known of the days of each class.
 use Rattle.std.specs.Prelude.{◌≡◌, ℕ, ◌<◌, ◌≤◌, ◌∷◌, [], IsTrue, true, List, length, map, None, Some, slice_get}
-use Rattle.cs_decl.specs.Plan.{Declared, as_plan, crons}
+use Rattle.cs_plan.specs.Plan.{Declared, as_plan, crons}
 use Rattle.cs_claims.specs.declared.class.Class.{Class}
 use Rattle.cs_theorem.specs.Faults.{due_fault}
 use Rattle.cs_classes.specs.Claim.{Claimed, as_certificate, class_at}

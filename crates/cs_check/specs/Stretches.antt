@@ -11,7 +11,7 @@ use Rattle.cs_theorem.specs.Faults.{Fault, BacklogRises, ReachTooShort, WindowMi
 use Rattle.cs_wait.specs.Bounds as bounds
 use Rattle.cs_claims.specs.declared.class.Class.{Class}
 use Rattle.cs_classes.specs.Claim.{Claimed, as_certificate, class_at}
-use Rattle.cs_decl.specs.Plan.{Declared, as_plan}
+use Rattle.cs_plan.specs.Plan.{Declared, as_plan}
 use Rattle.cs_overlap.specs.Roles.{IsOf}
 use Rattle.cs_classes.specs.Planned.{due_on, planned}
 use Rattle.cs_check.specs.Case.{IsFit}

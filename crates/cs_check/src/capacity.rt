@@ -3,11 +3,11 @@ ghost use Rattle.std.specs.Prelude.{◌≡◌, IfOk, option_map};
 ghost use Rattle.cs_classes.specs.Said.{said};
 ghost use Rattle.cs_check.specs.Stretches.{IsCase, claim_of, plan_of, capacity_fault};
 ghost use Rattle.cs_classes.specs.Used.{IsInUse, seen};
-ghost use Rattle.cs_report.specs.Told.{told};
+ghost use Rattle.cs_theorem.specs.Told.{told};
 
 use crate::case::{Case, civil, minute_on};
 use cs_classes::UsedStretch;
-use cs_report::CheckFault;
+use cs_theorem::CheckFault;
 use std::alloc::{AllocError, Global};
 
 /// The first minute of the last day at which the windows exceed the capacity.

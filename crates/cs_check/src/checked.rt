@@ -3,7 +3,7 @@ ghost use Rattle.cs_claims.specs.Certificate.{content};
 ghost use Rattle.cs_check.specs.Case.{fault_of};
 
 use cs_claims::Certificate;
-use cs_decl::Plan;
+use cs_plan::Plan;
 
 /// A plan with a certificate that the checker has accepted. Only [`check`](crate::check) and
 /// [`check_parallel`](crate::check_parallel) make one.

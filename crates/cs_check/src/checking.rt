@@ -6,7 +6,7 @@ ghost use Rattle.cs_check.specs.Case.{IsAcceptedWith, IsFit, claim_fault, fault_
 ghost use Rattle.cs_check.specs.Checked.{IsBroken, IsCalmThroughout, IsHeadline, IsLengthFor};
 ghost use Rattle.cs_check.specs.Checked.{StayInWindows, Tells, certificate_in, plan_in};
 ghost use Rattle.cs_check.specs.Stretches.{AreGood, AreStretches, IsCase};
-ghost use Rattle.cs_decl.specs.Plan.{as_plan};
+ghost use Rattle.cs_plan.specs.Plan.{as_plan};
 
 use crate::case::{Case, case_of};
 use crate::checked::Checked;
@@ -18,7 +18,7 @@ use crate::stretches::in_use;
 use crate::workers::CheckWorkers;
 use cs_claims::Certificate;
 use cs_classes::{Claim, OneThread, SeveralThreads, UsedStretch, claim_by, work_out};
-use cs_decl::Plan;
+use cs_plan::Plan;
 use cs_wait::Backlog;
 use std::alloc::Global;
 use std::thread::Threads;

@@ -7,8 +7,8 @@ ghost use Rattle.cs_check.specs.ClassDays.{IsBasisOf};
 
 use crate::fault::CheckError;
 use cs_classes::{Claim, Workers, first_unlike, occupied};
-use cs_decl::Plan;
-use cs_report::CheckFault;
+use cs_plan::Plan;
+use cs_theorem::CheckFault;
 use cs_wait::Backlog;
 use cs_windows::Occupied;
 use std::alloc::Global;

@@ -1,4 +1,4 @@
-use cs_report::CheckFault;
+use cs_theorem::CheckFault;
 use std::alloc::AllocError;
 
 /// Why no plan was accepted.

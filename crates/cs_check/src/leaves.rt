@@ -3,13 +3,13 @@ ghost use Rattle.std.specs.Prelude.{◌≡◌, IfOk, IsTrue, option_map};
 ghost use Rattle.cs_classes.specs.Said.{said};
 ghost use Rattle.cs_check.specs.Stretches.{IsCase, claim_of, plan_of, leaves_fault};
 ghost use Rattle.cs_classes.specs.Used.{AreInside, IsInUse, seen};
-ghost use Rattle.cs_report.specs.Told.{told};
+ghost use Rattle.cs_theorem.specs.Told.{told};
 ghost use Rattle.cs_theorem.specs.Accepted.{ListsAll};
 
 use crate::case::{Case, civil, minute_on};
 use cs_classes::UsedStretch;
 use cs_overlap::missing;
-use cs_report::CheckFault;
+use cs_theorem::CheckFault;
 use cs_windows::Window;
 use std::alloc::{AllocError, Global};
 

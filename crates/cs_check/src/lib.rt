@@ -22,6 +22,6 @@ mod workers;
 
 pub use checked::Checked;
 pub use checking::{check, check_parallel};
-pub use cs_report::CheckFault;
+pub use cs_theorem::CheckFault;
 pub use fault::CheckError;
 pub use laws::what_windows_promise;

@@ -3,13 +3,13 @@ ghost use Rattle.std.specs.Prelude.{◌≡◌, All, IfOk, option_map};
 ghost use Rattle.cs_classes.specs.Said.{said};
 ghost use Rattle.cs_check.specs.Stretches.{IsCase, all_seen, claim_of, fault_by, later_fault, plan_of, windows_fault};
 ghost use Rattle.cs_classes.specs.Used.{IsInUse, seen};
-ghost use Rattle.cs_report.specs.Told.{told};
+ghost use Rattle.cs_theorem.specs.Told.{told};
 ghost use Rattle.cs_theorem.specs.Faults.{first_of};
 
 use crate::case::Case;
 use crate::{capacity, collisions, leaves, reaches, skips, steps};
 use cs_classes::UsedStretch;
-use cs_report::CheckFault;
+use cs_theorem::CheckFault;
 use std::alloc::{AllocError, Global};
 
 /// The rules that are looked at stretch by stretch.

@@ -3,12 +3,12 @@ ghost use Rattle.std.specs.Prelude.{◌≡◌};
 ghost use Rattle.cs_claims.specs.Certificate.{content};
 ghost use Rattle.cs_check.specs.Case.{IsAcceptedWith, reach_for};
 ghost use Rattle.cs_check.specs.Checked.{AreFew, IsCalmThroughout, IsHeadline, StayInWindows, certificate_in, plan_in};
-ghost use Rattle.cs_decl.specs.Plan.{as_plan};
+ghost use Rattle.cs_plan.specs.Plan.{as_plan};
 
 use crate::checked::Checked;
 use crate::checking::look_at;
 use cs_claims::Certificate;
-use cs_decl::Plan;
+use cs_plan::Plan;
 
 impl Checked {
     /// Returns the plan.

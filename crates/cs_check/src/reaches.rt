@@ -5,15 +5,15 @@ ghost use Rattle.cs_classes.specs.Said.{said};
 ghost use Rattle.cs_check.specs.ClassDays.{IsBasis, Settle, Settles};
 ghost use Rattle.cs_check.specs.Stretches.{HaveReaches, IsCase, ReachHolds, ReachesHold, all_seen, claim_of, classes_in, clears_on, is_far, plan_of, reaches_fault};
 ghost use Rattle.cs_classes.specs.Used.{IsInUse, seen};
-ghost use Rattle.cs_decl.specs.Plan.{crons};
+ghost use Rattle.cs_plan.specs.Plan.{crons};
 ghost use Rattle.cs_history.specs.Plan.{waits};
-ghost use Rattle.cs_report.specs.Told.{told};
+ghost use Rattle.cs_theorem.specs.Told.{told};
 
 use crate::case::Case;
 use crate::due::Basis;
 use cs_claims::{Class, reach_of};
 use cs_classes::{UsedStretch, clears, waits};
-use cs_report::CheckFault;
+use cs_theorem::CheckFault;
 
 /// Whether a cron job, if it waits, has a reach.
 fn has_reach(case: &Case<'_>, number: usize) -> bool

@@ -3,11 +3,11 @@ ghost use Rattle.std.specs.Prelude.{◌≡◌, IfOk, IsTrue, option_map};
 ghost use Rattle.cs_classes.specs.Said.{said};
 ghost use Rattle.cs_check.specs.Stretches.{IsCase, StepsHold, claim_of, plan_of, steps_fault};
 ghost use Rattle.cs_classes.specs.Used.{IsInUse, seen};
-ghost use Rattle.cs_report.specs.Told.{told};
+ghost use Rattle.cs_theorem.specs.Told.{told};
 
 use crate::case::{Case, civil, minute_on};
 use cs_classes::{UsedStretch, first_rise, is_steady_over};
-use cs_report::CheckFault;
+use cs_theorem::CheckFault;
 use std::alloc::{AllocError, Global};
 
 /// Whether the bounds of the groups follow the arrivals, from the last day but one to the last.

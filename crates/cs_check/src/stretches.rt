@@ -8,7 +8,7 @@ ghost use Rattle.cs_check.specs.Stretches.{AreStretches, IsCase};
 use crate::case::Case;
 use crate::fault::CheckError;
 use cs_classes::{UsedStretch, first_missing, used_stretches};
-use cs_report::CheckFault;
+use cs_theorem::CheckFault;
 use std::alloc::Global;
 
 /// The stretches in use, or the fault of the first successive kinds whose stretch is missing.

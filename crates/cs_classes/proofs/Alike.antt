@@ -21,7 +21,7 @@ use Rattle.cs_schedule.specs.Times.{is_day_due, is_time_due}
 use Rattle.cs_schedule.specs.Numbers.{has as is_in}
 use Rattle.cs_crontab.specs.Crontab.{CommandLine}
 use Rattle.std.proofs.lemmas.List.{get_or_default}
-use Rattle.cs_decl.specs.Plan.{Declared, as_plan, command_of, no_command}
+use Rattle.cs_plan.specs.Plan.{Declared, as_plan, command_of, no_command}
 
 -- whether the class of a kind has the due minutes of a cron job
 abbrev pub job_alike : Declared → Claimed → Kind → ℕ → Bool

@@ -6,8 +6,8 @@ use Rattle.cs_civil.specs.Calendar.{Kind}
 use Rattle.cs_schedule.specs.Times.{Times, is_due as is_time_due}
 use Rattle.cs_crontab.specs.declared.table.When.{When}
 use Rattle.cs_history.specs.Calm.{reach}
-use Rattle.cs_decl.specs.Job.{DeclaredJob}
-use Rattle.cs_decl.specs.Plan.{Declared, as_plan, crons, no_job}
+use Rattle.cs_plan.specs.Job.{DeclaredJob}
+use Rattle.cs_plan.specs.Plan.{Declared, as_plan, crons, no_job}
 use Rattle.cs_windows.specs.declared.reach.JobReach.{JobReach}
 use Rattle.cs_classes.specs.Planned.{is_due_on, begins_on, reach_by, planned_job, IsSchedule, cron_reach}
 

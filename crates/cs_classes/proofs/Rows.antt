@@ -6,7 +6,7 @@ use Rattle.std.specs.declared.alloc.AllocError.{AllocError}
 use Rattle.std.proofs.lemmas.Slice.Zip.{AllZip-long}
 use Rattle.cs_claims.specs.declared.class.Class.{Class}
 use Rattle.cs_classes.specs.Claim.{Claimed, class_at}
-use Rattle.cs_decl.specs.Plan.{Declared}
+use Rattle.cs_plan.specs.Plan.{Declared}
 use Rattle.cs_classes.specs.declared.likeness.Likeness.{Likeness}
 use Rattle.cs_classes.specs.Likeness.{AreLikenesses, IsRow}
 use Rattle.cs_classes.proofs.Collected.{of_answers}

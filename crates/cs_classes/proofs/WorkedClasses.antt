@@ -10,7 +10,7 @@ use Rattle.cs_civil.specs.Calendar.{Kind}
 use Rattle.cs_civil.specs.Order.{all_kinds}
 use Rattle.cs_claims.specs.Certificate.{class_of}
 use Rattle.cs_claims.specs.Content.{Content}
-use Rattle.cs_decl.specs.Plan.{Declared}
+use Rattle.cs_plan.specs.Plan.{Declared}
 use Rattle.cs_classes.specs.StandsFor.{bare, claimed, first_kind, worked_of}
 use Rattle.cs_history.specs.Lists.{below}
 use Rattle.cs_classes.specs.WorkedOut.{IsWorkedOut, classed_kind, classes_by, first_classed, judged}

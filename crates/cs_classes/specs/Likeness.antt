@@ -7,7 +7,7 @@ use Rattle.cs_crontab.specs.declared.table.When.{When}
 use Rattle.cs_crontab.specs.declared.table.When.TheVariants.{At, Reboot}
 use Rattle.cs_windows.specs.Windows.{day_minutes}
 use Rattle.cs_theorem.specs.Faults.{same_bool}
-use Rattle.cs_decl.specs.Plan.{Declared, command_of, crons}
+use Rattle.cs_plan.specs.Plan.{Declared, command_of, crons}
 use Rattle.cs_claims.specs.Certificate.{is_due_in}
 use Rattle.cs_claims.specs.declared.class.Class.{Class}
 use Rattle.cs_classes.specs.Claim.{Claimed, class_at}

@@ -7,8 +7,8 @@ use Rattle.cs_crontab.specs.declared.table.When.TheVariants.{At, Reboot}
 use Rattle.cs_history.specs.Calm.{reach}
 use Rattle.cs_history.specs.Lists.{below}
 use Rattle.cs_history.specs.Plan.{is_cron, waits_in}
-use Rattle.cs_decl.specs.Plan.{Declared, as_plan, command_of, crons}
-use Rattle.cs_decl.specs.Job.{DeclaredJob}
+use Rattle.cs_plan.specs.Plan.{Declared, as_plan, command_of, crons}
+use Rattle.cs_plan.specs.Job.{DeclaredJob}
 use Rattle.cs_windows.specs.Reach.{reach_of}
 use Rattle.cs_windows.specs.Windows.{Job}
 use Rattle.cs_windows.specs.declared.reach.JobReach.{JobReach}

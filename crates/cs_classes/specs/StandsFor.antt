@@ -9,7 +9,7 @@ use Rattle.cs_windows.specs.Windows.{day_minutes}
 use Rattle.cs_wait.specs.Bounds.{following}
 use Rattle.cs_history.specs.Lists.{below}
 use Rattle.cs_windows.specs.declared.reach.JobReach.{JobReach}
-use Rattle.cs_decl.specs.Plan.{Declared, as_plan, crons}
+use Rattle.cs_plan.specs.Plan.{Declared, as_plan, crons}
 use Rattle.cs_claims.specs.Certificate.{bound_in, class_of}
 use Rattle.cs_claims.specs.Content.{Content, StretchTree}
 use Rattle.cs_claims.specs.declared.class.Class.{Class}

@@ -7,7 +7,7 @@ use Rattle.cs_claims.specs.declared.class.Class.{Class}
 use Rattle.cs_theorem.specs.Certificate.{Stretch}
 use Rattle.cs_classes.specs.Claim.{Claimed}
 use Rattle.cs_classes.specs.StandsFor.{bare, class_lists, days_for, listed, worked_classes}
-use Rattle.cs_decl.specs.Plan.{Declared}
+use Rattle.cs_plan.specs.Plan.{Declared}
 use Rattle.cs_classes.specs.declared.working_out.ClassedKind.{ClassedKind}
 use Rattle.cs_classes.specs.declared.working_out.WorkedOut.{WorkedOut}
 

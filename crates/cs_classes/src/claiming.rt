@@ -12,7 +12,7 @@ use crate::claim::{Claim, JudgedStretch};
 use crate::working_out::WorkedOut;
 use cs_claims::{Certificate, Class};
 use cs_daytree::DayTree;
-use cs_decl::Plan;
+use cs_plan::Plan;
 use cs_windows::JobReach;
 
 /// Returns the claim of a certificate under a plan, with what was worked out of it.

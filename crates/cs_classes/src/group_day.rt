@@ -3,14 +3,14 @@ ghost use Rattle.std.specs.Prelude.{◌≡◌, ◌<◌, ◌↔◌, ℕ, [], IfOk
 ghost use Rattle.cs_claims.specs.declared.class.Class.{Class};
 ghost use Rattle.cs_classes.specs.GroupDays.{AreGroupDays, IsGroupDay, Leads, no_day};
 ghost use Rattle.cs_classes.specs.Work.{IsSteady};
-ghost use Rattle.cs_decl.specs.Plan.{as_plan};
+ghost use Rattle.cs_plan.specs.Plan.{as_plan};
 ghost use Rattle.cs_history.specs.Plan.{Plan as TheoryPlan};
 
 use crate::locks::has_waiter;
 use crate::steps::{arrivals_in, backlog_of};
 use cs_civil::MINUTES_OF_DAY;
 use cs_claims::Class;
-use cs_decl::Plan;
+use cs_plan::Plan;
 use cs_wait::{Backlog, steps_within};
 use std::alloc::{AllocError, Global};
 

@@ -3,7 +3,7 @@ ghost use Rattle.cs_theorem.specs.Faults.{leaf_fault, stretch_fault, used_stretc
 ghost use Rattle.cs_claims.specs.Content.{Content};
 ghost use Rattle.cs_classes.specs.Claim.{as_certificate};
 ghost use Rattle.cs_classes.specs.StandsFor.{claimed, days_for};
-ghost use Rattle.cs_decl.specs.Plan.{Declared, as_plan};
+ghost use Rattle.cs_plan.specs.Plan.{Declared, as_plan};
 
 /// Lemma. The stretches that a certificate of version 3 stands for are those that successive days
 /// have, and list all windows: no fault of stretches or leaves is found in it.

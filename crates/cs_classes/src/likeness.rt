@@ -1,14 +1,14 @@
 //! Whether the classes of a certificate have the due minutes of the cron jobs, whatever the day.
 ghost use Rattle.std.specs.Prelude.{◌≡◌, ◌<◌, [], ℕ, IfOk};
 ghost use Rattle.cs_classes.specs.Likeness.{AreTimes, IsRow, is_due_day, is_due_minute, likeness_by};
-ghost use Rattle.cs_decl.specs.Plan.{Declared};
+ghost use Rattle.cs_plan.specs.Plan.{Declared};
 ghost use Rattle.cs_schedule.specs.Numbers.{has};
 
 use crate::due::due_sets;
 use cs_civil::{DayKind, Sequence};
 use cs_claims::Class;
 use cs_crontab::{Line, When};
-use cs_decl::Plan;
+use cs_plan::Plan;
 use cs_schedule::MinuteSet;
 use std::alloc::{AllocError, Global};
 

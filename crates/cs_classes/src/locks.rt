@@ -1,10 +1,10 @@
 //! Which jobs of a plan take and wait for the lock of a group.
 ghost use Rattle.std.specs.Prelude.{◌≡◌, ℕ, ◌&&◌, ◌<◌};
 ghost use Rattle.cs_theorem.specs.Faults.{has_waiter};
-ghost use Rattle.cs_decl.specs.Plan.{as_plan, crons};
+ghost use Rattle.cs_plan.specs.Plan.{as_plan, crons};
 ghost use Rattle.cs_history.specs.Plan.{is_group, locks, takes, waits, waits_in};
 
-use cs_decl::{Job, Plan};
+use cs_plan::{Job, Plan};
 
 pub(crate) fn locks(job: Job, group: usize) -> bool
     ensures { result ≡ (takes job.mode && is_group group job.group) }

@@ -1,12 +1,12 @@
 ghost use Rattle.std.specs.Prelude.{◌≡◌, ◌≤◌, IfOk, IfSome, None, length, map, slice_get, Some};
-ghost use Rattle.cs_decl.specs.Plan.{as_plan, crons};
+ghost use Rattle.cs_plan.specs.Plan.{as_plan, crons};
 ghost use Rattle.cs_history.specs.Calm.{reach};
 ghost use Rattle.cs_windows.specs.Occupied.{job_of};
 ghost use Rattle.cs_classes.specs.Planned.{IsSchedule, cron_reach, planned, planned_job};
 
 use cs_claims::{JobReach, reach_of};
 use cs_crontab::When;
-use cs_decl::{Job, Plan};
+use cs_plan::{Job, Plan};
 use cs_schedule::Schedule;
 use cs_windows::Occupied;
 use std::alloc::{AllocError, Global};

@@ -1,7 +1,7 @@
 //! Whether the claimed bounds are zero within a job's reach.
 ghost use Rattle.std.specs.Prelude.{◌≡◌, ◌≤◌, ◌<◌, ◌↔◌, ℕ, All, [], IsTrue, length, map, take, unwrap_or};
 ghost use Rattle.cs_claims.specs.Certificate.{bound_in};
-ghost use Rattle.cs_decl.specs.Plan.{as_plan, crons};
+ghost use Rattle.cs_plan.specs.Plan.{as_plan, crons};
 ghost use Rattle.cs_history.specs.Plan.{waits};
 ghost use Rattle.cs_wait.specs.Bounds.{ClearsBy, at};
 ghost use Rattle.cs_classes.specs.Reaches.{Clears};
@@ -10,7 +10,7 @@ use crate::due::due_in_order;
 use crate::locks::cron_job;
 use crate::steps::backlog_of;
 use cs_claims::Class;
-use cs_decl::Plan;
+use cs_plan::Plan;
 use cs_schedule::MinuteSet;
 use cs_wait::{Backlog, clears_by};
 

@@ -6,14 +6,14 @@ ghost use Rattle.cs_claims.specs.declared.class.Class.{Class};
 ghost use Rattle.cs_history.specs.Plan.{Plan as TheoryPlan};
 ghost use Rattle.cs_classes.specs.DayMinutes.{AreRising};
 ghost use Rattle.cs_classes.specs.Work.{AreWorks, IsWork, arrivals_in, brought, rise_at, rise_between, rise_of};
-ghost use Rattle.cs_decl.specs.Plan.{as_plan, crons};
+ghost use Rattle.cs_plan.specs.Plan.{as_plan, crons};
 ghost use Rattle.cs_schedule.specs.Numbers.{has};
 
 use crate::due::due_in_order;
 use crate::locks::{cron_job, has_waiter, locks};
 use cs_civil::MINUTES_OF_DAY;
 use cs_claims::{Class, GroupBacklog};
-use cs_decl::Plan;
+use cs_plan::Plan;
 use cs_schedule::MinuteSet;
 use cs_wait::{Arrivals, Backlog, step_ok};
 use std::alloc::{AllocError, Global};

@@ -5,14 +5,14 @@ ghost use Rattle.cs_classes.specs.Likeness.{AreLikenesses, is_due_day, likeness_
 ghost use Rattle.cs_classes.specs.Claim.{as_certificate};
 ghost use Rattle.cs_classes.specs.Planned.{due_on};
 ghost use Rattle.cs_classes.specs.Said.{said};
-ghost use Rattle.cs_decl.specs.Plan.{as_plan};
+ghost use Rattle.cs_plan.specs.Plan.{as_plan};
 
 use crate::claim::Claim;
 use crate::likeness::{Likeness, is_due_day};
 use crate::workers::Workers;
 use cs_civil::{DayKind, Sequence, all_kinds};
 use cs_crontab::Line;
-use cs_decl::Plan;
+use cs_plan::Plan;
 use std::alloc::{AllocError, Global};
 
 /// Whether a class has a cron job's due minutes on days of this kind, by what it is to the job.

@@ -3,7 +3,7 @@ ghost use Rattle.std.specs.Prelude.{◌≡◌, ◌≤◌, ◌<◌, ◌++◌, [],
 ghost use Rattle.cs_claims.specs.Certificate.{bound_in};
 ghost use Rattle.cs_classes.specs.Planned.{is_due_on};
 ghost use Rattle.cs_classes.specs.StandsFor.{bound_of, due_list, due_of, unbounded, waited_groups, worked_class};
-ghost use Rattle.cs_decl.specs.Plan.{as_plan};
+ghost use Rattle.cs_plan.specs.Plan.{as_plan};
 ghost use Rattle.cs_windows.specs.Windows.{day_minutes};
 
 use crate::locks::has_waiter;
@@ -11,7 +11,7 @@ use crate::steps::{arrivals_in, backlog_of};
 use cs_civil::{DayKind, Sequence};
 use cs_claims::{Class, DueList, GroupBacklog};
 use cs_crontab::{Line, When};
-use cs_decl::Plan;
+use cs_plan::Plan;
 use cs_schedule::MinuteSet;
 use cs_wait::{Backlog, MAX_BACKLOG};
 use std::alloc::{AllocError, Global};

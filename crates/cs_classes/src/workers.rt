@@ -7,14 +7,14 @@ ghost use Rattle.cs_classes.specs.WorkedOut.{classed_kind};
 ghost use Rattle.cs_civil.specs.Order.{all_kinds};
 ghost use Rattle.cs_classes.specs.StandsFor.{worked_classes, worked_of};
 ghost use Rattle.cs_classes.specs.Said.{said};
-ghost use Rattle.cs_decl.specs.Plan.{Declared};
+ghost use Rattle.cs_plan.specs.Plan.{Declared};
 
 use crate::claim::Claim;
 use crate::likeness::{Likeness, row_of, times_of_jobs};
 use crate::working_out::{class_of_number, classed_kinds};
 use cs_civil::Sequence;
 use cs_claims::{Certificate, Class};
-use cs_decl::Plan;
+use cs_plan::Plan;
 use rayon::prelude::*;
 use std::alloc::{AllocError, Global};
 use std::thread::Threads;

@@ -13,7 +13,7 @@ use crate::worked::worked_class;
 use crate::workers::Workers;
 use cs_civil::{DayKind, Sequence, all_kinds};
 use cs_claims::{Certificate, Class};
-use cs_decl::Plan;
+use cs_plan::Plan;
 use indexmap::IndexSet;
 use std::alloc::{AllocError, Global};
 

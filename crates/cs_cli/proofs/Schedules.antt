@@ -6,12 +6,14 @@ use Rattle.cs_crontab.specs.Crontab.{Table}
 use Rattle.cs_crontab.specs.Faults.{Means}
 use Rattle.cs_anacrontab.specs.Anacrontab.{Table as JobTable}
 use Rattle.cs_anacrontab.specs.Faults.{Means as MeansJobs}
-use Rattle.cs_decl.specs.Faults.{Fault as DeclaredFault, at_cron}
+use Rattle.cs_decl.specs.Faults.{at_cron}
+use Rattle.cs_plan.specs.Answers.{Fault as DeclaredFault}
 use Rattle.cs_decl.specs.Join.{joined}
-use Rattle.cs_decl.specs.Meaning.{◌>>=◌, declared_by, unless}
-use Rattle.cs_decl.specs.Plan.{Declared}
+use Rattle.cs_decl.specs.Meaning.{declared_by}
+use Rattle.cs_plan.specs.Answers.{◌>>=◌, unless}
+use Rattle.cs_plan.specs.Plan.{Declared}
 use Rattle.cs_decl.specs.declared.entries.Entries.{Entries}
-use Rattle.cs_decl.specs.declared.fault.DeclFault.TheVariants as faults
+use Rattle.cs_plan.specs.declared.fault.DeclFault.TheVariants as faults
 use Rattle.cs_cert.specs.Denoted.{certificate_by}
 use Rattle.cs_check.specs.Case.{fault_of}
 use Rattle.cs_check.specs.Checked.{certificate_in, plan_in}
@@ -27,23 +29,23 @@ use Rattle.cs_judge.specs.Answer.{IsAnswer, IsMade, IsUnknown, IsUnknownText, Is
 use Rattle.cs_judge.specs.Judged.{IfRefused, IsJudgement, IsRefusal}
 use Rattle.cs_maker.specs.declared.reason.Reason.{Reason}
 use Rattle.cs_maker.specs.declared.reason.Reason.TheVariants.{LeafTooLong, NoMemory, NoReach, NoScript, NotChecked, TooDeep, TooManyClasses}
-use Rattle.cs_report.specs.Told.{told}
-use Rattle.cs_report.specs.declared.check_fault.CheckFault.{CheckFault}
+use Rattle.cs_theorem.specs.Told.{told}
+use Rattle.cs_theorem.specs.declared.check_fault.CheckFault.{CheckFault}
 use Rattle.cs_args.specs.CommandLine.{AskedCheck, AskedJudge, AskedMake, AskedRun}
 use Rattle.cs_io.specs.Files.{Failed}
 use Rattle.cs_files.specs.Fitting.{fitting, has_other_parts}
 use Rattle.cs_files.specs.Reads.{AndThen, Gives, GivesSome, MeansTable, PlacesIn, ReadsAs, ReadsEntries, ReadsFitting, ReadsJobs, ReadsTables, behind, planned}
 use Rattle.cs_files.specs.Response.{Ending}
 use Rattle.cs_files.specs.Trouble.{InAnacrontab, InCertificate, InCrontab, InDeclarations, InGathered, InScript, InWords, NoTimeZone, Trouble, Unread, trouble_status}
-use Rattle.cs_cli.specs.Answer.{IsOfOthers, IsOrder}
-use Rattle.cs_cli.specs.Check.{AnswersCheck, IsProofOf, verdict_text}
+use Rattle.cs_ruling.specs.Answer.{IsOfOthers, IsOrder}
+use Rattle.cs_ruling.specs.Check.{AnswersCheck, IsProofOf, verdict_text}
 use Rattle.cs_cli.specs.Judge.{AnswersJudge, AnswersMake, AnswersWanted, IsJudged, JudgesPlan, outcome_status, wanted_of}
-use Rattle.cs_cli.specs.Safe.{IsChecked, IsSafe}
-use Rattle.cs_cli.proofs.CheckLemmas.{digests_of}
+use Rattle.cs_ruling.specs.Safe.{IsChecked, IsSafe}
+use Rattle.cs_ruling.proofs.CheckLemmas.{digests_of}
 use Rattle.cs_cli.specs.Theorem.{DenoteJobs, DenotesPlan, Given, Hold, HoldsIt, IsCalmPlan, IsCalmSchedule, IsGatheredSchedule, IsJudgedSafe, IsJudgedUnknown, IsJudgedUnsafe, IsOrdered, IsPrintedSchedule, IsRefused, IsSafePlan, IsSafeSchedule}
-use Rattle.cs_gather.specs.Places.{places_of}
-use Rattle.cs_gather.specs.declared.places.Place.{Place}
-use Rattle.cs_cli.specs.declared.answer.Order.{Order}
+use Rattle.cs_place.specs.Places.{places_of}
+use Rattle.cs_place.specs.declared.places.Place.{Place}
+use Rattle.cs_ruling.specs.declared.answer.Order.{Order}
 
 -- ---- what was read
 

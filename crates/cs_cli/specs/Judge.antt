@@ -2,7 +2,7 @@
 use Rattle.std.specs.Prelude.{◌≡◌, ℕ, Bool, true, false, List, [], ◌++◌, Option, Some, None, Result}
 use Rattle.cs_crontab.specs.Crontab.{Table}
 use Rattle.cs_anacrontab.specs.Anacrontab.{Table as JobTable}
-use Rattle.cs_decl.specs.Plan.{Declared}
+use Rattle.cs_plan.specs.Plan.{Declared}
 use Rattle.cs_judge.specs.Answer.{IsAnswer}
 use Rattle.cs_judge.specs.Judged.{IsJudgement}
 use Rattle.cs_judge.specs.declared.judged.Judged.{Judged}
@@ -11,15 +11,15 @@ use Rattle.cs_judge.specs.declared.answers.Outcome.{Outcome}
 use Rattle.cs_judge.specs.declared.answers.Outcome.TheVariants as outcome
 use Rattle.cs_judge.specs.declared.answers.Wanted.{Wanted}
 use Rattle.cs_judge.specs.declared.answers.Wanted.TheVariants.{Certificate, Compact, Verdict}
-use Rattle.cs_report.specs.Told.{told}
+use Rattle.cs_theorem.specs.Told.{told}
 use Rattle.cs_report.specs.Warning.{plan_notes}
 use Rattle.cs_args.specs.CommandLine.{AskedJudge, AskedMake}
 use Rattle.cs_io.specs.Files.{Failed}
 use Rattle.cs_files.specs.Response.{Ending}
 use Rattle.cs_files.specs.Reads.{AndThen, Answered, GivesSome, ReadsFitting, ReadsTables, WithPlaces}
 use Rattle.cs_files.specs.Trouble.{Trouble}
-use Rattle.cs_gather.specs.declared.places.Place.{Place}
-use Rattle.cs_cli.specs.Check.{fault_places}
+use Rattle.cs_place.specs.declared.places.Place.{Place}
+use Rattle.cs_ruling.specs.Check.{fault_places}
 
 -- the status of a call by how the plan was found
 abbrev pub outcome_status : Outcome → ℕ

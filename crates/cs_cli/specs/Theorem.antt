@@ -6,16 +6,16 @@ use Rattle.cs_crontab.specs.Crontab.{Table}
 use Rattle.cs_crontab.specs.Faults.{Means}
 use Rattle.cs_anacrontab.specs.Anacrontab.{Table as JobTable, no_lines as no_jobs}
 use Rattle.cs_anacrontab.specs.Faults.{Means as MeansJobs}
-use Rattle.cs_gather.specs.Gather.{is_gathered}
-use Rattle.cs_gather.specs.Places.{places_of}
-use Rattle.cs_gather.specs.declared.places.Place.{Place}
+use Rattle.cs_place.specs.Mark.{is_gathered}
+use Rattle.cs_place.specs.Places.{places_of}
+use Rattle.cs_place.specs.declared.places.Place.{Place}
 use Rattle.cs_history.specs.Plan.{IsReached}
 use Rattle.cs_history.specs.Calm.{IsCalm}
 use Rattle.cs_history.specs.History.{History, history, IsLegal, IsInTime, IsSafe}
 use Rattle.cs_history.specs.declared.script.Script.{Script}
 use Rattle.cs_decl.specs.Join.{joined}
 use Rattle.cs_decl.specs.Meaning.{declared_by}
-use Rattle.cs_decl.specs.Plan.{Declared, as_plan}
+use Rattle.cs_plan.specs.Plan.{Declared, as_plan}
 use Rattle.cs_decl.specs.declared.entries.Entries.{Entries}
 use Rattle.cs_claims.specs.Content.{Content}
 use Rattle.cs_cert.specs.Denoted.{certificate_by}
@@ -30,8 +30,8 @@ use Rattle.cs_args.specs.Asked.{asked_run}
 use Rattle.cs_args.specs.CommandLine.{AskedRun}
 use Rattle.cs_files.specs.Fitting.{has_other_parts}
 use Rattle.cs_files.specs.Response.{Ending}
-use Rattle.cs_cli.specs.Check.{verdict_text}
-use Rattle.cs_cli.specs.declared.answer.Order.{Order}
+use Rattle.cs_ruling.specs.Check.{verdict_text}
+use Rattle.cs_ruling.specs.declared.answer.Order.{Order}
 
 -- the bytes of a crontab, of an anacrontab if one is given, and of declarations
 pub record Given : Type 0 where

@@ -11,17 +11,17 @@ ghost use Rattle.cs_files.specs.Response.{status_of};
 ghost use Rattle.cs_files.specs.Trouble.{CameTo, IsHonest, IsHonestOf};
 ghost use Rattle.cs_files.specs.Turn.{judge_paths};
 
-use crate::places::{fault_takers, push_fault_places};
 use cs_anacrontab::Anacrontab;
 use cs_args::{JudgeWords, MakeWords};
 use cs_civil::Bytes;
 use cs_crontab::Crontab;
-use cs_decl::Plan;
 use cs_files::{Fault, RanOut, Response, Status, placed_plan_from, read_placed_tables};
-use cs_gather::Place;
 use cs_io::Inputs;
 use cs_judge::{Judged, Outcome, Wanted, answer, judge};
+use cs_place::Place;
+use cs_plan::Plan;
 use cs_report::{plan_notes, warnings};
+use cs_ruling::{fault_takers, push_fault_places};
 use std::alloc::{AllocError, Global};
 use std::thread::Threads;
 

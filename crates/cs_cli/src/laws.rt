@@ -9,18 +9,18 @@ ghost use Rattle.cs_check.specs.Checked.{IsLengthFor};
 ghost use Rattle.cs_classes.specs.Claim.{as_certificate};
 ghost use Rattle.cs_classes.specs.Planned.{due_on};
 ghost use Rattle.cs_classes.specs.StandsFor.{as_listed, claimed};
-ghost use Rattle.cs_decl.specs.Plan.{Declared, IsWhole, as_plan};
+ghost use Rattle.cs_plan.specs.Plan.{Declared, IsWhole, as_plan};
 ghost use Rattle.cs_io.specs.Files.{Failed};
 ghost use Rattle.cs_files.specs.Response.{Ending};
 ghost use Rattle.cs_theorem.specs.Accepted.{IsAccepted};
-ghost use Rattle.cs_cli.specs.Answer.{IsOfOthers, IsOrder};
+ghost use Rattle.cs_ruling.specs.Answer.{IsOfOthers, IsOrder};
 ghost use Rattle.cs_cli.specs.Judge.{AnswersJudge, AnswersMake};
-ghost use Rattle.cs_cli.specs.Check.{AnswersCheck};
-ghost use Rattle.cs_cli.specs.Safe.{IsChecked};
+ghost use Rattle.cs_ruling.specs.Check.{AnswersCheck};
+ghost use Rattle.cs_ruling.specs.Safe.{IsChecked};
 ghost use Rattle.cs_cli.specs.Theorem.{Given, Hold, IsCalmSchedule, IsGatheredSchedule};
 ghost use Rattle.cs_cli.specs.Theorem.{IsJudgedSafe, IsJudgedUnknown, IsJudgedUnsafe};
 ghost use Rattle.cs_cli.specs.Theorem.{IsOrdered, IsPrintedSchedule};
-ghost use Rattle.cs_cli.specs.declared.answer.Order.{Order};
+ghost use Rattle.cs_ruling.specs.declared.answer.Order.{Order};
 
 /// Lemma. Where `check` ends with status 0, its files denote two tables, declarations that join
 /// with them to a plan, and a certificate that the rules accept. Every legal history of that plan

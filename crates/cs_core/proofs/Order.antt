@@ -1,8 +1,8 @@
 -- The anacron jobs by delay.
 use Rattle.std.proofs.Common.{ℕ, zero, suc, ◌+◌, ◌≤◌, ◌≡◌, Bool, if◌then◌else◌, [], refl, ap, arith, length}
 use Rattle.std.proofs.lemmas.Bool.{lt-ltb, le-ltb}
-use Rattle.cs_decl.specs.Plan.{Declared, IsWhole, crons}
-use Rattle.cs_decl.proofs.Plans.{count}
+use Rattle.cs_plan.specs.Plan.{Declared, IsWhole, crons}
+use Rattle.cs_plan.proofs.Plans.{count}
 use Rattle.cs_history.specs.Lists.{placed}
 use Rattle.cs_history.specs.Plan.{Plan, is_sooner, placed_below}
 

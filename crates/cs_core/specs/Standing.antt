@@ -2,7 +2,7 @@
 use Rattle.std.specs.Prelude.{◌≡◌, ℕ, ◌-◌, ◌/◌, Bool, true, false, not, ◌&&◌, ◌==◌, List, filter, get_or, map, Option, None, Some}
 use Rattle.std.specs.List.{AllByRecursion, list_any}
 use Rattle.std.specs.Option.{is_some}
-use Rattle.cs_decl.specs.Plan.{Declared}
+use Rattle.cs_plan.specs.Plan.{Declared}
 use Rattle.cs_history.specs.History.{Pass}
 use Rattle.cs_history.specs.Names.{AreNamed}
 use Rattle.cs_history.specs.Plan.{Plan, IsPlan, by_delay, is_cron}

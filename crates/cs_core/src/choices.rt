@@ -2,7 +2,7 @@ ghost use Rattle.std.specs.Prelude.{◌≡◌, ◌≤◌, ◌++◌, IfOk, OnOk, 
 ghost use Rattle.std.specs.List.{insert};
 ghost use Rattle.cs_core.specs.Choices.{by_name, candidates, choices, is_before};
 ghost use Rattle.cs_core.specs.Standing.{names};
-ghost use Rattle.cs_decl.specs.Plan.{as_plan};
+ghost use Rattle.cs_plan.specs.Plan.{as_plan};
 ghost use Rattle.cs_history.specs.Lists.{placed};
 ghost use Rattle.cs_history.specs.declared.event.Event.TheVariants as event;
 

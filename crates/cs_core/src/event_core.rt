@@ -2,7 +2,7 @@ ghost use Rattle.std.specs.Prelude.{◌≡◌, ◌≤◌, ◌↔◌, IfOk, IfErr
 ghost use Rattle.std.specs.Option.{option_map};
 ghost use Rattle.cs_core.specs.Standing.{Standing, names};
 ghost use Rattle.cs_core.specs.Steps.{Takes, is_start, needs_memory};
-ghost use Rattle.cs_decl.specs.Plan.{as_plan};
+ghost use Rattle.cs_plan.specs.Plan.{as_plan};
 ghost use Rattle.cs_history.specs.History.{From, History, answer, is_free};
 ghost use Rattle.cs_history.specs.Names.{jobs_left};
 ghost use Rattle.cs_history.specs.Plan.{first_start};
@@ -14,9 +14,9 @@ use crate::lists::stamp_at;
 use crate::rules::Rules;
 use arrayvec::ArrayVec;
 use cs_civil::{Day, Minute};
-use cs_decl::Plan;
 use cs_history::{Event, Mode, Refusal, Reply, Run, Start};
 use cs_locks::LockTable;
+use cs_plan::Plan;
 use cs_roster::Roster;
 use std::alloc::{AllocError, Global};
 use std::marker::Model;
@@ -44,7 +44,7 @@ pub struct Core {
 
 impl Model for Core {
     ghost use Rattle.cs_core.specs.Standing.{Standing, IsKept, state_in};
-    ghost use Rattle.cs_decl.specs.Plan.{as_plan};
+    ghost use Rattle.cs_plan.specs.Plan.{as_plan};
     ghost use Rattle.cs_history.specs.History.{pass_of};
 
     ghost Value = { Standing };

@@ -2,7 +2,7 @@ ghost use Rattle.std.specs.Prelude.{◌≡◌, ◌/◌, ◌≤◌, IfErr, None, 
 ghost use Rattle.cs_civil.specs.Calendar.{last_minute};
 ghost use Rattle.cs_core.specs.Standing.{going_holds, owed_beside};
 ghost use Rattle.cs_core.specs.Steps.{Takes, TakesRun, needs_memory};
-ghost use Rattle.cs_decl.specs.Plan.{as_plan};
+ghost use Rattle.cs_plan.specs.Plan.{as_plan};
 ghost use Rattle.cs_history.specs.History.{Skips, Starts, Waits, answer, opened, pass_of, same_run};
 ghost use Rattle.cs_history.specs.Lists.{number_of};
 ghost use Rattle.cs_history.specs.Plan.{is_cron};

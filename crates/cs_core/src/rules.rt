@@ -3,7 +3,7 @@ ghost use Rattle.std.specs.List.{insert};
 ghost use Rattle.cs_core.specs.Standing.{is_job, owed_beside};
 ghost use Rattle.cs_crontab.specs.declared.limits.TheConstants.{MAX_COMMANDS};
 ghost use Rattle.cs_civil.specs.Calendar.{kind};
-ghost use Rattle.cs_decl.specs.Plan.{as_plan, command_of, crons, is_due, line_of};
+ghost use Rattle.cs_plan.specs.Plan.{as_plan, command_of, crons, is_due, line_of};
 ghost use Rattle.cs_history.specs.Plan.{by_delay, due_at, is_cron, is_pass_minute, is_sooner, placed_below, shares_in, takes};
 ghost use Rattle.cs_history.specs.Lists.{placed};
 ghost use Rattle.cs_locks.specs.Locks.{hold_in, hold_of};
@@ -13,9 +13,9 @@ use arrayvec::ArrayVec;
 use cs_anacrontab::{Period, is_due};
 use cs_civil::{Day, DayKind, Minute, kind_of};
 use cs_crontab::When;
-use cs_decl::Plan;
 use cs_history::Mode;
 use cs_locks::Hold;
+use cs_plan::Plan;
 use std::alloc::{AllocError, Global};
 use std::marker::Model;
 
@@ -28,7 +28,7 @@ pub(crate) struct Rules {
 
 impl Model for Rules {
     ghost use Rattle.std.specs.Prelude.{◌≡◌};
-    ghost use Rattle.cs_decl.specs.Plan.{Declared, as_plan};
+    ghost use Rattle.cs_plan.specs.Plan.{Declared, as_plan};
     ghost use Rattle.cs_history.specs.Plan.{by_delay};
 
     ghost Value = { Declared };

@@ -1,7 +1,7 @@
 -- A trial that has taken an event.
 use Rattle.std.proofs.Common.{ℕ, ◌≡◌, ap, ◌∙◌, subst, Option, None}
 use Rattle.std.specs.Option.{option_or}
-use Rattle.cs_decl.specs.Plan.{Declared, as_plan}
+use Rattle.cs_plan.specs.Plan.{Declared, as_plan}
 use Rattle.cs_history.specs.Plan.{Plan}
 use Rattle.cs_history.specs.Step.{State, reply}
 use Rattle.cs_history.specs.declared.event.Event.{Event}

@@ -21,7 +21,7 @@ use Rattle.cs_counterexample.specs.Shown.{IsRunOf, IsTellable, history_of}
 use Rattle.cs_counterexample.proofs.Firsts.{all_right, first_is}
 use Rattle.cs_counterexample.proofs.Scripts.{legal_before, shows}
 use Rattle.cs_counterexample.proofs.Trials.{IsTrial}
-use Rattle.cs_decl.specs.Plan.{Declared, as_plan}
+use Rattle.cs_plan.specs.Plan.{Declared, as_plan}
 use Rattle.cs_counterexample.specs.Trial.{Tried}
 
 -- each run that runs or waits is one

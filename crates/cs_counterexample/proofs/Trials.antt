@@ -2,7 +2,7 @@
 use Rattle.std.proofs.Common.{◌≡◌, false, List, [], ◌∷◌, ◌++◌, sym, ap, ◌∙◌, subst, None}
 use Rattle.std.specs.Option.{option_or}
 use Rattle.std.proofs.lemmas.List.Sums.{fold_push}
-use Rattle.cs_decl.specs.Plan.{Declared, as_plan}
+use Rattle.cs_plan.specs.Plan.{Declared, as_plan}
 use Rattle.cs_history.specs.Plan.{Plan}
 use Rattle.cs_history.specs.History.{Start, History, From, history, ◌▸◌, now, running, IsLegal, IsInTime}
 use Rattle.cs_history.specs.Step.{State, state_of, after, refusal}

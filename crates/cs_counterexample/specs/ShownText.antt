@@ -2,8 +2,8 @@
 use Rattle.std.specs.Prelude.{ℕ, List, ◌++◌, codes, nat_lt, if◌then◌else◌}
 use Rattle.std.specs.Fmt.{decimal}
 use Rattle.cs_civil.specs.Text.{minute_text}
-use Rattle.cs_decl.specs.JobNames.{due_name, identifier_of}
-use Rattle.cs_decl.specs.Plan.{Declared, crons}
+use Rattle.cs_plan.specs.JobNames.{due_name, identifier_of}
+use Rattle.cs_plan.specs.Plan.{Declared, crons}
 use Rattle.cs_history.specs.History.{run_of}
 use Rattle.cs_history.specs.declared.run.Run.{Run}
 use Rattle.cs_counterexample.specs.declared.shown.Shown.{Shown}

@@ -1,14 +1,14 @@
 //! What an event breaks: by the run that it starts, or by one of mode skip that is skipped. No other
 //! event breaks anything, since fewer runs break no more.
 ghost use Rattle.std.specs.Prelude.{◌≡◌, ◌≤◌, ◌<◌};
-ghost use Rattle.cs_decl.specs.Plan.{as_plan};
+ghost use Rattle.cs_plan.specs.Plan.{as_plan};
 ghost use Rattle.cs_counterexample.specs.Break.{weight_of};
 ghost use Rattle.cs_counterexample.specs.Trial.{break_by_reply, break_by_run, break_by_skip, clash_before, run_by};
 
 use crate::rules::{clash, is_skip, weight};
 use crate::shown::Shown;
-use cs_decl::Plan;
 use cs_history::{Event, Reply, Run};
+use cs_plan::Plan;
 use cs_roster::Roster;
 
 /// The run that the event may start at this minute.

@@ -1,12 +1,12 @@
 //! When a run has passed its declared time. A deadline is a minute before which no run has, so that
 //! the runs are checked one by one only from then on.
 ghost use Rattle.std.specs.Prelude.{◌≡◌, ◌+◌, ◌≤◌, nat_le};
-ghost use Rattle.cs_decl.specs.Plan.{as_plan};
+ghost use Rattle.cs_plan.specs.Plan.{as_plan};
 ghost use Rattle.cs_counterexample.specs.Trial.{IsDeadline, IsNextDeadline, any_over};
 
 use crate::rules::limit;
-use cs_decl::Plan;
 use cs_history::{Going, Reply};
+use cs_plan::Plan;
 use cs_roster::Roster;
 
 /// The first minute at which the run is over its declared time, if a `u64` can hold it.

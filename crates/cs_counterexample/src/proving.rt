@@ -1,13 +1,13 @@
 ghost use Rattle.std.specs.Prelude.{◌≤◌, IfOk, IfErr, IsOkUnless};
-ghost use Rattle.cs_decl.specs.Plan.{as_plan};
+ghost use Rattle.cs_plan.specs.Plan.{as_plan};
 ghost use Rattle.cs_history.specs.Plan.{first_start};
 ghost use Rattle.cs_counterexample.specs.Shown.{IsNotShown, IsShown, IsTellable, IsUnsafe};
 ghost use Rattle.cs_counterexample.specs.declared.shown.NotShown.TheVariants.{OutOfMemory};
 
 use crate::shown::{NotShown, Shown};
 use crate::trial::Trial;
-use cs_decl::Plan;
 use cs_history::Script;
+use cs_plan::Plan;
 use std::alloc::Global;
 
 /// Checks whether a script shows that the plan is unsafe: each event may come when it comes, each

@@ -1,10 +1,10 @@
 //! The plan's rules for jobs by number; past the last job, those of a history.
 ghost use Rattle.std.specs.Prelude.{◌≡◌};
-ghost use Rattle.cs_decl.specs.Plan.{as_plan};
+ghost use Rattle.cs_plan.specs.Plan.{as_plan};
 ghost use Rattle.cs_history.specs.Plan.{is_skip, same_group};
 ghost use Rattle.cs_counterexample.specs.Break.{clash};
 
-use cs_decl::Plan;
+use cs_plan::Plan;
 
 fn group(plan: &Plan, job: u16) -> Option<u8>
     ensures { result ≡ (as_plan plan.now).group job }

@@ -1,6 +1,6 @@
 //! The text of what a script breaks.
 ghost use Rattle.std.specs.Prelude.{◌≡◌, ◌++◌, IfOk, OnOk};
-ghost use Rattle.cs_decl.specs.Plan.{as_plan};
+ghost use Rattle.cs_plan.specs.Plan.{as_plan};
 ghost use Rattle.cs_history.specs.Plan.{IsReached};
 ghost use Rattle.cs_counterexample.specs.Shown.{IsTellable};
 ghost use Rattle.cs_counterexample.specs.ShownText.{at_name, both_text, break_text, load_text};
@@ -8,8 +8,8 @@ ghost use Rattle.cs_counterexample.specs.ShownText.{run_name, run_text, shown_te
 
 use crate::shown::Shown;
 use cs_civil::{Bytes, Minute, date_text, push_number};
-use cs_decl::{Plan, identifier_of, push_due_name};
 use cs_history::Run;
+use cs_plan::{Plan, identifier_of, push_due_name};
 use std::alloc::{AllocError, Global};
 
 /// Adds `job ID at `.

@@ -1,5 +1,5 @@
 ghost use Rattle.std.specs.Prelude.{◌≡◌, ◌≤◌, true, IfOk, IfErr, OnOk, OnErr};
-ghost use Rattle.cs_decl.specs.Plan.{as_plan};
+ghost use Rattle.cs_plan.specs.Plan.{as_plan};
 ghost use Rattle.cs_history.specs.Plan.{first_start};
 ghost use Rattle.cs_counterexample.specs.Trial.{IsTaken, Stops, any_over, break_at_start, fault_of, is_late, opening};
 
@@ -7,8 +7,8 @@ use crate::breaking::{break_by_reply, break_by_run, run_by};
 use crate::deadline::{any_over, deadline_of, first_deadline};
 use crate::shown::{NotShown, Shown};
 use cs_core::Core;
-use cs_decl::Plan;
 use cs_history::{Event, Refusal, Run, Start};
+use cs_plan::Plan;
 use std::alloc::{AllocError, Global};
 use std::marker::Model;
 
@@ -25,7 +25,7 @@ pub struct Trial {
 }
 
 impl Model for Trial {
-    ghost use Rattle.cs_decl.specs.Plan.{as_plan};
+    ghost use Rattle.cs_plan.specs.Plan.{as_plan};
     ghost use Rattle.cs_counterexample.specs.Trial.{Tried, Watches};
 
     ghost Value = { Tried };

@@ -1,76 +1,11 @@
--- Commands that are asked for, and runs that are carried out one after the other.
-use Rattle.std.proofs.Common.{◌≡◌, ◌≤◌, ◌+◌, ◌-◌, ℕ, List, [], ◌∷◌, ◌++◌, length, length-append, arith, map, All, Bor, None, Option, Some, option_map, Result, Ok, Err, inl, inr, refl, sym, ◌∙◌, subst, slice_get}
-use Rattle.std.specs.Prelude.{IfOk}
-use Rattle.std.specs.Slice.{IsItemAt}
-use Rattle.std.proofs.lemmas.Option.{slice_get_read}
-use Rattle.cs_table.specs.Environment.{Variable, IsLast, above, first_places, names_of}
-use Rattle.cs_crontab.specs.Command.{AreParts}
-use Rattle.cs_crontab.specs.Crontab.{CommandLine, Table as Crontab}
-use Rattle.cs_anacrontab.specs.Anacrontab.{JobLine, Table as Anacrontab}
-use Rattle.cs_decl.specs.Plan.{Declared, crons}
+-- Runs that are carried out one after the other.
+use Rattle.std.proofs.Common.{◌≤◌, ◌+◌, ◌-◌, ℕ, List, [], ◌∷◌, ◌++◌, length, length-append, arith}
+use Rattle.cs_plan.specs.Plan.{Declared}
 use Rattle.cs_history.specs.declared.run.Run.{Run}
-use Rattle.cs_device.specs.Asked.{Asked, asked}
+use Rattle.cs_device.specs.Asked.{Asked}
 use Rattle.cs_device.specs.declared.runner.Outcome.{Outcome}
 use Rattle.cs_daemon.proofs.Turning.{one_more}
-use Rattle.cs_daemon.specs.Commands.{AreSet, CarriesOut, CarriesOutAll, IsForJob, IsOfCommand, IsOfJob, RunsJob}
-use Rattle.cs_daemon.specs.Names.{run_name}
-
--- an item that is lent stands at its index
-pub found : {X : Type 0} (xs : List X) (i : ℕ) (x : Bor X) → IsItemAt xs i (Some x) → slice_get xs i ≡ Some x.now
-found xs i x at = slice_get_read xs (length xs) i x.now refl at.3.0 at.1
-
--- ---- what is asked
-
-pub of_command : (table : Crontab) (line : CommandLine) (name : List ℕ) (number : ℕ) (text command lent_command : List ℕ) (input : Option (List ℕ)) (lent : Option (Bor (List ℕ))) (env lent_env : List Variable)
-    → number ≡ line.number → text ≡ line.command → AreParts text (command, input)
-    → map (λ (v : Variable). v.0) env ≡ first_places (names_of (above number table.settings)) → All (IsLast (above number table.settings)) env
-    → lent_command ≡ command → option_map (λ (t : Bor (List ℕ)). t.now) lent ≡ input → lent_env ≡ env
-    → IsOfCommand table line (asked name lent_command lent lent_env)
-of_command table line name number text command lent_command input lent env lent_env n t parts names values c i e =
-    record {
-      parts = subst (λ (x : List ℕ). AreParts x (lent_command, option_map (λ u. u.now) lent)) t (subst (λ (x : List ℕ). AreParts text (x, option_map (λ u. u.now) lent)) (sym c) (subst (λ (x : Option (List ℕ)). AreParts text (command, x)) (sym i) parts));
-      variables =
-          subst (λ (x : List Variable). AreSet (above line.number table.settings) x) (sym e)
-          (subst (λ (m : ℕ). AreSet (above m table.settings) env) n (record { names = names; values = values }));
-    }
-
-pub of_job : (table : Anacrontab) (line : JobLine) (name : List ℕ) (number : ℕ) (text : List ℕ) (env lent_env : List Variable)
-    → number ≡ line.number → text ≡ line.command
-    → map (λ (v : Variable). v.0) env ≡ first_places (names_of (above number table.settings)) → All (IsLast (above number table.settings)) env
-    → lent_env ≡ env
-    → IsOfJob table line (asked name text None lent_env)
-of_job table line name number text env lent_env n t names values e =
-    record {
-      command = t;
-      input = refl;
-      variables =
-          subst (λ (x : List Variable). AreSet (above line.number table.settings) x) (sym e)
-          (subst (λ (m : ℕ). AreSet (above m table.settings) env) n (record { names = names; values = values }));
-    }
-
--- ---- which job it is for
-
-module _ {W E : Type 0} (runs : W → Asked → Outcome → W → Type 0) (d : Declared) where
-  pub cron_runs : (run : Run) (name : List ℕ) (job : ℕ) (table : Crontab) (lines : List CommandLine) (line : Bor CommandLine) (old new : W) (r : Result Outcome E)
-      → name ≡ run_name d run → job ≡ run.job → table ≡ d.crontab → lines ≡ table.lines → IsItemAt lines job (Some line)
-      → IfOk r (λ outcome. (asked : Asked) × (asked.name ≡ name) × IsOfCommand table line.now asked × runs old asked outcome new)
-      → IfOk r (λ outcome. RunsJob runs d run old outcome new)
-  cron_runs run name job table lines line old new (Ok outcome) called its is of at (a, named, for, ran) =
-      let here : slice_get d.crontab.lines job ≡ Some line.now = subst (λ (t : Crontab). slice_get t.lines job ≡ Some line.now) is (subst (λ (ls : List CommandLine). slice_get ls job ≡ Some line.now) of (found lines job line at)) in
-      inl (a, (named ∙ called, subst (λ (j : ℕ). IsForJob d j a) its (inl (line.now, here, subst (λ (t : Crontab). IsOfCommand t line.now a) is for))), ran)
-  cron_runs run name job table lines line old new (Err e) called its is of at ran = tt
-
-  pub anacron_runs : (run : Run) (name : List ℕ) (job above : ℕ) (table : Anacrontab) (lines : List JobLine) (line : Bor JobLine) (old new : W) (r : Result Outcome E)
-      → name ≡ run_name d run → job ≡ run.job → table ≡ d.anacrontab → lines ≡ table.lines → above ≡ crons d → crons d ≤ job → IsItemAt lines (job - above) (Some line)
-      → IfOk r (λ outcome. (asked : Asked) × (asked.name ≡ name) × IsOfJob table line.now asked × runs old asked outcome new)
-      → IfOk r (λ outcome. RunsJob runs d run old outcome new)
-  anacron_runs run name job above table lines line old new (Ok outcome) called its is of many past at (a, named, for, ran) =
-      let there : slice_get lines (job - crons d) ≡ Some line.now = subst (λ (n : ℕ). slice_get lines (job - n) ≡ Some line.now) many (found lines (job - above) line at) in
-      let here : slice_get d.anacrontab.lines (job - crons d) ≡ Some line.now = subst (λ (t : Anacrontab). slice_get t.lines (job - crons d) ≡ Some line.now) is (subst (λ (ls : List JobLine). slice_get ls (job - crons d) ≡ Some line.now) of there) in
-      inl (a, (named ∙ called, subst (λ (j : ℕ). IsForJob d j a) its (inr (line.now, past, here, subst (λ (t : Anacrontab). IsOfJob t line.now a) is for))), ran)
-  anacron_runs run name job above table lines line old new (Err e) called its is of many past at ran = tt
-
--- ---- one after the other
+use Rattle.cs_daemon.specs.Carried.{CarriesOut, CarriesOutAll}
 
 module _ {W : Type 0} (runs : W → Asked → Outcome → W → Type 0) (d : Declared) where
   -- runs that are carried out, at least as many as steps are made, and then one more of both

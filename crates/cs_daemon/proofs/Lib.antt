@@ -2,7 +2,6 @@ pub mod Carrying
 pub mod Causing
 pub mod Ending
 pub mod Handing
-pub mod JobNames
 pub mod Naming
 pub mod Shelving
 pub mod Storing

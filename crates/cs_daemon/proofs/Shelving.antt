@@ -7,7 +7,7 @@ use Rattle.std.proofs.lemmas.Simd.{map-map}
 use Rattle.std.specs.List.{AllByRecursion}
 use Rattle.cs_daemon.proofs.Storing.{lacking_next}
 use Rattle.cs_anacrontab.specs.Anacrontab.{JobLine}
-use Rattle.cs_decl.specs.Plan.{Declared, no_line}
+use Rattle.cs_plan.specs.Plan.{Declared, no_line}
 use Rattle.cs_history.specs.Lists.{below}
 use Rattle.cs_device.specs.declared.store.Stamp.{Stamp}
 use Rattle.cs_daemon.specs.InTurn.{InTurn}

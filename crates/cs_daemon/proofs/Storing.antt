@@ -6,7 +6,7 @@ use Rattle.cs_anacrontab.specs.Anacrontab.{JobLine}
 use Rattle.std.proofs.lemmas.List.Sums.{fold_push}
 use Rattle.std.specs.Prelude.{IfSome, MatchOption}
 use Rattle.cs_core.specs.Standing.{Standing}
-use Rattle.cs_decl.specs.Plan.{Declared, no_line}
+use Rattle.cs_plan.specs.Plan.{Declared, no_line}
 use Rattle.cs_history.specs.Journal.{told}
 use Rattle.cs_history.specs.Lists.{below}
 use Rattle.cs_history.specs.Step.{State}

@@ -1,11 +1,9 @@
 pub mod Causes
-pub mod Commands
 pub mod Deeds
 pub mod InTurn
-pub mod LogLines
-pub mod Names
 pub mod NoPlan
 pub mod Shelf
 pub mod Stamps
 pub mod Starts
 pub mod Ticked
+pub mod Carried

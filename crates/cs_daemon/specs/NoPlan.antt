@@ -2,7 +2,7 @@
 use Rattle.std.specs.Prelude.{pos, [], None}
 use Rattle.cs_crontab.specs.Crontab as crontab
 use Rattle.cs_anacrontab.specs.Anacrontab as anacrontab
-use Rattle.cs_decl.specs.Plan.{Declared}
+use Rattle.cs_plan.specs.Plan.{Declared}
 
 abbrev pub no_plan : Declared
 no_plan = record {

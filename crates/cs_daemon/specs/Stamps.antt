@@ -2,7 +2,7 @@
 use Rattle.std.specs.Prelude.{◌≡◌, ◌⊎◌, ℕ, ◌==◌, List, [], ◌∷◌, length, map, set, slice_index_or, Bool, if◌then◌else◌, Option, Some, None}
 use Rattle.std.specs.List.{fold, flat_map}
 use Rattle.cs_anacrontab.specs.Anacrontab.{JobLine}
-use Rattle.cs_decl.specs.Plan.{Declared, as_plan, no_line}
+use Rattle.cs_plan.specs.Plan.{Declared, as_plan, no_line}
 use Rattle.cs_history.specs.History.{History, IsLegal, stamps as stamps_after}
 use Rattle.cs_history.specs.Lists.{below}
 use Rattle.cs_device.specs.declared.store.Stamp.{Stamp}

@@ -9,13 +9,13 @@ ghost use Rattle.cs_keep.specs.declared.tick.TickFault.TheVariants.{ClockBack as
 
 use crate::dispatch::Round;
 use crate::end::Cause;
-use crate::lines::LogLine;
 use crate::notices::Notices;
 use crate::plan_ledger::PlanLedger;
 use crate::shared::Shared;
 use crate::stamps::Stored;
 use cs_civil::Minute;
 use cs_device::{Clock, StampStore, Tick};
+use cs_jobs::LogLine;
 use cs_keep::{Seat, TickFault};
 use std::io;
 use std::sync::Wait;

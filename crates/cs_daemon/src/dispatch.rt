@@ -8,13 +8,13 @@ ghost use Rattle.cs_keep.specs.Tick.{Ticks};
 ghost use Rattle.cs_keep.specs.declared.tick.TickFault.TheVariants.{ClockBack};
 
 use crate::commands::Returned;
-use crate::lines::LogLine;
 use crate::notices::Notices;
 use crate::plan_ledger::PlanLedger;
 use crate::stamps::{CoreStamps, stamps_of};
 use cs_civil::Minute;
 use cs_core::Core;
 use cs_history::{Event, Reply, Run};
+use cs_jobs::LogLine;
 use cs_keep::{Entry, Keep, Seat, TickFault};
 use std::alloc::Global;
 use std::marker::Model;

@@ -6,7 +6,7 @@ ghost use Rattle.cs_daemon.specs.Shelf.{HaveNames, Holds, Reads, Shelf, Writes};
 ghost use Rattle.cs_daemon.specs.Stamps.{AreKept, IsOnlyRead};
 ghost use Rattle.cs_daemon.specs.Starts.{IsRound, Rounds, desk, starts_in};
 ghost use Rattle.cs_daemon.specs.Ticked.{IsFull, Wrote};
-ghost use Rattle.cs_decl.specs.Plan.{Declared};
+ghost use Rattle.cs_plan.specs.Plan.{Declared};
 ghost use Rattle.cs_history.specs.History.{Start, same_run};
 ghost use Rattle.cs_history.specs.Journal.{IsJournal};
 ghost use Rattle.cs_history.specs.Lists.{EachPair};

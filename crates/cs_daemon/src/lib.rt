@@ -8,9 +8,7 @@ mod daemon;
 mod dispatch;
 mod end;
 mod laws;
-mod lines;
 mod log;
-mod names;
 mod notices;
 mod plan_ledger;
 mod shared;
@@ -23,4 +21,3 @@ pub use end::{Cause, DaemonEnd};
 pub use laws::{
     starts_are_handed_out, starts_differ, what_a_round_says, what_a_store_holds, what_a_tick_says,
 };
-pub use names::{push_job_front, push_job_name};

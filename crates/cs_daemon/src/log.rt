@@ -1,7 +1,7 @@
 //! The log that all threads write to.
 
-use crate::lines::{LogLine, push_line};
-use cs_decl::Plan;
+use cs_jobs::{LogLine, push_line};
+use cs_plan::Plan;
 use std::alloc::Global;
 use std::io;
 

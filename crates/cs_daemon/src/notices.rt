@@ -1,6 +1,6 @@
 //! What a tick logs besides the runs that it started.
 
-use crate::lines::LogLine;
+use cs_jobs::LogLine;
 use std::alloc::Global;
 
 /// Lines to log, and how many were lost because memory ran out.

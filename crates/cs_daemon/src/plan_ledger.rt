@@ -6,7 +6,7 @@ use std::sync::ledger::Ledger;
 
 /// The ledger of one daemon's keep, with the plan that the daemon runs.
 pub(crate) trait PlanLedger: Ledger {
-    ghost use Rattle.cs_decl.specs.Plan.{Declared};
+    ghost use Rattle.cs_plan.specs.Plan.{Declared};
 
     ghost plan: { Declared };
 }

@@ -6,10 +6,10 @@ ghost use Rattle.cs_keep.specs.Keeping.{IsKept};
 
 use arrayvec::ArrayVec;
 use cs_civil::Day;
-use cs_decl::Plan;
 use cs_device::{Stamp, StampStore};
 use cs_history::copy_stamps;
 use cs_keep::Keep;
+use cs_plan::Plan;
 use std::marker::Model;
 use std::sync::ledger::Ledger;
 

@@ -1,15 +1,15 @@
 //! Workers, which run jobs and make the ends of their runs.
 ghost use Rattle.std.specs.Prelude.{◌≡◌, ◌+◌, ◌<◌, ◌≤◌, ◌^◌, List, length};
-ghost use Rattle.cs_daemon.specs.Commands.{CarriesOut, CarriesOutAll};
+ghost use Rattle.cs_daemon.specs.Carried.{CarriesOut, CarriesOutAll};
 ghost use Rattle.cs_device.specs.declared.runner.Outcome as outcome;
 ghost use Rattle.cs_history.specs.declared.run.Run as run;
 
 use crate::commands::carry_out;
 use crate::dispatch::Taken;
-use crate::lines::LogLine;
 use crate::plan_ledger::PlanLedger;
 use crate::shared::Shared;
 use cs_device::{Gate, Outcome, Point, Runner};
+use cs_jobs::LogLine;
 use cs_keep::Seat;
 use std::io;
 use std::sync::Wait;

@@ -11,9 +11,10 @@ use Rattle.cs_crontab.specs.Crontab.{Table as Crontab, CommandLine}
 use Rattle.cs_anacrontab.specs.Anacrontab.{Table as Anacrontab}
 use Rattle.cs_decl.specs.declared.entries.LineName.{LineName}
 use Rattle.cs_decl.specs.declared.entries.Entries.{Entries}
-use Rattle.cs_decl.specs.Plan.{Declared}
-use Rattle.cs_decl.specs.Faults.{Fault, first_fault, same_number}
-use Rattle.cs_decl.specs.Meaning.{unless}
+use Rattle.cs_plan.specs.Plan.{Declared}
+use Rattle.cs_decl.specs.Faults.{first_fault, same_number}
+use Rattle.cs_plan.specs.Answers.{Fault}
+use Rattle.cs_plan.specs.Answers.{unless}
 use Rattle.cs_decl.specs.Join.{is_named, names_line, is_unlike, has_other_schedule, has_no_line, has_other_command, is_ambiguous, number_of, cron_numbers, rest, lines_left_out, untimed, naming_faults, undeclared, mistimed, plan_of, joined}
 use Rattle.cs_decl.specs.Lines.{names_of, TellsOf, is_told, IsLeftOut, HasNoEntry}
 use Rattle.cs_decl.specs.When.{is_told_when}

@@ -4,12 +4,13 @@ use Rattle.std.proofs.lemmas.Bool.Decides.{eqb_tells}
 use Rattle.std.proofs.lemmas.Bool.{and_parts, eqb-true}
 use Rattle.std.specs.Prelude.{position}
 use Rattle.std.specs.List.{list_any}
-use Rattle.cs_decl.specs.declared.limits.TheConstants.{MAX_CAPACITY, MAX_GROUPS}
-use Rattle.cs_decl.specs.declared.fault.DeclFault.{DeclFault}
-use Rattle.cs_decl.specs.declared.fault.DeclFault.TheVariants as faults
-use Rattle.cs_decl.specs.declared.fault.Place.TheVariants.{Group, Cron, Anacron}
+use Rattle.cs_plan.specs.declared.limits.TheConstants.{MAX_CAPACITY, MAX_GROUPS}
+use Rattle.cs_plan.specs.declared.fault.DeclFault.{DeclFault}
+use Rattle.cs_plan.specs.declared.fault.DeclFault.TheVariants as faults
+use Rattle.cs_plan.specs.declared.fault.Place.TheVariants.{Group, Cron, Anacron}
 use Rattle.cs_decl.specs.declared.entries.Entries.{Entries}
-use Rattle.cs_decl.specs.Faults.{Fault, is_within, same_number, first_again, is_bad_offset, is_bad_max, is_bad_weight, is_bad_default, needs_group, is_unlisted, are_bad_hours, is_bad_pass, has_bad_parts, where_true, twice_declared, bad_numbers, bad_groups, bad_times, faults_of, first_fault}
+use Rattle.cs_decl.specs.Faults.{is_within, same_number, first_again, is_bad_offset, is_bad_max, is_bad_weight, is_bad_default, needs_group, is_unlisted, are_bad_hours, is_bad_pass, has_bad_parts, where_true, twice_declared, bad_numbers, bad_groups, bad_times, faults_of, first_fault}
+use Rattle.cs_plan.specs.Answers.{Fault}
 use Rattle.cs_decl.specs.Law.{passes_at, comes_again, row, index, stands_at, stands, IsNoLater, IsFirst}
 use Rattle.cs_decl.proofs.Positions.{first_at, position_is}
 

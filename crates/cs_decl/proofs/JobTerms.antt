@@ -8,11 +8,12 @@ use Rattle.cs_anacrontab.specs.Anacrontab.{Table as Anacrontab}
 use Rattle.cs_decl.specs.declared.entries.CronEntry.{CronEntry}
 use Rattle.cs_decl.specs.declared.entries.DefaultEntry.{DefaultEntry}
 use Rattle.cs_decl.specs.declared.entries.Entries.{Entries}
-use Rattle.cs_decl.specs.Job.{DeclaredJob}
-use Rattle.cs_decl.specs.Plan.{Declared, crons, places_of, no_job, no_command, job_at, command_of}
-use Rattle.cs_decl.specs.Join.{is_named, is_reboot, has_entry, has_job_entry, is_undeclared, is_undeclared_job, default_terms, cron_terms, cron_job, anacron_job, jobs_from, rest, lines_left_out, untimed, plan_of, joined}
+use Rattle.cs_plan.specs.Job.{DeclaredJob}
+use Rattle.cs_plan.specs.Plan.{Declared, crons, places_of, no_job, no_command, job_at, command_of}
+use Rattle.cs_decl.specs.Join.{is_named, has_entry, has_job_entry, is_undeclared, is_undeclared_job, default_terms, cron_terms, cron_job, anacron_job, jobs_from, rest, lines_left_out, untimed, plan_of, joined}
+use Rattle.cs_plan.specs.Reboot.{is_reboot}
 use Rattle.cs_decl.specs.Lines.{AreParted, HasDefault, IsDeclared}
-use Rattle.cs_decl.proofs.Positions.{find_none}
+use Rattle.cs_plan.proofs.Plains.{find_none}
 use Rattle.cs_decl.proofs.Validity.{locked}
 use Rattle.cs_decl.proofs.Once.{found_there, count_none}
 use Rattle.cs_decl.proofs.Wholes.{plan_places}

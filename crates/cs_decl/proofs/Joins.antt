@@ -4,12 +4,14 @@ use Rattle.std.specs.Prelude.{position}
 use Rattle.std.specs.List.{find}
 use Rattle.cs_crontab.specs.Crontab.{Table as Crontab, CommandLine}
 use Rattle.cs_anacrontab.specs.Anacrontab.{Table as Anacrontab, JobLine}
-use Rattle.cs_decl.specs.declared.fault.DeclFault.TheVariants as faults
-use Rattle.cs_decl.specs.declared.fault.Place.TheVariants.{LeftOut, Line}
+use Rattle.cs_plan.specs.declared.fault.DeclFault.TheVariants as faults
+use Rattle.cs_plan.specs.declared.fault.Place.TheVariants.{LeftOut, Line}
 use Rattle.cs_decl.specs.declared.entries.Entries.{Entries}
-use Rattle.cs_decl.specs.Faults.{first_again, first_twice, same_number, Fault, first_fault, at_anacron, at_left_out}
-use Rattle.cs_decl.specs.Join.{has_no_line, has_no_job, has_other_command, is_ambiguous, cron_numbers, left_out_numbers, is_undeclared, is_undeclared_job, is_reboot, reboot_fault, lineless, misquoted, ambiguous, named_twice, naming_faults, undeclared, has_other_schedule, mistimed, rest, lines_left_out, untimed, plan_of, joined}
-use Rattle.cs_decl.specs.Meaning.{unless}
+use Rattle.cs_decl.specs.Faults.{first_again, first_twice, same_number, first_fault, at_anacron, at_left_out}
+use Rattle.cs_plan.specs.Answers.{Fault}
+use Rattle.cs_decl.specs.Join.{has_no_line, has_no_job, has_other_command, is_ambiguous, cron_numbers, left_out_numbers, is_undeclared, is_undeclared_job, lineless, misquoted, ambiguous, named_twice, naming_faults, undeclared, has_other_schedule, mistimed, rest, lines_left_out, untimed, plan_of, joined}
+use Rattle.cs_plan.specs.Reboot.{is_reboot, reboot_fault}
+use Rattle.cs_plan.specs.Answers.{unless}
 use Rattle.cs_decl.proofs.Validity.{no_row, no_part, mapped_none}
 use Rattle.cs_decl.proofs.Order.{in_front, behind}
 

@@ -1,5 +1,4 @@
 pub mod Agreements
-pub mod Plans
 pub mod Misreadings
 pub mod Texts
 pub mod Repeats
@@ -19,4 +18,3 @@ pub mod Commands
 pub mod Parted
 pub mod JobTerms
 pub mod Firsts
-pub mod Changes

@@ -6,7 +6,7 @@ use Rattle.std.proofs.lemmas.List.{length-map}
 use Rattle.std.proofs.lemmas.List.Elements.{All-weaker}
 use Rattle.cs_decl.specs.declared.entries.PartEntry.{PartEntry}
 use Rattle.cs_decl.specs.declared.entries.Entries.{Entries}
-use Rattle.cs_decl.specs.declared.limits.TheConstants.{MAX_MINUTES}
+use Rattle.cs_plan.specs.declared.limits.TheConstants.{MAX_MINUTES}
 use Rattle.cs_decl.specs.Faults.{are_bad, first_twice, has_bad_parts, is_bad_max, is_within, minutes_of}
 use Rattle.cs_decl.specs.Meaning.{IsValid}
 use Rattle.cs_decl.specs.Parts.{AreItsParts, HaveOwnNames, IsPossiblePart}

@@ -4,7 +4,7 @@ use Rattle.std.specs.Prelude.{position}
 use Rattle.std.specs.List.{list_any}
 use Rattle.std.proofs.lemmas.List.{drop_more}
 use Rattle.cs_decl.specs.declared.entries.PartEntry.{PartEntry}
-use Rattle.cs_decl.specs.declared.limits.TheConstants.{MAX_MINUTES}
+use Rattle.cs_plan.specs.declared.limits.TheConstants.{MAX_MINUTES}
 use Rattle.cs_decl.specs.Faults.{is_bad_max}
 use Rattle.cs_decl.proofs.Positions.{first_at, position_is}
 use Rattle.cs_decl.proofs.Texts.{if_true, if_false}

@@ -5,7 +5,8 @@ use Rattle.cs_json.specs.declared.fault.JsonFault.{JsonFault}
 use Rattle.cs_json.specs.declared.fault.JsonFault.TheVariants.{NotJson, BadShape}
 use Rattle.cs_json.specs.declared.fault.Misread.{Misread}
 use Rattle.cs_json.specs.declared.fault.Misread.TheVariants.{Memory, Fault}
-use Rattle.cs_decl.specs.Meaning.{Fails, error_of, with_fault}
+use Rattle.cs_decl.specs.Meaning.{error_of, with_fault}
+use Rattle.cs_plan.specs.Answers.{Fails}
 
 pub failed : {A : Type 0} (e : Misread) (answer : Result A JsonFault) → Misses e answer → Fails (error_of e) (with_fault answer)
 failed Memory answer h = tt

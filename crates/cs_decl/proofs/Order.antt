@@ -1,7 +1,8 @@
 -- The first fault of lists, one after the other.
 use Rattle.std.proofs.Common.{◌≡◌, List, [], ◌∷◌, ◌++◌, false, Option, Some, None, refl, ◌∙◌}
 use Rattle.cs_decl.specs.declared.entries.Entries.{Entries}
-use Rattle.cs_decl.specs.Faults.{Fault, is_bad_offset, twice_declared, bad_numbers, bad_groups, bad_times, bad_parts, faults_of, first_fault}
+use Rattle.cs_decl.specs.Faults.{is_bad_offset, twice_declared, bad_numbers, bad_groups, bad_times, bad_parts, faults_of, first_fault}
+use Rattle.cs_plan.specs.Answers.{Fault}
 
 pub in_front : (a b : List (Option Fault)) (f : Fault) → first_fault a ≡ Some f → first_fault (a ++ b) ≡ Some f
 in_front [] b f e = absurd cc

@@ -52,14 +52,6 @@ nowhere p (x ∷ xs) e = none_step p x xs (p x) refl e (nowhere p xs)
 pub position_none : {A : Type 0} (p : A → Bool) (xs : List A) → position p xs ≡ None → All (λ x. p x ≡ false) xs
 position_none p xs e = nowhere p xs (sym (position_is p xs) ∙ e)
 
-find_step : {A : Type 0} (p : A → Bool) (x : A) (xs : List A) (b : Bool) → p x ≡ b → cond b (Some x) (find p xs) ≡ None → (find p xs ≡ None → All (λ y. p y ≡ false) xs) → All (λ y. p y ≡ false) (x ∷ xs)
-find_step p x xs true is e more = absurd cc
-find_step p x xs false is e more = All-cons (λ y. p y ≡ false) x xs is (more e)
-
-pub find_none : {A : Type 0} (p : A → Bool) (xs : List A) → find p xs ≡ None → All (λ x. p x ≡ false) xs
-find_none p [] e = All-nil (λ x. p x ≡ false)
-find_none p (x ∷ xs) e = find_step p x xs (p x) refl e (find_none p xs)
-
 -- ---- somewhere
 
 -- what is found is one of them

@@ -8,10 +8,10 @@ use Rattle.cs_crontab.specs.Crontab.{Table as Crontab, CommandLine}
 use Rattle.cs_anacrontab.specs.Anacrontab.{Table as Anacrontab}
 use Rattle.cs_decl.specs.declared.entries.LineName.{LineName}
 use Rattle.cs_decl.specs.declared.entries.Entries.{Entries}
-use Rattle.cs_decl.specs.Plan.{Declared}
+use Rattle.cs_plan.specs.Plan.{Declared}
 use Rattle.cs_decl.specs.Join.{is_named, is_untimed, is_untimed_name, untimed, guessed, plan_of, joined}
 use Rattle.cs_decl.specs.Lines.{names_of, IsUntimed}
-use Rattle.cs_decl.proofs.Positions.{find_none}
+use Rattle.cs_plan.proofs.Plains.{find_none}
 use Rattle.cs_decl.proofs.Once.{any_map, count_none, found_there, one_at, passing}
 use Rattle.cs_decl.proofs.Commands.{plan_is}
 

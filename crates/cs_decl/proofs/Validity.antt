@@ -4,18 +4,19 @@ use Rattle.std.specs.Prelude.{position, All, IfSome, IsSome, option_map, unsigne
 use Rattle.std.specs.List.{find}
 use Rattle.std.proofs.lemmas.Bool.{leb-true, ltb-true, ltb-false, and_parts}
 use Rattle.cs_civil.specs.declared.minute.TheConstants.{MINUTES_OF_DAY}
-use Rattle.cs_decl.specs.declared.limits.TheConstants.{MAX_MINUTES, MAX_WEIGHT, MAX_CAPACITY, MAX_GROUPS, MAX_OFFSET}
-use Rattle.cs_decl.specs.declared.fault.DeclFault.{DeclFault}
-use Rattle.cs_decl.specs.declared.fault.DeclFault.TheVariants as faults
+use Rattle.cs_plan.specs.declared.limits.TheConstants.{MAX_MINUTES, MAX_WEIGHT, MAX_CAPACITY, MAX_GROUPS, MAX_OFFSET}
+use Rattle.cs_plan.specs.declared.fault.DeclFault.{DeclFault}
+use Rattle.cs_plan.specs.declared.fault.DeclFault.TheVariants as faults
 use Rattle.cs_decl.specs.declared.entries.GroupEntry.{GroupEntry}
 use Rattle.cs_decl.specs.declared.entries.CronEntry.{CronEntry}
 use Rattle.cs_decl.specs.declared.entries.AnacronEntry.{AnacronEntry}
 use Rattle.cs_decl.specs.declared.entries.DefaultEntry.{DefaultEntry}
 use Rattle.cs_decl.specs.declared.entries.Entries.{Entries}
-use Rattle.cs_decl.specs.Faults.{Fault, is_within, is_bad_offset, first_twice, is_bad_max, is_bad_weight, is_bad_default, needs_group, is_unlisted, are_bad_hours, is_bad_pass, one_too_many, at_anacron, where_true, twice_declared, bad_numbers, bad_groups, bad_times, bad_parts, has_bad_parts, first_fault}
+use Rattle.cs_decl.specs.Faults.{is_within, is_bad_offset, first_twice, is_bad_max, is_bad_weight, is_bad_default, needs_group, is_unlisted, are_bad_hours, is_bad_pass, one_too_many, at_anacron, where_true, twice_declared, bad_numbers, bad_groups, bad_times, bad_parts, has_bad_parts, first_fault}
+use Rattle.cs_plan.specs.Answers.{Fault}
 use Rattle.cs_decl.specs.Meaning.{IsValid}
-use Rattle.cs_decl.specs.Job.{IsPossible}
-use Rattle.cs_decl.specs.Plan.{IsListed}
+use Rattle.cs_plan.specs.Job.{IsPossible}
+use Rattle.cs_plan.specs.Plan.{IsListed}
 use Rattle.cs_decl.specs.Join.{group_place, default_terms, cron_terms, anacron_terms}
 use Rattle.cs_decl.proofs.Positions.{position_none, position_below, any_position, found}
 

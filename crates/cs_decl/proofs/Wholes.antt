@@ -3,13 +3,10 @@ use Rattle.std.proofs.Common.{◌≡◌, ◌≢◌, ℕ, zero, suc, ◌+◌, ◌
 use Rattle.std.specs.Prelude.{All, AllPairs}
 use Rattle.std.specs.List.{list_any, find, range_with_len}
 use Rattle.std.proofs.lemmas.List.{drop_at, length-map}
-use Rattle.std.proofs.lemmas.List.FromFn.{length-range_with_len}
 use Rattle.std.proofs.lemmas.List.Elements.{All-nil, All-cons, All-append, All-weaker}
 use Rattle.std.proofs.lemmas.List.Kept.{AllPairs-cons}
 use Rattle.std.proofs.lemmas.Slice.Eq.{bytes_eq-Decides}
 use Rattle.cs_crontab.specs.Crontab.{Table as Crontab, CommandLine}
-use Rattle.cs_crontab.specs.declared.table.When.{When}
-use Rattle.cs_crontab.specs.declared.table.When.TheVariants.{At, Reboot}
 use Rattle.cs_crontab.specs.declared.limits.TheConstants.{MAX_COMMANDS}
 use Rattle.cs_anacrontab.specs.Anacrontab.{Table as Anacrontab, JobLine, IsPossible as IsPossibleLine}
 use Rattle.cs_anacrontab.specs.declared.limits.TheConstants.{MAX_JOBS}
@@ -19,14 +16,13 @@ use Rattle.cs_decl.specs.declared.entries.CronEntry.{CronEntry}
 use Rattle.cs_decl.specs.declared.entries.AnacronEntry.{AnacronEntry}
 use Rattle.cs_decl.specs.declared.entries.DefaultEntry.{DefaultEntry}
 use Rattle.cs_decl.specs.declared.entries.Entries.{Entries}
-use Rattle.cs_decl.specs.Job.{DeclaredJob, IsPossible}
-use Rattle.cs_decl.specs.Plan.{DeclaredGroup, IsWhole, IsTimed, IsListed, places_of}
+use Rattle.cs_plan.specs.Job.{DeclaredJob, IsPossible}
+use Rattle.cs_plan.specs.Plan.{DeclaredGroup, IsWhole, IsListed, places_of}
 use Rattle.cs_decl.specs.Faults.{first_again, first_twice}
 use Rattle.cs_decl.specs.Meaning.{IsValid}
-use Rattle.cs_decl.specs.Join.{is_named, is_reboot, is_of_job, default_terms, cron_terms, anacron_terms, cron_job, anacron_job, jobs_from, declared_group, plan_of}
-use Rattle.cs_decl.specs.declared.limits.TheConstants.{MAX_MINUTES}
-use Rattle.cs_decl.specs.Plain.{plain_job, plain_plan}
-use Rattle.cs_decl.proofs.Positions.{find_none}
+use Rattle.cs_decl.specs.Join.{is_named, is_of_job, default_terms, cron_terms, anacron_terms, cron_job, anacron_job, jobs_from, declared_group, plan_of}
+use Rattle.cs_plan.specs.Reboot.{is_reboot}
+use Rattle.cs_plan.proofs.Plains.{map_append, timed}
 use Rattle.cs_decl.proofs.Once.{or_none}
 use Rattle.cs_decl.proofs.Validity.{facts, few_groups, cron_possible, anacron_possible, cron_listed, anacron_listed, capacity_possible, offset_possible, hours_possible, pass_possible}
 
@@ -44,19 +40,6 @@ module _ {L : Type 0} (job : ℕ → L → DeclaredJob) where
   length_from : (k : ℕ) (lines : List L) → length (jobs_from job k lines) ≡ length lines
   length_from k [] = refl
   length_from k (l ∷ lines) = ap suc (length_from (k + 1) lines)
-
-map_append : {A B : Type 0} (f : A → B) (xs ys : List A) → map f (xs ++ ys) ≡ map f xs ++ map f ys
-map_append f [] ys = refl
-map_append f (x ∷ xs) ys = ap (λ zs. f x ∷ zs) (map_append f xs ys)
-
--- ---- lines at times
-
-timed_line : (when : When) → is_reboot when ≡ false → when ≢ Reboot
-timed_line (At schedule) e = λ h. absurd cc
-timed_line Reboot e = absurd cc
-
-pub timed : (lines : List CommandLine) → find (λ line. is_reboot line.when) lines ≡ None → All IsTimed lines
-timed lines e = All-weaker (λ line. is_reboot line.when ≡ false) IsTimed (λ line h. timed_line line.when h) lines (find_none (λ line. is_reboot line.when) lines e)
 
 -- ---- names that differ
 
@@ -163,42 +146,3 @@ whole c left_out untimed a d v few_commands few_lines lines no_reboot = record {
   pass = pass_possible d v;
   offset = offset_possible d v;
 }
-
--- ---- the plain plan
-
-plain_places : (max : ℕ) (places : List ℕ) → map (λ j. j.place) (map (plain_job max) places) ≡ places
-plain_places max [] = refl
-plain_places max (k ∷ places) = ap (λ ks. k ∷ ks) (plain_places max places)
-
-all_plain : (P : DeclaredJob → Type 0) (max : ℕ) → ((k : ℕ) → P (plain_job max k)) → (places : List ℕ) → All P (map (plain_job max) places)
-all_plain P max each [] = All-nil P
-all_plain P max each (k ∷ places) = All-cons P (plain_job max k) (map (plain_job max) places) (each k) (all_plain P max each places)
-
-pub plain_whole : (c : Crontab) (a : Anacrontab) (max : ℕ) → 1 ≤ max → max ≤ MAX_MINUTES → length c.lines ≤ MAX_COMMANDS → length a.lines ≤ MAX_JOBS → All IsPossibleLine a.lines → find (λ line. is_reboot line.when) c.lines ≡ None → IsWhole (plain_plan c a max)
-unfolding plain_plan
-plain_whole c a max low high few_commands few_lines lines no_reboot = record {
-  few_commands = few_commands;
-  few_lines = few_lines;
-  timed = timed c.lines no_reboot;
-  lines = lines;
-  places = map_append (λ j. j.place) (map (plain_job max) (places_of c.lines)) (map (plain_job max) (places_of a.lines)) ∙ rw (plain_places max (places_of c.lines), plain_places max (places_of a.lines)) refl;
-  possible =
-      All-append IsPossible (map (plain_job max) (places_of c.lines)) (map (plain_job max) (places_of a.lines)) (all_plain IsPossible max possible_job (places_of c.lines))
-      (all_plain IsPossible max possible_job (places_of a.lines));
-  plain =
-      rw
-      (drop_at (map (plain_job max) (places_of c.lines)) (map (plain_job max) (places_of a.lines)) (length c.lines) (length-map (places_of c.lines) (plain_job max) ∙ length-range_with_len 0 (length c.lines)))
-      (all_plain (λ job. job.mode ≡ Plain) max (λ k. refl) (places_of a.lines));
-  listed =
-      All-append (IsListed 0) (map (plain_job max) (places_of c.lines)) (map (plain_job max) (places_of a.lines)) (all_plain (IsListed 0) max (λ k. tt) (places_of c.lines))
-      (all_plain (IsListed 0) max (λ k. tt) (places_of a.lines));
-  few_groups = omega arith;
-  names = λ i j d low high. absurd (omega (arith, high));
-  capacity = (omega arith, omega arith);
-  hours = (omega arith, omega arith);
-  pass = tt;
-  offset = omega arith;
-}
-  where
-    possible_job : (k : ℕ) → IsPossible (plain_job max k)
-    possible_job k = record { max = (low, high); weight = (omega arith, omega arith); lock = λ t. absurd cc }

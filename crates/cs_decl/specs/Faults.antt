@@ -4,20 +4,16 @@ use Rattle.std.specs.Ordering.{int_eq}
 use Rattle.std.specs.List.{list_any}
 use Rattle.cs_history.specs.Plan.{takes}
 use Rattle.cs_civil.specs.declared.minute.TheConstants.{MINUTES_OF_DAY}
-use Rattle.cs_decl.specs.declared.limits.TheConstants.{MAX_MINUTES, MAX_WEIGHT, MAX_CAPACITY, MAX_GROUPS, MAX_OFFSET}
-use Rattle.cs_decl.specs.declared.fault.DeclFault.{DeclFault}
-use Rattle.cs_decl.specs.declared.fault.DeclFault.TheVariants as faults
-use Rattle.cs_decl.specs.declared.fault.Place.{Place}
-use Rattle.cs_decl.specs.declared.fault.Place.TheVariants.{Group, Cron, Anacron, LeftOut}
+use Rattle.cs_plan.specs.declared.limits.TheConstants.{MAX_MINUTES, MAX_WEIGHT, MAX_CAPACITY, MAX_GROUPS, MAX_OFFSET}
+use Rattle.cs_plan.specs.declared.fault.DeclFault.{DeclFault}
+use Rattle.cs_plan.specs.declared.fault.DeclFault.TheVariants as faults
+use Rattle.cs_plan.specs.declared.fault.Place.TheVariants.{Group, Cron, Anacron, LeftOut}
 use Rattle.cs_decl.specs.declared.entries.GroupEntry.{GroupEntry}
 use Rattle.cs_decl.specs.declared.entries.CronEntry.{CronEntry}
 use Rattle.cs_decl.specs.declared.entries.DefaultEntry.{DefaultEntry}
 use Rattle.cs_decl.specs.declared.entries.PartEntry.{PartEntry}
 use Rattle.cs_decl.specs.declared.entries.Entries.{Entries}
-
--- a fault, and its place if it has one
-abbrev pub Fault : Type 0
-Fault = DeclFault × Option Place
+use Rattle.cs_plan.specs.Answers.{Fault}
 
 -- ---- tests of one item
 

@@ -1,27 +1,28 @@
 -- From two tables and declarations to a plan.
-use Rattle.std.specs.Prelude.{ℕ, ℤ, ◌+◌, pos, unsigned_abs, List, [], ◌∷◌, ◌++◌, map, Option, None, Some, option_map, option_and_then, is_none, is_some, Bool, true, false, not, ◌&&◌, ◌||◌, nat_lt, bytes_eq, Result, position}
+use Rattle.std.specs.Prelude.{ℕ, ℤ, ◌+◌, pos, unsigned_abs, List, [], ◌∷◌, ◌++◌, map, Option, None, Some, option_map, option_and_then, is_none, is_some, Bool, false, not, ◌&&◌, ◌||◌, nat_lt, bytes_eq, Result, position}
 use Rattle.std.specs.Ordering.{int_eq}
 use Rattle.std.specs.List.{list_any, find, filter, count_by}
 use Rattle.cs_crontab.specs.Crontab.{Table as Crontab, CommandLine}
 use Rattle.cs_crontab.specs.declared.table.When.{When}
-use Rattle.cs_crontab.specs.declared.table.When.TheVariants.{At, Reboot}
 use Rattle.cs_anacrontab.specs.Anacrontab.{Table as Anacrontab, JobLine}
 use Rattle.cs_history.specs.declared.mode.Mode.TheVariants.{Plain}
-use Rattle.cs_decl.specs.declared.fault.DeclFault.{DeclFault}
-use Rattle.cs_decl.specs.declared.fault.DeclFault.TheVariants as faults
-use Rattle.cs_decl.specs.declared.fault.Place.TheVariants.{Line, Job}
+use Rattle.cs_plan.specs.declared.fault.DeclFault.{DeclFault}
+use Rattle.cs_plan.specs.declared.fault.DeclFault.TheVariants as faults
+use Rattle.cs_plan.specs.declared.fault.Place.TheVariants.{Job}
 use Rattle.cs_decl.specs.declared.entries.LineName.{LineName}
 use Rattle.cs_decl.specs.declared.entries.GroupEntry.{GroupEntry}
 use Rattle.cs_decl.specs.declared.entries.CronEntry.{CronEntry}
 use Rattle.cs_decl.specs.declared.entries.AnacronEntry.{AnacronEntry}
 use Rattle.cs_decl.specs.declared.entries.DefaultEntry.{DefaultEntry}
 use Rattle.cs_decl.specs.declared.entries.Entries.{Entries}
-use Rattle.cs_decl.specs.Job.{DeclaredJob}
-use Rattle.cs_decl.specs.Plan.{Declared, DeclaredGroup}
+use Rattle.cs_plan.specs.Job.{DeclaredJob}
+use Rattle.cs_plan.specs.Plan.{Declared, DeclaredGroup}
 use Rattle.cs_civil.specs.Hours.{CatchUpHours}
-use Rattle.cs_decl.specs.Faults.{Fault, same_number, first_again, first_twice, at_cron, at_anacron, at_left_out, first_fault}
-use Rattle.cs_decl.specs.Meaning.{unless}
+use Rattle.cs_decl.specs.Faults.{same_number, first_again, first_twice, at_cron, at_anacron, at_left_out, first_fault}
+use Rattle.cs_plan.specs.Answers.{Fault}
+use Rattle.cs_plan.specs.Answers.{unless}
 use Rattle.cs_decl.specs.When.{is_told_when}
+use Rattle.cs_plan.specs.Reboot.{is_reboot, at_line, reboot_fault}
 
 -- ---- names and lines
 
@@ -99,10 +100,6 @@ rest d table = record {
 abbrev pub lines_left_out : Entries → Crontab → List ℕ
 lines_left_out d table = map (λ line. line.number) (filter (is_left_out d) table.lines)
 
-abbrev pub is_reboot : When → Bool
-is_reboot (At schedule) = false
-is_reboot Reboot = true
-
 -- the command is no `@reboot`, has no entry, and there is no default
 abbrev pub is_undeclared : Entries → CommandLine → Bool
 is_undeclared d line = is_none d.default && (not (is_reboot line.when) && not (has_entry d line))
@@ -112,15 +109,8 @@ is_undeclared_job d line = is_none d.default && not (has_job_entry d line)
 
 -- ---- the table of faults
 
-abbrev pub at_line : DeclFault → Option CommandLine → Option Fault
-at_line fault line = option_map (λ l. (fault, Some (Line l.number))) line
-
 abbrev pub at_job : DeclFault → Option JobLine → Option Fault
 at_job fault line = option_map (λ l. (fault, Some (Job l.identifier))) line
-
--- the first `@reboot`
-abbrev pub reboot_fault : List CommandLine → Option Fault
-reboot_fault lines = at_line faults.RebootLine (find (λ line. is_reboot line.when) lines)
 
 -- entries that name no line and no job
 unfoldable pub lineless : List CommandLine → List JobLine → Entries → List (Option Fault)

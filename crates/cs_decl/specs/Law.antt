@@ -1,12 +1,13 @@
 -- Which fault of declarations is returned: the smallest number, and the first place of that.
 use Rattle.std.specs.Prelude.{◌≡◌, List, [], ◌∷◌, ◌++◌, ℕ, zero, suc, ◌<◌, ◌≤◌, ◌⊎◌, Bool, true, false, not, ◌&&◌, ◌==◌, Option, Some, None, map, length, nat_lt, bytes_eq, if◌then◌else◌}
 use Rattle.std.specs.List.{list_any}
-use Rattle.cs_decl.specs.declared.limits.TheConstants.{MAX_CAPACITY, MAX_GROUPS}
-use Rattle.cs_decl.specs.declared.fault.DeclFault.TheVariants as faults
-use Rattle.cs_decl.specs.declared.fault.Place.{Place}
-use Rattle.cs_decl.specs.declared.fault.Place.TheVariants.{Group, Cron, Anacron}
+use Rattle.cs_plan.specs.declared.limits.TheConstants.{MAX_CAPACITY, MAX_GROUPS}
+use Rattle.cs_plan.specs.declared.fault.DeclFault.TheVariants as faults
+use Rattle.cs_plan.specs.declared.fault.Place.{Place}
+use Rattle.cs_plan.specs.declared.fault.Place.TheVariants.{Group, Cron, Anacron}
 use Rattle.cs_decl.specs.declared.entries.Entries.{Entries}
-use Rattle.cs_decl.specs.Faults.{Fault, is_within, same_number, is_bad_offset, is_bad_max, is_bad_weight, is_bad_default, needs_group, is_unlisted, are_bad_hours, is_bad_pass, has_bad_parts}
+use Rattle.cs_decl.specs.Faults.{is_within, same_number, is_bad_offset, is_bad_max, is_bad_weight, is_bad_default, needs_group, is_unlisted, are_bad_hours, is_bad_pass, has_bad_parts}
+use Rattle.cs_plan.specs.Answers.{Fault}
 
 -- the entry at a place is there, and passes
 abbrev pub passes_at : {A : Type 0} → (A → Bool) → List A → ℕ → Bool

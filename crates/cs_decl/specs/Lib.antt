@@ -1,8 +1,3 @@
-pub mod Job
-pub mod Plan
-pub mod Changed
-pub mod JobNames
-pub mod Printed
 pub mod Shape
 pub mod Faults
 pub mod NameSet
@@ -10,7 +5,6 @@ pub mod Doubled
 pub mod When
 pub mod Meaning
 pub mod Join
-pub mod Plain
 pub mod Lines
 pub mod Law
 pub mod Parts

@@ -7,7 +7,7 @@ use Rattle.cs_decl.specs.declared.entries.LineName.{LineName}
 use Rattle.cs_decl.specs.declared.entries.CronEntry.{CronEntry}
 use Rattle.cs_decl.specs.declared.entries.DefaultEntry.{DefaultEntry}
 use Rattle.cs_decl.specs.declared.entries.Entries.{Entries}
-use Rattle.cs_decl.specs.Job.{DeclaredJob}
+use Rattle.cs_plan.specs.Job.{DeclaredJob}
 use Rattle.cs_decl.specs.Join.{is_named, names_line, group_place}
 use Rattle.cs_decl.specs.When.{is_told_when}
 

@@ -1,33 +1,21 @@
 -- What bytes declare.
-use Rattle.std.specs.Prelude.{◌≡◌, List, ℕ, Option, None, Some, Result, Ok, Err}
+use Rattle.std.specs.Prelude.{◌≡◌, List, ℕ, None, Result, Ok, Err}
 use Rattle.cs_json.specs.Bytes.{json_of}
 use Rattle.cs_json.specs.declared.fault.JsonFault.{JsonFault}
 use Rattle.cs_json.specs.declared.fault.JsonFault.TheVariants as json
 use Rattle.cs_json.specs.declared.fault.Misread.{Misread}
 use Rattle.cs_json.specs.declared.fault.Misread.TheVariants.{Memory, Fault as Misreading}
 use Rattle.cs_json.specs.Gives.{or_fault}
-use Rattle.cs_decl.specs.declared.fault.DeclFault.{DeclFault}
-use Rattle.cs_decl.specs.declared.fault.DeclFault.TheVariants as faults
-use Rattle.cs_decl.specs.declared.fault.DeclError.{DeclError}
-use Rattle.cs_decl.specs.declared.fault.DeclError.TheVariants.{At, OutOfMemory}
+use Rattle.cs_plan.specs.declared.fault.DeclFault.{DeclFault}
+use Rattle.cs_plan.specs.declared.fault.DeclFault.TheVariants as faults
+use Rattle.cs_plan.specs.declared.fault.DeclError.{DeclError}
+use Rattle.cs_plan.specs.declared.fault.DeclError.TheVariants.{At, OutOfMemory}
 use Rattle.cs_decl.specs.declared.entries.Entries.{Entries}
 use Rattle.cs_decl.specs.Shape.{entries_of}
 use Rattle.cs_decl.specs.Doubled.{doubled_member}
-use Rattle.cs_decl.specs.Faults.{Fault, faults_of, first_fault}
-
--- What a call answered is what the definition answers, unless memory ran out.
-abbrev pub Fails : {X : Type 0} → DeclError → Result X Fault → Type 0
-Fails OutOfMemory answer = Unit {0}
-Fails (At fault place) answer = answer ≡ Err (fault, place)
-
-abbrev pub Answers : {X Y : Type 0} → (X → Y) → Result Y Fault → Result X DeclError → Type 0
-Answers view answer (Ok x) = answer ≡ Ok (view x)
-Answers view answer (Err e) = Fails e answer
-
-infixl 10 ◌>>=◌
-abbrev pub ◌>>=◌ : {A B : Type 0} → Result A Fault → (A → Result B Fault) → Result B Fault
-(Ok x) >>= f = f x
-(Err e) >>= f = Err e
+use Rattle.cs_decl.specs.Faults.{faults_of, first_fault}
+use Rattle.cs_plan.specs.Answers.{Fault}
+use Rattle.cs_plan.specs.Answers.{◌>>=◌, unless}
 
 -- out of memory, or the fault of JSON among those of declarations
 abbrev pub error_of : Misread → DeclError
@@ -43,11 +31,6 @@ json_fault json.BadShape = faults.BadShape
 abbrev pub with_fault : {A : Type 0} → Result A JsonFault → Result A Fault
 with_fault (Ok x) = Ok x
 with_fault (Err f) = Err (json_fault f, None)
-
--- the value, unless there is a fault
-abbrev pub unless : {A : Type 0} → A → Option Fault → Result A Fault
-unless d None = Ok d
-unless d (Some f) = Err f
 
 -- what the bytes declare: their JSON value has the shape, and the table finds no fault
 unfoldable pub declared_by : List ℕ → Result Entries Fault

@@ -1,6 +1,6 @@
 -- What the parts of an entry are to it.
 use Rattle.std.specs.Prelude.{◌≡◌, ◌≢◌, ◌⊎◌, ◌≤◌, pos, unsigned_abs, int_le, true, List, [], All, AllPairs}
-use Rattle.cs_decl.specs.declared.limits.TheConstants.{MAX_MINUTES}
+use Rattle.cs_plan.specs.declared.limits.TheConstants.{MAX_MINUTES}
 use Rattle.cs_decl.specs.declared.entries.PartEntry.{PartEntry}
 use Rattle.cs_decl.specs.declared.entries.CronEntry.{CronEntry}
 use Rattle.cs_decl.specs.Faults.{minutes_of}

@@ -4,13 +4,14 @@ ghost use Rattle.cs_json.specs.Bytes.{json_of};
 ghost use Rattle.cs_json.specs.Gives.{or_fault};
 ghost use Rattle.cs_json.specs.declared.fault.JsonFault.TheVariants.{NotJson};
 ghost use Rattle.cs_decl.specs.Shape.{entries_of};
-ghost use Rattle.cs_decl.specs.Meaning.{Answers, declared_by, error_of, with_fault, IsValid};
+ghost use Rattle.cs_decl.specs.Meaning.{declared_by, error_of, with_fault, IsValid};
+ghost use Rattle.cs_plan.specs.Answers.{Answers};
 
 use crate::doubled::doubled_member;
 use crate::entries::Entries;
-use crate::fault::{DeclError, DeclFault};
 use crate::rows::fault_of;
 use cs_json::{FromJson, JsonFault, Misread, parse};
+use cs_plan::{DeclError, DeclFault};
 use serde_json::Value;
 use std::alloc::{AllocError, Global};
 use std::marker::Model;

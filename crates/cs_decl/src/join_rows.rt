@@ -1,32 +1,22 @@
 //! The table of faults of tables and declarations, row after row.
 ghost use Rattle.std.specs.Prelude.{◌≡◌, IfOk, option_map};
 ghost use Rattle.cs_decl.specs.Faults.{first_fault};
-ghost use Rattle.cs_decl.specs.Join.{at_line, at_job, lineless, misquoted, ambiguous, named_twice};
+ghost use Rattle.cs_decl.specs.Join.{at_job, lineless, misquoted, ambiguous, named_twice};
+ghost use Rattle.cs_plan.specs.Reboot.{at_line};
 ghost use Rattle.cs_decl.specs.Join.{naming_faults, undeclared, mistimed};
 
 use crate::entries::Entries;
-use crate::fault::{DeclFault, Place};
-use crate::lookups::{first_reboot, first_undeclared, first_undeclared_job, jobless};
+use crate::lookups::{first_undeclared, first_undeclared_job, jobless};
 use crate::naming::{
     ambiguous, ambiguous_cron, cron_numbers, left_out_numbers, lineless, lineless_cron, mistimed,
     mistimed_cron, other, other_cron,
 };
-use crate::rows::Found;
 use crate::twice::twice_number;
 use cs_anacrontab::Job as JobLine;
 use cs_civil::{Bytes, Sequence};
 use cs_crontab::Line;
+use cs_plan::{DeclFault, Found, Place, at_line, first_reboot};
 use std::alloc::{AllocError, Global};
-
-/// The fault at a line, if there is one.
-pub(crate) fn at_line(fault: DeclFault, line: Option<&Line>) -> Option<Found>
-    ensures { result ≡ at_line fault (option_map (λ l. l.now) line.entry) }
-{
-    match line {
-        Some(line) => Some((fault, Some(Place::Line(line.number())))),
-        None => None,
-    }
-}
 
 /// The fault at a job, if there is one.
 fn at_job(

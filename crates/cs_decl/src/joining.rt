@@ -1,21 +1,23 @@
 ghost use Rattle.std.specs.Prelude.{◌≡◌, ◌≤◌, ◌++◌, All, length, option_map, None, IfOk};
 ghost use Rattle.std.specs.Prelude.{unsigned_abs};
 ghost use Rattle.std.specs.List.{find};
-ghost use Rattle.cs_decl.specs.Faults.{Fault, first_fault};
-ghost use Rattle.cs_decl.specs.Meaning.{Answers, IsValid, unless};
-ghost use Rattle.cs_decl.specs.Join.{is_reboot, undeclared, rest, lines_left_out, declared_hours};
+ghost use Rattle.cs_decl.specs.Faults.{first_fault};
+ghost use Rattle.cs_plan.specs.Answers.{Fault};
+ghost use Rattle.cs_decl.specs.Meaning.{IsValid};
+ghost use Rattle.cs_plan.specs.Answers.{Answers, unless};
+ghost use Rattle.cs_decl.specs.Join.{undeclared, rest, lines_left_out, declared_hours};
+ghost use Rattle.cs_plan.specs.Reboot.{is_reboot};
 ghost use Rattle.cs_decl.specs.Join.{mistimed, plan_of, joined, untimed};
 
 use crate::declarations::Declarations;
 use crate::entries::Entries;
-use crate::fault::{DeclError, DeclFault};
 use crate::join_rows::{mistimed_fault, naming_fault, undeclared_fault};
 use crate::lookups::{defaulted, guessed, lines_left_out, untimed};
-use crate::plan::{Plan, copy_name};
 use crate::terms::{groups_of, jobs_of, small, smaller};
 use cs_anacrontab::Anacrontab;
 use cs_civil::{Hours, Sequence};
 use cs_crontab::Crontab;
+use cs_plan::{DeclError, DeclFault, Plan, copy_name};
 use std::alloc::{AllocError, Global};
 
 #[tactic(auto, using(crate::proofs::Validity::hours_possible))]

@@ -9,14 +9,15 @@ ghost use Rattle.cs_crontab.specs.Crontab.{CommandLine, Table};
 ghost use Rattle.cs_anacrontab.specs.Anacrontab.{Table as JobTable};
 ghost use Rattle.cs_decl.specs.declared.entries.Entries.{Entries};
 ghost use Rattle.cs_decl.specs.declared.entries.LineName.{LineName};
-ghost use Rattle.cs_decl.specs.Faults.{Fault, faults_of, first_fault};
+ghost use Rattle.cs_decl.specs.Faults.{faults_of, first_fault};
+ghost use Rattle.cs_plan.specs.Answers.{Fault};
 ghost use Rattle.cs_decl.specs.Join.{is_named, joined};
 ghost use Rattle.cs_decl.specs.Law.{IsFirst, stands};
 ghost use Rattle.cs_decl.specs.Lines.{TellsOf, IsLeftOut, HasNoEntry, AreParted, IsDeclared, IsUntimed};
 ghost use Rattle.cs_decl.specs.Lines.{is_told, names_of};
 ghost use Rattle.cs_decl.specs.Meaning.{IsValid};
 ghost use Rattle.cs_decl.specs.Parts.{AreItsParts};
-ghost use Rattle.cs_decl.specs.Plan.{Declared, places_of, command_of, job_at, crons};
+ghost use Rattle.cs_plan.specs.Plan.{Declared, places_of, command_of, job_at, crons};
 
 /// Lemma. The fault that is returned has the smallest number of those there are, and the first
 /// place of that number; if none is returned there is none.

@@ -4,7 +4,8 @@ ghost use Rattle.std.specs.Prelude.{IfOk};
 ghost use Rattle.std.specs.List.{find, filter, list_any, count_by};
 ghost use Rattle.cs_crontab.specs.declared.limits.TheConstants.{MAX_COMMANDS};
 ghost use Rattle.cs_anacrontab.specs.declared.limits.TheConstants.{MAX_JOBS};
-ghost use Rattle.cs_decl.specs.Join.{is_of_job, has_no_job, is_reboot, is_left_out, has_entry};
+ghost use Rattle.cs_decl.specs.Join.{is_of_job, has_no_job, is_left_out, has_entry};
+ghost use Rattle.cs_plan.specs.Reboot.{is_reboot};
 ghost use Rattle.cs_decl.specs.Join.{has_job_entry, is_undeclared, is_undeclared_job, defaulted};
 ghost use Rattle.cs_decl.specs.Join.{guessed, is_named, is_untimed, is_untimed_name, untimed};
 
@@ -13,6 +14,7 @@ use crate::naming::is_named;
 use cs_anacrontab::Job as JobLine;
 use cs_civil::Sequence;
 use cs_crontab::{Line, When};
+use cs_plan::is_reboot;
 use std::alloc::{AllocError, Global};
 
 fn is_left_out(entries: &Entries, line: &Line) -> bool
@@ -53,15 +55,6 @@ fn has_job(lines: &[JobLine], entry: &AnacronEntry) -> bool
         .any(|line| entry.identifier.as_slice() == line.identifier())
 }
 
-fn is_reboot(line: &Line) -> bool
-    ensures { result ≡ is_reboot line.now.when }
-{
-    match line.when() {
-        When::At(_) => false,
-        When::Reboot => true,
-    }
-}
-
 fn is_undeclared(entries: &Entries, line: &Line) -> bool
     ensures { result ≡ is_undeclared entries.now line.now }
 {
@@ -94,12 +87,6 @@ pub(crate) fn first_undeclared_job<'l>(
     ensures { option_map (λ l. l.now) result ≡ find (is_undeclared_job entries.now) lines.now }
 {
     lines.iter().find(|line| is_undeclared_job(entries, line))
-}
-
-pub(crate) fn first_reboot(lines: &[Line]) -> Option<&Line>
-    ensures { option_map (λ l. l.now) result ≡ find (λ line. is_reboot line.when) lines.now }
-{
-    lines.iter().find(|line| is_reboot(line))
 }
 
 /// The numbers of the lines that are left out, in order of line.

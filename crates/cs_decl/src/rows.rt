@@ -7,16 +7,14 @@ ghost use Rattle.cs_decl.specs.Faults.{is_bad_pass, first_fault, twice_declared,
 ghost use Rattle.cs_decl.specs.Faults.{bad_groups, bad_parts, bad_times, faults_of};
 
 use crate::entries::{AnacronEntry, CronEntry, DefaultEntry, Entries};
-use crate::fault::{DeclFault, Place};
-use crate::limits::{MAX_CAPACITY, MAX_GROUPS, MAX_MINUTES, MAX_OFFSET, MAX_WEIGHT};
 use crate::names::{unlisted_anacron, unlisted_cron};
 use crate::parts::first_with_bad_parts;
 use crate::twice::{first_twice, twice_line};
 use cs_civil::MINUTES_OF_DAY;
+use cs_plan::{
+    DeclFault, Found, MAX_CAPACITY, MAX_GROUPS, MAX_MINUTES, MAX_OFFSET, MAX_WEIGHT, Place,
+};
 use std::alloc::{AllocError, Global};
-
-/// A fault, and its place if it has one.
-pub(crate) type Found = (DeclFault, Option<Place>);
 
 fn is_within(low: u16, high: u16, number: i128) -> bool
     ensures { result ≡ is_within low high number }

@@ -2,21 +2,20 @@
 ghost use Rattle.std.specs.Prelude.{◌≡◌, ◌<◌, ◌≤◌, ◌^◌, ◌++◌, ℕ, map, length, unsigned_abs, IfOk};
 ghost use Rattle.std.specs.Prelude.{OnOk, IfSome, Some, option_map, position, bytes_eq};
 ghost use Rattle.std.specs.List.{find};
-ghost use Rattle.cs_decl.specs.declared.limits.TheConstants.{MAX_GROUPS, MAX_OFFSET};
-ghost use Rattle.cs_decl.specs.Job.{IsPossible};
+ghost use Rattle.cs_plan.specs.declared.limits.TheConstants.{MAX_GROUPS, MAX_OFFSET};
+ghost use Rattle.cs_plan.specs.Job.{IsPossible};
 ghost use Rattle.cs_decl.specs.Meaning.{IsValid};
 ghost use Rattle.cs_decl.specs.Join.{is_named, is_of_job, group_place, default_terms, cron_terms};
 ghost use Rattle.cs_decl.specs.Join.{anacron_terms, cron_job, anacron_job, jobs_from};
 ghost use Rattle.cs_decl.specs.Join.{declared_group};
 
 use crate::entries::{AnacronEntry, CronEntry, DefaultEntry, Entries, GroupEntry};
-use crate::group::Group;
-use crate::job::Job;
 use crate::naming::is_named;
 use cs_anacrontab::Job as JobLine;
 use cs_civil::{Bytes, Sequence};
 use cs_crontab::Line;
 use cs_history::Mode;
+use cs_plan::{Group, Job};
 use std::alloc::{AllocError, Global};
 
 /// A whole number known to be small, as an unsigned one.

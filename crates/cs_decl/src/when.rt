@@ -6,9 +6,10 @@ ghost use Rattle.cs_decl.specs.When.{same_when, when_named};
 use cs_crontab::{Entry, Field, Numbers, Part, Schedule, When, read_line};
 use std::alloc::{AllocError, Global};
 
-/// What the text stands for in front of a command: five fields, or an `@` word.
+/// What the text stands for in front of a command, as `crontab(5)` has it: five fields, or an `@`
+/// word; `None` for any other text. The only error is out of memory.
 #[tactic(auto, unfolding(crate::specs::When::when_named))]
-pub(crate) fn named_when(alloc: Global, text: &str) -> Result<Option<When>, AllocError>
+pub fn named_when(alloc: Global, text: &str) -> Result<Option<When>, AllocError>
     ensures { IfOk result (λ when. when ≡ when_named text.now) }
 {
     let mut line = Vec::from_slice(alloc, text.as_bytes())?;

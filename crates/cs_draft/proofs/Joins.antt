@@ -3,7 +3,7 @@ use Rattle.std.proofs.Common.{◌≡◌, IfOk, IsTrue, Bool, None, Result, Ok, E
 use Rattle.cs_crontab.specs.Crontab.{Table as Crontab}
 use Rattle.cs_anacrontab.specs.Anacrontab.{Table as Anacrontab}
 use Rattle.cs_decl.specs.declared.entries.Entries.{Entries}
-use Rattle.cs_decl.specs.Plan.{Declared}
+use Rattle.cs_plan.specs.Plan.{Declared}
 use Rattle.cs_decl.specs.Faults.{first_fault}
 use Rattle.cs_decl.specs.Join.{join_faults, joined}
 use Rattle.cs_decl.proofs.Commands.{no_fault}

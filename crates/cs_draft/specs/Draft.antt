@@ -9,12 +9,12 @@ use Rattle.cs_crontab.specs.Crontab.{Table as Crontab, CommandLine}
 use Rattle.cs_crontab.specs.declared.table.When.{When}
 use Rattle.cs_crontab.specs.declared.table.When.TheVariants.{At, Reboot}
 use Rattle.cs_anacrontab.specs.Anacrontab.{Table as Anacrontab, JobLine}
-use Rattle.cs_gap.specs.Gap.{AreApart, can_be_apart}
-use Rattle.cs_gather.specs.Places.{place_of}
-use Rattle.cs_gather.specs.declared.places.Place.{Place}
+use Rattle.cs_schedule.specs.Gap.{AreApart, can_be_apart}
+use Rattle.cs_place.specs.Places.{place_of}
+use Rattle.cs_place.specs.declared.places.Place.{Place}
 use Rattle.cs_history.specs.declared.mode.Mode.{Mode}
 use Rattle.cs_history.specs.declared.mode.Mode.TheVariants.{Plain}
-use Rattle.cs_decl.specs.declared.limits.TheConstants.{MAX_CAPACITY, MAX_GROUPS, MAX_MINUTES}
+use Rattle.cs_plan.specs.declared.limits.TheConstants.{MAX_CAPACITY, MAX_GROUPS, MAX_MINUTES}
 use Rattle.cs_decl.specs.declared.entries.LineName.{LineName}
 use Rattle.cs_decl.specs.declared.entries.PartEntry.{PartEntry}
 use Rattle.cs_decl.specs.declared.entries.CronEntry.{CronEntry}
@@ -24,13 +24,14 @@ use Rattle.cs_decl.specs.declared.entries.AnacronEntry.{AnacronEntry}
 use Rattle.cs_decl.specs.declared.entries.Entries.{Entries}
 use Rattle.cs_decl.specs.Faults.{first_fault, minutes_of}
 use Rattle.cs_decl.specs.Meaning.{declared_by}
-use Rattle.cs_decl.specs.Join.{is_left_out, is_named, is_of_job, is_reboot, join_faults}
+use Rattle.cs_decl.specs.Join.{is_left_out, is_named, is_of_job, join_faults}
+use Rattle.cs_plan.specs.Reboot.{is_reboot}
 use Rattle.cs_decl.specs.Lines.{names_of}
-use Rattle.cs_decl.specs.Plain.{is_possible_max}
+use Rattle.cs_plan.specs.Plain.{is_possible_max}
 use Rattle.cs_decl.specs.When.{is_told_when, same_when}
-use Rattle.cs_draft.specs.Words.{names_lock}
-use Rattle.cs_draft.specs.Locks.{lock_of, is_below}
-use Rattle.cs_draft.specs.Timeouts.{asked_for, program_of, time_limit}
+use Rattle.cs_command.specs.Words.{names_lock}
+use Rattle.cs_command.specs.Locks.{lock_of, is_below}
+use Rattle.cs_command.specs.Timeouts.{asked_for, program_of, time_limit}
 use Rattle.cs_draft.specs.declared.draft.Drawing.{Drawing}
 use Rattle.cs_draft.specs.declared.draft.Drawing.TheVariants.{BadMax, NotConfirmed, Drawn}
 

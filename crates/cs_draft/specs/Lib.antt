@@ -1,4 +1,2 @@
-pub mod Words
-pub mod Locks
-pub mod Timeouts
 pub mod Draft
+pub mod Answer

@@ -4,27 +4,26 @@ ghost use Rattle.std.specs.Prelude.{◌≡◌, ◌⊎◌, ◌≤◌, [], IfOk, I
 ghost use Rattle.std.specs.Prelude.{drop, false, find, length, option_map, pos, true};
 ghost use Rattle.std.specs.List.{list_all, list_any};
 ghost use Rattle.cs_decl.specs.Join.{is_left_out, is_named};
-ghost use Rattle.cs_gap.specs.Gap.{AreApart, can_be_apart};
-ghost use Rattle.cs_gap.specs.declared.gap.TheConstants.{MAX_GAP};
+ghost use Rattle.cs_schedule.specs.Gap.{AreApart, can_be_apart};
+ghost use Rattle.cs_schedule.specs.declared.gap.TheConstants.{MAX_GAP};
 ghost use Rattle.cs_draft.specs.Draft.{AreAlike, IsAdded, IsLocked, IsNewEntry, IsTimed};
 ghost use Rattle.cs_draft.specs.Draft.{IsUpdatedJob, IsUpdatedLine, is_guess, is_new_group, is_text};
 ghost use Rattle.cs_draft.specs.Draft.{may_follow, parts_of};
-ghost use Rattle.cs_draft.specs.Locks.{lock_of};
-ghost use Rattle.cs_draft.specs.Timeouts.{asked_for};
+ghost use Rattle.cs_command.specs.Locks.{lock_of};
+ghost use Rattle.cs_command.specs.Timeouts.{asked_for};
 
 use crate::kept::{are_alike_jobs, follows, is_kept, is_new};
-use crate::lock::own_lock;
 use crate::names::{entry_of, is_left_out, is_text, job_entry};
 use crate::parts::{has_parts, parts_of};
-use crate::timeouts::{asked_for, time_limit};
 use cs_anacrontab::Job;
 use cs_civil::Bytes;
+use cs_command::{asked_for, own_lock, time_limit};
 use cs_crontab::{Line, When};
-use cs_decl::{AnacronEntry, CronEntry, DefaultEntry, Entries, GroupEntry, MAX_GROUPS};
-use cs_gap::{MAX_GAP, least_gap};
-use cs_gather::Place;
+use cs_decl::{AnacronEntry, CronEntry, DefaultEntry, Entries, GroupEntry};
 use cs_history::Mode;
-use cs_schedule::Schedule;
+use cs_place::Place;
+use cs_plan::MAX_GROUPS;
+use cs_schedule::{MAX_GAP, Schedule, least_gap};
 use std::alloc::{AllocError, Global};
 
 // ---- longest times

@@ -12,8 +12,9 @@ use crate::names::{are_bound, entries_are_bound};
 use crate::warned::are_warned;
 use cs_anacrontab::{Anacrontab, Job};
 use cs_crontab::{Crontab, Line};
-use cs_decl::{DeclError, Declarations, Entries, join, read_declarations};
-use cs_gather::Place;
+use cs_decl::{Declarations, Entries, join, read_declarations};
+use cs_place::Place;
+use cs_plan::DeclError;
 use std::alloc::{AllocError, Global};
 
 /// What the text declares, if it does. The only error is want of memory.

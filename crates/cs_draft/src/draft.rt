@@ -1,5 +1,4 @@
 ghost use Rattle.std.specs.Prelude.{◌≡◌, IfOk};
-ghost use Rattle.cs_decl.specs.Plain.{is_possible_max};
 ghost use Rattle.cs_draft.specs.Draft.{IsDrawing, nothing};
 
 use crate::confirm::is_update;
@@ -8,9 +7,10 @@ use crate::updated::updated_text;
 use cs_anacrontab::Anacrontab;
 use cs_civil::{Bytes, MINUTES_OF_DAY, Sequence};
 use cs_crontab::Crontab;
-use cs_decl::{Declarations, Entries, MAX_CAPACITY, MAX_MINUTES};
-use cs_gather::Place;
+use cs_decl::{Declarations, Entries};
 use cs_json::{Misread, parse};
+use cs_place::Place;
+use cs_plan::{MAX_CAPACITY, is_possible_max};
 use std::alloc::{AllocError, Global};
 
 /// Declarations to begin from, and what an operator has to know of them.
@@ -27,19 +27,13 @@ pub struct Draft {
 /// What is answered where declarations are to be drawn up.
 #[derive(Debug, Drop)]
 pub enum Drawing {
-    /// The longest time isn't from 1 to [`MAX_MINUTES`](cs_decl::MAX_MINUTES) minutes.
+    /// The longest time isn't from 1 to [`MAX_MINUTES`](cs_plan::MAX_MINUTES) minutes.
     BadMax,
     /// The text that was drawn up isn't one that declares the tables' jobs, and keeps what is
     /// declared of them already. It isn't meant to come for tables and declarations that were read.
     NotConfirmed,
     /// The draft, which does.
     Drawn(Draft),
-}
-
-fn is_possible_max(max: u64) -> bool
-    ensures { result ≡ is_possible_max max }
-{
-    max >= 1 && max <= u64::from(MAX_MINUTES)
 }
 
 /// What a draft updates.

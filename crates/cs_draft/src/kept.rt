@@ -6,13 +6,14 @@ ghost use Rattle.cs_decl.specs.Lines.{names_of};
 ghost use Rattle.cs_draft.specs.Draft.{AreAlike, IsKept, is_gone, is_lone, is_new, left_behind};
 ghost use Rattle.cs_draft.specs.Draft.{is_text, may_follow, parts_of, tells};
 
-use crate::names::{count_like, entry_of, is_left_out, is_reboot, is_text, tells};
+use crate::names::{count_like, entry_of, is_left_out, is_text, tells};
 use crate::parts::{keeps_times, parts_of};
-use crate::timeouts::program_of;
 use cs_civil::Bytes;
+use cs_command::program_of;
 use cs_crontab::Line;
 use cs_decl::{AnacronEntry, CronEntry, Entries, GroupEntry, LineName, is_told_when};
-use cs_gather::Place;
+use cs_place::Place;
+use cs_plan::is_reboot;
 
 fn are_alike(names: &[Bytes], old: &CronEntry, new: &CronEntry) -> bool
     ensures { IsTrue result → AreAlike names.now old.now new.now }

@@ -3,30 +3,22 @@
 #![tactic(auto)]
 
 mod added;
+mod answer;
 mod confirm;
 mod draft;
-mod durations;
-mod flock;
-mod fronts;
 mod kept;
 mod layout;
-mod lock;
-mod named;
 mod names;
 mod old;
 mod parts;
-mod paths;
 mod schedule_text;
 mod sheet;
-mod timeouts;
 mod times;
 mod told;
 mod updated;
 mod warned;
-mod words;
 
+pub use answer::answer_draft;
 pub use confirm::declared;
 pub use draft::{Draft, Drawing, draw_up, update};
-pub use lock::{Lock, lock_of};
 pub use parts::are_same_parts;
-pub use timeouts::{asked_for, time_limit};

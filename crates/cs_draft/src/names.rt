@@ -1,6 +1,6 @@
 //! The lines and jobs that entries name, and whether they tell the commands of these.
 ghost use Rattle.std.specs.Prelude.{◌≡◌, All, IsTrue, count_by, find, option_map};
-ghost use Rattle.cs_decl.specs.Join.{is_left_out, is_named, is_of_job, is_reboot};
+ghost use Rattle.cs_decl.specs.Join.{is_left_out, is_named, is_of_job};
 ghost use Rattle.cs_draft.specs.Draft.{IsBound, TellsLine, are_like, is_text, tells};
 
 use cs_civil::Bytes;
@@ -66,13 +66,6 @@ pub(crate) fn job_entry<'e>(entries: &'e Entries, identifier: &[u8]) -> Option<&
     anacron
         .iter()
         .find(|entry| entry.identifier.as_slice() == identifier)
-}
-
-/// Whether the command is started at startup.
-pub(crate) fn is_reboot(line: &Line) -> bool
-    ensures { result ≡ is_reboot line.now.when }
-{
-    matches!(line.when(), When::Reboot)
 }
 
 // ---- whether entries are bound to the commands of their lines

@@ -1,10 +1,10 @@
 //! Declarations that are updated, as their JSON has them, and the lines that their entries are
 //! bound to.
 
-use crate::names::is_reboot;
 use crate::told::Told;
 use cs_crontab::Line;
 use cs_decl::{Entries, LineName, PartEntry, is_told_when};
+use cs_plan::is_reboot;
 use serde_json::Value;
 use std::alloc::{AllocError, Global};
 

@@ -5,12 +5,13 @@ ghost use Rattle.std.specs.List.{list_all, list_any};
 ghost use Rattle.cs_decl.specs.Faults.{minutes_of};
 ghost use Rattle.cs_draft.specs.Draft.{HasParts, KeepsPart, KeepsTimes, all_are_parts, declarable};
 ghost use Rattle.cs_draft.specs.Draft.{is_part, parts_of};
-ghost use Rattle.cs_gather.specs.Places.{place_of};
+ghost use Rattle.cs_place.specs.Places.{place_of};
 
 use cs_civil::Bytes;
 use cs_crontab::Line;
-use cs_decl::{CronEntry, MAX_MINUTES, PartEntry};
-use cs_gather::{Place, place_of};
+use cs_decl::{CronEntry, PartEntry};
+use cs_place::{Place, place_of};
+use cs_plan::MAX_MINUTES;
 
 // ---- the table's
 

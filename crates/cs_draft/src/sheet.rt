@@ -1,23 +1,23 @@
 //! Declarations as they are drawn up, job by job.
 
 use crate::layout::Object;
-use crate::lock::{Lock, lock_of};
-use crate::named::names_lock;
 use crate::names::count_like;
 use crate::old::Bound;
 use crate::parts::{declarable, has_name, has_part, have_changed, names_at};
-use crate::paths::behind_place;
 use crate::schedule_text::schedule_text;
-use crate::timeouts::{asked_for, is_killed, limit_in, time_limit};
 use crate::times::{add_max, add_new_times, add_old_times, add_renewed_times, room_for};
 use crate::told::{ANACRONTAB, CRONTAB, Told};
 use cs_anacrontab::Job;
 use cs_civil::Bytes;
+use cs_command::{
+    Lock, asked_for, behind_place, is_killed, limit_in, lock_of, names_lock, time_limit,
+};
 use cs_crontab::Line;
-use cs_decl::{MAX_GROUPS, MAX_MINUTES, PartEntry, is_told_when};
+use cs_decl::{PartEntry, is_told_when};
 use cs_diagnostics::shown;
-use cs_gather::{Place, place_of};
 use cs_history::Mode;
+use cs_place::{Place, place_of};
+use cs_plan::{MAX_GROUPS, MAX_MINUTES};
 use cs_schedule::Schedule;
 use serde_json::Value;
 use std::alloc::{AllocError, Global};

@@ -3,16 +3,16 @@
 use crate::added::is_locked;
 use crate::kept::{is_new, left_behind, may_follow};
 use crate::layout::Object;
-use crate::lock::own_lock;
 use crate::names::is_text;
 use crate::old::{Bound, Old, Pair, bound_in, items, pairs_of, text_of};
 use crate::sheet::Sheet;
 use crate::told::Told;
 use cs_anacrontab::{Anacrontab, Job};
+use cs_command::own_lock;
 use cs_crontab::{Crontab, Line, When};
 use cs_decl::Entries;
 use cs_diagnostics::shown;
-use cs_gather::Place;
+use cs_place::Place;
 use cs_schedule::Schedule;
 use serde_json::Value;
 use std::alloc::{AllocError, Global};

@@ -4,11 +4,10 @@ ghost use Rattle.cs_table.specs.Text.{lines_of};
 ghost use Rattle.cs_draft.specs.Draft.{is_unlocked, is_unlocked_job, warn_of};
 
 use crate::kept::is_new;
-use crate::named::names_lock;
 use crate::names::{entry_of, is_left_out, job_entry};
-use crate::paths::is_below;
 use crate::told::warning_of;
 use cs_anacrontab::{Anacrontab, Job};
+use cs_command::{is_below, names_lock};
 use cs_crontab::{Crontab, Line};
 use cs_decl::Entries;
 use cs_table::text::first_line;
@@ -91,10 +90,12 @@ pub(crate) fn are_warned(
     entries: &Entries,
     text: &[u8],
 ) -> Result<bool, AllocError>
-    ensures lines { IfOk result (λ b. IsTrue b → warn_of (codes "crontab") (map (λ line. line.number)
-        (filter (is_unlocked old.now entries.now) table.now.lines)) (lines_of text.now) ≡ true) }
-    ensures jobs { IfOk result (λ b. IsTrue b → warn_of (codes "anacrontab") (map (λ job. job.number)
-        (filter (is_unlocked_job old.now) jobs.now.lines)) (lines_of text.now) ≡ true) }
+    ensures lines { IfOk result (λ b. IsTrue b → warn_of (codes "crontab")
+        (map (λ line. line.number) (filter (is_unlocked old.now entries.now) table.now.lines))
+        (lines_of text.now) ≡ true) }
+    ensures jobs { IfOk result (λ b. IsTrue b → warn_of (codes "anacrontab")
+        (map (λ job. job.number) (filter (is_unlocked_job old.now) jobs.now.lines))
+        (lines_of text.now) ≡ true) }
 {
     let lines = unlocked_lines(alloc, old, entries, table.lines())?;
     if !warn_of(alloc, b"crontab", lines.as_slice(), text)? {

@@ -1,1 +1,1 @@
-mod OddLemmas
+pub mod OddLemmas

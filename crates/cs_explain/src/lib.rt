@@ -2,6 +2,7 @@
 #![tactic(auto)]
 
 mod anacrontab;
+mod answer;
 mod call;
 mod certificate;
 mod crontab;
@@ -17,5 +18,6 @@ mod system;
 mod texts;
 mod unknown;
 
+pub use answer::{answer_explain, no_such_name};
 pub use guess::{nearest, nearest_odd};
 pub use texts::{explain, names, odd_name};

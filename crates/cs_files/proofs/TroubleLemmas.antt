@@ -7,12 +7,12 @@ use Rattle.cs_crontab.specs.Crontab.{Table}
 use Rattle.cs_crontab.specs.Faults.{IsCrontab}
 use Rattle.cs_crontab.specs.declared.fault.LineFault.{LineFault}
 use Rattle.cs_table.specs.Table.{Found as FoundIn}
-use Rattle.cs_gather.specs.Places.{places_of}
-use Rattle.cs_gather.specs.declared.places.Place.{Place}
+use Rattle.cs_place.specs.Places.{places_of}
+use Rattle.cs_place.specs.declared.places.Place.{Place}
 use Rattle.cs_anacrontab.specs.Anacrontab.{Table as JobTable}
-use Rattle.cs_decl.specs.Faults.{Fault as DeclaredFault}
+use Rattle.cs_plan.specs.Answers.{Fault as DeclaredFault}
 use Rattle.cs_decl.specs.Meaning.{declared_by}
-use Rattle.cs_decl.specs.Plan.{Declared}
+use Rattle.cs_plan.specs.Plan.{Declared}
 use Rattle.cs_decl.specs.declared.entries.Entries.{Entries}
 use Rattle.cs_report.specs.Faults.{Means as MeansScript}
 use Rattle.cs_report.specs.Grammar.{Numbered}

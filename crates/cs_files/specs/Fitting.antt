@@ -3,16 +3,17 @@ use Rattle.std.specs.Prelude.{ℕ, Bool, false, not, ◌&&◌, ◌==◌, List, O
 use Rattle.std.specs.List.{list_all, list_any}
 use Rattle.cs_crontab.specs.Crontab.{CommandLine, Table}
 use Rattle.cs_anacrontab.specs.Anacrontab.{Table as JobTable}
-use Rattle.cs_gather.specs.Places.{place_of}
-use Rattle.cs_gather.specs.declared.places.Place.{Place}
-use Rattle.cs_decl.specs.Faults.{Fault, at_cron}
+use Rattle.cs_place.specs.Places.{place_of}
+use Rattle.cs_place.specs.declared.places.Place.{Place}
+use Rattle.cs_decl.specs.Faults.{at_cron}
+use Rattle.cs_plan.specs.Answers.{Fault}
 use Rattle.cs_decl.specs.Join.{is_named, joined}
-use Rattle.cs_decl.specs.Meaning.{◌>>=◌, unless}
-use Rattle.cs_decl.specs.Plan.{Declared}
+use Rattle.cs_plan.specs.Answers.{◌>>=◌, unless}
+use Rattle.cs_plan.specs.Plan.{Declared}
 use Rattle.cs_decl.specs.declared.entries.CronEntry.{CronEntry}
 use Rattle.cs_decl.specs.declared.entries.Entries.{Entries}
 use Rattle.cs_decl.specs.declared.entries.PartEntry.{PartEntry}
-use Rattle.cs_decl.specs.declared.fault.DeclFault.TheVariants as faults
+use Rattle.cs_plan.specs.declared.fault.DeclFault.TheVariants as faults
 
 -- the parts, no two of which have one name, have these names in any order
 abbrev pub have_names : List PartEntry → List (List ℕ) → Bool

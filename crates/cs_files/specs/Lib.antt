@@ -4,3 +4,5 @@ pub mod RanOut
 pub mod Fitting
 pub mod Reads
 pub mod Turn
+pub mod Ending
+pub mod Usage

@@ -10,12 +10,12 @@ use Rattle.cs_crontab.specs.declared.fault.LineFault.{LineFault}
 use Rattle.cs_crontab.specs.Faults.{IsCrontab, Means}
 use Rattle.cs_anacrontab.specs.Anacrontab.{JobLine, Table as JobTable, no_lines as no_jobs}
 use Rattle.cs_anacrontab.specs.Faults.{Means as MeansJobs}
-use Rattle.cs_gather.specs.Places.{places_of}
-use Rattle.cs_gather.specs.declared.places.Place.{Place}
-use Rattle.cs_decl.specs.Faults.{Fault as DeclaredFault}
+use Rattle.cs_place.specs.Places.{places_of}
+use Rattle.cs_place.specs.declared.places.Place.{Place}
+use Rattle.cs_plan.specs.Answers.{Fault as DeclaredFault}
 use Rattle.cs_decl.specs.Join.{joined}
 use Rattle.cs_decl.specs.Meaning.{declared_by}
-use Rattle.cs_decl.specs.Plan.{Declared}
+use Rattle.cs_plan.specs.Plan.{Declared}
 use Rattle.cs_decl.specs.declared.entries.Entries.{Entries}
 use Rattle.cs_report.specs.Warning.{warnings as warnings_text}
 use Rattle.cs_io.specs.Files.{Failed, IsReadOut, IsTooLong, IsUpTo, Reads}

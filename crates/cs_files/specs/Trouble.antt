@@ -11,12 +11,12 @@ use Rattle.cs_table.specs.declared.fault.TableFault.TheVariants as table_fault
 use Rattle.cs_anacrontab.specs.declared.fault.JobFault.{JobFault}
 use Rattle.cs_system.specs.Printed.{fault_text as system_fault_text}
 use Rattle.cs_system.specs.declared.fault.SystemFault.{SystemFault}
-use Rattle.cs_decl.specs.Faults.{Fault as DeclaredFault}
-use Rattle.cs_decl.specs.Printed.{error_text}
-use Rattle.cs_decl.specs.declared.fault.DeclError.{DeclError}
-use Rattle.cs_decl.specs.declared.fault.DeclError.TheVariants as decl_error
-use Rattle.cs_decl.specs.declared.fault.Place.{Place}
-use Rattle.cs_decl.specs.declared.fault.Place.TheVariants.{Anacron, Cron, Group, Job, LeftOut, Line}
+use Rattle.cs_plan.specs.Answers.{Fault as DeclaredFault}
+use Rattle.cs_plan.specs.Printed.{error_text}
+use Rattle.cs_plan.specs.declared.fault.DeclError.{DeclError}
+use Rattle.cs_plan.specs.declared.fault.DeclError.TheVariants as decl_error
+use Rattle.cs_plan.specs.declared.fault.Place.{Place}
+use Rattle.cs_plan.specs.declared.fault.Place.TheVariants.{Anacron, Cron, Group, Job, LeftOut, Line}
 use Rattle.cs_report.specs.Printed.{fault_text as script_fault_text}
 use Rattle.cs_report.specs.Script.{Fault as ScriptFault}
 use Rattle.cs_report.specs.declared.script_fault.ScriptError.{ScriptError}

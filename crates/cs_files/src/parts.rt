@@ -2,17 +2,16 @@
 ghost use Rattle.std.specs.Prelude.{◌≡◌, ◌&&◌, bytes_eq, position};
 ghost use Rattle.std.specs.List.{list_all, list_any};
 ghost use Rattle.cs_decl.specs.Join.{is_named};
-ghost use Rattle.cs_decl.specs.Meaning.{Answers};
+ghost use Rattle.cs_plan.specs.Answers.{Answers};
 ghost use Rattle.cs_files.specs.Fitting.{fitting, has_other_parts, have_names, tells_others};
-ghost use Rattle.cs_gather.specs.Places.{place_of};
+ghost use Rattle.cs_place.specs.Places.{place_of};
 
 use cs_anacrontab::Anacrontab;
 use cs_civil::Bytes;
 use cs_crontab::{Crontab, Line};
-use cs_decl::{
-    CronEntry, DeclError, DeclFault, Declarations, PartEntry, Place as At, Plan, is_named, join,
-};
-use cs_gather::{Place, place_of};
+use cs_decl::{CronEntry, Declarations, PartEntry, is_named, join};
+use cs_place::{Place, place_of};
+use cs_plan::{DeclError, DeclFault, Place as At, Plan};
 use std::alloc::Global;
 
 fn is_among(names: &[Bytes], part: &PartEntry) -> bool

@@ -19,9 +19,10 @@ use crate::parts::join_placed;
 use cs_anacrontab::{AnacronFault, Anacrontab, Job, read_anacrontab};
 use cs_civil::Sequence;
 use cs_crontab::{Crontab, read_crontab};
-use cs_decl::{Plan, join, read_declarations};
-use cs_gather::{Place, read_places};
+use cs_decl::{join, read_declarations};
 use cs_io::{Inputs, ReadFault, read_up_to, read_whole};
+use cs_place::{Place, read_places};
+use cs_plan::Plan;
 use cs_table::MAX_TABLE;
 use std::alloc::{AllocError, Global};
 

@@ -1,8 +1,10 @@
 //! What a call of the program writes, and the status that it ends with.
 ghost use Rattle.std.specs.Prelude.{◌≡◌, ◌++◌, [], IfErr, IfOk, Some, if◌then◌else◌};
+ghost use Rattle.cs_args.specs.Version.{version_text};
 ghost use Rattle.cs_files.specs.Response.{complaint, done, status_of};
 
 use crate::ran_out::{RanOut, text_behind};
+use cs_args::version_text;
 use cs_civil::Bytes;
 use std::alloc::{AllocError, Global};
 use std::marker::Model;
@@ -90,6 +92,14 @@ impl Response {
             shown: Bytes::from_vec(text),
             told: warnings,
         }
+    }
+
+    /// The version is asked for. The only error is want of memory.
+    pub fn version(alloc: Global) -> Result<Response, AllocError>
+        ensures { IfOk result (λ r. r ≡ done version_text []) }
+    {
+        let text = Vec::from_slice(alloc, version_text().as_bytes())?;
+        Ok(Response::done(text, Bytes::new(alloc)))
     }
 
     /// The words are no call.

@@ -1,9 +1,8 @@
 pub mod Above
 pub mod Between
-pub mod Calls
 pub mod Normal
-pub mod Noted
-pub mod Parted
-pub mod PartNames
 pub mod Walk
-pub mod Words
+pub mod AnswerLemmas
+pub mod ListingLemmas
+pub mod PartsLemmas
+pub mod PathLemmas

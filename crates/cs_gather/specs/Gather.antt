@@ -1,7 +1,6 @@
 -- Tables of a machine as one user's table: what each adds, and what the text says in the end.
-use Rattle.std.specs.Prelude.{◌≡◌, ℕ, ◌+◌, ◌-◌, ◌⊎◌, Bool, true, codes, bytes_eq, List, [], ◌∷◌, ◌++◌, length, map}
-use Rattle.std.specs.List.{list_all, list_any, AllZip}
-use Rattle.cs_table.specs.Setting.{SettingLine}
+use Rattle.std.specs.Prelude.{◌≡◌, ℕ, ◌+◌, ◌-◌, ◌⊎◌, true, List, [], ◌∷◌, ◌++◌, length, map}
+use Rattle.std.specs.List.{list_all, AllZip}
 use Rattle.cs_table.specs.declared.fault.TableFault.{TableFault}
 use Rattle.cs_table.specs.declared.fault.TableFault.TheVariants.{At, OutOfMemory}
 use Rattle.cs_table.specs.Text.{lines_of, is_blank, StopsAt}
@@ -17,6 +16,7 @@ use Rattle.cs_system.specs.System.{Table as SystemTable}
 use Rattle.cs_system.specs.Faults.{IsSystemCrontab, IsFaultOf}
 use Rattle.cs_gather.specs.Gathered.{GatheredCommand, comments, of_system, of_user}
 use Rattle.cs_gather.specs.declared.programs.Parts.{Parts}
+use Rattle.cs_place.specs.Mark.{mark}
 
 -- ---- what the text says
 
@@ -36,18 +36,6 @@ pub record IsGathered (lines : List (List ℕ)) (line : CommandLine) (gathered :
   pub when : line.when ≡ gathered.when
   pub command : line.command ≡ gathered.command
   pub place : AreAbove lines line.number (comments gathered)
-
--- `CRONSAFE_TABLE`: by a setting of this name `run` sees that a table was gathered (this profile)
-abbrev pub mark_name : List ℕ
-mark_name = codes "CRONSAFE_TABLE"
-
--- on line 1, `CRONSAFE_TABLE=gathered`
-abbrev pub mark : SettingLine
-mark = record { number = 1; name = mark_name; value = codes "gathered" }
-
--- A table with such a setting was gathered.
-abbrev pub is_gathered : List SettingLine → Bool
-is_gathered settings = list_any (λ setting. bytes_eq setting.name mark_name) settings
 
 -- The text is written as a crontab with this one setting, whose commands are these, in this order.
 pub record Gathers (text : List ℕ) (commands : List GatheredCommand) : Type 0 where

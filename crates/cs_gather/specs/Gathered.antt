@@ -1,10 +1,12 @@
 -- A command that is gathered from a table, and the comment with its place.
-use Rattle.std.specs.Prelude.{ℕ, ◌+◌, ◌/◌, ◌%◌, Bool, ◌&&◌, ◌==◌, not, nat_le, nat_lt, if◌then◌else◌, List, [], ◌∷◌, ◌++◌, map, flat_map, decimal, codes, Option, Some, None}
+use Rattle.std.specs.Prelude.{ℕ, ◌+◌, ◌==◌, if◌then◌else◌, List, [], ◌∷◌, ◌++◌, map, flat_map, decimal, codes, Option, Some, None}
 use Rattle.std.specs.List.{find}
 use Rattle.cs_crontab.specs.declared.table.When.{When}
 use Rattle.cs_crontab.specs.Crontab.{CommandLine}
 use Rattle.cs_system.specs.System.{SystemCommand}
 use Rattle.cs_gather.specs.declared.programs.Parts.{Parts}
+use Rattle.cs_place.specs.Shown.{shown}
+use Rattle.cs_place.specs.PartName.{part_comment}
 
 -- a command, when it is started, the user that it runs as, the name of its table, the number of its
 -- line there, counted from 1, and the names of the parts that it runs by run-parts(8)
@@ -49,18 +51,6 @@ of_user name user parts line = record {
 
 -- ---- the comments
 
--- a byte that a comment shows as it is: no control byte and no `\`
-abbrev pub is_plain : ℕ → Bool
-is_plain b = nat_le 32 b && not (b == 127) && not (b == 92)
-
-abbrev pub hex_digit : ℕ → ℕ
-hex_digit n = if nat_lt n 10 then 48 + n else 87 + n
-
--- any other byte is shown as `\xNN`
-abbrev pub shown : ℕ → List ℕ
-shown b =
-    if is_plain b then b ∷ [] else 92 ∷ 120 ∷ hex_digit (b / 16) ∷ hex_digit (b % 16) ∷ []
-
 -- in the name of a user, which is one word of its comment, a blank is `\x20` too
 abbrev pub shown_in_user : ℕ → List ℕ
 shown_in_user b = if b == 32 then 92 ∷ 120 ∷ 50 ∷ 48 ∷ [] else shown b
@@ -73,10 +63,6 @@ place_text name number = flat_map shown name ++ 58 ∷ decimal number
 abbrev pub place_comment : GatheredCommand → List ℕ
 place_comment c =
     codes "#@ " ++ (place_text c.name c.number ++ 32 ∷ flat_map shown_in_user c.user)
-
--- `#@ part NAME`
-abbrev pub part_comment : List ℕ → List ℕ
-part_comment name = codes "#@ part " ++ name
 
 -- above a command: its place, and then its parts
 abbrev pub comments : GatheredCommand → List (List ℕ)

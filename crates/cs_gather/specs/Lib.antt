@@ -1,5 +1,6 @@
 pub mod Normal
 pub mod Gathered
 pub mod Gather
-pub mod Places
-pub mod RunParts
+pub mod Answer
+pub mod Tables
+pub mod Listing

@@ -1,43 +1,10 @@
 //! Places as comments.
-ghost use Rattle.std.specs.Prelude.{◌≡◌, ◌<◌, ◌++◌, ◌∷◌, flat_map, codes, IfOk, OnOk};
-ghost use Rattle.cs_gather.specs.Gathered.{is_plain, hex_digit, shown, shown_in_user, place_text};
+ghost use Rattle.std.specs.Prelude.{◌≡◌, ◌<◌, ◌++◌, flat_map, OnOk};
+ghost use Rattle.cs_gather.specs.Gathered.{shown_in_user, place_text};
 
 use cs_civil::push_number;
+use cs_place::{push_byte, push_shown};
 use std::alloc::{AllocError, Global};
-
-fn is_plain(byte: u8) -> bool
-    ensures { result ≡ is_plain byte }
-{
-    32 <= byte && byte != 127 && byte != b'\\'
-}
-
-fn hex_digit(digit: u8) -> u8
-    requires { digit < 16 }
-    ensures { result ≡ hex_digit digit }
-{
-    if digit < 10 { b'0' + digit } else { 87 + digit }
-}
-
-fn push_byte(text: &mut Vec<u8>, byte: u8) -> Result<(), AllocError>
-    ensures { OnOk result (text.new.items ≡ text.old.items ++ shown byte) }
-{
-    if is_plain(byte) {
-        text.push(byte)?;
-        return Ok(());
-    }
-    text.extend_from_slice(&[b'\\', b'x', hex_digit(byte / 16), hex_digit(byte % 16)])
-}
-
-/// Adds bytes so that a comment or a note stays one line, and a terminal shows it unharmed: a byte
-/// below 32, 127 and `\` as `\xNN`. The only error is out of memory.
-pub fn push_shown(text: &mut Vec<u8>, bytes: &[u8]) -> Result<(), AllocError>
-    ensures { OnOk result (text.new.items ≡ text.old.items ++ flat_map shown bytes.now) }
-{
-    for byte in bytes {
-        push_byte(text, *byte)?;
-    }
-    Ok(())
-}
 
 /// Adds the name of a user as one word: as [`push_shown`] does, and a blank as `\x20`.
 pub(crate) fn push_user(text: &mut Vec<u8>, name: &[u8]) -> Result<(), AllocError>

@@ -3,16 +3,15 @@ ghost use Rattle.std.specs.Prelude.{◌≡◌, ◌∷◌, All, IfOk, IsTrue, map
 ghost use Rattle.std.specs.List.{AllZip};
 ghost use Rattle.cs_table.specs.Text.{lines_of};
 ghost use Rattle.cs_gather.specs.Normal.{IsNormal};
-ghost use Rattle.cs_gather.specs.Gathered.{part_comment};
+ghost use Rattle.cs_place.specs.PartName.{part_comment};
 ghost use Rattle.cs_gather.specs.Gather.{AreAbove, BeginWith, IsGathered, Gathers};
 
 use crate::fault::TextFault;
 use crate::line::GatheredLine;
-use crate::mark::are_mark;
-use crate::programs::is_part;
 use crate::when::is_same_when;
 use cs_civil::Bytes;
 use cs_crontab::{Line, TableFault, read_crontab};
+use cs_place::{are_mark, is_part};
 use cs_table::text::first_line;
 use std::alloc::{AllocError, Global};
 

@@ -5,12 +5,12 @@ ghost use Rattle.cs_gather.specs.Gather.{room_behind, AddsSystem, AddsUser, Gath
 use crate::confirm::confirm;
 use crate::fault::{GatherFault, TextFault, as_system};
 use crate::line::GatheredLine;
-use crate::mark::MARK;
 use crate::programs::Parts;
 use crate::reading::{system_lines, user_lines};
 use crate::writing::push_lines;
 use cs_civil::{Bytes, Sequence};
 use cs_crontab::{MAX_COMMANDS, read_crontab};
+use cs_place::MARK;
 use cs_system::read_system_crontab;
 use std::alloc::Global;
 use std::marker::Model;

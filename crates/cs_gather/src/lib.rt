@@ -1,24 +1,24 @@
 //! Tables of a machine, gathered as one user's table.
 #![tactic(auto)]
 
-mod call;
+mod answer;
+mod below;
 mod comment;
 mod confirm;
 mod fault;
 mod gathering;
+mod given;
 mod line;
-mod mark;
-mod places;
+mod note;
+mod parts;
 mod programs;
 mod reading;
-mod running;
+mod root;
+mod table;
 mod when;
 mod writing;
 
-pub use comment::push_shown;
+pub use answer::answer_gather;
 pub use fault::{GatherFault, TextFault};
 pub use gathering::Gathering;
-pub use mark::{is_gathered, is_mark_name};
-pub use places::{Place, place_of, push_place_text, push_places, push_places_told, read_places};
-pub use programs::{Parts, is_part_name};
-pub use running::{RunParts, run_parts};
+pub use programs::Parts;

@@ -8,13 +8,12 @@ ghost use Rattle.cs_table.specs.Wrong.{whole};
 ghost use Rattle.cs_system.specs.declared.fault.SystemFault.TheVariants.{Line};
 ghost use Rattle.cs_gather.specs.Gather.{IsOverflow};
 
-use crate::comment::{push_place, push_shown};
+use crate::comment::push_place;
 use crate::fault::GatherFault;
 use crate::line::GatheredLine;
-use crate::mark::MARK;
-use crate::programs::PART;
 use cs_civil::Bytes;
 use cs_crontab::{Entry, LineFault, read_line};
+use cs_place::{MARK, PART, push_shown};
 use cs_system::SystemFault;
 use cs_table::text::{first_line, skip_blanks};
 use cs_table::{MAX_LINE, MAX_TABLE, Wrong};

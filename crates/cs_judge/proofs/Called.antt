@@ -2,7 +2,7 @@
 use Rattle.std.proofs.Common.{◌≡◌, Option, None, Some, true, is_some}
 use Rattle.std.specs.Prelude.{IfSome}
 use Rattle.cs_check.specs.declared.checked.Checked.{Checked}
-use Rattle.cs_decl.specs.Plan.{Declared}
+use Rattle.cs_plan.specs.Plan.{Declared}
 use Rattle.cs_judge.specs.Called.{IsCalledSafe}
 use Rattle.cs_judge.specs.Judged.{IsJudgement}
 use Rattle.cs_judge.specs.declared.judged.Judged.TheVariants.{Safe}

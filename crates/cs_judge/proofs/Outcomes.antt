@@ -2,8 +2,8 @@
 use Rattle.std.proofs.Common.{◌≡◌, inl, inr, ℕ, List}
 use Rattle.cs_claims.specs.Content.{Content}
 use Rattle.cs_check.specs.Checked.{IsHeadline, certificate_in}
-use Rattle.cs_decl.specs.Plan.{Declared, as_plan}
-use Rattle.cs_gather.specs.declared.places.Place.{Place}
+use Rattle.cs_plan.specs.Plan.{Declared, as_plan}
+use Rattle.cs_place.specs.declared.places.Place.{Place}
 use Rattle.cs_judge.specs.Answer.{IsAnswer, IsSafeMade, IsStory, unknown_outcome}
 use Rattle.cs_judge.specs.Judged.{IsJudgement}
 use Rattle.cs_maker.specs.declared.reason.Reason.{Reason}

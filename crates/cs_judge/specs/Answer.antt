@@ -2,12 +2,12 @@
 use Rattle.std.specs.Prelude.{◌≡◌, ◌⊎◌, ◌<◌, ℕ, List, ◌∷◌, ◌++◌, [], Ok, Option, None, Some, codes, flat_map, length}
 use Rattle.std.specs.List.{filter_map}
 use Rattle.serde_json.specs.Written.{compact_text}
-use Rattle.cs_gather.specs.Places.{places_told}
-use Rattle.cs_gather.specs.declared.places.Place.{Place}
+use Rattle.cs_place.specs.Places.{places_told}
+use Rattle.cs_place.specs.declared.places.Place.{Place}
 use Rattle.cs_history.specs.declared.event.Event.{Event}
 use Rattle.cs_history.specs.declared.event.Event.TheVariants.{Minute, Begin, Got, Catch, End, Down, Up}
 use Rattle.cs_history.specs.declared.script.Script.{Script}
-use Rattle.cs_decl.specs.Plan.{Declared}
+use Rattle.cs_plan.specs.Plan.{Declared}
 use Rattle.cs_theorem.specs.Faults.{Fault}
 use Rattle.cs_claims.specs.Content.{Content}
 use Rattle.cs_cert.specs.Denoted.{certificate_by}
@@ -15,8 +15,8 @@ use Rattle.cs_cert.specs.Written.{certificate_data}
 use Rattle.cs_claims.specs.declared.limits.TheConstants.{MAX_CERTIFICATE}
 use Rattle.cs_check.specs.Checked.{certificate_in}
 use Rattle.cs_report.specs.Refused.{fault_text}
-use Rattle.cs_report.specs.Told.{told}
-use Rattle.cs_report.specs.declared.check_fault.CheckFault.{CheckFault}
+use Rattle.cs_theorem.specs.Told.{told}
+use Rattle.cs_theorem.specs.declared.check_fault.CheckFault.{CheckFault}
 use Rattle.cs_maker.specs.Reason.{reason_name}
 use Rattle.cs_maker.specs.declared.reason.Reason.{Reason}
 use Rattle.cs_maker.specs.declared.reason.Reason.TheVariants.{TooManyClasses, LeafTooLong, TooDeep, NoReach, NoScript, NotChecked, NoMemory}
@@ -25,7 +25,7 @@ use Rattle.cs_counterexample.specs.ShownText.{shown_text}
 use Rattle.cs_counterexample.specs.declared.shown.Shown.{Shown}
 use Rattle.cs_judge.specs.Form.{IsJudgedBy}
 use Rattle.cs_judge.specs.Judged.{Shows}
-use Rattle.cs_judge.specs.Story.{comment}
+use Rattle.cs_verdict.specs.Story.{comment}
 use Rattle.cs_judge.specs.declared.judged.Judged.{Judged}
 use Rattle.cs_judge.specs.declared.judged.Judged.TheVariants.{Safe, Unsafe, Unknown}
 use Rattle.cs_judge.specs.declared.answers.Outcome.{Outcome}

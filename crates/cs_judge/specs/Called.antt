@@ -3,7 +3,7 @@ use Rattle.std.specs.Prelude.{ℕ}
 use Rattle.cs_check.specs.Case.{reach_for}
 use Rattle.cs_check.specs.Checked.{certificate_in, plan_in}
 use Rattle.cs_check.specs.declared.checked.Checked.{Checked}
-use Rattle.cs_decl.specs.Plan.{Declared}
+use Rattle.cs_plan.specs.Plan.{Declared}
 use Rattle.cs_judge.specs.Judged.{IsJudgement}
 use Rattle.cs_judge.specs.declared.judged.Judged.TheVariants.{Safe}
 

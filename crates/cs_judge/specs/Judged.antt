@@ -1,13 +1,13 @@
 -- What is known of a plan.
 use Rattle.std.specs.Prelude.{◌≡◌, true, Some, None, ⊤}
 use Rattle.cs_history.specs.declared.script.Script.{Script}
-use Rattle.cs_decl.specs.Plan.{Declared, as_plan}
+use Rattle.cs_plan.specs.Plan.{Declared, as_plan}
 use Rattle.cs_claims.specs.Content.{Content}
 use Rattle.cs_check.specs.Case.{fault_of, reach_for}
 use Rattle.cs_check.specs.Checked.{IsCalmThroughout, IsHeadline, certificate_in, plan_in}
 use Rattle.cs_check.specs.declared.checked.Checked.{Checked}
-use Rattle.cs_report.specs.Told.{told}
-use Rattle.cs_report.specs.declared.check_fault.CheckFault.{CheckFault}
+use Rattle.cs_theorem.specs.Told.{told}
+use Rattle.cs_theorem.specs.declared.check_fault.CheckFault.{CheckFault}
 use Rattle.cs_report.specs.ScriptText.{is_nameable}
 use Rattle.cs_counterexample.specs.Shown.{IsShown, IsTellable}
 use Rattle.cs_counterexample.specs.declared.shown.Shown.{Shown}

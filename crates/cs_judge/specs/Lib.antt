@@ -1,4 +1,3 @@
-pub mod Story
 pub mod Form
 pub mod Judged
 pub mod Called

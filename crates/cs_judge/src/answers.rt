@@ -8,22 +8,21 @@ ghost use Rattle.cs_judge.specs.Answer.{job_of, outcome_of, refusal_text, story_
 ghost use Rattle.cs_judge.specs.Answer.{IsUnknownText, IsUnsafeText, IsVerdict, unknown_text};
 ghost use Rattle.cs_judge.specs.Form.{IsJudgedBy};
 ghost use Rattle.cs_judge.specs.Judged.{IfUnsafe, Shows};
-ghost use Rattle.cs_report.specs.Told.{told};
+ghost use Rattle.cs_theorem.specs.Told.{told};
 
-use crate::breach::Breach;
 use crate::judged::Judged;
-use crate::story::{push_comments, story};
-use crate::waiters::no_reach;
 use cs_cert::write_certificate;
 use cs_check::Checked;
 use cs_civil::Bytes;
 use cs_claims::{Certificate, MAX_CERTIFICATE, least_text};
 use cs_counterexample::{Shown, shown_text};
-use cs_decl::Plan;
-use cs_gather::{Place, push_places_told};
 use cs_history::{Event, Script};
 use cs_maker::Reason;
-use cs_report::{CheckFault, fault_text, script_text};
+use cs_place::{Place, push_places_told};
+use cs_plan::Plan;
+use cs_report::{fault_text, script_text};
+use cs_theorem::CheckFault;
+use cs_verdict::{Breach, no_reach, push_comments, story};
 use std::alloc::{AllocError, Global};
 
 /// What is asked of a plan.

@@ -1,7 +1,7 @@
 //! What is called safe, without a script where it isn't.
 ghost use Rattle.std.specs.Prelude.{◌≡◌, IfOk, IfSome, true};
 ghost use Rattle.cs_check.specs.Checked.{StayInWindows, plan_in};
-ghost use Rattle.cs_decl.specs.Plan.{as_plan};
+ghost use Rattle.cs_plan.specs.Plan.{as_plan};
 ghost use Rattle.cs_judge.specs.Called.{IsCalledSafe, reach_in};
 ghost use Rattle.cs_judge.specs.Judged.{IsJudgement};
 ghost use Rattle.cs_judge.specs.declared.judged.Judged.TheVariants.{Safe};
@@ -9,8 +9,8 @@ ghost use Rattle.cs_judge.specs.declared.judged.Judged.TheVariants.{Safe};
 use crate::judging::check;
 use cs_check::Checked;
 use cs_claims::reach_of;
-use cs_decl::Plan;
 use cs_maker::Maker;
+use cs_plan::Plan;
 use std::alloc::{AllocError, Global};
 use std::thread::Threads;
 

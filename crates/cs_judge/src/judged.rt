@@ -1,9 +1,9 @@
-use crate::breach::Breach;
 use cs_check::Checked;
 use cs_counterexample::Shown;
 use cs_history::Script;
 use cs_maker::Reason;
-use cs_report::CheckFault;
+use cs_theorem::CheckFault;
+use cs_verdict::Breach;
 
 /// What is known of a plan.
 #[derive(Debug, Drop)]

@@ -7,15 +7,16 @@ ghost use Rattle.cs_judge.specs.Judged.{IsCompact, IsJudgement, IsRefusal, Shows
 ghost use Rattle.cs_judge.specs.declared.judged.Judged.TheVariants.{Safe};
 
 use crate::answers::Wanted;
-use crate::breach::{Breach, first_breach};
 use crate::judged::Judged;
 use cs_check::{CheckError, Checked, check_parallel};
 use cs_claims::Certificate;
 use cs_counterexample::{NotShown, Shown, prove_unsafe};
-use cs_decl::Plan;
 use cs_history::Script;
 use cs_maker::{Maker, Reason};
-use cs_report::{CheckFault, is_nameable};
+use cs_plan::Plan;
+use cs_report::is_nameable;
+use cs_theorem::CheckFault;
+use cs_verdict::{Breach, first_breach};
 use std::alloc::{AllocError, Global};
 use std::thread::Threads;
 

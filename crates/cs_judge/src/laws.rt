@@ -1,7 +1,7 @@
 ghost use Rattle.std.specs.Prelude.{◌≡◌, ℕ, List};
 ghost use Rattle.cs_check.specs.Checked.{IsHeadline};
-ghost use Rattle.cs_decl.specs.Plan.{Declared, as_plan};
-ghost use Rattle.cs_gather.specs.declared.places.Place.{Place};
+ghost use Rattle.cs_plan.specs.Plan.{Declared, as_plan};
+ghost use Rattle.cs_place.specs.declared.places.Place.{Place};
 ghost use Rattle.cs_judge.specs.Answer.{IsAnswer, IsStory};
 ghost use Rattle.cs_judge.specs.Judged.{IsJudgement};
 ghost use Rattle.cs_judge.specs.declared.answers.Outcome.{Outcome};

@@ -3,19 +3,13 @@
 #![tactic(auto)]
 
 mod answers;
-mod breach;
 mod calling;
 mod judged;
 mod judging;
 mod laws;
-mod story;
-mod waiters;
 
 pub use answers::{Outcome, Wanted, answer};
-pub use breach::Breach;
 pub use calling::{called_safe, is_called_safe, reach_in};
 pub use judged::Judged;
 pub use judging::judge;
 pub use laws::outcomes_hold;
-pub use story::push_broken;
-pub use waiters::taker_notes;

@@ -3,7 +3,7 @@ use Rattle.std.proofs.Common.{◌≡◌, ℕ, ◌-◌, ◌≤◌, Bool, if◌the
 use Rattle.std.specs.Prelude.{◌/◌}
 use Rattle.std.proofs.lemmas.List.{length-append, length-replicate, length-set, length-take-le}
 use Rattle.std.proofs.Math.Seq.{take-append_seam}
-use Rattle.cs_decl.specs.Plan.{Declared, IsWhole, as_plan}
+use Rattle.cs_plan.specs.Plan.{Declared, IsWhole, as_plan}
 use Rattle.cs_history.specs.Plan.{Plan, is_cron, IsReached}
 use Rattle.cs_history.specs.History.{History, From, ◌▸◌, Start, stamps}
 use Rattle.cs_history.specs.Journal.{told, IsJournal}

@@ -1,6 +1,6 @@
 -- What holds of every core with its journal.
 use Rattle.std.specs.Prelude.{◌+◌, ◌≤◌, ◌<◌, ◌^◌, vec_len, vec_capacity, length}
-use Rattle.cs_decl.specs.Plan.{as_plan}
+use Rattle.cs_plan.specs.Plan.{as_plan}
 use Rattle.cs_history.specs.Journal.{IsJournal}
 use Rattle.cs_check.specs.Checked.{AreFew, IsHeadline}
 use Rattle.cs_keep.specs.Keeping.{Keeping}

@@ -1,7 +1,7 @@
 -- What a keep is seen as, and what a step does to it.
 use Rattle.std.specs.Prelude.{◌≡◌, ◌⊎◌, ℕ, ◌+◌, ◌-◌, ◌^◌, ◌≤◌, nat_lt, List, [], ◌∷◌, ◌++◌, length}
 use Rattle.std.specs.Prelude.{Bool, true, false, ◌||◌, if◌then◌else◌, Option, Some, None}
-use Rattle.cs_decl.specs.Plan.{Declared, as_plan}
+use Rattle.cs_plan.specs.Plan.{Declared, as_plan}
 use Rattle.cs_history.specs.Plan.{Plan}
 use Rattle.cs_history.specs.History.{From, Start, IsInTime, IsSafe}
 use Rattle.cs_history.specs.Journal.{IsJournal, told}

@@ -3,7 +3,7 @@ use Rattle.std.proofs.Common.{◌≡◌, ℕ, zero, suc, ◌+◌, ◌<◌, ◌�
 use Rattle.std.proofs.lemmas.List.{map-append, take_all, take_more}
 use Rattle.std.proofs.lemmas.List.Elements.{All-append}
 use Rattle.cs_crontab.specs.Crontab.{CommandLine}
-use Rattle.cs_gather.specs.declared.places.Place.{Place}
+use Rattle.cs_place.specs.declared.places.Place.{Place}
 use Rattle.cs_learn.specs.Evidence.{IsOf}
 use Rattle.cs_learn.specs.Jobs.{job_on}
 use Rattle.cs_learn.specs.Log.{AreUnknown}

@@ -3,7 +3,7 @@ use Rattle.std.proofs.Common.{ℕ, ℤ, List, map, Option, None, Some, Result, O
 use Rattle.std.specs.Prelude.{IfOk, IfSome}
 use Rattle.cs_crontab.specs.Crontab.{Table as Crontab}
 use Rattle.cs_anacrontab.specs.Anacrontab.{Table as Anacrontab}
-use Rattle.cs_gather.specs.declared.places.Place.{Place}
+use Rattle.cs_place.specs.declared.places.Place.{Place}
 use Rattle.cs_decl.specs.declared.entries.Entries.{Entries}
 use Rattle.cs_learn.specs.Jobs.{job_on}
 use Rattle.cs_learn.specs.Learned.{IsDrawn, IsLearned}

@@ -6,3 +6,4 @@ pub mod LogLemmas
 pub mod MaxLemmas
 pub mod JobLemmas
 pub mod LearnedLemmas
+pub mod AnswerLemmas

@@ -1,7 +1,7 @@
 -- Which lines of a log are of which job.
 use Rattle.std.specs.Prelude.{ℕ, Bool, true, false, not, ◌&&◌, ◌||◌, ◌==◌, bytes_eq, List, Option, Some, None}
 use Rattle.std.specs.List.{flat_map}
-use Rattle.cs_gather.specs.Gathered.{shown}
+use Rattle.cs_place.specs.Shown.{shown}
 use Rattle.cs_learn.specs.Logged.{logged}
 use Rattle.cs_learn.specs.declared.job.Job.{Job}
 use Rattle.cs_learn.specs.declared.log_line.LogLine.{LogLine}

@@ -1,8 +1,8 @@
 -- The jobs of a crontab, as logs name them.
 use Rattle.std.specs.Prelude.{List, option_map}
 use Rattle.cs_crontab.specs.Crontab.{CommandLine}
-use Rattle.cs_gather.specs.Places.{place_of}
-use Rattle.cs_gather.specs.declared.places.Place.{Place}
+use Rattle.cs_place.specs.Places.{place_of}
+use Rattle.cs_place.specs.declared.places.Place.{Place}
 use Rattle.cs_learn.specs.Job.{job_of}
 use Rattle.cs_learn.specs.declared.job.Job.{Job}
 

@@ -2,7 +2,7 @@
 use Rattle.std.specs.Prelude.{◌≡◌, ℕ, ℤ, List, map, Option, Some, None}
 use Rattle.cs_crontab.specs.Crontab.{Table as Crontab}
 use Rattle.cs_anacrontab.specs.Anacrontab.{Table as Anacrontab}
-use Rattle.cs_gather.specs.declared.places.Place.{Place}
+use Rattle.cs_place.specs.declared.places.Place.{Place}
 use Rattle.cs_decl.specs.declared.entries.Entries.{Entries}
 use Rattle.cs_draft.specs.Draft.{IsUpdate, nothing}
 use Rattle.cs_learn.specs.Jobs.{job_on}

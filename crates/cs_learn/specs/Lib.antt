@@ -14,3 +14,4 @@ pub mod Jobs
 pub mod Log
 pub mod Maxes
 pub mod Learned
+pub mod Answer

@@ -10,7 +10,7 @@ use Rattle.cs_decl.specs.declared.entries.AnacronEntry.{AnacronEntry}
 use Rattle.cs_decl.specs.declared.entries.LineName.{LineName}
 use Rattle.cs_decl.specs.declared.entries.CronEntry.{CronEntry}
 use Rattle.cs_decl.specs.declared.entries.Entries.{Entries}
-use Rattle.cs_draft.specs.Timeouts.{time_limit}
+use Rattle.cs_command.specs.Timeouts.{time_limit}
 use Rattle.cs_history.specs.Plan.{waits_in}
 use Rattle.cs_history.specs.declared.mode.Mode.{Mode}
 use Rattle.cs_learn.specs.Evidence.{Known}

@@ -17,7 +17,7 @@ use cs_civil::Bytes;
 use cs_crontab::Crontab;
 use cs_decl::Declarations;
 use cs_draft::{Draft, Drawing, draw_up, update};
-use cs_gather::Place;
+use cs_place::Place;
 use std::alloc::{AllocError, Global};
 
 /// The longest time of a job without runs that no old entry tells, in minutes: that of `draft`.

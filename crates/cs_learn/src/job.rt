@@ -1,14 +1,14 @@
 //! Which lines of a log are of which job.
 ghost use Rattle.std.specs.Prelude.{◌≡◌, IfOk};
 ghost use Rattle.std.specs.List.{flat_map};
-ghost use Rattle.cs_gather.specs.Gathered.{shown};
+ghost use Rattle.cs_place.specs.Shown.{shown};
 ghost use Rattle.cs_learn.specs.Job.{is_called, is_like, is_of, is_of_other, job_of, may_be};
 ghost use Rattle.cs_learn.specs.Job.{may_be_listed, may_both_be};
 
 use crate::log_line::LogLine;
 use crate::logged_text::logged;
 use cs_civil::Bytes;
-use cs_gather::push_shown;
+use cs_place::push_shown;
 use cs_retrace::words::is_word;
 use std::alloc::{AllocError, Global};
 

@@ -1,6 +1,6 @@
 //! The jobs of a crontab, as logs name them.
 ghost use Rattle.std.specs.Prelude.{◌≡◌, [], IfOk, map, option_map};
-ghost use Rattle.cs_gather.specs.Places.{place_of};
+ghost use Rattle.cs_place.specs.Places.{place_of};
 ghost use Rattle.cs_learn.specs.Evidence.{IsOf};
 ghost use Rattle.cs_learn.specs.Jobs.{job_on};
 ghost use Rattle.cs_learn.specs.Log.{AreUnknown};
@@ -10,7 +10,7 @@ use crate::job::Job;
 use crate::job_evidence::JobEvidence;
 use cs_civil::Bytes;
 use cs_crontab::Line;
-use cs_gather::{Place, place_of};
+use cs_place::{Place, place_of};
 use std::alloc::{AllocError, Global};
 
 /// The user of the line with that number, where its place tells.

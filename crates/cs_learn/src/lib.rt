@@ -2,6 +2,7 @@
 #![tactic(auto)]
 
 mod anacron;
+mod answer;
 mod clock;
 mod drawn;
 mod duration;
@@ -28,6 +29,7 @@ mod summary;
 mod tally;
 mod told;
 
+pub use answer::answer_learn;
 pub use cs_retrace::Moment;
 pub use drawn::{Learned, NEW_MAX, learn};
 pub use duration::passed;

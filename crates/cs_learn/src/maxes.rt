@@ -11,9 +11,10 @@ use crate::job_evidence::JobEvidence;
 use crate::max::{Factor, LONGEST_MAX, max_for};
 use crate::same::{are_same_groups, are_same_jobs, are_same_names, is_same_name, is_same_text};
 use crate::spliced::spliced;
+use cs_command::time_limit;
 use cs_crontab::Line;
 use cs_decl::{AnacronEntry, CronEntry, Declarations, Entries, LineName, is_named};
-use cs_draft::{are_same_parts, declared, time_limit};
+use cs_draft::{are_same_parts, declared};
 use cs_history::Mode;
 use std::alloc::{AllocError, Global};
 

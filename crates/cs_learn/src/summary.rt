@@ -10,8 +10,8 @@ use crate::tally::Tally;
 use cs_civil::push_number;
 use cs_crontab::{Line, When};
 use cs_decl::{CronEntry, is_named};
-use cs_gap::least_gap;
-use cs_gather::{Place, place_of, push_place_text};
+use cs_place::{Place, place_of, push_place_text};
+use cs_schedule::least_gap;
 use std::alloc::{AllocError, Global};
 
 const LOST: &[u8] = b"note: ends left out, since no line tells of the start: ";

@@ -4,7 +4,7 @@ use Rattle.cs_diagnostics.specs.Told.{IsToldIn, Keeps as KeepsAll, is_told}
 use Rattle.cs_diagnostics.specs.declared.findings.FirstFault.{FirstFault}
 use Rattle.cs_lint.specs.Kept.{KeepsSome, is_found}
 use Rattle.cs_lint.specs.Refused.{AreRefused, Finds, IsPlanOf, Judges, TellsFirst}
-use Rattle.cs_decl.specs.Plan.{Declared}
+use Rattle.cs_plan.specs.Plan.{Declared}
 use Rattle.cs_lint.specs.declared.report.Verdict.{Verdict}
 use Rattle.cs_lint.specs.declared.files.Found.{Found}
 use Rattle.cs_lint.specs.declared.refusal.Refusal.{Refusal}

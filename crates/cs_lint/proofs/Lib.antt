@@ -4,3 +4,5 @@ pub mod PlacesLemmas
 pub mod OddLemmas
 pub mod WantedLemmas
 pub mod ClockLemmas
+pub mod AnswerLemmas
+pub mod ChangeLemmas

@@ -3,8 +3,8 @@ use Rattle.std.proofs.Common.{◌≡◌, ◌==◌, ◌∙◌, ◌&&◌, ◌||◌
 use Rattle.std.specs.List.{list_any}
 use Rattle.cs_table.specs.Text.{lines_of}
 use Rattle.cs_table.specs.declared.limits.TheConstants.{MAX_TABLE}
-use Rattle.cs_decl.specs.Plan.{Declared}
-use Rattle.cs_odd.specs.Odd.{name_of, oddities_of}
+use Rattle.cs_plan.specs.Plan.{Declared}
+use Rattle.cs_lint.specs.OddLines.{name_of, oddities_of}
 use Rattle.cs_crontab.specs.Reading.{line_of}
 use Rattle.cs_lint.specs.Odd.{is_odd_line, is_odd_table}
 use Rattle.cs_lint.specs.Planned.{held_in, is_odd_among, is_odd_held, planned_name, oddities_about}

@@ -13,8 +13,8 @@ use Rattle.cs_crontab.specs.Reading.{line_of}
 use Rattle.cs_crontab.specs.declared.fault.LineFault.{LineFault}
 use Rattle.cs_crontab.specs.declared.table.When.{When}
 use Rattle.cs_crontab.specs.declared.table.When.TheVariants.{At, Reboot}
-use Rattle.cs_decl.specs.Plan.{is_due}
-use Rattle.cs_zone.specs.declared.change.Change.{Change}
+use Rattle.cs_plan.specs.Plan.{is_due}
+use Rattle.cs_lint.specs.declared.change.Change.{Change}
 use Rattle.cs_lint.specs.Wanted.{is_wanted}
 use Rattle.cs_lint.specs.declared.wanted.Wanted.{Wanted}
 use Rattle.cs_lint.specs.declared.report.Verdict.{Verdict}

@@ -8,3 +8,6 @@ pub mod Planned
 pub mod Clock
 pub mod Startup
 pub mod Looks
+pub mod Answer
+pub mod OddLines
+pub mod Changes

@@ -1,8 +1,8 @@
 -- What is told of the lines of a gathered table behind what is found there.
 use Rattle.std.specs.Prelude.{ℕ, List, ◌++◌, codes, decimal}
 use Rattle.cs_diagnostics.specs.declared.findings.Note.{Note}
-use Rattle.cs_gather.specs.Places.{place_text}
-use Rattle.cs_gather.specs.declared.places.Place.{Place}
+use Rattle.cs_place.specs.Places.{place_text}
+use Rattle.cs_place.specs.declared.places.Place.{Place}
 
 -- a line's number, and `line 14 is /etc/cron.d/munin:12 (munin)`
 abbrev pub noted : Place → ℕ × List ℕ

@@ -3,7 +3,7 @@ use Rattle.std.specs.Prelude.{ℕ, Bool, ◌&&◌, nat_le, List, length}
 use Rattle.std.specs.List.{list_any}
 use Rattle.cs_table.specs.Text.{lines_of}
 use Rattle.cs_table.specs.declared.limits.TheConstants.{MAX_TABLE}
-use Rattle.cs_odd.specs.Odd.{name_of, oddities_of}
+use Rattle.cs_lint.specs.OddLines.{name_of, oddities_of}
 use Rattle.cs_lint.specs.Wanted.{is_wanted}
 use Rattle.cs_lint.specs.declared.wanted.Wanted.{Wanted}
 

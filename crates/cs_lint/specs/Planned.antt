@@ -5,11 +5,11 @@ use Rattle.std.specs.List.{filter, list_any}
 use Rattle.cs_crontab.specs.Crontab.{CommandLine}
 use Rattle.cs_history.specs.Plan.{shares_in, takes, waits_in}
 use Rattle.cs_history.specs.declared.mode.Mode.{Mode}
-use Rattle.cs_decl.specs.Job.{DeclaredJob}
-use Rattle.cs_decl.specs.Plan.{Declared, job_at}
-use Rattle.cs_draft.specs.Locks.{lock_of}
-use Rattle.cs_draft.specs.Words.{names_lock}
-use Rattle.cs_draft.specs.Timeouts.{asked_for}
+use Rattle.cs_plan.specs.Job.{DeclaredJob}
+use Rattle.cs_plan.specs.Plan.{Declared, job_at}
+use Rattle.cs_command.specs.Locks.{lock_of}
+use Rattle.cs_command.specs.Words.{names_lock}
+use Rattle.cs_command.specs.Timeouts.{asked_for}
 use Rattle.cs_lint.specs.Wanted.{is_wanted}
 use Rattle.cs_lint.specs.declared.wanted.Wanted.{Wanted}
 use Rattle.cs_lint.specs.declared.held.Held.{Held}

@@ -11,11 +11,11 @@ use Rattle.cs_anacrontab.specs.Faults.{Means as MeansJobs}
 use Rattle.cs_anacrontab.specs.Printed as jobs
 use Rattle.cs_anacrontab.specs.declared.fault.JobFault.{JobFault}
 use Rattle.cs_anacrontab.specs.declared.fault.JobFault.TheVariants as job_faults
-use Rattle.cs_decl.specs.Faults.{Fault}
-use Rattle.cs_decl.specs.Printed.{fault_text}
+use Rattle.cs_plan.specs.Answers.{Fault}
+use Rattle.cs_plan.specs.Printed.{fault_text}
 use Rattle.cs_decl.specs.Join.{joined}
 use Rattle.cs_decl.specs.Meaning.{declared_by}
-use Rattle.cs_decl.specs.Plan.{Declared}
+use Rattle.cs_plan.specs.Plan.{Declared}
 use Rattle.cs_decl.specs.declared.entries.Entries.{Entries}
 use Rattle.cs_diagnostics.specs.Told.{IsToldIn}
 use Rattle.cs_diagnostics.specs.declared.findings.FirstFault.{FirstFault}

@@ -10,9 +10,9 @@ use Rattle.cs_crontab.specs.Reading.{line_of}
 use Rattle.cs_crontab.specs.declared.fault.LineFault.{LineFault}
 use Rattle.cs_crontab.specs.declared.table.When.TheVariants.{At, Reboot}
 use Rattle.cs_history.specs.declared.mode.Mode.{Mode}
-use Rattle.cs_decl.specs.Plan.{Declared}
-use Rattle.cs_draft.specs.Locks.{lock_of}
-use Rattle.cs_draft.specs.Words.{names_lock}
+use Rattle.cs_plan.specs.Plan.{Declared}
+use Rattle.cs_command.specs.Locks.{lock_of}
+use Rattle.cs_command.specs.Words.{names_lock}
 use Rattle.cs_lint.specs.Planned.{has_own, held_in, is_odd_among}
 use Rattle.cs_lint.specs.Wanted.{is_wanted}
 use Rattle.cs_lint.specs.declared.held.Held.{Held}

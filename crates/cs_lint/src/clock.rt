@@ -4,13 +4,14 @@ ghost use Rattle.std.specs.List.{list_any, range_with_len};
 ghost use Rattle.std.specs.Option.{option_map};
 ghost use Rattle.cs_civil.specs.Calendar.{first_minute, last_minute};
 ghost use Rattle.cs_crontab.specs.Reading.{line_of};
-ghost use Rattle.cs_decl.specs.Plan.{is_due};
+ghost use Rattle.cs_plan.specs.Plan.{is_due};
 ghost use Rattle.cs_lint.specs.Clock.{begins_forward, change_words, clock_verdict, first_met};
 ghost use Rattle.cs_lint.specs.Clock.{has_star, is_met_by, is_odd_then, run_words, same_way};
 ghost use Rattle.cs_lint.specs.Clock.{skip_words, some_of, summer_time, told_of, when_in};
 ghost use Rattle.cs_lint.specs.Wanted.{is_wanted};
 ghost use Rattle.cs_lint.specs.declared.report.Verdict.TheVariants.{Clean, Odd};
 
+use crate::change::Change;
 use crate::line::word_behind;
 use crate::looks::{Look, find_in_lines};
 use crate::places::{notes_on, places_in};
@@ -20,7 +21,6 @@ use cs_civil::{Bytes, Minute, date_text};
 use cs_crontab::{Entry, When, read_line};
 use cs_diagnostics::{Done, File, Findings, Span};
 use cs_schedule::Part;
-use cs_zone::Change;
 use std::alloc::{AllocError, Global};
 
 /// From so many minutes on, cron takes a change as that of a clock that was put right.

@@ -6,10 +6,10 @@ use crate::parts::Parts;
 use crate::shape::{find_in_object, has_meant};
 use crate::table::Table;
 use crate::wanted::Wanted;
-use cs_decl::{DeclFault, MAX_GROUPS};
 use cs_diagnostics::{
     Done, Findings, Object, Span, Words, nearest, no_json, parts, quoted, shown, trimmed,
 };
+use cs_plan::{DeclFault, MAX_GROUPS};
 use indexmap::IndexSet;
 use serde_json::{Error, Value};
 use std::alloc::{AllocError, Global};

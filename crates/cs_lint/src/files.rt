@@ -4,7 +4,7 @@ ghost use Rattle.std.specs.Option.{option_map};
 ghost use Rattle.cs_diagnostics.specs.Told.{IsFull, IsToldIn, is_full};
 ghost use Rattle.cs_diagnostics.specs.declared.findings.FirstFault.{FirstFault};
 ghost use Rattle.cs_diagnostics.specs.declared.render.File.{File};
-ghost use Rattle.cs_decl.specs.Plan.{Declared as DeclaredPlan};
+ghost use Rattle.cs_plan.specs.Plan.{Declared as DeclaredPlan};
 ghost use Rattle.cs_lint.specs.Each.{KeepsJobLines, KeepsLines, TellsEachLine};
 ghost use Rattle.cs_lint.specs.declared.refusal.Refusal.{Refusal};
 ghost use Rattle.cs_lint.specs.declared.table.Kind.TheVariants.{Crontab};
@@ -24,9 +24,9 @@ use crate::report::{Report, Verdict};
 use crate::table::{Kind, Table};
 use crate::wanted::Wanted;
 use cs_civil::Bytes;
-use cs_decl::Plan;
 use cs_diagnostics::{Done, File, Findings, Span, parsed};
-use cs_gather::Place;
+use cs_place::Place;
+use cs_plan::Plan;
 use std::alloc::{AllocError, Global};
 
 fn bytes_of<'a>(file: Option<&File<'a>>) -> Option<&'a [u8]>

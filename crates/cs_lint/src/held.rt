@@ -1,16 +1,16 @@
 //! The commands of a plan, each with the lock that it takes itself and what is declared of it.
 ghost use Rattle.std.specs.Prelude.{◌≡◌, ◌≤◌, ◌++◌, ◌&&◌, is_none, length, not, IfOk, OnOk};
 ghost use Rattle.cs_crontab.specs.declared.limits.TheConstants.{MAX_COMMANDS};
-ghost use Rattle.cs_draft.specs.Locks.{lock_of};
-ghost use Rattle.cs_draft.specs.Words.{names_lock};
+ghost use Rattle.cs_command.specs.Locks.{lock_of};
+ghost use Rattle.cs_command.specs.Words.{names_lock};
 ghost use Rattle.cs_lint.specs.Planned.{held_by, held_from, held_in, is_of_line};
 
 use cs_civil::Bytes;
+use cs_command::{Lock, asked_for, lock_of};
 use cs_crontab::Line;
-use cs_decl::{Job, Plan};
 use cs_diagnostics::Done;
-use cs_draft::{Lock, asked_for, lock_of};
 use cs_history::Mode;
+use cs_plan::{Job, Plan};
 use std::alloc::{AllocError, Global};
 
 /// A command of a plan: the lock that it takes itself, and what is declared of it.

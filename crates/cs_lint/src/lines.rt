@@ -1,12 +1,12 @@
 //! The lines of the crontab that entries name: by number, by command or by both.
 use crate::declared::Declared;
 use crate::object::{Kind, Tell};
-use crate::shape::when_in;
 use crate::table::{Begun, Table};
 use cs_crontab::When;
-use cs_decl::{DeclFault, MAX_MINUTES, is_same_when};
+use cs_decl::{is_same_when, named_when};
 use cs_diagnostics::{Done, Object, Span, Words, shown};
-use cs_gap::least_gap;
+use cs_plan::{DeclFault, MAX_MINUTES};
+use cs_schedule::least_gap;
 use std::alloc::Global;
 
 /// How far into two commands they are told from their beginnings.
@@ -308,7 +308,7 @@ impl<'v> Declared<'v> {
             Some(_) => (DeclFault::OtherSchedule, "correct \"line\" or \"when\""),
             None => (DeclFault::NoSuchLine, "correct \"when\""),
         };
-        match when_in(self.tell.findings.alloc, told)? {
+        match named_when(self.tell.findings.alloc, told)? {
             Some(told) if name.may_be_on(begun) && !is_same_when(&told, when) => {
                 let why = format_args!("line {} has another schedule: {advice}", begun.number);
                 self.tell.fault(span, fault, why)

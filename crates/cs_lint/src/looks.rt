@@ -2,6 +2,7 @@
 ghost use Rattle.std.specs.Prelude.{◌≡◌, ◌||◌, OnOk};
 ghost use Rattle.cs_lint.specs.Looks.{is_odd_by, is_odd_table_by};
 
+use crate::change::Change;
 use crate::clock::find_changes_in;
 use crate::held::Held;
 use crate::odd_lines::find_oddities;
@@ -10,7 +11,6 @@ use crate::wanted::Wanted;
 use cs_diagnostics::{Done, Findings};
 use cs_table::MAX_TABLE;
 use cs_table::text::first_line;
-use cs_zone::Change;
 
 /// What is looked for in a line.
 #[derive(Clone, Copy)]

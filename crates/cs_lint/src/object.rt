@@ -1,7 +1,7 @@
 //! The kinds of objects of declarations, and what is told of one.
 use crate::wanted::Wanted;
-use cs_decl::DeclFault;
 use cs_diagnostics::{Done, Findings, Span};
+use cs_plan::DeclFault;
 use std::fmt::Display;
 
 /// A kind of object of declarations: the whole of them, or what stands in a member of it.

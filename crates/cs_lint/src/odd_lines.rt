@@ -3,9 +3,10 @@ ghost use Rattle.std.specs.Prelude.{◌≡◌, ◌||◌, OnOk};
 ghost use Rattle.cs_lint.specs.Odd.{is_odd_line};
 
 use crate::line::{word_behind, word_from};
+use crate::oddity::{Oddity, oddities_in};
+use crate::text::{MAX_COMMAND, from_percent};
 use crate::wanted::Wanted;
 use cs_diagnostics::{Done, Findings, Span};
-use cs_odd::{MAX_COMMAND, Oddity, from_percent, oddities_in};
 use cs_table::text::is_blank;
 
 /// From the first of two words of a line to the end of the second, both counted from 0.

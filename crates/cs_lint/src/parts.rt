@@ -1,9 +1,9 @@
 //! The parts of a command that run-parts(8) runs, as an entry of `cron` declares them.
 use crate::object::{Kind, Tell};
 use crate::shape::find_in_object;
-use cs_decl::{DeclFault, MAX_MINUTES};
 use cs_diagnostics::{Done, Object, Span, parts, quoted, shown};
-use cs_gather::Place;
+use cs_place::Place;
+use cs_plan::{DeclFault, MAX_MINUTES};
 use indexmap::{IndexMap, IndexSet};
 use serde_json::Value;
 use std::alloc::{AllocError, Global};

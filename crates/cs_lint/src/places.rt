@@ -2,13 +2,13 @@
 ghost use Rattle.std.specs.Prelude.{◌≡◌, ◌≤◌, IfOk, length, map};
 ghost use Rattle.cs_crontab.specs.Crontab.{Table};
 ghost use Rattle.cs_crontab.specs.Faults.{IsCrontab};
-ghost use Rattle.cs_gather.specs.Places.{places_of};
+ghost use Rattle.cs_place.specs.Places.{places_of};
 ghost use Rattle.cs_lint.specs.Noted.{as_noted, noted};
 
 use cs_civil::Sequence;
 use cs_crontab::{Entry, TableFault, read_crontab, read_line};
 use cs_diagnostics::Note;
-use cs_gather::{Place, is_mark_name, push_place_text, push_places, read_places};
+use cs_place::{Place, is_mark_name, push_place_text, push_places, read_places};
 use cs_table::MAX_TABLE;
 use std::alloc::{AllocError, Global};
 

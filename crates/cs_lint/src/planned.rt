@@ -12,9 +12,9 @@ use crate::held::{Held, held_in};
 use crate::looks::{Look, find_in_lines};
 use crate::wanted::Wanted;
 use cs_civil::Bytes;
-use cs_decl::Plan;
 use cs_diagnostics::{Done, Findings, Span, Words};
 use cs_history::Mode;
+use cs_plan::Plan;
 use std::alloc::{AllocError, Global};
 
 /// Something odd about a command of a plan.

@@ -1,13 +1,14 @@
 //! What the readers of the files refuse.
 ghost use Rattle.std.specs.Prelude.{◌≡◌, ◌-◌, ◌≤◌, false, IfOk, None, Some};
 ghost use Rattle.std.specs.Option.{option_map};
-ghost use Rattle.cs_decl.specs.Printed.{fault_text};
+ghost use Rattle.cs_plan.specs.Printed.{fault_text};
 ghost use Rattle.cs_lint.specs.Refused.{Finds, FindsJobs, FindsPlan, FindsTable, IsPlanOf};
 
 use cs_anacrontab::{AnacronFault, Anacrontab, JobFault, read_anacrontab};
 use cs_crontab::{Crontab, LineFault, TableFault, read_crontab};
-use cs_decl::{DeclError, DeclFault, Plan, join, read_declarations};
+use cs_decl::{join, read_declarations};
 use cs_diagnostics::FirstFault;
+use cs_plan::{DeclError, DeclFault, Plan};
 use std::alloc::{AllocError, Global};
 
 /// Why the files of a call can't be used: the first fault that their readers answer.

@@ -2,9 +2,9 @@
 //! numbers.
 use crate::object::{Kind, Tell};
 use cs_civil::MINUTES_OF_DAY;
-use cs_crontab::{Entry, When, read_line};
-use cs_decl::{DeclFault, MAX_CAPACITY, MAX_MINUTES, MAX_WEIGHT};
+use cs_decl::named_when;
 use cs_diagnostics::{Done, Object, Span, meant, nearest, quoted};
+use cs_plan::{DeclFault, MAX_CAPACITY, MAX_MINUTES, MAX_WEIGHT};
 use indexmap::IndexSet;
 use serde_json::Value;
 use std::alloc::{AllocError, Global};
@@ -75,20 +75,11 @@ fn find_in_value(tell: &mut Tell<'_>, name: &str, value: &Value, span: Span) -> 
         ("mode", Some(mode)) if !is_among(MODES, mode) => {
             find_none(tell, span, mode, ("no mode", MODES, "the modes are"))
         }
-        ("when", Some(told)) if when_in(tell.findings.alloc, told)?.is_none() => {
+        ("when", Some(told)) if named_when(tell.findings.alloc, told)?.is_none() => {
             let why = "\"when\" is the five fields of a line, or its @ word";
             tell.fault(span, DeclFault::BadShape, why)
         }
         _ => find_in_range(tell, name, value, span),
-    }
-}
-
-/// The schedule that a text tells, as the reader of crontabs has it.
-pub(crate) fn when_in(alloc: Global, told: &str) -> Result<Option<When>, AllocError> {
-    let line = format!(in alloc; "{told} x")?;
-    match read_line(line.as_bytes()) {
-        Ok(Entry::Command(when, command)) if command.len() == 1 => Ok(Some(when)),
-        _ => Ok(None),
     }
 }
 

@@ -3,8 +3,8 @@ ghost use Rattle.std.specs.Prelude.{◌≡◌, ◌||◌, IfOk, OnOk};
 ghost use Rattle.std.specs.List.{list_any};
 ghost use Rattle.std.specs.Option.{option_map};
 ghost use Rattle.cs_crontab.specs.Reading.{line_of};
-ghost use Rattle.cs_draft.specs.Locks.{lock_of};
-ghost use Rattle.cs_draft.specs.Words.{names_lock};
+ghost use Rattle.cs_command.specs.Locks.{lock_of};
+ghost use Rattle.cs_command.specs.Words.{names_lock};
 ghost use Rattle.cs_lint.specs.Startup.{command_may_take, is_locked, is_odd_startup, is_of_file};
 ghost use Rattle.cs_lint.specs.Startup.{locks_file, may_take, startup_in};
 
@@ -12,9 +12,9 @@ use crate::held::Held;
 use crate::line::word_behind;
 use crate::wanted::Wanted;
 use cs_civil::Bytes;
+use cs_command::{Lock, lock_of};
 use cs_crontab::{Entry, When, read_line};
 use cs_diagnostics::{Done, Findings};
-use cs_draft::{Lock, lock_of};
 use cs_history::Mode;
 use std::alloc::{AllocError, Global};
 

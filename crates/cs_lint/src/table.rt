@@ -8,9 +8,9 @@ use cs_civil::all_kinds;
 use cs_crontab::{
     Entry, LineFault, MAX_COMMANDS, Schedule, TableFault, When, read_crontab, read_line,
 };
-use cs_decl::DeclFault;
 use cs_diagnostics::{Done, Findings, Span, shown};
-use cs_gather::{Place, place_of};
+use cs_place::{Place, place_of};
+use cs_plan::DeclFault;
 use cs_report::first_behind_user;
 use cs_schedule::Part;
 use cs_table::text::has_nul;

@@ -2,7 +2,7 @@
 use Rattle.std.specs.Prelude.{◌≡◌, ◌≢◌, ◌⊎◌, ℕ, Bool, true, false, ◌&&◌, ◌/◌, ◌%◌, nat_le, if◌then◌else◌, List, [], ◌∷◌, ◌++◌, flat_map, codes, decimal, Option, Some, None}
 use Rattle.cs_civil.specs.Calendar.{last_day}
 use Rattle.cs_civil.specs.Text.{day_text, two_digits}
-use Rattle.cs_gather.specs.Gathered.{shown}
+use Rattle.cs_place.specs.Shown.{shown}
 use Rattle.cs_machine.specs.Setup.{peers_of}
 use Rattle.cs_machine.specs.declared.hook_call.HookCall.{HookCall as TheCall}
 use Rattle.cs_machine.specs.declared.setup.JobNote.{JobNote}

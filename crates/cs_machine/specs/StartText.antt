@@ -1,7 +1,7 @@
 -- What is told of a command that can't be started.
 use Rattle.std.specs.Prelude.{ℕ, List, ◌++◌, Option, Some, None, codes}
 use Rattle.std.specs.List.{flat_map}
-use Rattle.cs_gather.specs.Gathered.{shown}
+use Rattle.cs_place.specs.Shown.{shown}
 
 -- the folder, if the command has one of its own
 abbrev pub place_text : Option (List ℕ) → List ℕ

@@ -1,6 +1,6 @@
 -- The texts in a daemon's state, and what it tells as due next.
 use Rattle.std.specs.Prelude.{◌≡◌, ℕ, ◌+◌, ◌==◌, ◌||◌, if◌then◌else◌, Bool, List, [], ◌∷◌, ◌++◌, flat_map, codes, Option, Some, None, MatchOption}
-use Rattle.cs_gather.specs.Gathered.{shown}
+use Rattle.cs_place.specs.Shown.{shown}
 use Rattle.cs_machine.specs.declared.next_due.NextDue.{NextDue}
 use Rattle.cs_machine.specs.declared.setup.JobNote.{JobNote}
 use Rattle.cs_machine.specs.declared.setup.Setup.{Setup}

@@ -32,7 +32,6 @@ mod start_text;
 mod starts;
 mod state;
 mod state_text;
-mod streams;
 mod told_file;
 
 pub use attendant::{Attendant, ClockBack};
@@ -55,5 +54,4 @@ pub use setup::{JobNote, Setup};
 pub use shell::shell_command;
 pub use shell_runner::ShellRunner;
 pub use stamps_folder::{NoFolder, StampsFolder};
-pub use streams::{HeldStreams, hold_streams};
 pub use told_file::ToldFile;

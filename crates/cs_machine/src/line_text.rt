@@ -8,7 +8,7 @@ ghost use Rattle.cs_machine.specs.RunLog.{Follows, peers_text};
 
 use crate::setup::{JobNote, peers_of};
 use cs_civil::{Day, day_text, push_number};
-use cs_gather::push_shown;
+use cs_place::push_shown;
 use std::alloc::{AllocError, Global};
 
 /// A number below 100, in two digits.

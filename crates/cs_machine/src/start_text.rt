@@ -4,7 +4,7 @@ ghost use Rattle.std.specs.Option.{option_copied};
 ghost use Rattle.cs_machine.specs.StartText.{error_line, place_text, remark_text, start_text};
 
 use crate::fault::CommandFault;
-use cs_gather::push_shown;
+use cs_place::push_shown;
 use std::alloc::{AllocError, Global};
 
 /// What is told of a command for which no process can be set up.

@@ -7,7 +7,7 @@ use crate::next_due::NextDue;
 use crate::setup::{JobNote, Setup, end_of, peers_of};
 use crate::state::State;
 use cs_civil::{Bytes, date_text, push_number};
-use cs_gather::push_shown;
+use cs_place::push_shown;
 use std::alloc::{AllocError, Global};
 
 /// Adds a byte of a JSON text that is no control character.

@@ -5,7 +5,7 @@ use crate::breaches::{breach_on, broken_by};
 use crate::search::{Budget, Search};
 use crate::stretches::days_of;
 use crate::sweep::steps_held;
-use cs_bound::ExactWaits;
+use cs_certify::ExactWaits;
 use cs_civil::{Day, MINUTES_OF_DAY, kind_of};
 use cs_classes::{Chain, occupied};
 use cs_history::Script;

@@ -3,11 +3,10 @@ ghost use Rattle.std.specs.Prelude.{◌≤◌, length};
 
 use crate::maker::Maker;
 use crate::stretches::{Stretches, days_of, stretches_by};
-use cs_bound::Bounds;
+use cs_certify::{Bounds, certificate, stretch};
 use cs_civil::Sequence;
 use cs_claims::{Certificate, MAX_CERTIFICATE, MAX_CLASSES, Stretch, least_text};
 use cs_classes::occupied;
-use cs_encode::{certificate, stretch};
 use cs_profile::{Classing, Facts};
 use cs_windows::{Occupied, windows_on};
 use std::alloc::{AllocError, Global};

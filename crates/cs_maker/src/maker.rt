@@ -2,10 +2,9 @@
 ghost use Rattle.std.specs.Prelude.{◌≡◌, IfOk, IfSome};
 ghost use Rattle.cs_claims.specs.Certificate.{content};
 
-use cs_bound::{Bounds, least_bounds};
+use cs_certify::{Bounds, compact_certificate, least_bounds};
 use cs_claims::Certificate;
-use cs_decl::Plan;
-use cs_encode::compact_certificate;
+use cs_plan::Plan;
 use cs_profile::Facts;
 use std::alloc::{AllocError, Global};
 

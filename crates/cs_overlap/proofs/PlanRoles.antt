@@ -4,8 +4,8 @@ use Rattle.std.specs.Prelude.{slice_index_or, nat_lt}
 use Rattle.std.proofs.lemmas.Bool.{le-ltb, cases_lt}
 use Rattle.std.proofs.lemmas.List.{get_or_past}
 use Rattle.cs_history.specs.Plan.{exclusive_group}
-use Rattle.cs_decl.specs.Plan.{Declared, as_plan, no_job, crons}
-use Rattle.cs_decl.specs.Job.{DeclaredJob}
+use Rattle.cs_plan.specs.Plan.{Declared, as_plan, no_job, crons}
+use Rattle.cs_plan.specs.Job.{DeclaredJob}
 use Rattle.cs_overlap.specs.declared.role.Role.{Role}
 use Rattle.cs_overlap.specs.Roles.{role_at, role_of, nobody, AreRoles}
 

@@ -1,7 +1,7 @@
 ghost use Rattle.std.specs.Prelude.{◌≡◌, ◌≤◌, ℕ, IfOk, IsTrue, Some, length, slice_get};
 ghost use Rattle.cs_theorem.specs.Accepted.{AreApart, AreFree, AreWithin};
 ghost use Rattle.cs_theorem.specs.Faults.{blocked_in, collision_in, overload_in};
-ghost use Rattle.cs_decl.specs.Plan.{as_plan};
+ghost use Rattle.cs_plan.specs.Plan.{as_plan};
 ghost use Rattle.cs_history.specs.Plan.{Plan as TheoryPlan};
 ghost use Rattle.cs_overlap.specs.Roles.{AreRoles, IsOf, role_of};
 ghost use Rattle.cs_overlap.specs.Sums.{AreGrouped};
@@ -10,7 +10,7 @@ ghost use Rattle.cs_windows.specs.Window.{IsRising};
 use crate::quiet::Quiet;
 use crate::role::Role;
 use crate::{found, quiet, sums};
-use cs_decl::{Job, Plan};
+use cs_plan::{Job, Plan};
 use cs_windows::Window;
 use std::alloc::{AllocError, Global};
 use std::marker::Model;

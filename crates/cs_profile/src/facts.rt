@@ -1,7 +1,7 @@
 use crate::kinds;
 use crate::task::{Task, schedule_of, tasks_of};
 use cs_civil::DayKind;
-use cs_decl::Plan;
+use cs_plan::Plan;
 use std::alloc::{AllocError, Global};
 
 /// What the maker reads off a plan once.

@@ -1,7 +1,7 @@
 //! The kinds of days by number, and which of them the same jobs are due on.
 use crate::task::schedule_of;
 use cs_civil::{DayKind, all_kinds, kind_number, next_kinds};
-use cs_decl::Plan;
+use cs_plan::Plan;
 use cs_schedule::Schedule;
 use std::alloc::{AllocError, Global};
 

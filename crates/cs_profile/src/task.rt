@@ -1,6 +1,6 @@
 use cs_crontab::When;
-use cs_decl::{Job, Plan};
 use cs_history::Mode;
+use cs_plan::{Job, Plan};
 use cs_schedule::Schedule;
 use std::alloc::{AllocError, Global};
 

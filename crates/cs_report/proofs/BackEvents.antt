@@ -10,8 +10,8 @@ use Rattle.cs_history.specs.History.{run_of}
 use Rattle.cs_history.specs.Step.{is_civil}
 use Rattle.cs_history.specs.declared.event.Event.{Event}
 use Rattle.cs_history.specs.declared.event.Event.TheVariants.{Minute, Begin, Got, Catch, End, Down, Up}
-use Rattle.cs_decl.specs.Plan.{Declared, crons, command_of}
-use Rattle.cs_decl.specs.JobNames.{command_name, identifier_of}
+use Rattle.cs_plan.specs.Plan.{Declared, crons, command_of}
+use Rattle.cs_plan.specs.JobNames.{command_name, identifier_of}
 use Rattle.cs_report.specs.Names.{job_on, job_named}
 use Rattle.cs_report.specs.Grammar.{IsWord, IsNumber, IsMinute, Happens, Says}
 use Rattle.cs_report.specs.Grammar as forms

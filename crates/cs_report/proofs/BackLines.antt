@@ -12,11 +12,11 @@ use Rattle.cs_table.proofs.Lines.{lines_of_nothing}
 use Rattle.cs_history.specs.Step.{is_civil}
 use Rattle.cs_history.specs.declared.event.Event.{Event}
 use Rattle.cs_history.specs.declared.event.Event.TheVariants.{Minute, Begin, Got, Catch, End, Down, Up}
-use Rattle.cs_decl.specs.Plan.{Declared, crons, command_of}
+use Rattle.cs_plan.specs.Plan.{Declared, crons, command_of}
 use Rattle.cs_report.specs.Script.{taken, lines_from, numbered}
 use Rattle.cs_report.specs.Grammar.{Happens, is_word_byte}
 use Rattle.cs_report.specs.Reading.{is_word}
-use Rattle.cs_decl.specs.JobNames.{command_name, identifier_of}
+use Rattle.cs_plan.specs.JobNames.{command_name, identifier_of}
 use Rattle.cs_report.specs.ScriptText.{job_name, at_minute, event_text, event_line, is_name, is_anacron_name, is_job_name, is_nameable_event}
 use Rattle.cs_report.proofs.NamedJobs.{and_left, and_right, anacron_else}
 use Rattle.cs_report.proofs.Loop.{goes_on, is_done}

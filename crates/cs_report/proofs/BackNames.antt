@@ -11,7 +11,7 @@ use Rattle.std.proofs.lemmas.List.Sums.{position_or_len_is}
 use Rattle.cs_crontab.specs.Crontab.{CommandLine}
 use Rattle.cs_table.specs.Text.{decimal_from, is_digit}
 use Rattle.cs_table.proofs.Fronts.{decimal_next, decimal_end}
-use Rattle.cs_decl.specs.Plan.{Declared, crons, command_of, no_command, no_line}
+use Rattle.cs_plan.specs.Plan.{Declared, crons, command_of, no_command, no_line}
 use Rattle.std.specs.Str.{bytes_eq}
 use Rattle.std.proofs.lemmas.Slice.Eq.{bytes_eq-Decides}
 use Rattle.cs_report.specs.Names.{job_on, place_of}

@@ -11,7 +11,7 @@ use Rattle.cs_anacrontab.specs.Anacrontab.{JobLine}
 use Rattle.cs_history.specs.Plan.{first_start}
 use Rattle.cs_history.specs.declared.event.Event.{Event}
 use Rattle.cs_history.specs.declared.script.Script.{Script}
-use Rattle.cs_decl.specs.Plan.{Declared}
+use Rattle.cs_plan.specs.Plan.{Declared}
 use Rattle.cs_report.specs.declared.script.TheConstants.{MAX_SCRIPT}
 use Rattle.cs_report.specs.Script.{lines_from, nothing, numbered, script_of, numbered_script_of}
 use Rattle.cs_report.specs.Faults.{MeansPlain}

@@ -5,7 +5,7 @@ use Rattle.std.proofs.lemmas.Bool.{leb-true}
 use Rattle.std.proofs.lemmas.List.{append_assoc, length-append}
 use Rattle.cs_civil.specs.Calendar.{last_day}
 use Rattle.cs_anacrontab.specs.Anacrontab.{JobLine}
-use Rattle.cs_decl.specs.Plan.{Declared, no_line}
+use Rattle.cs_plan.specs.Plan.{Declared, no_line}
 use Rattle.cs_report.specs.Script.{lines_from, numbered}
 use Rattle.cs_report.specs.Reading.{is_word}
 use Rattle.cs_report.specs.Names.{place_of}

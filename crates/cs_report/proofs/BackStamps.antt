@@ -3,7 +3,7 @@ use Rattle.std.proofs.Common.{◌≡◌, ℕ, ◌≤◌, Bool, List, [], ◌∷�
 use Rattle.std.specs.Prelude.{codes}
 use Rattle.cs_civil.specs.Calendar.{last_day}
 use Rattle.cs_civil.specs.Text.{day_text}
-use Rattle.cs_decl.specs.Plan.{Declared}
+use Rattle.cs_plan.specs.Plan.{Declared}
 use Rattle.cs_report.specs.Grammar.{IsWord, Stamp, Stamps, Says}
 use Rattle.cs_report.specs.Names.{place_of}
 use Rattle.cs_report.specs.Script.{PartialScript, taken}

@@ -7,7 +7,7 @@ use Rattle.cs_civil.specs.Text.{minute_text}
 use Rattle.cs_table.specs.Text.{lines_of}
 use Rattle.cs_history.specs.History.{Start as Opening}
 use Rattle.cs_history.specs.Plan.{first_start}
-use Rattle.cs_decl.specs.Plan.{Declared}
+use Rattle.cs_plan.specs.Plan.{Declared}
 use Rattle.cs_report.specs.Grammar.{Start, Starts, Says, side}
 use Rattle.cs_report.specs.Script.{nothing, taken}
 use Rattle.cs_report.specs.ScriptText.{at_minute, start_line}

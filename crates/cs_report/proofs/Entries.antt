@@ -6,7 +6,7 @@ use Rattle.std.specs.Str.{bytes_eq}
 use Rattle.cs_civil.specs.Calendar.{first_minute, last_minute, last_day}
 use Rattle.cs_civil.specs.Text.{minute_text, day_text}
 use Rattle.cs_history.specs.Plan.{first_start}
-use Rattle.cs_decl.specs.Plan.{Declared}
+use Rattle.cs_plan.specs.Plan.{Declared}
 use Rattle.cs_report.specs.Dates.{written_below, from_on, minute_of, day_of}
 use Rattle.cs_report.specs.Grammar.{Form, Start, Stamp, Minute, Up, Down, Begin, Got, Catch, EndLine, EndJob, IsMinute, IsDay, HasDate, HasName, Entry, entry, FormSays}
 use Rattle.cs_report.specs.Faults.{FormFails}

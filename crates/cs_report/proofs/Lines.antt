@@ -1,7 +1,7 @@
 -- The job of a line, where its number is cut at 2^32.
 use Rattle.std.proofs.Common.{◌≡◌, ℕ, ◌<◌, ◌≤◌, ◌==◌, Option, None, min, position, refl, ap, ◌∙◌, arith}
 use Rattle.std.proofs.lemmas.Bool.{lt-ltb, le-ltb}
-use Rattle.cs_decl.specs.Plan.{Declared}
+use Rattle.cs_plan.specs.Plan.{Declared}
 use Rattle.cs_report.specs.Names.{job_on}
 
 pub job_there : (d : Declared) (n v : ℕ) (o : Option ℕ) → v ≡ min 4_294_967_296 n → v < 4_294_967_296 → o ≡ position (λ line. line.number == v) d.crontab.lines → o ≡ job_on d n

@@ -1,6 +1,6 @@
 -- Reading lines one after the other, as the loop does.
 use Rattle.std.proofs.Common.{◌≡◌, ℕ, ◌+◌, List, ◌∷◌, [], Ok, Err, refl}
-use Rattle.cs_decl.specs.Plan.{Declared}
+use Rattle.cs_plan.specs.Plan.{Declared}
 use Rattle.cs_report.specs.declared.script_fault.ScriptFault.{ScriptFault}
 use Rattle.cs_report.specs.declared.script_fault.ScriptError.{ScriptError}
 use Rattle.cs_report.specs.declared.script_fault.ScriptError.TheVariants.{At, OutOfMemory}

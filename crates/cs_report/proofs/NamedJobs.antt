@@ -5,7 +5,7 @@ use Rattle.std.proofs.lemmas.Bool.{ltb-true, leb-true}
 use Rattle.cs_civil.specs.Calendar.{last_minute}
 use Rattle.cs_history.specs.Plan.{first_start}
 use Rattle.cs_history.specs.declared.script.Script.{Script}
-use Rattle.cs_decl.specs.Plan.{Declared, crons}
+use Rattle.cs_plan.specs.Plan.{Declared, crons}
 use Rattle.cs_report.specs.ScriptText.{are_nameable_stamps, is_anacron_name, is_job_name, is_nameable, is_nameable_event}
 
 pub and_left : (a b : Bool) → (a && b) ≡ true → a ≡ true

@@ -6,7 +6,7 @@ use Rattle.std.proofs.lemmas.List.Elements.{All-nil, All-cons}
 use Rattle.std.proofs.lemmas.List.Kept.{AllPairs-cons}
 use Rattle.std.proofs.lemmas.List.Quantifiers.{position-Some}
 use Rattle.std.specs.Str.{bytes_eq}
-use Rattle.cs_decl.specs.Plan.{Declared, no_line}
+use Rattle.cs_plan.specs.Plan.{Declared, no_line}
 use Rattle.cs_history.specs.declared.event.Event.{Event}
 use Rattle.cs_report.specs.Names.{place_of}
 use Rattle.cs_report.specs.Grammar.{Form, Start, Stamp, Minute, Up, Down, Begin, Got, Catch, EndLine, EndJob, IsForm, Entry, Starts, Stamps, Happens, FormSays, Says, IsIgnored, AreLines, StampLine}

@@ -2,7 +2,7 @@
 use Rattle.std.specs.Prelude.{◌≡◌, ℕ, ◌≤◌, Option, Some, None, Result, Ok, Err}
 use Rattle.cs_table.specs.Text.{decimal}
 use Rattle.cs_history.specs.Plan.{first_start}
-use Rattle.cs_decl.specs.Plan.{Declared}
+use Rattle.cs_plan.specs.Plan.{Declared}
 use Rattle.cs_report.specs.Dates.{minute_of, day_of, from_on}
 use Rattle.cs_report.specs.Names.{job_on, job_named, place_of}
 use Rattle.cs_report.specs.Grammar.{Form, Start, Stamp, Minute, Up, Down, Begin, Got, Catch}

@@ -10,7 +10,7 @@ use Rattle.cs_history.specs.Plan.{first_start}
 use Rattle.cs_history.specs.declared.event.Event.{Event}
 use Rattle.cs_history.specs.declared.event.Event.TheVariants as events
 use Rattle.cs_history.specs.declared.script.Script.{Script}
-use Rattle.cs_decl.specs.Plan.{Declared}
+use Rattle.cs_plan.specs.Plan.{Declared}
 use Rattle.cs_report.specs.Names.{job_on, job_named, place_of}
 use Rattle.cs_report.specs.declared.script.TheConstants.{MAX_SCRIPT}
 

@@ -1,4 +1,3 @@
-pub mod Told
 pub mod Refused
 pub mod Printed
 pub mod Dates

@@ -2,7 +2,7 @@
 use Rattle.std.specs.Prelude.{ℕ, ◌+◌, ◌==◌, nat_lt, if◌then◌else◌, List, Option, Some, None}
 use Rattle.std.specs.Prelude.{position}
 use Rattle.std.specs.Str.{bytes_eq}
-use Rattle.cs_decl.specs.Plan.{Declared, crons}
+use Rattle.cs_plan.specs.Plan.{Declared, crons}
 
 -- the job of the command on the line of that number, which fits 32 bits
 unfoldable pub job_on : Declared → ℕ → Option ℕ

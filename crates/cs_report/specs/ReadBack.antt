@@ -1,6 +1,6 @@
 -- Which jobs can be told apart in a script by their line numbers.
 use Rattle.std.specs.Prelude.{ℕ, Bool, true, false, ◌==◌, nat_lt, if◌then◌else◌, Option, Some, None}
-use Rattle.cs_decl.specs.Plan.{Declared, command_of, crons}
+use Rattle.cs_plan.specs.Plan.{Declared, command_of, crons}
 use Rattle.cs_history.specs.declared.event.Event.{Event}
 use Rattle.cs_history.specs.declared.event.Event.TheVariants.{Minute, Begin, Got, Catch, End, Down}
 use Rattle.cs_history.specs.declared.event.Event.TheVariants.{Up}

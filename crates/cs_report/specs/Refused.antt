@@ -3,10 +3,10 @@ use Rattle.std.specs.Prelude.{ℕ, ◌+◌, ◌*◌, ◌-◌, ◌/◌, max, min,
 use Rattle.std.specs.Fmt.{decimal}
 use Rattle.cs_civil.specs.Calendar.{Kind, first_minute, last_minute}
 use Rattle.cs_civil.specs.Text.{minute_text}
-use Rattle.cs_decl.specs.Plan.{Declared, crons, no_group}
+use Rattle.cs_plan.specs.Plan.{Declared, crons, no_group}
 use Rattle.cs_windows.specs.declared.window.Window.{Window}
 use Rattle.cs_theorem.specs.Faults.{Fault, ClassNotDue, Missing, BacklogRises, ReachTooShort, WindowMissing, Collision, OverCapacity, SkipBlocked}
-use Rattle.cs_decl.specs.JobNames.{command_name, due_name, identifier_of}
+use Rattle.cs_plan.specs.JobNames.{command_name, due_name, identifier_of}
 
 -- `month M day D weekday W`
 unfoldable pub kind_text : Kind → List ℕ

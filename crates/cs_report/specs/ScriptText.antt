@@ -13,8 +13,8 @@ use Rattle.cs_history.specs.declared.event.Event.TheVariants.{Minute, Begin, Got
 use Rattle.cs_history.specs.declared.event.Event.TheVariants.{Up}
 use Rattle.cs_history.specs.declared.script.Script.{Script}
 use Rattle.cs_anacrontab.specs.Anacrontab.{JobLine}
-use Rattle.cs_decl.specs.JobNames.{command_name, identifier_of}
-use Rattle.cs_decl.specs.Plan.{Declared, crons}
+use Rattle.cs_plan.specs.JobNames.{command_name, identifier_of}
+use Rattle.cs_plan.specs.Plan.{Declared, crons}
 use Rattle.cs_report.specs.Reading.{is_word}
 
 -- ---- texts

@@ -6,8 +6,8 @@ use Rattle.std.specs.List.{count_by, filter, find, flat_map, list_all, list_any}
 use Rattle.std.specs.Str.{bytes_eq}
 use Rattle.cs_anacrontab.specs.Anacrontab.{Table as JobTable}
 use Rattle.cs_crontab.specs.Crontab.{CommandLine, Table}
-use Rattle.cs_decl.specs.Job.{DeclaredJob}
-use Rattle.cs_decl.specs.Plan.{Declared, as_plan}
+use Rattle.cs_plan.specs.Job.{DeclaredJob}
+use Rattle.cs_plan.specs.Plan.{Declared, as_plan}
 use Rattle.cs_history.specs.Plan.{exclusive_group, is_group, is_skip}
 use Rattle.cs_report.specs.User.{is_behind_user}
 use Rattle.cs_table.specs.Setting.{SettingLine}

@@ -14,8 +14,8 @@ use crate::form::Form;
 use crate::names::{job_named, job_on, place_of};
 use crate::script_fault::ScriptFault;
 use cs_civil::{Day, Minute};
-use cs_decl::Plan;
 use cs_history::{Event, Run};
+use cs_plan::Plan;
 
 /// The first minute at which a history may start, 1970-01-04 00:00.
 pub(crate) const FIRST_START: u64 = 4_320;

@@ -2,7 +2,6 @@
 //! warnings of two tables, and the notes on a plan.
 #![tactic(auto)]
 
-mod check_fault;
 mod dates;
 mod entry;
 mod form;
@@ -18,7 +17,6 @@ mod warning;
 mod words;
 mod writing;
 
-pub use check_fault::CheckFault;
 pub use nameable::is_nameable;
 pub use refusal::{fault_text, push_window};
 pub use reply::{push_reply, reply_text};

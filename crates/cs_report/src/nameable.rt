@@ -11,8 +11,8 @@ use crate::entry::FIRST_START;
 use crate::words::is_word;
 use cs_anacrontab::Job;
 use cs_civil::{Day, Minute};
-use cs_decl::{Plan, identifier_of};
 use cs_history::{Event, Script};
+use cs_plan::{Plan, identifier_of};
 
 fn has_newline(text: &[u8]) -> bool
     ensures { result ≡ list_any (λ b. b == 10) text.now }

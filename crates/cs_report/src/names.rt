@@ -4,7 +4,7 @@ ghost use Rattle.cs_table.specs.Text.{decimal};
 ghost use Rattle.cs_report.specs.Names.{job_on, job_named, place_of};
 
 use crate::words::number;
-use cs_decl::Plan;
+use cs_plan::Plan;
 
 /// The index of the command on that line.
 fn command_on(plan: &Plan, number: u32) -> Option<usize>

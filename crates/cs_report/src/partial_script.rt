@@ -11,8 +11,8 @@ use crate::names::place_of;
 use crate::script_fault::{ScriptError, ScriptFault};
 use arrayvec::ArrayVec;
 use cs_civil::{Day, Minute, Sequence};
-use cs_decl::Plan;
 use cs_history::Event;
+use cs_plan::Plan;
 use std::alloc::{AllocError, Global};
 use std::marker::Model;
 

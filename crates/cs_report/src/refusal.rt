@@ -1,13 +1,13 @@
 //! The text of a refusal.
 ghost use Rattle.std.specs.Prelude.{◌≡◌, ◌++◌, IfOk, OnOk, flat_map};
-ghost use Rattle.cs_report.specs.Told.{told};
+ghost use Rattle.cs_theorem.specs.Told.{told};
 ghost use Rattle.cs_report.specs.Refused.{at_text, both_text, catch_up_name, collision_text, fault_text, from_name, group_name, kind_text, kinds_text, overload_text, place_text, rise_text, rule_text, start_of, then_text, unlisted_text, window_name, window_text};
 
-use crate::check_fault::CheckFault;
 use cs_civil::{
     Bytes, DayKind, FIRST_MINUTE, LAST_MINUTE, MINUTES_OF_DAY, Minute, date_text, push_number,
 };
-use cs_decl::{Plan, identifier_of, push_command_name, push_due_name};
+use cs_plan::{Plan, identifier_of, push_command_name, push_due_name};
+use cs_theorem::CheckFault;
 use cs_windows::Window;
 use std::alloc::{AllocError, Global};
 

@@ -16,7 +16,7 @@ use crate::user::first_behind_user;
 use cs_anacrontab::Anacrontab;
 use cs_civil::{Bytes, push_number};
 use cs_crontab::{Crontab, Line};
-use cs_decl::{Job, Plan};
+use cs_plan::{Job, Plan};
 use cs_table::Setting;
 use cs_table::text::word;
 use std::alloc::{AllocError, Global};

@@ -1,7 +1,7 @@
 //! The texts of scripts.
 ghost use Rattle.std.specs.Prelude.{◌≡◌, ◌≤◌, ◌++◌, true, flat_map, length, IfOk, Ok, OnOk};
 ghost use Rattle.std.specs.List.{list_all};
-ghost use Rattle.cs_decl.specs.JobNames.{command_name, identifier_of};
+ghost use Rattle.cs_plan.specs.JobNames.{command_name, identifier_of};
 ghost use Rattle.cs_history.specs.Step.{is_civil};
 ghost use Rattle.cs_report.specs.Faults.{MeansPlain};
 ghost use Rattle.cs_report.specs.ReadBack.{tells_command, tells_event, tells_job};
@@ -15,8 +15,8 @@ use crate::nameable::is_cron;
 use crate::script::MAX_SCRIPT;
 use cs_anacrontab::Job;
 use cs_civil::{Bytes, Day, Minute, date_text, day_text, push_number};
-use cs_decl::{Plan, identifier_of};
 use cs_history::{Event, Script, Start};
+use cs_plan::{Plan, identifier_of};
 use std::alloc::{AllocError, Global};
 
 /// Adds ` YYYY-MM-DD HH:MM`.
@@ -30,7 +30,7 @@ fn push_minute(text: &mut Vec<u8>, at: u64) -> Result<(), AllocError>
 }
 
 /// Adds `line N`.
-#[tactic(auto, unfolding(cs_decl::specs::JobNames::command_name))]
+#[tactic(auto, unfolding(cs_plan::specs::JobNames::command_name))]
 fn push_command(alloc: Global, text: &mut Vec<u8>, plan: &Plan, job: u16) -> Result<(), AllocError>
     requires { is_cron_name plan.now job ≡ true }
     ensures value { OnOk result (text.new.items ≡ text.old.items ++ command_name plan.now job) }

@@ -3,3 +3,4 @@ pub mod NearMinutes
 pub mod Ranges
 pub mod Words
 pub mod Within
+pub mod Apart

@@ -5,9 +5,9 @@ use Rattle.std.proofs.lemmas.List.Sums.{fold-append, sum_by-cons}
 use Rattle.cs_args.specs.CommandLine.{AskedRun}
 use Rattle.cs_check.specs.Checked.{IsHeadline, plan_in}
 use Rattle.cs_check.specs.declared.checked.Checked.{Checked}
-use Rattle.cs_cli.specs.Answer.{IsOrder}
-use Rattle.cs_cli.specs.declared.answer.Order.{Order}
-use Rattle.cs_decl.specs.Plan.{Declared, as_plan}
+use Rattle.cs_ruling.specs.Answer.{IsOrder}
+use Rattle.cs_ruling.specs.declared.answer.Order.{Order}
+use Rattle.cs_plan.specs.Plan.{Declared, as_plan}
 use Rattle.cs_daemon.specs.declared.end.Cause.{Cause}
 use Rattle.cs_daemon.specs.declared.end.Cause.TheVariants.{ClockBack, ClockFailed, HistoryFull, LastMinute, NoMemory, Stopped}
 use Rattle.cs_daemon.specs.declared.end.DaemonEnd.{DaemonEnd}
@@ -21,7 +21,7 @@ use Rattle.cs_keep.specs.Closed.{checked_in, keeping_in}
 use Rattle.cs_keep.specs.Keeping.{IsKept, Keeping, plan_of}
 use Rattle.cs_keep.specs.declared.kept.Kept.{Kept}
 use Rattle.cs_serve.specs.Anew.{IsOrderOf}
-use Rattle.cs_serve.specs.Ending.{Sink, Tries}
+use Rattle.cs_files.specs.Ending.{Sink, Tries}
 use Rattle.cs_serve.specs.Serve.{HasRun, IsServed, IsServedBy, Tellings, cause_status, farewell, no_tellings}
 use Rattle.cs_serve.specs.Served.{AreApart, AreCounted, HasNoClock, IsDone, IsFull, IsOrdered, events_in}
 

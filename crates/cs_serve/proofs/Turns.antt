@@ -2,10 +2,10 @@
 use Rattle.std.proofs.Common.{◌≡◌, ◌∙◌, ℕ, List, [], ap, inl, inr, refl, subst}
 use Rattle.cs_args.specs.Asked.{asked_run}
 use Rattle.cs_args.specs.CommandLine.{AskedRun}
-use Rattle.cs_cli.specs.declared.answer.Order.{Order}
+use Rattle.cs_ruling.specs.declared.answer.Order.{Order}
 use Rattle.cs_daemon.specs.declared.end.Cause.{Cause}
 use Rattle.cs_serve.specs.Anew.{IsOrderOf}
-use Rattle.cs_serve.specs.Ending.{Sink}
+use Rattle.cs_files.specs.Ending.{Sink}
 use Rattle.cs_serve.specs.Serve.{ComesBehind, IsFollowed, IsNextOf, IsServedBehind, Refuses, Serves, ServesOne, cause_status}
 use Rattle.cs_serve.specs.declared.obstacle.Obstacle.{Obstacle}
 

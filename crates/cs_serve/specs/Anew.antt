@@ -5,10 +5,10 @@ use Rattle.cs_args.specs.CommandLine.{AskedRun}
 use Rattle.cs_claims.specs.Content.{Content}
 use Rattle.cs_check.specs.Checked.{IsHeadline, certificate_in, plan_in}
 use Rattle.cs_check.specs.declared.checked.Checked.{Checked}
-use Rattle.cs_cli.specs.Answer.{is_of_gathered}
-use Rattle.cs_cli.specs.declared.answer.Order.{Order}
-use Rattle.cs_cli.specs.declared.check.Digests.{Digests}
-use Rattle.cs_decl.specs.Plan.{Declared, as_plan}
+use Rattle.cs_ruling.specs.Answer.{is_of_gathered}
+use Rattle.cs_ruling.specs.declared.answer.Order.{Order}
+use Rattle.cs_ruling.specs.declared.check.Digests.{Digests}
+use Rattle.cs_plan.specs.Plan.{Declared, as_plan}
 use Rattle.cs_report.specs.Warning.{plan_notes}
 use Rattle.cs_serve.specs.declared.anew.Rejection.{Rejection}
 use Rattle.cs_serve.specs.declared.anew.Rejection.TheVariants.{Answered, NoFile, NoLog, NoMemory, NoOutput, StandardInput}

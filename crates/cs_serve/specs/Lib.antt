@@ -1,10 +1,5 @@
-pub mod Ending
 pub mod Anew
 pub mod Hooks
-pub mod Asking
 pub mod Notes
 pub mod Serve
 pub mod Served
-pub mod Reloading
-pub mod Stopping
-pub mod Telling

@@ -3,8 +3,8 @@ use Rattle.std.specs.Prelude.{ℕ, Bool, not, ◌&&◌, ◌||◌, if◌then◌el
 use Rattle.cs_crontab.specs.Crontab.{CommandLine}
 use Rattle.cs_crontab.specs.declared.table.When.{When}
 use Rattle.cs_crontab.specs.declared.table.When.TheVariants.{At, Reboot}
-use Rattle.cs_daemon.specs.Names.{job_front, job_name}
-use Rattle.cs_decl.specs.Plan.{Declared, as_plan, job_at}
+use Rattle.cs_jobs.specs.Names.{job_front, job_name}
+use Rattle.cs_plan.specs.Plan.{Declared, as_plan, job_at}
 use Rattle.cs_history.specs.Lists.{below}
 use Rattle.cs_history.specs.Plan.{Plan, is_cron, rivals, takes_lock}
 use Rattle.cs_machine.specs.declared.setup.JobNote.{JobNote}

@@ -15,7 +15,7 @@ use Rattle.cs_history.specs.declared.reply.Reply.{Reply}
 use Rattle.cs_keep.specs.Closed.{keeping_in}
 use Rattle.cs_keep.specs.Keeping.{Keeping, plan_of}
 use Rattle.cs_keep.specs.declared.kept.Kept.{Kept}
-use Rattle.cs_serve.specs.Ending.{Sink, Tries}
+use Rattle.cs_files.specs.Ending.{Sink, Tries}
 use Rattle.cs_serve.specs.Serve.{Tellings}
 
 -- ---- the events

@@ -1,7 +1,7 @@
 //! Reading a daemon's files anew.
 ghost use Rattle.std.specs.Prelude.{◌≡◌, ◌++◌, IfOk, false};
 ghost use Rattle.cs_args.specs.Asked.{asked_run};
-ghost use Rattle.cs_cli.specs.Answer.{is_of_gathered};
+ghost use Rattle.cs_ruling.specs.Answer.{is_of_gathered};
 ghost use Rattle.cs_files.specs.Response.{status_of};
 ghost use Rattle.cs_claims.specs.Certificate.{content};
 ghost use Rattle.cs_check.specs.Checked.{plan_in};
@@ -12,12 +12,12 @@ use cs_args::{CheckWords, RunWords};
 use cs_check::{CheckError, Checked, check};
 use cs_civil::Bytes;
 use cs_claims::Certificate;
-use cs_cli::{Digests, Order, certificate_from};
-use cs_decl::Plan;
 use cs_files::{Fault, Response, Status, placed_plan_and_text, read_tables_and_text, text_behind};
-use cs_gather::{is_gathered, read_places};
 use cs_io::Machine;
+use cs_place::{is_gathered, read_places};
+use cs_plan::Plan;
 use cs_report::{fault_text, plan_notes, warnings};
+use cs_ruling::{Digests, Order, certificate_from};
 use std::alloc::{AllocError, Global};
 use std::fs::OpenOptions;
 use std::rt::Files;

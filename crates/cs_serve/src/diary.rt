@@ -1,10 +1,10 @@
 //! What a daemon's log says besides the events of its runs, and the file of its state.
 use cs_args::version_text;
 use cs_civil::{Minute, date_text};
-use cs_cli::Order;
 use cs_crontab::Line;
 use cs_daemon::Cause;
 use cs_machine::{ClockBack, HookCall, JobNote, Remarks, RunLog, Setup, ToldFile, push_hex};
+use cs_ruling::Order;
 use cs_table::Setting;
 use std::alloc::Global;
 use std::io;

@@ -1,12 +1,12 @@
 //! What an order to run says once it was served, by its status and its keep.
 ghost use Rattle.std.specs.Prelude.{◌≡◌, ◌⊎◌, ◌≤◌, ℕ, IfSome, List, Option, codes};
 ghost use Rattle.cs_args.specs.CommandLine.{AskedRun};
-ghost use Rattle.cs_cli.specs.Answer.{IsOrder};
-ghost use Rattle.cs_cli.specs.declared.answer.Order.{Order};
+ghost use Rattle.cs_ruling.specs.Answer.{IsOrder};
+ghost use Rattle.cs_ruling.specs.declared.answer.Order.{Order};
 ghost use Rattle.cs_io.specs.Files.{Failed};
 ghost use Rattle.cs_keep.specs.Closed.{keeping_in};
 ghost use Rattle.cs_serve.specs.Anew.{IsOrderOf};
-ghost use Rattle.cs_serve.specs.Ending.{Sink, Tries};
+ghost use Rattle.cs_files.specs.Ending.{Sink, Tries};
 ghost use Rattle.cs_serve.specs.Serve.{IsServed};
 ghost use Rattle.cs_serve.specs.Served.{AreCounted, HasNoClock, IsDone, IsFull, IsOrdered};
 

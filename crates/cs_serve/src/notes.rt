@@ -1,15 +1,15 @@
 //! What a daemon tells of the jobs of its plan.
 ghost use Rattle.std.specs.Prelude.{◌≡◌, ◌<◌, ◌++◌, IfOk, OnOk, drop, length, map, option_and_then, slice_get};
-ghost use Rattle.cs_decl.specs.Plan.{as_plan};
+ghost use Rattle.cs_plan.specs.Plan.{as_plan};
 ghost use Rattle.cs_history.specs.Lists.{below};
 ghost use Rattle.cs_history.specs.Plan.{rivals, takes_lock};
 ghost use Rattle.cs_serve.specs.Notes.{may_meet, note, peer, peers, schedule_in};
 
 use cs_civil::Bytes;
 use cs_crontab::When;
-use cs_daemon::{push_job_front, push_job_name};
-use cs_decl::{Job, Plan};
+use cs_jobs::{push_job_front, push_job_name};
 use cs_machine::JobNote;
+use cs_plan::{Job, Plan};
 use cs_schedule::Schedule;
 use std::alloc::{AllocError, Global};
 

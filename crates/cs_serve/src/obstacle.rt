@@ -2,8 +2,8 @@
 ghost use Rattle.std.specs.Prelude.{◌≡◌};
 ghost use Rattle.cs_serve.specs.Serve.{in_front, named};
 
-use cs_cli::Order;
 use cs_machine::LockFault;
+use cs_ruling::Order;
 
 /// Why an order isn't served.
 #[derive(Clone, Copy)]

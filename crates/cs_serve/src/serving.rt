@@ -2,30 +2,29 @@
 ghost use Rattle.std.specs.Prelude.{◌≡◌, IfOk, IfSome, vec_len};
 ghost use Rattle.cs_check.specs.Checked.{plan_in};
 ghost use Rattle.cs_files.specs.Response.{status_of};
-ghost use Rattle.cs_serve.specs.Ending.{sink};
+ghost use Rattle.cs_files.specs.Ending.{sink};
 ghost use Rattle.cs_args.specs.Asked.{asked_run};
 ghost use Rattle.cs_serve.specs.Serve.{IsFollowed, IsNextOf, IsServedBehind, IsServedBy, Refuses};
 ghost use Rattle.cs_serve.specs.Serve.{RunsOutBehind, Serves, ServesOne, cause_status, farewell};
 
 use crate::anew::{Accepted, has_output, open_log};
 use crate::diary::{Hand, closing, gap_line, setup_of};
-use crate::ending::{finish, run_out, tell};
 use crate::hooks::{Streams, call_hooks};
 use crate::notes::notes_of;
 use crate::obstacle::Obstacle;
 use crate::watch::{DaemonFiles, Idle, Watch};
 use cs_args::RunWords;
 use cs_check::Checked;
-use cs_cli::Order;
 use cs_daemon::{Cause, run_daemon};
 use cs_device::{Gate, Point, Runner, StampStore, Tick};
-use cs_files::Status;
+use cs_files::{Status, finish, run_out, tell};
 use cs_history::Run;
 use cs_io::Output;
 use cs_machine::{
     FolderLock, Home, JobNote, LockFault, MachineClock, RunLog, RunnerSetup, RunnerWords,
     StampsFolder, runners_by,
 };
+use cs_ruling::Order;
 use std::alloc::{AllocError, Global};
 use std::fs::File;
 use std::io::Write;
@@ -45,7 +44,7 @@ impl Gate for OpenGate {
 }
 
 /// The status of a run that ended so.
-pub fn status_for(cause: Cause) -> Status
+fn status_for(cause: Cause) -> Status
     ensures { status_of result ≡ cause_status cause }
 {
     match cause {
@@ -59,7 +58,7 @@ pub fn status_for(cause: Cause) -> Status
 }
 
 /// What is told of a run that ended so.
-pub fn farewell(cause: Cause) -> &'static str
+fn farewell(cause: Cause) -> &'static str
     ensures { result.now ≡ farewell cause }
 {
     match cause {

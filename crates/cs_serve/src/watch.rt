@@ -2,8 +2,8 @@
 use crate::anew::{Accepted, Rejection, read_anew};
 use crate::diary::{Hand, back_line};
 use crate::hooks::{Streams, call_hooks};
-use crate::reply::reply_text;
 use cs_args::RunWords;
+use cs_ask::reply_text;
 use cs_files::Status;
 use cs_machine::{Attendant, ClockBack, RequestFile, ToldFile};
 use std::alloc::{AllocError, Global};

@@ -3,7 +3,7 @@ use crate::collision::collisions;
 use crate::load::overload;
 use crate::part::is_of;
 use crate::wanted::{Wanted, runs_of, task_of};
-use cs_decl::Plan;
+use cs_plan::Plan;
 use cs_profile::Facts;
 use std::alloc::{AllocError, Global};
 

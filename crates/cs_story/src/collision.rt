@@ -2,7 +2,7 @@
 use crate::aim::{Aim, MAX_AIMS};
 use crate::part::{Part, is_of, part_of};
 use crate::wanted::Wanted;
-use cs_decl::Plan;
+use cs_plan::Plan;
 use cs_profile::Facts;
 use std::alloc::{AllocError, Global};
 

@@ -4,8 +4,8 @@ ghost use Rattle.cs_history.specs.Plan.{first_start};
 use cs_civil::Sequence;
 use cs_core::Core;
 use cs_counterexample::{NotShown, Trial};
-use cs_decl::Plan;
 use cs_history::{Event, Start};
+use cs_plan::Plan;
 use std::alloc::{AllocError, Global};
 
 /// How many events a story has at most.

@@ -4,8 +4,8 @@ use crate::plot::Plot;
 use crate::wanted::MINUTES_OF_DAY;
 use arrayvec::ArrayVec;
 use cs_civil::{Day, Minute};
-use cs_decl::Plan;
 use cs_history::Start;
+use cs_plan::Plan;
 
 /// The day on which the daemon comes up for the last time before a run catches up.
 fn day_of_pass(plot: &Plot<'_>, start: u64) -> Option<Day> {

@@ -10,8 +10,8 @@ use crate::start::start_at;
 use crate::stay::Stay;
 use crate::wanted::MINUTES_OF_DAY;
 use cs_civil::{Minute, Sequence};
-use cs_decl::Plan;
 use cs_history::{Event, Script};
+use cs_plan::Plan;
 use cs_profile::{Calendar, Facts};
 use std::alloc::{AllocError, Global};
 

@@ -1,5 +1,5 @@
 use crate::breach::{Breach, Span};
-use cs_decl::Plan;
+use cs_plan::Plan;
 use cs_profile::{Facts, Task};
 use std::alloc::{AllocError, Global};
 use std::cmp::Reverse;

@@ -10,7 +10,6 @@ use Rattle.cs_history.specs.declared.run.Going.{Going}
 use Rattle.cs_history.specs.Calm.{arrives, HasWaiter}
 use Rattle.cs_history.proofs.Lists.{all_any, all_push, all-filter, none_passes, any_at, pairs_push, pairs-filter, total_push, total-filter, total_without}
 use Rattle.cs_history.proofs.Names.{run_is}
-use Rattle.cs_theorem.proofs.Locks.{}
 
 -- since minute d, up to t, the bound of the group of j has not been 0
 abbrev pub IsBusy : Plan → (ℕ → ℕ → ℕ) → ℕ → ℕ → ℕ → Type 0

@@ -5,3 +5,4 @@ pub mod Accepted
 pub mod Faults
 pub mod Example
 pub mod Ending
+pub mod Told

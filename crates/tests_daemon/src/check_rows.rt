@@ -2,7 +2,8 @@
 //! `check` show what that accepts and refuses; the other rows here are of plans that this one accepts.
 
 use crate::plans::{TIGHT, answer};
-use cs_check::{CheckError, CheckFault};
+use cs_check::CheckError;
+use cs_theorem::CheckFault;
 
 /// Whether two runs meet where one may run: at 1970-01-03 01:00, on the first day that is looked at.
 fn is_over_at_one(fault: &CheckFault) -> bool {

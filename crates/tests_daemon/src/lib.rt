@@ -21,6 +21,8 @@ mod play;
 #[cfg(test)]
 mod run_rows;
 #[cfg(test)]
+mod short_memory;
+#[cfg(test)]
 mod short_rows;
 #[cfg(test)]
 mod step_rows;

@@ -9,8 +9,9 @@ use cs_check::{CheckError, Checked, check};
 use cs_civil::Minute;
 use cs_claims::Certificate;
 use cs_crontab::{Crontab, read_crontab};
-use cs_decl::{Declarations, Plan, join, read_declarations};
+use cs_decl::{Declarations, join, read_declarations};
 use cs_history::Start;
+use cs_plan::Plan;
 use std::alloc::Global;
 use std::process::Abort;
 

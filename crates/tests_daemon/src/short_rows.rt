@@ -4,6 +4,7 @@ ghost use Rattle.std.specs.Prelude.{◌≡◌};
 
 use crate::desk::Desk;
 use crate::plans::{HOURLY, checked, crontab, minute, plan, start};
+use crate::short_memory::Hoard;
 use cs_check::Checked;
 use cs_civil::{Bytes, Minute};
 use cs_core::Core;
@@ -14,7 +15,6 @@ use std::alloc::Global;
 use std::marker::Brand;
 use std::process::Abort;
 use std::sync::ledger::{Blank, Ledger};
-use tests_short_memory::Hoard;
 
 /// By how many bytes more memory is given each time.
 const STEP: usize = 64;

@@ -1,1 +1,1 @@
-mod Shelves
+pub mod Shelves

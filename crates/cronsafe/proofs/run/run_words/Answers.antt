@@ -1,5 +1,5 @@
 use Rattle.std.proofs.Common.{ℕ, inl, subst, sym}
-use Rattle.cs_serve.specs.Ending.{sink}
+use Rattle.cs_files.specs.Ending.{sink}
 use Rattle.cronsafe.specs.Run.{CarriesOut}
 use Rattle.cronsafe.proofs.run.run_words.Goals as goal
 

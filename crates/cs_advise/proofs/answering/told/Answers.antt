@@ -3,8 +3,8 @@ use Rattle.std.proofs.lemmas.Result.{err_from_is_err_and}
 use Rattle.cs_args.specs.Asked.{asked_judge}
 use Rattle.cs_files.specs.Reads.{AndThen, FittingIn, GivesSome, ReadsFitting}
 use Rattle.cs_files.proofs.TroubleLemmas.{placed, stops, with_places}
-use Rattle.cs_gather.specs.Places.{places_of}
-use Rattle.cs_gather.specs.declared.places.Place.{Place}
+use Rattle.cs_place.specs.Places.{places_of}
+use Rattle.cs_place.specs.declared.places.Place.{Place}
 use Rattle.cs_io.specs.Files.{Failed}
 use Rattle.cs_advise.specs.Answer.{AreTexts, IsAdvised, IsAdvisedAt}
 use Rattle.cs_advise.specs.declared.source.Source.{Source}

@@ -1,5 +1,5 @@
 use Rattle.std.proofs.Common.{◌<◌, ℕ, slice_index_or}
-use Rattle.cs_decl.specs.Plan.{no_command}
+use Rattle.cs_plan.specs.Plan.{no_command}
 use Rattle.cs_advise.specs.Change.{IsMovedLine, shift_of}
 use Rattle.cs_advise.proofs.changing.are_moved.Given as goal
 

@@ -1,7 +1,7 @@
 use Rattle.std.proofs.Common.{◌≡◌, ◌∙◌, ℕ, List, ap, arith, inl, inr, length, subst}
 use Rattle.std.proofs.lemmas.Bool.{cases_lt}
 use Rattle.cs_crontab.specs.Crontab.{CommandLine, Table}
-use Rattle.cs_decl.specs.Plan.{crons}
+use Rattle.cs_plan.specs.Plan.{crons}
 use Rattle.cs_advise.specs.Gap.{IsClearOf}
 use Rattle.cs_advise.proofs.Gaps.{IsReachedBySome, clear_beyond, clear_of_less, either, some_one}
 use Rattle.cs_advise.proofs.gap.gap_of.Goals as goal

@@ -1,6 +1,6 @@
 use Rattle.std.proofs.Common.{◌-◌, ◌≤◌}
-use Rattle.cs_decl.specs.Changed.{with_max}
-use Rattle.cs_decl.specs.declared.limits.TheConstants.{MAX_MINUTES}
+use Rattle.cs_advise.specs.Changed.{with_max}
+use Rattle.cs_plan.specs.declared.limits.TheConstants.{MAX_MINUTES}
 use Rattle.cs_judge.specs.Called.{IsCalledSafe}
 use Rattle.cs_advise.proofs.room.halved.Given as goal
 

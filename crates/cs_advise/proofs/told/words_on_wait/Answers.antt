@@ -1,5 +1,5 @@
 use Rattle.std.proofs.Common.{◌≡◌, ◌∙◌, ◌++◌, ℕ, List, [], ◌∷◌, ap, refl}
-use Rattle.cs_decl.specs.Job.{DeclaredJob}
+use Rattle.cs_plan.specs.Job.{DeclaredJob}
 use Rattle.cs_advise.specs.Told.{wait_words}
 use Rattle.cs_advise.proofs.told.words_on_wait.Goals as goal
 

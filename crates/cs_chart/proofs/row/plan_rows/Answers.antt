@@ -1,7 +1,7 @@
 use Rattle.std.proofs.Common.{◌≡◌, ◌+◌, ◌++◌, suc, List, [], ◌∷◌, append_assoc, arith}
 use Rattle.std.specs.Prelude.{map}
 use Rattle.std.proofs.lemmas.List.{map-append}
-use Rattle.cs_decl.specs.Plan.{crons}
+use Rattle.cs_plan.specs.Plan.{crons}
 use Rattle.cs_chart.specs.Rows.{shown_of}
 use Rattle.std.proofs.lemmas.Grind.{common_steps}
 use Rattle.cs_chart.proofs.Rows.{rows_few}

@@ -1,7 +1,7 @@
 use Rattle.std.proofs.Common.{◌≡◌, ◌+◌, ◌++◌}
 use Rattle.std.specs.Prelude.{map}
 use Rattle.cs_history.specs.Lists.{below}
-use Rattle.cs_decl.specs.Plan.{command_of, crons, job_at}
+use Rattle.cs_plan.specs.Plan.{command_of, crons, job_at}
 use Rattle.cs_chart.specs.Chart.{shown_anacron, shown_command, terms_at}
 use Rattle.cs_chart.specs.Rows.{shown_of}
 use Rattle.cs_chart.proofs.row.plan_rows.Given as goal

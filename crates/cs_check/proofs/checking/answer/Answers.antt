@@ -2,8 +2,8 @@ use Rattle.std.proofs.Common.{rules, ◌≡◌, List, true, option_map, sym, ap,
 use Rattle.cs_theorem.specs.Certificate.{Stretch}
 use Rattle.cs_classes.specs.Said.{said}
 use Rattle.cs_classes.specs.Claim.{as_certificate}
-use Rattle.cs_decl.specs.Plan.{as_plan}
-use Rattle.cs_report.specs.Told.{told}
+use Rattle.cs_plan.specs.Plan.{as_plan}
+use Rattle.cs_theorem.specs.Told.{told}
 use Rattle.cs_check.specs.Stretches.{later_fault}
 use Rattle.cs_check.proofs.Acceptance.{quiet_is_none}
 use Rattle.cs_check.proofs.Firsts.{others_last}

@@ -2,7 +2,7 @@ use Rattle.std.proofs.Common.{subst}
 use Rattle.cs_classes.specs.Said.{said}
 use Rattle.cs_claims.specs.declared.class.Class.{Class}
 use Rattle.cs_classes.specs.GroupDays.{AreGroupDays}
-use Rattle.cs_decl.specs.Plan.{as_plan}
+use Rattle.cs_plan.specs.Plan.{as_plan}
 use Rattle.cs_check.specs.ClassDays.{Settle}
 use Rattle.cs_check.proofs.class_day.class_day.Goals as goal
 

@@ -4,7 +4,7 @@ use Rattle.cs_theorem.specs.Accepted.{AreWithin, AreApart, ListsAll, AreFree, wi
 use Rattle.cs_classes.specs.Said.{said}
 use Rattle.cs_classes.specs.Used.{seen}
 use Rattle.cs_classes.specs.Claim.{as_certificate}
-use Rattle.cs_decl.specs.Plan.{as_plan}
+use Rattle.cs_plan.specs.Plan.{as_plan}
 use Rattle.cs_check.proofs.good.is_good.Goals as goal
 
 pub returns : goal.returns

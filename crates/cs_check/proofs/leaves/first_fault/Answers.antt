@@ -2,7 +2,7 @@ use Rattle.std.proofs.Common.{◌≡◌, ◌∙◌, Option, option_map, ap, subs
 use Rattle.cs_classes.specs.Said.{said}
 use Rattle.cs_classes.specs.Claim.{as_certificate}
 use Rattle.cs_classes.specs.Used.{AreInside, seen}
-use Rattle.cs_decl.specs.Plan.{as_plan}
+use Rattle.cs_plan.specs.Plan.{as_plan}
 use Rattle.cs_theorem.specs.Accepted.{ListsAll, windows_of}
 use Rattle.cs_theorem.specs.Faults.{WindowMissing, minute_of, missing_in}
 use Rattle.cs_windows.specs.Tree.{Tree}

@@ -3,7 +3,7 @@ use Rattle.cs_theorem.specs.Faults.{first_of}
 use Rattle.cs_classes.specs.Said.{said}
 use Rattle.cs_classes.specs.Used.{seen}
 use Rattle.cs_classes.specs.Claim.{as_certificate}
-use Rattle.cs_decl.specs.Plan.{as_plan}
+use Rattle.cs_plan.specs.Plan.{as_plan}
 use Rattle.cs_check.specs.Stretches.{fault_by}
 use Rattle.cs_check.proofs.order.first_by.Given as goal
 

@@ -4,7 +4,7 @@ use Rattle.cs_check.specs.Stretches.{is_far}
 use Rattle.cs_classes.specs.Said.{said}
 use Rattle.cs_classes.specs.Used.{seen}
 use Rattle.cs_classes.specs.Claim.{as_certificate}
-use Rattle.cs_decl.specs.Plan.{as_plan, crons}
+use Rattle.cs_plan.specs.Plan.{as_plan, crons}
 use Rattle.cs_history.specs.Lists.{below}
 use Rattle.cs_theorem.proofs.Firsts.{below-found, below-none, first_of-more}
 use Rattle.cs_check.proofs.reaches.first_fault.Goals as goal

@@ -5,7 +5,7 @@ use Rattle.cs_check.specs.Stretches.{is_far}
 use Rattle.cs_classes.specs.Said.{said}
 use Rattle.cs_classes.specs.Used.{seen}
 use Rattle.cs_classes.specs.Claim.{as_certificate}
-use Rattle.cs_decl.specs.Plan.{as_plan}
+use Rattle.cs_plan.specs.Plan.{as_plan}
 use Rattle.cs_check.proofs.reaches.first_fault.Given as goal
 
 abbrev pub invariant-loop-job : goal.invariant-loop-job

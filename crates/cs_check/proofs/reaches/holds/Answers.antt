@@ -2,7 +2,7 @@ use Rattle.std.proofs.Common.{◌<◌, length, below_more, arith}
 use Rattle.cs_classes.specs.Said.{said}
 use Rattle.cs_classes.specs.Claim.{as_certificate}
 use Rattle.cs_classes.specs.Used.{seen}
-use Rattle.cs_decl.specs.Plan.{as_plan}
+use Rattle.cs_plan.specs.Plan.{as_plan}
 use Rattle.cs_check.specs.Stretches.{ReachHolds}
 use Rattle.cs_check.proofs.Clearing.{clears_alone}
 use Rattle.cs_check.proofs.Using.{long_as_kinds}

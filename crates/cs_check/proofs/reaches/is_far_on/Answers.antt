@@ -1,7 +1,7 @@
 use Rattle.std.proofs.Common.{◌<◌, length, arith, sym}
 use Rattle.cs_classes.specs.Said.{said}
 use Rattle.cs_classes.specs.Used.{seen}
-use Rattle.cs_decl.specs.Plan.{as_plan}
+use Rattle.cs_plan.specs.Plan.{as_plan}
 use Rattle.cs_check.proofs.Clearing.{clears_alone}
 use Rattle.cs_check.proofs.Using.{long_as_kinds}
 use Rattle.cs_check.proofs.reaches.is_far_on.Goals as goal

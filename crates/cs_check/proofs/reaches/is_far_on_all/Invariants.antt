@@ -3,7 +3,7 @@ use Rattle.std.specs.List.{list_all}
 use Rattle.cs_classes.specs.Said.{said}
 use Rattle.cs_classes.specs.Used.{seen}
 use Rattle.cs_classes.specs.Claim.{as_certificate}
-use Rattle.cs_decl.specs.Plan.{as_plan}
+use Rattle.cs_plan.specs.Plan.{as_plan}
 use Rattle.cs_check.specs.Stretches.{clears_on}
 use Rattle.cs_check.proofs.reaches.is_far_on_all.Given as goal
 

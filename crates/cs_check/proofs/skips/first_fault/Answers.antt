@@ -2,7 +2,7 @@ use Rattle.std.proofs.Common.{◌≡◌, ◌∙◌, subst, sym, arith}
 use Rattle.cs_classes.specs.Said.{said}
 use Rattle.cs_classes.specs.Claim.{as_certificate}
 use Rattle.cs_classes.specs.Used.{seen}
-use Rattle.cs_decl.specs.Plan.{as_plan}
+use Rattle.cs_plan.specs.Plan.{as_plan}
 use Rattle.cs_theorem.specs.Accepted.{AreFree, windows_of}
 use Rattle.cs_check.proofs.Harmless.{skips_pass}
 use Rattle.cs_check.proofs.Using.{days_range}

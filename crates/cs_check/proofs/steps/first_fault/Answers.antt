@@ -6,7 +6,7 @@ use Rattle.cs_claims.specs.declared.class.Class.{Class}
 use Rattle.cs_classes.specs.Used.{seen}
 use Rattle.cs_classes.specs.Claim.{as_certificate, class_at}
 use Rattle.cs_classes.specs.Work.{rise_between}
-use Rattle.cs_decl.specs.Plan.{as_plan}
+use Rattle.cs_plan.specs.Plan.{as_plan}
 use Rattle.cs_check.proofs.Harmless.{steps_pass}
 use Rattle.cs_check.proofs.Using.{days_range}
 use Rattle.cs_check.proofs.steps.first_fault.Goals as goal

@@ -4,7 +4,7 @@ use Rattle.cs_classes.specs.Said.{said}
 use Rattle.cs_classes.specs.Claim.{class_at}
 use Rattle.cs_classes.specs.GroupDays.{AreGroupDays}
 use Rattle.cs_classes.specs.declared.group_day.GroupDay.{GroupDay}
-use Rattle.cs_decl.specs.Plan.{as_plan}
+use Rattle.cs_plan.specs.Plan.{as_plan}
 use Rattle.cs_check.proofs.steps.holds.Goals as goal
 
 pub returns : goal.returns

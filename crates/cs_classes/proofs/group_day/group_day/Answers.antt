@@ -2,7 +2,7 @@ use Rattle.std.proofs.Common.{◌≡◌, ℕ, sym, ap, ◌∙◌, refl, arith, s
 use Rattle.std.proofs.lemmas.Bool.{both_ways}
 use Rattle.cs_claims.specs.Certificate.{bound_in}
 use Rattle.cs_classes.specs.Work.{arrivals_in}
-use Rattle.cs_decl.specs.Plan.{as_plan}
+use Rattle.cs_plan.specs.Plan.{as_plan}
 use Rattle.cs_wait.specs.Bounds.{at}
 use Rattle.cs_wait.specs.declared.backlog.Piece.{Piece}
 use Rattle.cs_classes.proofs.Midnight.{within_same}

@@ -3,7 +3,7 @@ use Rattle.std.proofs.lemmas.List.{length_push}
 use Rattle.cs_classes.proofs.GroupDays.{one_more}
 use Rattle.cs_classes.specs.GroupDays.{IsGroupDay, no_day}
 use Rattle.cs_classes.specs.declared.group_day.GroupDay.{GroupDay}
-use Rattle.cs_decl.specs.Plan.{as_plan}
+use Rattle.cs_plan.specs.Plan.{as_plan}
 use Rattle.cs_classes.proofs.group_day.group_days.Goals as goal
 
 pub loop-group-preserved : goal.loop-group-preserved

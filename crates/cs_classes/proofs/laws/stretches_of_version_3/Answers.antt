@@ -7,7 +7,7 @@ use Rattle.cs_theorem.specs.Certificate.{Stretch}
 use Rattle.cs_theorem.specs.Faults.{Missing, WindowMissing, chains, first_of, is_used, minute_of, missing_in, same_list, unless}
 use Rattle.cs_claims.specs.Certificate.{class_of}
 use Rattle.cs_claims.specs.Content.{Content}
-use Rattle.cs_decl.specs.Plan.{Declared, as_plan}
+use Rattle.cs_plan.specs.Plan.{Declared, as_plan}
 use Rattle.cs_classes.specs.Claim.{as_certificate}
 use Rattle.cs_classes.specs.StandsFor.{bare, claimed, class_lists, days_for, listed}
 use Rattle.cs_classes.proofs.Distinct.{all_pass, each_among, each_itself, each_made, each_more, none_of_each, none_of_kept, only_given}

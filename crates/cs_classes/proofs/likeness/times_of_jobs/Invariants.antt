@@ -1,5 +1,5 @@
 use Rattle.std.proofs.Common.{◌≡◌, ◌<◌, ℕ, [], length, slice_index_or}
-use Rattle.cs_decl.specs.Plan.{command_of}
+use Rattle.cs_plan.specs.Plan.{command_of}
 use Rattle.cs_schedule.specs.Numbers.{has}
 use Rattle.cs_classes.specs.Likeness.{is_due_minute}
 use Rattle.cs_classes.proofs.likeness.times_of_jobs.Given as goal

@@ -1,6 +1,6 @@
 use Rattle.std.proofs.Common.{rules, ◌≡◌, ◌&&◌, true, sym, arith}
 use Rattle.std.proofs.lemmas.Bool.{and_from}
-use Rattle.cs_decl.specs.Plan.{as_plan, crons}
+use Rattle.cs_plan.specs.Plan.{as_plan, crons}
 use Rattle.cs_history.specs.Plan.{locks, waits}
 use Rattle.cs_classes.proofs.Lists.{any_below}
 use Rattle.cs_classes.proofs.locks.has_waiter.Goals as goal

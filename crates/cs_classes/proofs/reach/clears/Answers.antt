@@ -1,7 +1,7 @@
 use Rattle.std.proofs.Common.{◌≡◌, ℕ, List, length, map, take, subst, sym, ap, ◌∙◌, arith, Bor, unwrap_or}
 use Rattle.cs_claims.specs.declared.class.Class.{Class}
 use Rattle.cs_claims.specs.Certificate.{bound_in, is_due_in}
-use Rattle.cs_decl.specs.Plan.{as_plan}
+use Rattle.cs_plan.specs.Plan.{as_plan}
 use Rattle.cs_wait.specs.Bounds.{ClearsBy, at}
 use Rattle.cs_wait.specs.declared.backlog.Backlog.{Backlog}
 use Rattle.cs_classes.proofs.DayMinutes.{all_from_each, each_from_all}

@@ -1,6 +1,6 @@
 use Rattle.std.proofs.Common.{ℕ, ◌+◌, ◌∙◌, ap, sym, arith, if◌then◌else◌}
 use Rattle.cs_claims.specs.Certificate.{is_due_in}
-use Rattle.cs_decl.specs.Plan.{as_plan}
+use Rattle.cs_plan.specs.Plan.{as_plan}
 use Rattle.cs_history.specs.Plan.{locks}
 use Rattle.cs_classes.proofs.Lists.{total_passing}
 use Rattle.cs_classes.proofs.steps.arrivals_in.Goals as goal

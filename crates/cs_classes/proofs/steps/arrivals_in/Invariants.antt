@@ -1,6 +1,6 @@
 use Rattle.std.proofs.Common.{◌≡◌, ◌≤◌, ◌<◌, ◌*◌, ℕ, if◌then◌else◌, filter, length, slice_index}
 use Rattle.cs_claims.specs.Certificate.{is_due_in}
-use Rattle.cs_decl.specs.Plan.{as_plan}
+use Rattle.cs_plan.specs.Plan.{as_plan}
 use Rattle.cs_history.specs.Lists.{total, below}
 use Rattle.cs_history.specs.Plan.{locks}
 use Rattle.cs_classes.proofs.steps.arrivals_in.Given as goal

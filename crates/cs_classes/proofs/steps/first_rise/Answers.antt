@@ -1,5 +1,5 @@
 use Rattle.std.proofs.Common.{subst, sym, ◌∙◌, arith}
-use Rattle.cs_decl.specs.Plan.{as_plan}
+use Rattle.cs_plan.specs.Plan.{as_plan}
 use Rattle.cs_theorem.proofs.Firsts.{minute-found, minutes-none, first_of-more}
 use Rattle.cs_classes.specs.Work.{AreWorks, rise_at}
 use Rattle.cs_classes.proofs.steps.first_rise.Goals as goal

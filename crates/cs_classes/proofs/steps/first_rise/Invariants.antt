@@ -1,6 +1,6 @@
 use Rattle.std.proofs.Common.{◌≡◌, None}
 use Rattle.std.specs.List.{range_with_len}
-use Rattle.cs_decl.specs.Plan.{as_plan}
+use Rattle.cs_plan.specs.Plan.{as_plan}
 use Rattle.cs_theorem.specs.Faults.{first_of}
 use Rattle.cs_classes.specs.Work.{rise_at}
 use Rattle.cs_classes.proofs.steps.first_rise.Given as goal

@@ -1,5 +1,5 @@
 use Rattle.std.proofs.Common.{◌≡◌, ℕ, ◌<◌, None, length, slice_index_or}
-use Rattle.cs_decl.specs.Plan.{as_plan}
+use Rattle.cs_plan.specs.Plan.{as_plan}
 use Rattle.cs_classes.specs.Work.{IsWork}
 use Rattle.cs_classes.proofs.steps.works.Given as goal
 

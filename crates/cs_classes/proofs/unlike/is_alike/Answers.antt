@@ -2,7 +2,7 @@ use Rattle.std.proofs.Common.{List, ◌∙◌, get_or, length, sym, ap, arith, b
 use Rattle.cs_classes.specs.Said.{said}
 use Rattle.cs_crontab.specs.Crontab.{Table}
 use Rattle.cs_daytree.specs.Tree.{Tree, class_in}
-use Rattle.cs_decl.specs.Plan.{crons}
+use Rattle.cs_plan.specs.Plan.{crons}
 use Rattle.cs_classes.specs.declared.likeness.Likeness.{Likeness}
 use Rattle.cs_classes.proofs.Alike.{job_alike, row_says, below_true, below_false}
 use Rattle.cs_classes.proofs.unlike.is_alike.Goals as goal

@@ -2,7 +2,7 @@ use Rattle.std.proofs.Common.{◌≡◌, filter, map}
 use Rattle.cs_theorem.specs.Faults.{has_waiter}
 use Rattle.cs_claims.specs.Certificate.{bound_in}
 use Rattle.cs_classes.specs.StandsFor.{bound_of}
-use Rattle.cs_decl.specs.Plan.{as_plan}
+use Rattle.cs_plan.specs.Plan.{as_plan}
 use Rattle.cs_history.specs.Lists.{below}
 use Rattle.cs_classes.proofs.worked.bounds_on.Given as goal
 

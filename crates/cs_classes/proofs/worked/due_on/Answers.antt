@@ -3,7 +3,7 @@ use Rattle.std.specs.Prelude.{flat_map, slice_index_or}
 use Rattle.std.proofs.lemmas.List.Concat.{flat_map-append}
 use Rattle.cs_claims.specs.declared.class.DueList.{DueList}
 use Rattle.cs_crontab.specs.Crontab.{CommandLine, Table}
-use Rattle.cs_decl.specs.Plan.{Declared, command_of, no_command}
+use Rattle.cs_plan.specs.Plan.{Declared, command_of, no_command}
 use Rattle.cs_civil.specs.Calendar.{Kind}
 use Rattle.cs_history.specs.Lists.{below}
 use Rattle.cs_windows.specs.Windows.{day_minutes}

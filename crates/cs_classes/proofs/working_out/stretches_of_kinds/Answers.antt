@@ -7,7 +7,7 @@ use Rattle.cs_claims.specs.Content.{Content}
 use Rattle.cs_daytree.specs.Tree.{Tree}
 use Rattle.cs_classes.specs.Planned.{due_on, planned, reach_by}
 use Rattle.cs_classes.specs.StandsFor.{class_lists, days_for, distinct}
-use Rattle.cs_decl.specs.Plan.{as_plan}
+use Rattle.cs_plan.specs.Plan.{as_plan}
 use Rattle.cs_windows.specs.Occupied.{job_of}
 use Rattle.cs_windows.specs.declared.reach.JobReach.{JobReach}
 use Rattle.cs_classes.specs.Used.{AreClassed, classes_in, kinds_in}

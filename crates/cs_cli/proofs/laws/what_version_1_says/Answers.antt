@@ -1,4 +1,4 @@
-use Rattle.cs_cli.proofs.TwoDays.{listed_itself, in_pairs, accepted_in_pairs}
+use Rattle.cs_ruling.proofs.TwoDays.{listed_itself, in_pairs, accepted_in_pairs}
 use Rattle.cs_cli.proofs.laws.what_version_1_says.Goals as goal
 
 pub returns-clause-itself : goal.returns-clause-itself

@@ -1,5 +1,5 @@
 use Rattle.std.proofs.Common.{◌≡◌, ◌++◌, ◌-◌, None, length, take, replicate}
-use Rattle.cs_decl.specs.Plan.{crons}
+use Rattle.cs_plan.specs.Plan.{crons}
 use Rattle.cs_core.proofs.event_core.stamps_of.Given as goal
 
 abbrev pub invariant-loop-place : goal.invariant-loop-place

@@ -1,5 +1,5 @@
 use Rattle.std.proofs.Common.{arith}
-use Rattle.cs_decl.specs.Plan.{as_plan}
+use Rattle.cs_plan.specs.Plan.{as_plan}
 use Rattle.cs_locks.proofs.Counts.{room}
 use Rattle.cs_core.specs.Standing.{going_holds}
 use Rattle.cs_core.proofs.Counted.{holds_counted}

@@ -1,5 +1,5 @@
 use Rattle.std.proofs.Common.{subst, sym}
-use Rattle.cs_decl.specs.Plan.{as_plan}
+use Rattle.cs_plan.specs.Plan.{as_plan}
 use Rattle.cs_locks.specs.Locks.{IsCounted, IsWithOne}
 use Rattle.cs_roster.specs.Roster.{others}
 use Rattle.cs_core.specs.Standing.{going_holds}

@@ -1,5 +1,5 @@
 use Rattle.std.proofs.Common.{◌≡◌, ◌+◌, length}
-use Rattle.cs_decl.specs.Plan.{as_plan, crons}
+use Rattle.cs_plan.specs.Plan.{as_plan, crons}
 use Rattle.cs_history.specs.Plan.{placed_below}
 use Rattle.cs_core.proofs.rules.by_delay.Given as goal
 

@@ -1,5 +1,5 @@
 use Rattle.std.proofs.Common.{◌≡◌, ◌++◌, take, drop}
-use Rattle.cs_decl.specs.Plan.{as_plan}
+use Rattle.cs_plan.specs.Plan.{as_plan}
 use Rattle.cs_history.specs.Lists.{placed}
 use Rattle.cs_history.specs.Plan.{is_sooner}
 use Rattle.cs_core.proofs.rules.place.Given as goal

@@ -1,5 +1,5 @@
 use Rattle.std.proofs.Common.{◌≡◌}
-use Rattle.cs_decl.specs.Plan.{as_plan}
+use Rattle.cs_plan.specs.Plan.{as_plan}
 use Rattle.cs_counterexample.specs.Trial.{clash_before}
 use Rattle.cs_counterexample.proofs.breaking.clash_before.Given as goal
 

@@ -1,5 +1,5 @@
 use Rattle.std.proofs.Common.{◌≡◌, ◌+◌}
-use Rattle.cs_decl.specs.Plan.{as_plan}
+use Rattle.cs_plan.specs.Plan.{as_plan}
 use Rattle.cs_counterexample.specs.Break.{weight_of}
 use Rattle.cs_counterexample.proofs.breaking.weigh.Given as goal
 

@@ -1,5 +1,5 @@
 use Rattle.std.proofs.Common.{ℕ, ◌≤◌}
-use Rattle.cs_decl.specs.Plan.{as_plan}
+use Rattle.cs_plan.specs.Plan.{as_plan}
 use Rattle.cs_counterexample.specs.Trial.{IsDeadline}
 use Rattle.cs_counterexample.proofs.deadline.first_deadline.Given as goal
 

@@ -1,4 +1,4 @@
-use Rattle.cs_decl.specs.Plan.{as_plan}
+use Rattle.cs_plan.specs.Plan.{as_plan}
 use Rattle.cs_counterexample.specs.Shown.{IsNotShown}
 use Rattle.cs_counterexample.specs.declared.shown.NotShown.TheVariants.{NothingBroken, OutOfMemory}
 use Rattle.std.proofs.Common.{◌≡◌}

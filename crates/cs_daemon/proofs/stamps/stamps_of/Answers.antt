@@ -1,6 +1,6 @@
 use Rattle.std.proofs.Common.{◌≡◌, ◌≤◌, ◌∙◌, ℕ, List, Option, length, sym, ap, subst}
 use Rattle.cs_core.specs.Standing.{Standing}
-use Rattle.cs_decl.specs.Plan.{IsWhole}
+use Rattle.cs_plan.specs.Plan.{IsWhole}
 use Rattle.cs_keep.proofs.Cutting.{few_stamps}
 use Rattle.cs_daemon.proofs.stamps.stamps_of.Goals as goal
 

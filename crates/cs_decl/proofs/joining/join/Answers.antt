@@ -2,7 +2,7 @@ use Rattle.std.proofs.Common.{rules, ◌≡◌, ◌++◌, None, Some, subst}
 use Rattle.cs_decl.specs.declared.entries.Entries.{Entries}
 use Rattle.cs_decl.specs.Faults.{first_fault}
 use Rattle.cs_decl.specs.Join.{lines_left_out, mistimed, naming_faults, plan_of, rest, undeclared, untimed}
-use Rattle.cs_decl.specs.Meaning.{Answers, unless}
+use Rattle.cs_plan.specs.Answers.{Answers, unless}
 use Rattle.cs_decl.proofs.Joins.{past_names, wrong_name}
 use Rattle.cs_decl.proofs.joining.join.Goals as goal
 

@@ -1,6 +1,7 @@
 use Rattle.std.proofs.Common.{◌≡◌, ◌∙◌, Some, subst, sym}
 use Rattle.cs_crontab.specs.Crontab.{Table as Crontab}
-use Rattle.cs_decl.specs.Faults.{Fault, first_fault}
+use Rattle.cs_decl.specs.Faults.{first_fault}
+use Rattle.cs_plan.specs.Answers.{Fault}
 use Rattle.cs_decl.specs.Join.{undeclared}
 use Rattle.cs_decl.proofs.Joins.{jobs_are_declared, wrong_job}
 use Rattle.cs_decl.proofs.joining.joined_rest.Goals as goal

@@ -1,5 +1,5 @@
 use Rattle.std.proofs.Common.{◌≡◌, ◌≤◌, ◌*◌, take}
-use Rattle.cs_decl.specs.declared.limits.TheConstants.{MAX_MINUTES}
+use Rattle.cs_plan.specs.declared.limits.TheConstants.{MAX_MINUTES}
 use Rattle.cs_decl.specs.Faults.{minutes_of}
 use Rattle.cs_decl.proofs.parts.minutes_of.Given as goal
 

@@ -1,5 +1,5 @@
 use Rattle.std.proofs.Common.{◌≡◌, List, ℕ, subst}
-use Rattle.cs_gather.specs.Places.{places_of}
+use Rattle.cs_place.specs.Places.{places_of}
 use Rattle.cs_files.proofs.TroubleLemmas.{placed}
 use Rattle.cs_files.proofs.reads.read_placed_tables.Goals as goal
 

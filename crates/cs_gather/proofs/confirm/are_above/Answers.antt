@@ -1,6 +1,6 @@
 use Rattle.std.proofs.Common.{◌∷◌, Bor, List, ℕ, map, subst}
 use Rattle.cs_gather.specs.Gather.{BeginWith}
-use Rattle.cs_gather.specs.Gathered.{part_comment}
+use Rattle.cs_place.specs.PartName.{part_comment}
 use Rattle.cs_gather.proofs.Above.{above, texts}
 use Rattle.cs_gather.proofs.confirm.are_above.Goals as goal
 

@@ -1,7 +1,7 @@
 use Rattle.std.proofs.Common.{◌≡◌, Bor, List, ℕ, get_or, map, [], rules, subst}
 use Rattle.std.proofs.lemmas.List.{take_rest}
 use Rattle.cs_gather.specs.Gather.{BeginWith}
-use Rattle.cs_gather.specs.Gathered.{part_comment}
+use Rattle.cs_place.specs.PartName.{part_comment}
 use Rattle.cs_gather.proofs.Above.{one_more, texts}
 use Rattle.cs_gather.proofs.confirm.are_comments.Goals as goal
 

@@ -1,6 +1,6 @@
 use Rattle.std.proofs.Common.{length, map}
 use Rattle.cs_gather.specs.Gather.{BeginWith}
-use Rattle.cs_gather.specs.Gathered.{part_comment}
+use Rattle.cs_place.specs.PartName.{part_comment}
 use Rattle.cs_gather.proofs.confirm.are_parts.Given as goal
 
 abbrev pub invariant-loop-names : goal.invariant-loop-names

@@ -2,7 +2,7 @@ use Rattle.std.proofs.Common.{◌≡◌, None, subst, sym}
 use Rattle.cs_claims.specs.Content.{Content}
 use Rattle.cs_check.specs.Case.{fault_of, reach_for}
 use Rattle.cs_check.specs.Checked.{IsCalmThroughout}
-use Rattle.cs_decl.specs.Plan.{as_plan}
+use Rattle.cs_plan.specs.Plan.{as_plan}
 use Rattle.cs_judge.specs.Judged.{IsCheckedFor}
 use Rattle.cs_judge.proofs.judging.check.Goals as goal
 

@@ -1,5 +1,5 @@
 use Rattle.std.proofs.Common.{◌≡◌, fold}
-use Rattle.cs_decl.specs.Plan.{as_plan}
+use Rattle.cs_plan.specs.Plan.{as_plan}
 use Rattle.cs_core.specs.Standing.{names}
 use Rattle.cs_keep.specs.FirstToGet.{first_to_get, may_get, with_run}
 use Rattle.cs_keep.proofs.next.first_to_get.Given as goal

@@ -1,5 +1,5 @@
 use Rattle.std.proofs.Common.{sym, ◌∙◌}
-use Rattle.cs_decl.specs.Plan.{as_plan}
+use Rattle.cs_plan.specs.Plan.{as_plan}
 use Rattle.cs_keep.proofs.FirstChoice.{catch_first, catch_none_left, catch_refused, head_is, no_head}
 use Rattle.cs_keep.proofs.next.next_to_catch.Goals as goal
 

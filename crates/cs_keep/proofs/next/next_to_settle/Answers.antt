@@ -1,6 +1,6 @@
 use Rattle.std.proofs.Common.{ap, sym, ◌∙◌, ◌≡◌, []}
 use Rattle.std.specs.Option.{option_map}
-use Rattle.cs_decl.specs.Plan.{as_plan}
+use Rattle.cs_plan.specs.Plan.{as_plan}
 use Rattle.cs_keep.proofs.FirstChoice.{got_of, no_head, settle_down, settle_got, settled_none}
 use Rattle.cs_keep.proofs.next.next_to_settle.Goals as goal
 

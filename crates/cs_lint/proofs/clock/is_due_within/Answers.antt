@@ -1,5 +1,5 @@
 use Rattle.std.proofs.Common.{◌≡◌, ◌<◌, ◌∙◌, true, false, arith, sym}
-use Rattle.cs_decl.specs.Plan.{is_due}
+use Rattle.cs_plan.specs.Plan.{is_due}
 use Rattle.cs_lint.proofs.ClockLemmas.{here, passed}
 use Rattle.cs_lint.proofs.clock.is_due_within.Goals as goal
 

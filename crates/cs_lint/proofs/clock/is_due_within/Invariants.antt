@@ -1,6 +1,6 @@
 use Rattle.std.proofs.Common.{◌≡◌, ◌-◌}
 use Rattle.std.specs.List.{list_any, range_with_len}
-use Rattle.cs_decl.specs.Plan.{is_due}
+use Rattle.cs_plan.specs.Plan.{is_due}
 use Rattle.cs_lint.proofs.clock.is_due_within.Given as goal
 
 -- one of all is due exactly where one of those that are left is

@@ -1,6 +1,6 @@
 use Rattle.std.proofs.Common.{◌≡◌, ◌||◌, take}
 use Rattle.std.specs.List.{list_any}
-use Rattle.cs_odd.specs.Odd.{name_of}
+use Rattle.cs_lint.specs.OddLines.{name_of}
 use Rattle.cs_lint.specs.Wanted.{is_wanted}
 use Rattle.cs_lint.proofs.odd_lines.find_oddities.Given as goal
 

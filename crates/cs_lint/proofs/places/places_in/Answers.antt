@@ -5,7 +5,7 @@ use Rattle.cs_table.specs.Table.{Stops}
 use Rattle.cs_table.specs.declared.fault.TableFault.{TableFault}
 use Rattle.cs_crontab.specs.Crontab.{Table}
 use Rattle.cs_crontab.specs.declared.fault.LineFault.{LineFault}
-use Rattle.cs_gather.specs.Places.{places_of}
+use Rattle.cs_place.specs.Places.{places_of}
 use Rattle.cs_lint.proofs.PlacesLemmas.{each_ok}
 use Rattle.cs_lint.proofs.places.places_in.Goals as goal
 

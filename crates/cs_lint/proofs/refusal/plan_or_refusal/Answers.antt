@@ -1,7 +1,8 @@
 use Rattle.std.proofs.Common.{rules, inl, inr, subst}
 use Rattle.cs_decl.specs.Join.{joined}
-use Rattle.cs_decl.specs.Meaning.{Fails, declared_by}
-use Rattle.cs_decl.specs.declared.fault.DeclError.{DeclError}
+use Rattle.cs_decl.specs.Meaning.{declared_by}
+use Rattle.cs_plan.specs.Answers.{Fails}
+use Rattle.cs_plan.specs.declared.fault.DeclError.{DeclError}
 use Rattle.cs_lint.proofs.refusal.plan_or_refusal.Goals as goal
 
 pub returns-in-Err-At : goal.returns-in-Err-At

@@ -1,5 +1,5 @@
 use Rattle.std.proofs.Common.{◌≡◌, ℕ, ◌<◌, length}
-use Rattle.cs_decl.specs.Plan.{as_plan}
+use Rattle.cs_plan.specs.Plan.{as_plan}
 use Rattle.cs_overlap.specs.Roles.{role_at, role_of}
 use Rattle.cs_overlap.proofs.roles.jobs_of.Given as goal
 

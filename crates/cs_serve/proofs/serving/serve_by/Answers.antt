@@ -1,6 +1,6 @@
 use Rattle.std.proofs.Common.{rules, ◌≡◌, ◌∙◌, subst}
 use Rattle.cs_files.specs.Response.{status_of}
-use Rattle.cs_serve.specs.Ending.{Tries, sink}
+use Rattle.cs_files.specs.Ending.{Tries, sink}
 use Rattle.cs_serve.specs.Serve.{HasRun, Tellings, cause_status, farewell}
 use Rattle.cs_serve.proofs.serving.serve_by.Goals as goal
 

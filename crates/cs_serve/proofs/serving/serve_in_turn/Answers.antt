@@ -1,7 +1,7 @@
 use Rattle.std.proofs.Common.{◌∷◌, Option, subst}
 use Rattle.std.specs.Prelude.{IfSome}
 use Rattle.cs_serve.proofs.Turns.{last_of}
-use Rattle.cs_serve.specs.Ending.{sink}
+use Rattle.cs_files.specs.Ending.{sink}
 use Rattle.cs_serve.specs.Serve.{IsFollowed}
 use Rattle.cs_serve.specs.declared.serving.Next.{Next}
 use Rattle.cs_serve.proofs.serving.serve_in_turn.Goals as goal

@@ -1,6 +1,6 @@
 use Rattle.std.proofs.Common.{List}
-use Rattle.cs_cli.specs.declared.answer.Order.{Order}
-use Rattle.cs_serve.specs.Ending.{sink}
+use Rattle.cs_ruling.specs.declared.answer.Order.{Order}
+use Rattle.cs_files.specs.Ending.{sink}
 use Rattle.cs_serve.specs.Serve.{ComesBehind}
 use Rattle.cs_serve.proofs.serving.serve_in_turn.Given as goal
 

@@ -3,7 +3,7 @@ use Rattle.std.proofs.lemmas.Option.{IfSome_then}
 use Rattle.cs_args.specs.Asked.{asked_run}
 use Rattle.cs_device.specs.Telling.{Telling, nothing_told}
 use Rattle.cs_files.specs.Response.{status_of}
-use Rattle.cs_serve.specs.Ending.{Sink, Tries, sink}
+use Rattle.cs_files.specs.Ending.{Sink, Tries, sink}
 use Rattle.cs_serve.specs.Serve.{IsServedBy, Tellings, no_tellings}
 use Rattle.cs_serve.proofs.Turns.{followed}
 use Rattle.cs_serve.proofs.serving.serve_on.Goals as goal

@@ -4,7 +4,7 @@ use Rattle.cs_theorem.specs.Accepted.{windows_of}
 use Rattle.cs_classes.specs.Said.{said}
 use Rattle.cs_civil.specs.Calendar.{Kind}
 use Rattle.cs_classes.specs.Claim.{as_certificate}
-use Rattle.cs_decl.specs.Plan.{as_plan}
+use Rattle.cs_plan.specs.Plan.{as_plan}
 use Rattle.cs_windows.specs.Occupied.{job_of}
 use Rattle.cs_windows.specs.Windows.{Job, windows_on}
 use Rattle.cs_windows.specs.declared.job_windows.Occupied.{Occupied}

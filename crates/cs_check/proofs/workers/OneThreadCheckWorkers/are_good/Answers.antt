@@ -5,7 +5,7 @@ use Rattle.cs_classes.specs.Said.{said}
 use Rattle.cs_classes.specs.Used.{seen}
 use Rattle.cs_classes.specs.declared.used.UsedStretch.{UsedStretch}
 use Rattle.cs_classes.specs.Claim.{as_certificate}
-use Rattle.cs_decl.specs.Plan.{as_plan}
+use Rattle.cs_plan.specs.Plan.{as_plan}
 use Rattle.cs_check.specs.Stretches.{AreGood, IsGood}
 use Rattle.cs_check.proofs.workers.OneThreadCheckWorkers.are_good.Goals as goal
 

@@ -3,7 +3,7 @@ use Rattle.rayon.proofs.ToStd.{slice-All}
 use Rattle.cs_classes.specs.Said.{said}
 use Rattle.cs_classes.specs.Used.{seen}
 use Rattle.cs_classes.specs.Claim.{as_certificate}
-use Rattle.cs_decl.specs.Plan.{as_plan}
+use Rattle.cs_plan.specs.Plan.{as_plan}
 use Rattle.cs_check.specs.Stretches.{IsGood}
 use Rattle.cs_check.proofs.workers.SeveralThreadsCheckWorkers.are_good.Goals as goal
 

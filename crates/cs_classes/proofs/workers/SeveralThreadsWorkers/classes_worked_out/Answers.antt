@@ -7,7 +7,7 @@ use Rattle.rayon.specs.declared.range.Iter.{Iter}
 use Rattle.cs_claims.specs.Certificate.{content}
 use Rattle.cs_claims.specs.declared.certificate.Certificate.{Certificate}
 use Rattle.cs_claims.specs.declared.class.Class.{Class}
-use Rattle.cs_decl.specs.declared.plan.Plan.{Plan}
+use Rattle.cs_plan.specs.declared.plan.Plan.{Plan}
 use Rattle.cs_civil.specs.Order.{all_kinds}
 use Rattle.cs_classes.specs.StandsFor.{worked_of}
 use Rattle.cs_classes.specs.WorkedOut.{classed_kind}

@@ -8,7 +8,7 @@ use Rattle.rayon.specs.declared.iter.min_len.MinLen.{MinLen}
 use Rattle.rayon.specs.declared.slice.Iter.{Iter}
 use Rattle.cs_classes.specs.Said.{said}
 use Rattle.cs_claims.specs.declared.class.Class.{Class}
-use Rattle.cs_decl.specs.Plan.{Declared}
+use Rattle.cs_plan.specs.Plan.{Declared}
 use Rattle.cs_classes.specs.declared.likeness.Likeness.{Likeness}
 use Rattle.cs_classes.specs.Likeness.{AreTimes, IsRow}
 use Rattle.cs_classes.proofs.Rows.{rows_of_answers}

@@ -1,5 +1,5 @@
 use Rattle.std.proofs.Common.{sym, subst, ◌≡◌, None}
-use Rattle.cs_decl.specs.Plan.{as_plan}
+use Rattle.cs_plan.specs.Plan.{as_plan}
 use Rattle.cs_history.specs.History.{answer, pass_of, Skips}
 use Rattle.cs_history.specs.Step.{refusal}
 use Rattle.cs_history.specs.declared.event.Event.TheVariants.{Begin}

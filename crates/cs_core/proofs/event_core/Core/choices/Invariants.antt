@@ -1,5 +1,5 @@
 use Rattle.std.proofs.Common.{◌≡◌, ◌++◌, drop, filter}
-use Rattle.cs_decl.specs.Plan.{as_plan}
+use Rattle.cs_plan.specs.Plan.{as_plan}
 use Rattle.cs_history.specs.Step.{refusal}
 use Rattle.cs_history.specs.declared.event.Event.{Event}
 use Rattle.cs_core.specs.Choices.{is_none}

@@ -1,5 +1,5 @@
 use Rattle.std.proofs.Common.{rules, ap, arith, sym, subst, ◌∙◌, ◌≡◌, None, Some, false, if◌then◌else◌, set, ◌-◌, ◌/◌}
-use Rattle.cs_decl.specs.Plan.{as_plan}
+use Rattle.cs_plan.specs.Plan.{as_plan}
 use Rattle.cs_history.specs.History.{pass_of}
 use Rattle.cs_history.specs.Plan.{is_cron}
 use Rattle.cs_history.specs.Step.{State, after, refusal}

@@ -1,6 +1,6 @@
 use Rattle.std.proofs.Common.{ap, sym, ◌∙◌}
 use Rattle.std.specs.List.{list_any}
-use Rattle.cs_decl.specs.Plan.{as_plan}
+use Rattle.cs_plan.specs.Plan.{as_plan}
 use Rattle.cs_history.specs.History.{is_free}
 use Rattle.cs_locks.proofs.PlanHolds.{one_is_free_holds}
 use Rattle.cs_core.specs.Standing.{Standing, going_holds, names, waiting_holds}

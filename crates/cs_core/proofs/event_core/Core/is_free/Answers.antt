@@ -1,6 +1,6 @@
 use Rattle.std.proofs.Common.{ap, not, sym, ◌∙◌}
 use Rattle.std.specs.List.{list_any}
-use Rattle.cs_decl.specs.Plan.{as_plan}
+use Rattle.cs_plan.specs.Plan.{as_plan}
 use Rattle.cs_history.specs.History.{is_free}
 use Rattle.cs_locks.proofs.PlanHolds.{is_free_holds}
 use Rattle.cs_locks.specs.Locks.{bars}

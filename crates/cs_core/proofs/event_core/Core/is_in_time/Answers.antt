@@ -1,6 +1,6 @@
 use Rattle.std.proofs.Common.{ap, arith, sym, ◌∙◌, ◌-◌, ◌<◌, ◌≤◌, nat_lt}
 use Rattle.std.proofs.lemmas.Bool.{lt-ltb}
-use Rattle.cs_decl.specs.Plan.{as_plan}
+use Rattle.cs_plan.specs.Plan.{as_plan}
 use Rattle.cs_history.specs.Step.{is_in_time}
 use Rattle.cs_core.specs.Standing.{Standing}
 use Rattle.cs_core.proofs.Ends.{in_time_none, in_time_some, less_either, less_over}

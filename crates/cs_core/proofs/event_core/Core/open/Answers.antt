@@ -1,4 +1,4 @@
-use Rattle.cs_decl.specs.Plan.{as_plan}
+use Rattle.cs_plan.specs.Plan.{as_plan}
 use Rattle.cs_core.proofs.Kept.{kept_start}
 use Rattle.cs_core.proofs.event_core.Core.open.Goals as goal
 

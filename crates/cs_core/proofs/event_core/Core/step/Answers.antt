@@ -1,4 +1,4 @@
-use Rattle.cs_decl.specs.Plan.{as_plan}
+use Rattle.cs_plan.specs.Plan.{as_plan}
 use Rattle.cs_history.proofs.Steps.{follows}
 use Rattle.cs_core.proofs.event_core.Core.step.Goals as goal
 

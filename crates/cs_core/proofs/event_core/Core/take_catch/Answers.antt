@@ -1,5 +1,5 @@
 use Rattle.std.proofs.Common.{ap, sym, subst, ◌∙◌, ◌≡◌, ◌++◌, ◌∷◌, [], None}
-use Rattle.cs_decl.specs.Plan.{as_plan}
+use Rattle.cs_plan.specs.Plan.{as_plan}
 use Rattle.cs_history.specs.History.{going, pass_of, without_first}
 use Rattle.cs_history.specs.Step.{refusal}
 use Rattle.cs_history.specs.declared.event.Event.TheVariants.{Catch}

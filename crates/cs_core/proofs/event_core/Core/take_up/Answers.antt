@@ -1,5 +1,5 @@
 use Rattle.std.proofs.Common.{rules, ap, sym, subst, ◌∙◌, ◌≡◌, None, true}
-use Rattle.cs_decl.specs.Plan.{as_plan}
+use Rattle.cs_plan.specs.Plan.{as_plan}
 use Rattle.cs_history.specs.History.{opened, owed_at, pass_of}
 use Rattle.cs_history.specs.Step.{after, refusal}
 use Rattle.cs_history.specs.declared.event.Event.TheVariants.{Up}

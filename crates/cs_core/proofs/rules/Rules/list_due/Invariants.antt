@@ -1,6 +1,6 @@
 use Rattle.std.proofs.Common.{◌≡◌, ◌≤◌, ℕ, filter, length}
 use Rattle.cs_history.specs.Lists.{below}
-use Rattle.cs_decl.specs.Plan.{as_plan}
+use Rattle.cs_plan.specs.Plan.{as_plan}
 use Rattle.cs_core.proofs.rules.Rules.list_due.Given as goal
 
 abbrev pub invariant-loop-job : goal.invariant-loop-job

@@ -1,6 +1,6 @@
 use Rattle.std.proofs.Common.{◌≡◌, ◌≤◌, ◌++◌, ◌-◌, ◌&&◌, not, get_or, None, ℕ, drop, filter, length}
 use Rattle.cs_core.specs.Standing.{is_job}
-use Rattle.cs_decl.specs.Plan.{as_plan, crons}
+use Rattle.cs_plan.specs.Plan.{as_plan, crons}
 use Rattle.cs_core.proofs.rules.Rules.list_owed.Given as goal
 
 abbrev pub invariant-loop-job : goal.invariant-loop-job

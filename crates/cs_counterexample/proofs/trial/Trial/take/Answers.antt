@@ -1,5 +1,5 @@
 use Rattle.std.proofs.Common.{◌≡◌, ◌∙◌, ap, sym, subst}
-use Rattle.cs_decl.specs.Plan.{Declared, as_plan}
+use Rattle.cs_plan.specs.Plan.{Declared, as_plan}
 use Rattle.cs_counterexample.specs.Trial.{Tried, break_at_start, break_by_reply, is_late}
 use Rattle.cs_counterexample.proofs.Takes.{shown_as, taken_as}
 use Rattle.cs_counterexample.proofs.trial.Trial.take.Goals as goal

@@ -1,5 +1,5 @@
 use Rattle.std.proofs.Common.{◌<◌, subst}
-use Rattle.cs_decl.specs.Plan.{Declared}
+use Rattle.cs_plan.specs.Plan.{Declared}
 use Rattle.cs_daemon.specs.Stamps.{AreWritten}
 use Rattle.cs_daemon.proofs.Causing.{went_back}
 use Rattle.cs_daemon.proofs.shared.Shared.go_on.Goals as goal

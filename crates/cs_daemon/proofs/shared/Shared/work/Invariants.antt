@@ -1,7 +1,7 @@
 use Rattle.std.proofs.Common.{◌≡◌, ◌≤◌, ◌+◌, List, length}
 use Rattle.cs_history.specs.declared.run.Run.{Run}
 use Rattle.cs_device.specs.declared.runner.Outcome.{Outcome}
-use Rattle.cs_daemon.specs.Commands.{CarriesOutAll}
+use Rattle.cs_daemon.specs.Carried.{CarriesOutAll}
 use Rattle.cs_daemon.proofs.shared.Shared.work.Given as goal
 
 abbrev pub invariant-loop : goal.invariant-loop

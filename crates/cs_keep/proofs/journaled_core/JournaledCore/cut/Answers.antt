@@ -1,6 +1,6 @@
 use Rattle.std.proofs.Common.{rules, ◌≡◌, ◌∙◌, subst, arith}
 use Rattle.std.proofs.lemmas.Grind.{common_steps}
-use Rattle.cs_decl.specs.Plan.{IsWhole, as_plan}
+use Rattle.cs_plan.specs.Plan.{IsWhole, as_plan}
 use Rattle.cs_keep.specs.Keeping.{IsIdle, start_from}
 use Rattle.cs_keep.proofs.Cutting.{few_stamps, cut_journal}
 use Rattle.cs_keep.proofs.journaled_core.JournaledCore.cut.Goals as goal

@@ -1,0 +1,49 @@
+//! The program, as a function of its words, its inputs and two outputs.
+ghost use Rattle.std.specs.Prelude.{map};
+ghost use Rattle.cs_io.specs.Files.{IsFresh};
+ghost use Rattle.cs_files.specs.Ending.{sink};
+ghost use Rattle.cronsafe_aids.specs.Run.{Runs};
+ghost use Rattle.cronsafe_aids.specs.Turn.{ReadsInTurn};
+
+use crate::now::Now;
+use crate::responding::respond;
+use cs_files::{finish, run_out_behind};
+use cs_io::{Folders, Output};
+use std::alloc::Global;
+use std::convert::AsStr;
+use std::thread::Threads;
+
+/// Runs the program on its words, of which the first is its name, and gives the status that the
+/// process ends with: 0 done, help or the version, 1 a finding, or a plan is unsafe, 2 unknown, 3 a
+/// fault in the words or in a file, 4 no call, 5 want of memory, 6 a file that can't be read, or
+/// standard output that can't be written.
+///
+/// A draft tells the offset of clocks, and `lint` the changes of a time zone's clocks after the
+/// instant.
+pub(crate) fn run_words<R: Threads + Sync, S: AsStr, I: Folders, O: Output, E: Output>(
+    rt: &R,
+    alloc: Global,
+    words: &[S],
+    now: Now,
+    inputs: &mut I,
+    out: &mut O,
+    err: &mut E,
+) -> u8
+    // Where each path of known bytes stands at its front.
+    ensures value { IsFresh (I.whole inputs.old) (I.left inputs.old)
+        → Runs now (map S.text words.now) I.tree
+        (I.whole inputs.old) (I.failed inputs.old) (I.failed inputs.new)
+        (I.reads inputs.old) (I.reads inputs.new)
+        (sink (O.contents out.old) (O.failed out.old))
+        (sink (O.contents out.new) (O.failed out.new))
+        (sink (E.contents err.old) (E.failed err.old))
+        (sink (E.contents err.new) (E.failed err.new))
+        result }
+    ensures turn { ReadsInTurn (map S.text words.now)
+        (I.reads inputs.old) (I.reads inputs.new) }
+{
+    match respond(rt, alloc, words, now, inputs) {
+        Ok(response) => finish(&response, out, err).code(),
+        Err(ran_out) => run_out_behind(&ran_out, err).code(),
+    }
+}

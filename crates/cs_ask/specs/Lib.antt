@@ -1,0 +1,4 @@
+pub mod Asking
+pub mod Stopping
+pub mod Reloading
+pub mod Telling

@@ -1,0 +1,200 @@
+//! Asking the daemon that uses a folder of stamps.
+ghost use Rattle.std.specs.Prelude.{◌≡◌, ◌++◌, [], IfOk, true};
+ghost use Rattle.cs_files.specs.Response.{complaint, status_of};
+ghost use Rattle.cs_ask.specs.Asking.{MayTell, Refuses, absence_status, faulty, in_front};
+ghost use Rattle.cs_ask.specs.Asking.{in_front_of, refusal_status, refused};
+ghost use Rattle.cs_files.specs.Ending.{sink};
+
+use cs_files::{Response, Status, finish, run_out, tell};
+use cs_io::Output;
+use cs_machine::{FolderLock, LockFault, StampsFolder};
+use std::alloc::{AllocError, Global};
+use std::fs::File;
+use std::rt::{Clock, Files};
+use std::sync::Wait;
+use std::thread;
+use std::time::Duration;
+
+/// Why there is no daemon to ask.
+#[derive(Clone, Copy)]
+pub(crate) enum Absence {
+    /// There is no such folder of stamps.
+    NoFolder,
+    /// No daemon has locked it.
+    NoDaemon,
+    /// It can't be locked.
+    Unlocked,
+}
+
+/// Why a daemon doesn't do what it is asked.
+#[derive(Clone, Copy)]
+pub(crate) enum Refusal {
+    /// There is none to ask.
+    NoneToAsk(Absence),
+    /// The file that asks it can't be made.
+    NotAsked,
+    /// It has ended, and another has locked the folder by now.
+    Another,
+    /// What it answered can't be read.
+    Unanswered,
+}
+
+impl Absence {
+    /// What is said of it, in front of the folder's path.
+    pub(crate) fn text(self) -> &'static str
+        ensures { result.now ≡ in_front self }
+    {
+        match self {
+            Absence::NoFolder => "no folder ",
+            Absence::NoDaemon => "no daemon uses ",
+            Absence::Unlocked => "can't lock ",
+        }
+    }
+
+    pub(crate) fn status(self) -> Status
+        ensures { status_of result ≡ absence_status self }
+    {
+        match self {
+            Absence::NoDaemon => Status::Unknown,
+            _ => Status::DeviceFailed,
+        }
+    }
+}
+
+impl Refusal {
+    /// What is said of it, in front of the folder's path.
+    fn text(self) -> &'static str
+        ensures { result.now ≡ in_front_of self }
+    {
+        match self {
+            Refusal::NoneToAsk(absence) => absence.text(),
+            Refusal::NotAsked => "can't write to ",
+            Refusal::Another => "another daemon uses ",
+            Refusal::Unanswered => "can't read the answer in ",
+        }
+    }
+
+    fn status(self) -> Status
+        ensures { status_of result ≡ refusal_status self }
+    {
+        match self {
+            Refusal::NoneToAsk(absence) => absence.status(),
+            _ => Status::DeviceFailed,
+        }
+    }
+
+    /// What is answered.
+    pub(crate) fn response(self, alloc: Global, folder: &str) -> Result<Response, AllocError>
+        ensures { IfOk result (λ r. r ≡ refused self folder.now) }
+    {
+        fault_response(alloc, self.status(), self.text(), folder)
+    }
+}
+
+/// What is answered where a folder can't be used: a complaint, in front of its path.
+pub(crate) fn fault_response(
+    alloc: Global,
+    status: Status,
+    front: &str,
+    folder: &str,
+) -> Result<Response, AllocError>
+    ensures { IfOk result (λ r. r ≡ faulty (status_of status) front.now folder.now) }
+{
+    let mut fault = Vec::from_slice(alloc, front.as_bytes())?;
+    fault.extend_from_slice(folder.as_bytes())?;
+    Response::fault(alloc, status, b"".as_slice(), fault.as_slice())
+}
+
+/// Looks whether a daemon uses a folder.
+pub(crate) fn find_daemon<R: Files<File = File>>(
+    rt: &R,
+    alloc: Global,
+    folder: &str,
+) -> Result<(), Absence> {
+    if StampsFolder::open(rt, alloc, folder).is_err() {
+        return Err(Absence::NoFolder);
+    }
+    match FolderLock::take(rt, folder) {
+        Ok(_) => Err(Absence::NoDaemon),
+        Err(LockFault::Failed) => Err(Absence::Unlocked),
+        Err(LockFault::InUse) => Ok(()),
+    }
+}
+
+/// Tells why a daemon doesn't do what it is asked.
+pub(crate) fn refuse<O: Output, E: Output>(
+    alloc: Global,
+    refusal: Refusal,
+    folder: &str,
+    out: &mut O,
+    err: &mut E,
+) -> Status
+    ensures { Refuses refusal folder.now
+        (sink (O.contents out.old) (O.failed out.old))
+        (sink (O.contents out.new) (O.failed out.new))
+        (sink (E.contents err.old) (E.failed err.old))
+        (sink (E.contents err.new) (E.failed err.new))
+        (status_of result) }
+{
+    match refusal.response(alloc, folder) {
+        Ok(response) => finish(&response, out, err),
+        Err(AllocError) => run_out(err),
+    }
+}
+
+/// How long it takes until a folder is looked at again.
+const MILLISECONDS: u64 = 200;
+
+/// How often a folder is looked at before it's told that there is something to wait for: a daemon
+/// looks once a second whether it is asked.
+const LOOKS: u32 = 10;
+
+/// Waits a moment, and looks.
+fn look_again<R: Clock, T: Drop, F: Fn() -> Option<T> + Drop>(rt: &R, look: &F) -> Option<T>
+    requires { F.IsAlwaysCallable look.now }
+{
+    thread::sleep(rt, Duration::from_millis(MILLISECONDS));
+    look()
+}
+
+/// Looks until there is something, but not long.
+fn wait_a_little<R: Clock, T: Drop, F: Fn() -> Option<T> + Drop>(rt: &R, look: &F) -> Option<T>
+    requires { F.IsAlwaysCallable look.now }
+{
+    for _ in 0..LOOKS {
+        if let Some(found) = look_again(rt, look) {
+            return Some(found);
+        }
+    }
+    None
+}
+
+/// Looks until there is something, however long that takes.
+fn wait<R: Clock + Wait, T: Drop, F: Fn() -> Option<T> + Drop>(rt: &R, look: &F) -> T
+    requires { F.IsAlwaysCallable look.now }
+{
+    for _ in rt.forever() {
+        if let Some(found) = look_again(rt, look) {
+            return found;
+        }
+    }
+    unreachable!()
+}
+
+/// Looks at a folder until there is something, and tells what it waits for where that takes long.
+pub(crate) fn wait_for<R: Clock + Wait, T: Drop, F: Fn() -> Option<T> + Drop, E: Output>(
+    rt: &R,
+    what: &str,
+    err: &mut E,
+    look: F,
+) -> T
+    requires { F.IsAlwaysCallable look }
+    ensures { MayTell what.now (sink (E.contents err.old) (E.failed err.old))
+        (sink (E.contents err.new) (E.failed err.new)) }
+{
+    if let Some(found) = wait_a_little(rt, &look) {
+        return found;
+    }
+    tell(err, what.as_bytes());
+    wait(rt, &look)
+}

@@ -1,0 +1,137 @@
+//! Asking the daemon of a folder of stamps to read its files anew.
+ghost use Rattle.std.specs.Prelude.{◌≡◌, IfOk, MatchResult};
+ghost use Rattle.cs_files.specs.Response.{status_of};
+ghost use Rattle.cs_ask.specs.Asking.{MayTell, refused};
+ghost use Rattle.cs_files.specs.Ending.{sink};
+ghost use Rattle.cs_ask.specs.Reloading.{IsOutcome, IsToldOf, Reloads, answer_awaited};
+
+use crate::asking::{Absence, Refusal, find_daemon, wait_for};
+use crate::reply::read_reply;
+use cs_civil::Bytes;
+use cs_files::{Response, Status, finish, run_out};
+use cs_io::Output;
+use cs_machine::{FolderLock, LockFault, RequestFile, ToldFile};
+use std::alloc::{AllocError, Global};
+use std::fs::File;
+use std::rt::{Clock, Files};
+use std::sync::Wait;
+
+/// The files by which a daemon is asked, and answers.
+#[derive(Drop)]
+struct Exchange<'f> {
+    request: RequestFile,
+    answer: ToldFile<'f>,
+}
+
+impl<'f> Exchange<'f> {
+    /// Those in a folder of stamps. The only error is out of memory.
+    fn of(alloc: Global, folder: &'f str) -> Result<Exchange<'f>, AllocError> {
+        let request = RequestFile::to_reload(alloc, folder)?;
+        let answer = ToldFile::answer(alloc, folder)?;
+        Ok(Exchange { request, answer })
+    }
+}
+
+/// Whether the daemon of a folder has answered, or has ended; none where it has still to answer.
+fn look<R: Files<File = File>>(
+    rt: &R,
+    folder: &str,
+    request: &RequestFile,
+) -> Option<Result<(), Refusal>> {
+    // a daemon that has answered may have ended by now
+    if !request.is_there(rt) {
+        return Some(Ok(()));
+    }
+    match FolderLock::take(rt, folder) {
+        Ok(_lock) => {
+            let _ = request.remove(rt);
+            Some(Err(Refusal::NoneToAsk(Absence::NoDaemon)))
+        }
+        Err(LockFault::Failed) => Some(Err(Refusal::NoneToAsk(Absence::Unlocked))),
+        Err(LockFault::InUse) => None,
+    }
+}
+
+/// Asks the daemon of a folder, and waits for its answer.
+fn ask_and_wait<R: Files<File = File> + Clock + Wait, E: Output>(
+    rt: &R,
+    alloc: Global,
+    folder: &str,
+    exchange: &Exchange<'_>,
+    err: &mut E,
+) -> Result<Vec<u8>, Refusal>
+    ensures { MayTell answer_awaited (sink (E.contents err.old) (E.failed err.old))
+        (sink (E.contents err.new) (E.failed err.new)) }
+{
+    if let Err(absence) = find_daemon(rt, alloc, folder) {
+        return Err(Refusal::NoneToAsk(absence));
+    }
+    // first, that of an earlier call
+    if exchange.answer.remove(rt).is_err() || exchange.request.make(rt).is_err() {
+        return Err(Refusal::NotAsked);
+    }
+    wait_for(
+        rt,
+        "cronsafe: waiting for the daemon's answer\n",
+        err,
+        || look(rt, folder, &exchange.request),
+    )?;
+    let text = exchange.answer.read(rt, alloc);
+    let _ = exchange.answer.remove(rt);
+    text.map_err(|_| Refusal::Unanswered)
+}
+
+/// What is told of a daemon's answer.
+fn response_to(alloc: Global, folder: &str, text: &[u8]) -> Result<Response, AllocError>
+    ensures { IfOk result (IsToldOf folder.now text.now) }
+{
+    let Some(reply) = read_reply(text) else {
+        return Refusal::Unanswered.response(alloc, folder);
+    };
+    let told = Bytes::from_slice(alloc, reply.text)?;
+    Ok(Response::told(reply.status, Vec::new(alloc), told))
+}
+
+/// What comes of asking.
+fn response_of(
+    alloc: Global,
+    folder: &str,
+    answer: Result<Vec<u8>, Refusal>,
+) -> Result<Response, AllocError>
+    ensures told { MatchResult answer (λ text. IfOk result (IsToldOf folder.now text.items))
+        (λ refusal. IfOk result (λ r. r ≡ refused refusal folder.now)) }
+    ensures outcome { IfOk result (IsOutcome folder.now) }
+{
+    match answer {
+        Ok(text) => response_to(alloc, folder, text.as_slice()),
+        Err(refusal) => refusal.response(alloc, folder),
+    }
+}
+
+/// Asks the daemon of a folder of stamps to read its files anew, and gives the status: 0 the new plan
+/// is accepted, and begins when the runs under way have ended; 2 no daemon uses the folder, 5 want of
+/// memory, 6 the folder can't be used; or that with which the daemon has refused its files, which
+/// goes on as before.
+pub fn reload<R: Files<File = File> + Clock + Wait, O: Output, E: Output>(
+    rt: &R,
+    alloc: Global,
+    folder: &str,
+    out: &mut O,
+    err: &mut E,
+) -> Status
+    ensures { Reloads folder.now
+        (sink (O.contents out.old) (O.failed out.old))
+        (sink (O.contents out.new) (O.failed out.new))
+        (sink (E.contents err.old) (E.failed err.old))
+        (sink (E.contents err.new) (E.failed err.new))
+        (status_of result) }
+{
+    let Ok(exchange) = Exchange::of(alloc, folder) else {
+        return run_out(err);
+    };
+    let answer = ask_and_wait(rt, alloc, folder, &exchange, err);
+    match response_of(alloc, folder, answer) {
+        Ok(response) => finish(&response, out, err),
+        Err(AllocError) => run_out(err),
+    }
+}

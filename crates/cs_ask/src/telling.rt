@@ -1,0 +1,185 @@
+//! Telling what the daemon of a folder of stamps does.
+ghost use Rattle.std.specs.Prelude.{◌≡◌, ◌++◌, IfOk};
+ghost use Rattle.cs_files.specs.Response.{complaint, status_of};
+ghost use Rattle.cs_files.specs.Ending.{sink};
+ghost use Rattle.cs_ask.specs.Telling.{IsAnswer, Tells, in_front_of_old, in_front_of_none};
+ghost use Rattle.cs_ask.specs.Telling.{silence_status, told_as, untold};
+
+use crate::asking::{Absence, fault_response, find_daemon};
+use cs_args::StatusWords;
+use cs_civil::Bytes;
+use cs_files::{Response, Status, finish, run_out};
+use cs_io::Output;
+use cs_json::Misread;
+use cs_machine::{Report, ToldFile, read_report, unix_seconds};
+use std::alloc::{AllocError, Global};
+use std::fs::File;
+use std::rt::{Clock, Files};
+
+/// Why no state is told.
+#[derive(Clone, Copy)]
+pub(crate) enum Silence {
+    /// There is no daemon to ask.
+    NoneToAsk(Absence),
+    /// The folder holds no state that can be read.
+    Unread,
+}
+
+/// How a daemon fares, by its state.
+#[derive(Clone, Copy)]
+pub(crate) enum Health {
+    /// All is well.
+    Fine,
+    /// A run is late, or a stamp couldn't be written.
+    Faulty,
+    /// The state is too old.
+    Old,
+}
+
+impl Silence {
+    /// What is said of it, in front of the folder's path.
+    fn text(self) -> &'static str
+        ensures { result.now ≡ in_front_of_none self }
+    {
+        match self {
+            Silence::NoneToAsk(absence) => absence.text(),
+            Silence::Unread => "can't read the state in ",
+        }
+    }
+
+    fn status(self) -> Status
+        ensures { status_of result ≡ silence_status self }
+    {
+        match self {
+            Silence::NoneToAsk(absence) => absence.status(),
+            Silence::Unread => Status::DeviceFailed,
+        }
+    }
+
+    /// What is answered.
+    fn response(self, alloc: Global, folder: &str) -> Result<Response, AllocError>
+        ensures { IfOk result (λ r. r ≡ untold self folder.now) }
+    {
+        fault_response(alloc, self.status(), self.text(), folder)
+    }
+}
+
+/// The state of the daemon that uses a folder.
+fn look<R: Files<File = File>>(rt: &R, alloc: Global, folder: &str) -> Result<Vec<u8>, Silence> {
+    if let Err(absence) = find_daemon(rt, alloc, folder) {
+        return Err(Silence::NoneToAsk(absence));
+    }
+    let Ok(file) = ToldFile::state(alloc, folder) else {
+        return Err(Silence::Unread);
+    };
+    file.read(rt, alloc).map_err(|_| Silence::Unread)
+}
+
+/// How a daemon fares by this machine's clock. Where that can't be read, no state is old.
+fn health_of<R: Clock>(rt: &R, report: &Report) -> Health {
+    match unix_seconds(rt) {
+        Some(now) if report.is_old(now) => Health::Old,
+        _ if report.has_fault() => Health::Faulty,
+        _ => Health::Fine,
+    }
+}
+
+/// What is said of a state that is too old.
+#[tactic(auto, unfolding(cs_files::specs::Response::complaint))]
+fn complaint_of_age(alloc: Global, folder: &str) -> Result<Bytes, AllocError>
+    ensures { IfOk result (λ told. told ≡ complaint (in_front_of_old ++ folder.now)) }
+{
+    let mut told = Vec::from_slice(alloc, b"cronsafe: ".as_slice())?;
+    told.extend_from_slice(b"no state of the last two minutes in ")?;
+    told.extend_from_slice(folder.as_bytes())?;
+    told.extend_from_slice(b"\n")?;
+    Ok(Bytes::from_vec(told))
+}
+
+/// What is answered where a state is told.
+fn told_response(
+    alloc: Global,
+    health: Health,
+    text: Vec<u8>,
+    folder: &str,
+) -> Result<Response, AllocError>
+    ensures { IfOk result (λ r. r ≡ told_as health text.items folder.now) }
+{
+    match health {
+        Health::Fine => Ok(Response::told(Status::Done, text, Bytes::new(alloc))),
+        Health::Faulty => Ok(Response::told(Status::Refused, text, Bytes::new(alloc))),
+        Health::Old => {
+            let told = complaint_of_age(alloc, folder)?;
+            Ok(Response::told(Status::Unknown, text, told))
+        }
+    }
+}
+
+/// The text of a state: as it is, or for people.
+fn text_of(
+    alloc: Global,
+    is_json: bool,
+    state: Vec<u8>,
+    report: &Report,
+) -> Result<Vec<u8>, AllocError> {
+    if is_json {
+        Ok(state)
+    } else {
+        report.text(alloc)
+    }
+}
+
+/// What is answered to a state that was read.
+fn respond_to<R: Clock>(
+    rt: &R,
+    alloc: Global,
+    words: StatusWords<'_>,
+    state: Vec<u8>,
+) -> Result<Response, AllocError>
+    ensures { IfOk result (IsAnswer words.entry.stamps.now) }
+{
+    let report = match read_report(alloc, state.as_slice()) {
+        Ok(report) => report,
+        Err(Misread::Memory) => return Err(AllocError),
+        Err(Misread::Fault(_)) => return Silence::Unread.response(alloc, words.stamps),
+    };
+    let text = text_of(alloc, words.json, state, &report)?;
+    told_response(alloc, health_of(rt, &report), text, words.stamps)
+}
+
+/// What is answered to the words of `status`.
+fn answer_status<R: Files<File = File> + Clock>(
+    rt: &R,
+    alloc: Global,
+    words: StatusWords<'_>,
+) -> Result<Response, AllocError>
+    ensures { IfOk result (IsAnswer words.entry.stamps.now) }
+{
+    match look(rt, alloc, words.stamps) {
+        Ok(state) => respond_to(rt, alloc, words, state),
+        Err(silence) => silence.response(alloc, words.stamps),
+    }
+}
+
+/// Tells what the daemon of a folder of stamps does, and gives the status: 0 all is well, 1 a run is
+/// late or a stamp couldn't be written, 2 no daemon uses the folder or the state is too old, 5 want of
+/// memory, 6 the folder or the state in it can't be used.
+pub fn tell_status<R: Files<File = File> + Clock, O: Output, E: Output>(
+    rt: &R,
+    alloc: Global,
+    words: StatusWords<'_>,
+    out: &mut O,
+    err: &mut E,
+) -> Status
+    ensures { Tells words.entry.stamps.now
+        (sink (O.contents out.old) (O.failed out.old))
+        (sink (O.contents out.new) (O.failed out.new))
+        (sink (E.contents err.old) (E.failed err.old))
+        (sink (E.contents err.new) (E.failed err.new))
+        (status_of result) }
+{
+    match answer_status(rt, alloc, words) {
+        Ok(response) => finish(&response, out, err),
+        Err(AllocError) => run_out(err),
+    }
+}

@@ -1,0 +1,121 @@
+use crate::gains::MINUTES_OF_DAY;
+use crate::lock::{Lock, MOST_REACH, locks};
+use crate::nodes::classing;
+use crate::reaches::Longest;
+use cs_plan::Plan;
+use cs_profile::{Classing, Facts, Task};
+use cs_windows::JobReach;
+use std::alloc::{AllocError, Global};
+
+/// Bounds on what waits for the locks of groups, and the reaches that they give the jobs that wait.
+#[derive(Debug, Drop)]
+pub struct Bounds {
+    /// The reach of each job that waits, by number.
+    pub reaches: Vec<JobReach>,
+    /// Classes of days, with the bounds of each group that a job waits for.
+    pub classing: Classing,
+}
+
+/// For how long runs of a job may go on.
+fn longest_of(locks: &[Lock], job: usize) -> Longest {
+    let mut longest = Longest::NONE;
+    for lock in locks {
+        if let Some(other) = lock.longest.get(job) {
+            longest = longest.or(*other);
+        }
+    }
+    longest
+}
+
+/// Whether a job of the crontab is due on any day.
+fn is_ever_due(facts: &Facts, job: usize) -> bool {
+    facts.due().iter().any(|due| due
+        .as_slice()
+        .iter()
+        .any(|other| usize::from(*other) == job))
+}
+
+/// When the last window of a job ends, counted from the start of the day on which it begins.
+fn end_of(plan: &Plan, facts: &Facts, locks: &[Lock], job: usize, task: &Task) -> u32 {
+    if !task.is_cron {
+        return u32::from(plan.hours().to())
+            .saturating_add(u32::from(task.max))
+            .saturating_sub(1);
+    }
+    let Some(minute) = task.minutes.last() else {
+        return 0;
+    };
+    if !is_ever_due(facts, job) {
+        return 0;
+    }
+    let lasts = if task.mode.waits() {
+        longest_of(locks, job).reach
+    } else {
+        u32::from(task.max)
+    };
+    lasts.saturating_add(u32::from(*minute))
+}
+
+/// When the last window of all jobs ends, counted in the same way.
+fn latest_end(plan: &Plan, facts: &Facts, locks: &[Lock]) -> u32 {
+    let mut latest = 0;
+    for (job, task) in facts.tasks().iter().enumerate() {
+        latest = end_of(plan, facts, locks, job, task).max(latest);
+    }
+    latest
+}
+
+/// The reach of a job, where the last window of all ends at this minute. By so many days, two at least, are stretches looked
+/// through, but not for a minute past the last of them: what is free only then needs a day more, and so a minute more.
+fn reach_by(longest: Longest, latest: u32) -> u32 {
+    let is_past = latest > MINUTES_OF_DAY && latest % MINUTES_OF_DAY == 0 && longest.end == latest;
+    longest.reach.max(1).saturating_add(u32::from(is_past))
+}
+
+/// The reach of each job that waits. `None` where one is over three days.
+fn reaches(
+    alloc: Global,
+    plan: &Plan,
+    facts: &Facts,
+    locks: &[Lock],
+) -> Result<Option<Vec<JobReach>>, AllocError> {
+    let latest = latest_end(plan, facts, locks);
+    let mut reaches = Vec::new(alloc);
+    for (job, task) in facts.tasks().iter().enumerate() {
+        if task.is_cron && task.mode.waits() {
+            let reach = reach_by(longest_of(locks, job), latest);
+            if reach > MOST_REACH {
+                return Ok(None);
+            }
+            reaches.push(JobReach {
+                job: u16::try_from(job).unwrap_or(u16::MAX),
+                reach: u16::try_from(reach).unwrap_or(u16::MAX),
+            })?;
+        }
+    }
+    Ok(Some(reaches))
+}
+
+/// The least bounds on what waits for the locks of groups, over all days, and the least reaches that they give the jobs that
+/// wait: a run waits at most until all that is due up to then has had the lock, each for its longest time. Classes are days of
+/// one profile where no reach is longer for it, else those too at whose start as much is left of the days before. Where no job
+/// waits, they are the profiles, and there is no reach.
+///
+/// `None` where there are none: more is due than the lock has time for, or a run may wait for more than 4,320 minutes. The only
+/// error is want of memory.
+pub fn least_bounds(
+    alloc: Global,
+    plan: &Plan,
+    facts: &Facts,
+) -> Result<Option<Bounds>, AllocError> {
+    let Some(locks) = locks(alloc, facts)? else {
+        return Ok(None);
+    };
+    let Some(reaches) = reaches(alloc, plan, facts, locks.as_slice())? else {
+        return Ok(None);
+    };
+    Ok(Some(Bounds {
+        reaches,
+        classing: classing(alloc, facts, locks.as_slice())?,
+    }))
+}

@@ -1,0 +1,93 @@
+use Rattle.std.proofs.Common.{◌≡◌, ◌++◌, Ok, Err, Some, option_map, subst}
+use Rattle.std.proofs.lemmas.Result.{IfErr-weaker, IfOk-weaker}
+use Rattle.cs_args.specs.Asked.{asked_chart}
+use Rattle.cs_chart.specs.Answer.{Charts}
+use Rattle.cs_files.specs.Reads.{ReadsTables}
+use Rattle.cs_files.specs.Trouble.{CameTo, ends, trouble}
+use Rattle.cs_files.proofs.TroubleLemmas.{answered, answered_fault, answered_stop, honest_answer, honest_fault, moved}
+use Rattle.cs_io.specs.Files.{Failed}
+use Rattle.cs_files.specs.Turn.{some_path, table_paths}
+use Rattle.cs_files.proofs.WarnedLemmas.{behind_warned}
+use Rattle.cs_files.proofs.TurnLemmas.{some_read, then_read}
+use Rattle.cs_chart.proofs.answer.chart_tables.Goals as goal
+
+pub returns-in-Ok-drawn-clause-value : goal.returns-in-Ok-drawn-clause-value
+returns-in-Ok-drawn-clause-value g c = λ fresh.
+    let files = g.I.Inputs.whole c.args.inputs.now in
+    let before = g.I.Inputs.failed c.args.inputs.now in
+    let after = g.I.Inputs.failed c.drawn.new.inputs in
+    let a = asked_chart c.args.request.now in
+    let both = c.in-Ok.found.0 in
+    let one = subst (λ (f : Failed). ReadsTables files a.day.table a.day.anacrontab before f (Ok both)) c.in-Ok.ensures.works (c.in-Ok.ensures.step fresh) in
+    let other = moved (λ w f. Charts c.args.question a.days w a.declarations both f after (Ok c.in-Ok-drawn.answer)) (g.I.Inputs.whole c.read_placed_tables.new.inputs) files (g.I.Inputs.failed c.read_placed_tables.new.inputs) before c.read_placed_tables.ensures.whole c.in-Ok.ensures.works (c.in-Ok-drawn.ensures.step (c.in-Ok.ensures.fresh fresh)) in
+    IfOk-weaker c.behind.result _ _ (λ r is. answered (ReadsTables files a.day.table a.day.anacrontab) (λ b. Charts c.args.question a.days files a.declarations b) before after both c.in_ok-warnings.warnings c.in-Ok-drawn.answer r one c.in_ok-warnings.ensures other is) c.behind.ensures.told
+
+pub returns-clause-value : goal.returns-clause-value
+returns-clause-value g c = λ fresh.
+    let files = g.I.Inputs.whole c.args.inputs.now in
+    let before = g.I.Inputs.failed c.args.inputs.now in
+    let after = g.I.Inputs.failed c.drawn.new.inputs in
+    let a = asked_chart c.args.request.now in
+    let both = c.in-Ok.found.0 in
+    let fault = c.in-Err-drawn.fault in
+    let one = subst (λ (f : Failed). ReadsTables files a.day.table a.day.anacrontab before f (Ok both)) c.in-Ok.ensures.works (c.in-Ok.ensures.step fresh) in
+    let other = moved (λ w f. CameTo (Charts c.args.question a.days w a.declarations both f after) (Err fault)) (g.I.Inputs.whole c.read_placed_tables.new.inputs) files (g.I.Inputs.failed c.read_placed_tables.new.inputs) before c.read_placed_tables.ensures.whole c.in-Ok.ensures.works (c.in-Err-drawn.ensures.step (c.in-Ok.ensures.fresh fresh)) in
+    IfOk-weaker c.response_behind.result _ _ (λ r is. answered_fault (ReadsTables files a.day.table a.day.anacrontab) (λ b. Charts c.args.question a.days files a.declarations b) before after both c.in_ok-warnings.warnings fault r one c.in_ok-warnings.ensures other is) c.response_behind.ensures.told
+
+pub returns-in_err-response-in-Err-clause-turn : goal.returns-in_err-response-in-Err-clause-turn
+returns-in_err-response-in-Err-clause-turn g c =
+    let a = asked_chart c.args.request.now in
+    some_read (table_paths a.day.table a.day.anacrontab) (some_path a.declarations) (g.I.Inputs.reads c.args.inputs.now) (g.I.Inputs.reads c.read_placed_tables.new.inputs) c.read_placed_tables.ensures.turn
+
+pub returns-in-Err-clause-turn : goal.returns-in-Err-clause-turn
+returns-in-Err-clause-turn g c =
+    let a = asked_chart c.args.request.now in
+    some_read (table_paths a.day.table a.day.anacrontab) (some_path a.declarations) (g.I.Inputs.reads c.args.inputs.now) (g.I.Inputs.reads c.read_placed_tables.new.inputs) c.read_placed_tables.ensures.turn
+
+pub returns-in_err-warnings-clause-turn : goal.returns-in_err-warnings-clause-turn
+returns-in_err-warnings-clause-turn g c =
+    let a = asked_chart c.args.request.now in
+    some_read (table_paths a.day.table a.day.anacrontab) (some_path a.declarations) (g.I.Inputs.reads c.args.inputs.now) (g.I.Inputs.reads c.read_placed_tables.new.inputs) c.read_placed_tables.ensures.turn
+
+pub returns-in-Ok-drawn-clause-turn : goal.returns-in-Ok-drawn-clause-turn
+returns-in-Ok-drawn-clause-turn g c =
+    let a = asked_chart c.args.request.now in
+    then_read (table_paths a.day.table a.day.anacrontab) (some_path a.declarations) (g.I.Inputs.reads c.args.inputs.now) (g.I.Inputs.reads c.read_placed_tables.new.inputs) (g.I.Inputs.reads c.drawn.new.inputs) c.read_placed_tables.ensures.turn (c.drawn.ensures.turn)
+
+pub returns-clause-turn : goal.returns-clause-turn
+returns-clause-turn g c =
+    let a = asked_chart c.args.request.now in
+    then_read (table_paths a.day.table a.day.anacrontab) (some_path a.declarations) (g.I.Inputs.reads c.args.inputs.now) (g.I.Inputs.reads c.read_placed_tables.new.inputs) (g.I.Inputs.reads c.drawn.new.inputs) c.read_placed_tables.ensures.turn (c.drawn.ensures.turn)
+
+pub returns-in-Ok-drawn-clause-warned : goal.returns-in-Ok-drawn-clause-warned
+returns-in-Ok-drawn-clause-warned g c = λ fresh.
+    let a = asked_chart c.args.request.now in
+    IfErr-weaker c.behind.result _ _ (λ e is. behind_warned (g.I.Inputs.whole c.args.inputs.now) a.day.table a.day.anacrontab (g.I.Inputs.failed c.args.inputs.now) (g.I.Inputs.failed c.read_placed_tables.new.inputs)
+    (g.I.Inputs.reads c.args.inputs.now) (g.I.Inputs.reads c.drawn.new.inputs) c.in-Ok.found.0 c.in_ok-warnings.warnings e.warnings is (c.in-Ok.ensures.step fresh) c.in-Ok.ensures.works c.in_ok-warnings.ensures) c.behind.ensures.warned
+
+pub returns-clause-warned : goal.returns-clause-warned
+returns-clause-warned g c = λ fresh.
+    let a = asked_chart c.args.request.now in
+    IfErr-weaker c.response_behind.result _ _ (λ e is. behind_warned (g.I.Inputs.whole c.args.inputs.now) a.day.table a.day.anacrontab (g.I.Inputs.failed c.args.inputs.now) (g.I.Inputs.failed c.read_placed_tables.new.inputs)
+    (g.I.Inputs.reads c.args.inputs.now) (g.I.Inputs.reads c.drawn.new.inputs) c.in-Ok.found.0 c.in_ok-warnings.warnings e.warnings is (c.in-Ok.ensures.step fresh) c.in-Ok.ensures.works c.in_ok-warnings.ensures) c.response_behind.ensures.warned
+
+pub returns-in-Ok-drawn-clause-status : goal.returns-in-Ok-drawn-clause-status
+returns-in-Ok-drawn-clause-status g c = IfOk-weaker c.behind.result _ _ (λ r is. honest_answer (g.I.Inputs.failed c.drawn.new.inputs) (g.I.Inputs.reads c.drawn.new.inputs) c.in-Ok-drawn.answer r (c.in_ok-warnings.warnings ++ c.in-Ok-drawn.answer.err) c.in-Ok-drawn.ensures.done is) c.behind.ensures.told
+
+pub returns-clause-status : goal.returns-clause-status
+returns-clause-status g c = IfOk-weaker c.response_behind.result _ _ (λ r is. honest_fault (g.I.Inputs.failed c.drawn.new.inputs) (g.I.Inputs.reads c.drawn.new.inputs) c.in_ok-warnings.warnings c.in-Err-drawn.fault r c.in-Err-drawn.ensures.status is) c.response_behind.ensures.told
+
+pub returns-in-Err-clause-value : goal.returns-in-Err-clause-value
+returns-in-Err-clause-value g c = λ fresh.
+    let files = g.I.Inputs.whole c.args.inputs.now in
+    let before = g.I.Inputs.failed c.args.inputs.now in
+    let after = g.I.Inputs.failed c.read_placed_tables.new.inputs in
+    let a = asked_chart c.args.request.now in
+    let fault = c.in-Err.fault in
+    let r = c.in_ok-response-in-Err.field-0 in
+    answered_stop (ReadsTables files a.day.table a.day.anacrontab) (λ b. Charts c.args.question a.days files a.declarations b) before after fault r (c.in-Err.ensures.step fresh)
+    (subst (λ v. option_map (ends v) (trouble fault) ≡ Some r) c.as_slice.ensures c.in_ok-response-in-Err.ensures)
+
+pub returns-in-Err-clause-status : goal.returns-in-Err-clause-status
+returns-in-Err-clause-status g c =
+    honest_fault (g.I.Inputs.failed c.read_placed_tables.new.inputs) (g.I.Inputs.reads c.read_placed_tables.new.inputs) c.as_slice.result.now c.in-Err.fault c.in_ok-response-in-Err.field-0 c.in-Err.ensures.status c.in_ok-response-in-Err.ensures

@@ -1,0 +1,15 @@
+use Rattle.std.proofs.Common.{◌≡◌, ◌≤◌, length, take, drop, ◌++◌, ◌-◌}
+use Rattle.cs_table.specs.Text.{after, front}
+use Rattle.cs_command.specs.RunParts.{is_inner}
+use Rattle.cs_command.proofs.running.inner_word.Given as goal
+
+abbrev pub invariant-loop-len : goal.invariant-loop-len
+invariant-loop-len l =
+    record {
+      within : l.len ≤ length l.text;
+      front : take l.len l.text ++ front is_inner (drop l.len l.text) ≡ front is_inner l.text;
+      after : after is_inner (drop l.len l.text) ≡ after is_inner l.text;
+    }
+
+abbrev pub decreases-loop-len : goal.decreases-loop-len
+decreases-loop-len l = length l.text - l.len

@@ -1,0 +1,4 @@
+pub mod Locks
+pub mod Timeouts
+pub mod Words
+pub mod RunParts

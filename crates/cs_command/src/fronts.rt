@@ -1,0 +1,124 @@
+//! What may stand before a plain call of flock(1) or timeout(1): settings, guards, nice(1) and
+//! ionice(1).
+ghost use Rattle.std.specs.Prelude.{◌≡◌, option_map};
+ghost use Rattle.cs_table.specs.Text.{after, begins_with};
+ghost use Rattle.cs_command.specs.Words.{behind_front, behind_guard, behind_nice_option, is_setting};
+ghost use Rattle.cs_command.specs.Words.{behind_all, is_name_byte};
+
+use crate::words::{
+    behind_plain, behind_this, behind_word, behind_words, first_word, is_name_byte, is_one_of,
+};
+
+/// What stands behind the bytes of a name.
+#[tactic(auto, unfolding(cs_table::specs::Text::after))]
+fn behind_name(text: &[u8]) -> &[u8]
+    ensures { result.now ≡ after is_name_byte text.now }
+{
+    let mut rest = text;
+    while let [first, others @ ..] = rest {
+        if !is_name_byte(*first) {
+            return rest;
+        }
+        rest = others;
+    }
+    rest
+}
+
+pub(crate) fn begins_with(byte: u8, text: &[u8]) -> bool
+    ensures { result ≡ begins_with byte text.now }
+{
+    match text {
+        [first, ..] => *first == byte,
+        [] => false,
+    }
+}
+
+/// Whether the word begins as `NAME=`.
+#[tactic(auto, unfolding(crate::specs::Words::is_setting))]
+pub(crate) fn is_setting(word: &[u8]) -> bool
+    ensures { result ≡ is_setting word.now }
+{
+    match word {
+        [first, others @ ..] => {
+            is_name_byte(*first)
+                && !first.is_ascii_digit()
+                && begins_with(b'=', behind_name(others))
+        }
+        [] => false,
+    }
+}
+
+/// What stands behind `[ WORDS ] &&`, `test WORDS &&` or `cd WORDS &&`.
+#[tactic(auto, unfolding(crate::specs::Words::behind_guard))]
+fn behind_guard(text: &[u8]) -> Option<&[u8]>
+    ensures { option_map (λ rest. rest.now) result ≡ behind_guard text.now }
+{
+    let first = first_word(text);
+    if first == b"[".as_slice() {
+        return behind_this(b"&&", behind_this(b"]", behind_words(behind_word(text)))?);
+    }
+    if is_one_of(b"test cd", first) {
+        return behind_this(b"&&", behind_words(behind_word(text)));
+    }
+    None
+}
+
+/// What stands behind an option of nice(1) or ionice(1), and its value.
+#[tactic(auto, unfolding(crate::specs::Words::behind_nice_option))]
+fn behind_nice_option(text: &[u8]) -> Option<&[u8]>
+    ensures { option_map (λ rest. rest.now) result ≡ behind_nice_option text.now }
+{
+    if !begins_with(b'-', text) {
+        return None;
+    }
+    if is_one_of(b"-n -c --adjustment --class --classdata", first_word(text)) {
+        return behind_plain(behind_word(text));
+    }
+    behind_plain(text)
+}
+
+/// What stands behind all such options.
+#[tactic(auto, unfolding(crate::specs::Words::passed))]
+fn behind_nice_options(text: &[u8]) -> &[u8]
+    ensures { result.now ≡ behind_all behind_nice_option text.now }
+{
+    let mut rest = text;
+    for _ in 0..text.len() {
+        match behind_nice_option(rest) {
+            Some(behind) => rest = behind,
+            None => return rest,
+        }
+    }
+    rest
+}
+
+/// What stands behind a setting, a guard, or a call of nice(1) or ionice(1).
+#[tactic(auto, unfolding(crate::specs::Words::behind_front))]
+fn behind_front(text: &[u8]) -> Option<&[u8]>
+    ensures { option_map (λ rest. rest.now) result ≡ behind_front text.now }
+{
+    let first = first_word(text);
+    if is_setting(first) {
+        return behind_plain(text);
+    }
+    let nice = b"nice /bin/nice /usr/bin/nice ionice /bin/ionice /usr/bin/ionice";
+    if is_one_of(nice, first) {
+        return Some(behind_nice_options(behind_word(text)));
+    }
+    behind_guard(text)
+}
+
+/// What stands behind all of them.
+#[tactic(auto, unfolding(crate::specs::Words::passed))]
+pub(crate) fn behind_fronts(text: &[u8]) -> &[u8]
+    ensures { result.now ≡ behind_all behind_front text.now }
+{
+    let mut rest = text;
+    for _ in 0..text.len() {
+        match behind_front(rest) {
+            Some(behind) => rest = behind,
+            None => return rest,
+        }
+    }
+    rest
+}

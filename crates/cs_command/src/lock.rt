@@ -1,0 +1,85 @@
+//! The lock that a command of a crontab holds.
+ghost use Rattle.std.specs.Prelude.{◌≡◌, IfOk, option_map};
+ghost use Rattle.cs_crontab.specs.Command.{parts_from, pieces_of};
+ghost use Rattle.cs_command.specs.Locks.{IsLock, alone, call_in, lock_of, real_path};
+
+use crate::flock::call_in;
+use crate::named::names_lock;
+use crate::paths::{behind_var, is_below};
+use cs_civil::Bytes;
+use cs_crontab::command_parts;
+use cs_history::Mode;
+use std::alloc::{AllocError, Global};
+
+/// Whether a command holds a lock as long as it runs.
+#[derive(Drop)]
+pub enum Lock {
+    /// It names no program that locks files.
+    Absent,
+    /// It holds the lock of the file, in that mode.
+    Of(Bytes, Mode),
+    /// It names one, in a text that isn't read as a plain lock.
+    Unread,
+}
+
+/// The text that the shell is given for the command, where that has no input.
+fn shell_text(alloc: Global, command: &[u8]) -> Result<Option<Bytes>, AllocError>
+    ensures { IfOk result (λ text. text ≡ alone (parts_from (pieces_of command.now))) }
+{
+    let (text, input) = command_parts(alloc, command)?;
+    match input {
+        None => Ok(Some(text)),
+        Some(_) => Ok(None),
+    }
+}
+
+/// The one path of the file.
+#[tactic(auto, unfolding(crate::specs::Locks::real_path))]
+fn real_path(alloc: Global, path: &[u8]) -> Result<Vec<u8>, AllocError>
+    ensures { IfOk result (λ file. file.items ≡ real_path path.now) }
+{
+    let mut file = Vec::new(alloc);
+    if is_below(b"/var/lock/", path) {
+        file.extend_from_slice(b"/run".as_slice())?;
+    }
+    file.extend_from_slice(behind_var(path))?;
+    Ok(file)
+}
+
+/// The lock of a plain call in the text.
+fn lock_in(alloc: Global, text: &[u8]) -> Result<Option<(Bytes, Mode)>, AllocError>
+    ensures { IfOk result (λ lock. lock
+        ≡ option_map (λ call. (real_path call.0.0, call.0.1)) (call_in text.now)) }
+{
+    match call_in(text) {
+        Some(((path, mode), _)) => {
+            let file = real_path(alloc, path)?;
+            Ok(Some((Bytes::from_vec(file), mode)))
+        }
+        None => Ok(None),
+    }
+}
+
+/// The lock of the command.
+pub fn own_lock(alloc: Global, command: &[u8]) -> Result<Option<(Bytes, Mode)>, AllocError>
+    ensures { IfOk result (λ lock. lock ≡ lock_of command.now) }
+{
+    match shell_text(alloc, command)? {
+        Some(text) => lock_in(alloc, text.as_slice()),
+        None => Ok(None),
+    }
+}
+
+/// The lock that the command holds as long as it runs, or none. The only error is want of memory.
+pub fn lock_of(alloc: Global, command: &[u8]) -> Result<Lock, AllocError>
+    ensures { IfOk result (IsLock command.now) }
+{
+    if let Some((file, mode)) = own_lock(alloc, command)? {
+        return Ok(Lock::Of(file, mode));
+    }
+    if names_lock(command) {
+        Ok(Lock::Unread)
+    } else {
+        Ok(Lock::Absent)
+    }
+}

@@ -1,0 +1,85 @@
+//! What a command is named after: its program, by a looser reading than that of locks.
+use crate::fronts::{begins_with, is_setting};
+use crate::words::{behind_word, first_word, is_one_of};
+
+/// Whether there is a word, which a shell takes as it stands.
+fn is_unsigned(word: &[u8]) -> bool {
+    let signs = b"\"'\\`;&|()<>#%".as_slice();
+    !word.is_empty() && !word.iter().any(|byte| signs.contains(byte))
+}
+
+/// What stands behind options and numbers, such as those of nice(1), ionice(1) and flock(1).
+fn behind_options(text: &[u8]) -> &[u8] {
+    let mut rest = text;
+    for _ in 0..text.len() {
+        let first = first_word(rest);
+        let behind = behind_word(rest);
+        if is_one_of(b"-c --class", first) {
+            rest = behind_word(behind);
+        } else if begins_with(b'-', first) || first.iter().all(|byte| byte.is_ascii_digit()) {
+            rest = behind;
+        } else {
+            return rest;
+        }
+    }
+    rest
+}
+
+/// What stands behind plain words and `&&`.
+fn behind_guard(text: &[u8]) -> Option<&[u8]> {
+    let mut rest = text;
+    for _ in 0..text.len() {
+        let first = first_word(rest);
+        if first == b"&&".as_slice() {
+            return Some(behind_word(rest));
+        }
+        if !is_unsigned(first) {
+            return None;
+        }
+        rest = behind_word(rest);
+    }
+    None
+}
+
+/// What stands behind words that only prepare a run: a setting, `nice` or `ionice`, `flock` and its
+/// file, and `cd`, `test` or `[` up to `&&`.
+fn behind_front(text: &[u8]) -> Option<&[u8]> {
+    let first = first_word(text);
+    let rest = behind_word(text);
+    if !is_unsigned(first) {
+        None
+    } else if is_setting(first) {
+        Some(rest)
+    } else if is_one_of(b"cd test [", first) {
+        behind_guard(rest)
+    } else if is_one_of(b"nice /usr/bin/nice ionice /usr/bin/ionice", first) {
+        Some(behind_options(rest))
+    } else if is_one_of(b"flock /usr/bin/flock", first) {
+        let file = behind_options(rest);
+        if is_unsigned(first_word(file)) {
+            Some(behind_word(file))
+        } else {
+            None
+        }
+    } else {
+        None
+    }
+}
+
+/// The program that a command runs, and its words, behind what only prepares its run; the whole command
+/// where a program that is no plain word stands there.
+pub fn program_text(command: &[u8]) -> &[u8] {
+    let mut rest = command;
+    for _ in 0..command.len() {
+        match behind_front(rest) {
+            Some(behind) => rest = behind,
+            None => break,
+        }
+    }
+    let first = first_word(rest);
+    if is_unsigned(first) && !begins_with(b'-', first) {
+        rest
+    } else {
+        command
+    }
+}

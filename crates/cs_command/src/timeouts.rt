@@ -1,0 +1,159 @@
+//! How long a command may run at most, as timeout(1) ends it.
+ghost use Rattle.std.specs.Prelude.{◌≡◌, ◌==◌, option_map};
+ghost use Rattle.std.specs.List.{list_any};
+ghost use Rattle.cs_command.specs.Timeouts.{asked_for, behind_signal, kill_at, limit_at, limit_for};
+ghost use Rattle.cs_command.specs.Timeouts.{limit_in, limit_of, program_of, run_in, time_limit};
+
+use crate::durations::seconds_of;
+use crate::flock::{call_in, is_program};
+use crate::fronts::behind_fronts;
+use crate::named::{Kind, count_of, is_own, names_lock};
+use crate::words::{behind_word, first_word, is_one_of, word_at};
+use cs_plan::MAX_MINUTES;
+
+// ---- one call of timeout(1)
+
+/// What stands behind `-s` and such a signal, if they are there.
+#[tactic(auto, unfolding(crate::specs::Timeouts::behind_signal))]
+fn behind_signal(text: &[u8]) -> &[u8]
+    ensures { result.now ≡ behind_signal text.now }
+{
+    let behind = behind_word(text);
+    if first_word(text) == b"-s".as_slice() && is_one_of(b"TERM INT KILL", first_word(behind)) {
+        return behind_word(behind);
+    }
+    text
+}
+
+/// The seconds to the signal KILL, which are 0 where none are told, and what stands behind them.
+fn kill_at(text: &[u8]) -> (Option<u32>, &[u8])
+    ensures seconds { result.0 ≡ (kill_at text.now).0 }
+    ensures behind { result.1.now ≡ (kill_at text.now).1 }
+{
+    if first_word(text) == b"-k".as_slice() {
+        let time = behind_word(text);
+        return (seconds_of(first_word(time)), behind_word(time));
+    }
+    (Some(0), text)
+}
+
+/// The minutes of both, rounded up, and one more, or two for a run that waits; none where there is
+/// no limit.
+#[tactic(auto, unfolding(crate::specs::Timeouts::limit_for))]
+fn limit_for(waits: bool, seconds: Option<u32>, kill: Option<u32>) -> Option<u64>
+    ensures { result ≡ limit_for waits seconds kill }
+{
+    let more = if waits { 2 } else { 1 };
+    match (seconds, kill) {
+        (Some(seconds), Some(kill)) if seconds != 0 => Some(
+            (u64::from(seconds) + u64::from(kill)).div_ceil(60) + more,
+        ),
+        _ => None,
+    }
+}
+
+/// The limit that the words behind `timeout` tell.
+#[tactic(auto, unfolding(crate::specs::Timeouts::limit_of))]
+fn limit_of(waits: bool, rest: &[u8]) -> Option<u64>
+    ensures { result ≡ limit_of waits rest.now }
+{
+    let (kill, behind) = kill_at(behind_signal(rest));
+    let duration = behind_signal(behind);
+    if !is_program(behind_word(duration)) || count_of(Kind::Leaves, rest) != 0 {
+        return None;
+    }
+    limit_for(waits, seconds_of(first_word(duration)), kill)
+}
+
+// ---- the command
+
+fn limit_at(waits: bool, text: &[u8]) -> Option<u64>
+    ensures { result ≡ limit_at (waits, text.now) }
+{
+    if is_one_of(b"timeout /bin/timeout /usr/bin/timeout", first_word(text)) {
+        limit_of(waits, behind_word(text))
+    } else {
+        None
+    }
+}
+
+fn has_percent(text: &[u8]) -> bool
+    ensures { result ≡ list_any (λ b. b == 37) text.now }
+{
+    text.contains(&b'%')
+}
+
+/// Whether the run waits for its lock, and what stands behind the lock's file; or what stands behind
+/// settings, guards and nice(1).
+#[tactic(auto, unfolding(crate::specs::Timeouts::run_in))]
+fn run_in(text: &[u8]) -> Option<(bool, &[u8])>
+    ensures { option_map (λ run. (run.0, run.1.now)) result ≡ run_in text.now }
+{
+    if has_percent(text) {
+        return None;
+    }
+    if !names_lock(text) {
+        return Some((false, behind_fronts(text)));
+    }
+    match call_in(text) {
+        Some(((_, mode), behind)) => Some((mode.waits(), behind)),
+        None => None,
+    }
+}
+
+/// The program that the command runs there, behind nice(1) again: none that runs another one, or a
+/// file of a folder that isn't told.
+pub fn program_of(command: &[u8]) -> Option<&[u8]>
+    ensures { option_map (λ word. word.now) result ≡ program_of command.now }
+{
+    let (_, behind) = run_in(command)?;
+    let behind = behind_fronts(behind);
+    let (word, _) = word_at(behind)?;
+    if is_program(behind) && is_own(word) && count_of(Kind::Limits, command) == 0 {
+        return Some(word);
+    }
+    None
+}
+
+/// The limit in minutes that the one timeout(1) of the text sets.
+#[tactic(auto, unfolding(crate::specs::Timeouts::limit_in))]
+pub fn limit_in(text: &[u8]) -> Option<u64>
+    ensures { result ≡ limit_in text.now }
+{
+    if count_of(Kind::Limits, text) != 1 {
+        return None;
+    }
+    match run_in(text) {
+        Some((waits, behind)) => limit_at(waits, behind),
+        None => None,
+    }
+}
+
+/// Returns the limit in minutes, at most 4,320, that timeout(1) sets to a command as its last runner.
+/// `None` where it sets none that can be declared.
+pub fn time_limit(command: &[u8]) -> Option<u64>
+    ensures { result ≡ time_limit command.now }
+{
+    match limit_in(command) {
+        Some(minutes) if minutes >= 1 && minutes <= u64::from(MAX_MINUTES) => Some(minutes),
+        _ => None,
+    }
+}
+
+/// The longest time of a run in minutes: the asked one, unless timeout(1) sets a limit.
+pub fn asked_for(asked: u64, command: &[u8]) -> u64
+    ensures { result ≡ asked_for asked command.now }
+{
+    time_limit(command).unwrap_or(asked)
+}
+
+/// Whether a program that the command runs under such a limit is ended by KILL.
+pub fn is_killed(command: &[u8]) -> bool {
+    let Some((_, behind)) = run_in(command) else {
+        return false;
+    };
+    let options = behind_word(behind);
+    let signal = first_word(behind_word(options));
+    !matches!(kill_at(behind_signal(options)).0, Some(0))
+        || first_word(options) == b"-s".as_slice() && signal == b"KILL".as_slice()
+}

@@ -1,0 +1,144 @@
+//! The words of a command that stand for themselves, for a shell (sh(1)) and for what it runs.
+ghost use Rattle.std.specs.Prelude.{◌≡◌, option_map};
+ghost use Rattle.std.specs.List.{list_all};
+ghost use Rattle.cs_table.specs.Text.{after, front};
+ghost use Rattle.cs_command.specs.Words.{behind_all, behind_one, behind_plain, behind_this, behind_word};
+ghost use Rattle.cs_command.specs.Words.{first_word, is_name_byte, is_one_of, is_plain_byte};
+ghost use Rattle.cs_command.specs.Words.{is_quoted_byte, quoted_at, word_at};
+
+use cs_table::text::{is_blank, skip_blanks, word};
+
+/// Whether the word is one of those in the list, which have a blank between them.
+pub(crate) fn is_one_of(list: &[u8], word: &[u8]) -> bool
+    ensures { result ≡ is_one_of list.now word.now }
+{
+    list.split(|byte| *byte == b' ').any(|known| known == word)
+}
+
+pub(crate) fn first_word(text: &[u8]) -> &[u8]
+    ensures { result.now ≡ first_word text.now }
+{
+    let (first, _) = word(text);
+    first
+}
+
+pub(crate) fn behind_word(text: &[u8]) -> &[u8]
+    ensures { result.now ≡ behind_word text.now }
+{
+    let (_, rest) = word(text);
+    skip_blanks(rest)
+}
+
+pub(crate) fn is_name_byte(byte: u8) -> bool
+    ensures { result ≡ is_name_byte byte }
+{
+    byte.is_ascii_alphanumeric() || byte == b'_'
+}
+
+/// Whether the byte stands for itself in a word.
+#[tactic(auto, unfolding(crate::specs::Words::is_plain_byte))]
+fn is_plain_byte(byte: u8) -> bool
+    ensures { result ≡ is_plain_byte byte }
+{
+    byte.is_ascii_alphanumeric() || b"_./:=@%+,-".as_slice().contains(&byte)
+}
+
+fn are_plain(word: &[u8]) -> bool
+    ensures { result ≡ list_all is_plain_byte word.now }
+{
+    word.iter().all(|byte| is_plain_byte(*byte))
+}
+
+/// What stands behind a plain word.
+#[tactic(auto, unfolding(crate::specs::Words::behind_plain))]
+pub(crate) fn behind_plain(text: &[u8]) -> Option<&[u8]>
+    ensures { option_map (λ rest. rest.now) result ≡ behind_plain text.now }
+{
+    let first = first_word(text);
+    if first.is_empty() || !are_plain(first) {
+        return None;
+    }
+    Some(behind_word(text))
+}
+
+/// What stands behind that word.
+pub(crate) fn behind_this<'t>(word: &[u8], text: &'t [u8]) -> Option<&'t [u8]>
+    ensures { option_map (λ rest. rest.now) result ≡ behind_this word.now text.now }
+{
+    if first_word(text) == word {
+        Some(behind_word(text))
+    } else {
+        None
+    }
+}
+
+/// Whether the byte stands for itself between quotes.
+#[tactic(auto, unfolding(crate::specs::Words::is_quoted_byte))]
+fn is_quoted_byte(byte: u8) -> bool
+    ensures { result ≡ is_quoted_byte byte }
+{
+    is_plain_byte(byte) || is_blank(byte)
+}
+
+/// The bytes at the front that stand for themselves between quotes, and what stands behind them.
+fn quoted(text: &[u8]) -> (&[u8], &[u8])
+    ensures word { result.0.now ≡ front is_quoted_byte text.now }
+    ensures rest { result.1.now ≡ after is_quoted_byte text.now }
+{
+    let mut len = 0;
+    while len < text.len() && is_quoted_byte(text[len]) {
+        len += 1;
+    }
+    text.split_at(len)
+}
+
+/// The word in quotes, of which the first stood before the text, and what stands behind it.
+fn quoted_at(quote: u8, text: &[u8]) -> Option<(&[u8], &[u8])>
+    ensures { option_map (λ word. (word.0.now, word.1.now)) result ≡ quoted_at quote text.now }
+{
+    let (word, rest) = quoted(text);
+    if first_word(rest) == [quote].as_slice() {
+        Some((word, behind_word(rest)))
+    } else {
+        None
+    }
+}
+
+/// The word at the front, plain or in quotes, and what stands behind it.
+#[tactic(auto, unfolding(crate::specs::Words::word_at))]
+pub(crate) fn word_at(text: &[u8]) -> Option<(&[u8], &[u8])>
+    ensures { option_map (λ word. (word.0.now, word.1.now)) result ≡ word_at text.now }
+{
+    match text {
+        [] => None,
+        [quote @ (b'\'' | b'"'), others @ ..] => quoted_at(*quote, others),
+        _ => match behind_plain(text) {
+            Some(rest) => Some((first_word(text), rest)),
+            None => None,
+        },
+    }
+}
+
+fn behind_one(text: &[u8]) -> Option<&[u8]>
+    ensures { option_map (λ rest. rest.now) result ≡ behind_one text.now }
+{
+    match word_at(text) {
+        Some((_, rest)) => Some(rest),
+        None => None,
+    }
+}
+
+/// What stands behind all such words.
+#[tactic(auto, unfolding(crate::specs::Words::passed))]
+pub(crate) fn behind_words(text: &[u8]) -> &[u8]
+    ensures { result.now ≡ behind_all behind_one text.now }
+{
+    let mut rest = text;
+    for _ in 0..text.len() {
+        match behind_one(rest) {
+            Some(behind) => rest = behind,
+            None => return rest,
+        }
+    }
+    rest
+}

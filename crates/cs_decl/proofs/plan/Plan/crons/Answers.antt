@@ -1,7 +1,0 @@
-use Rattle.std.proofs.Common.{◌≤◌, length, subst}
-use Rattle.cs_decl.specs.Plan.{Declared, crons}
-use Rattle.cs_decl.proofs.Plans.{within}
-use Rattle.cs_decl.proofs.plan.Plan.crons.Goals as goal
-
-pub returns-clause-within : goal.returns-clause-within
-returns-clause-within c = subst (λ (d : Declared). crons d ≤ length d.jobs) c.self.view_is (within _ c.self.invariant)

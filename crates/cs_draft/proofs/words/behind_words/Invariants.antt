@@ -1,6 +1,0 @@
-use Rattle.std.proofs.Common.{◌≡◌, ◌-◌, length}
-use Rattle.cs_draft.specs.Words.{behind_one, passed}
-use Rattle.cs_draft.proofs.words.behind_words.Given as goal
-
-abbrev pub invariant-loop : goal.invariant-loop
-invariant-loop l = passed behind_one (l.end - l.counter) l.rest ≡ passed behind_one (length l.text) l.text

@@ -1,6 +1,0 @@
-use Rattle.std.proofs.Common.{◌≡◌, ◌++◌, take, flat_map}
-use Rattle.cs_gather.specs.Gathered.{shown}
-use Rattle.cs_gather.proofs.comment.push_shown.Given as goal
-
-abbrev pub invariant-loop-byte : goal.invariant-loop-byte
-invariant-loop-byte l = l.text.items ≡ l.fn.text.items ++ flat_map shown (take l.byte-index l.bytes)

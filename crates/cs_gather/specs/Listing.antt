@@ -1,0 +1,70 @@
+-- What is found below a root folder, folder by folder.
+use Rattle.std.specs.Prelude.{◌≡◌, ◌++◌, ℕ, true, Contains, List, Option, Some, None, codes, option_map}
+use Rattle.std.specs.Borrow.{Bor}
+use Rattle.std.specs.Prelude.{string_bytes}
+use Rattle.clap.specs.Words.{Text}
+use Rattle.cs_io.specs.Files.{AreReadInTurn, Failed, Reads}
+use Rattle.cs_io.specs.Folders.{Tree}
+use Rattle.cs_place.specs.Places.{is_part_name}
+use Rattle.cs_files.specs.Trouble.{IsUnread, Trouble, Unread}
+use Rattle.cs_gather.specs.Tables.{Given, IsFileAt, IsIn, IsUserName, system_table, user_table}
+use Rattle.cs_gather.specs.declared.below.Shelf.{Shelf}
+use Rattle.cs_gather.specs.declared.below.Shelf.TheVariants.{CronD, Crontabs}
+use Rattle.cs_gather.specs.declared.below.Unlisted.{Unlisted}
+use Rattle.cs_gather.specs.declared.below.Unlisted.TheVariants.{CannotRead, OutOfMemory}
+
+-- where a folder of tables is, behind the front of paths below the root folder
+abbrev pub place_of : Shelf → Text
+place_of CronD = codes "/etc/cron.d/"
+place_of Crontabs = codes "/var/spool/cron/crontabs/"
+
+-- the name of a table in it
+abbrev pub HasName : Shelf → Text → Type 0
+HasName CronD name = is_part_name name ≡ true
+HasName Crontabs name = IsUserName name
+
+-- a table in a folder of tables
+abbrev pub given_in : Shelf → Text → Text → Given
+given_in CronD path name = system_table path
+given_in Crontabs path name = user_table path name
+
+-- the table of this name is found, if it is one of a file
+abbrev pub FindsNamed : Tree → Text → Shelf → List Given → Text → Type 0
+FindsNamed tree folder shelf found name = HasName shelf name → IsFileAt tree (folder ++ name)
+    → Contains found (given_in shelf (folder ++ name) name)
+
+-- and so of each name in a folder of tables
+abbrev pub FindsAllOn : Tree → Text → Shelf → List Given → Type 0
+FindsAllOn tree front shelf found = (name : Text) → IsIn tree (front ++ place_of shelf) name
+    → FindsNamed tree (front ++ place_of shelf) shelf found name
+
+-- a command with the number of its line, as the code has it
+abbrev pub numbered : ℕ × Bor Text → ℕ × Text
+numbered c = (c.0, c.1.now)
+
+-- a text that is asked, as the code has it
+abbrev pub asked : Option (Bor Text) → Option Text
+asked text = option_map (λ t. t.now) text
+
+-- all of these are among those
+abbrev pub AreAmong : List Given → List Given → Type 0
+AreAmong some all = (given : Given) → Contains some given → Contains all given
+
+-- the path that is told was unread
+abbrev pub IsUnlisted : Failed → Reads → Unlisted → Type 0
+IsUnlisted failed reads (CannotRead path reason) = IsUnread (string_bytes path) failed reads
+IsUnlisted failed reads OutOfMemory = Unit {0}
+
+-- a read of that path has failed
+abbrev pub HasFailed : Failed → Unlisted → Type 0
+HasFailed failed (CannotRead path reason) = failed (string_bytes path) ≡ true
+HasFailed failed OutOfMemory = Unit {0}
+
+-- why a call ends at a table, unless it is want of memory
+abbrev pub unlisted_trouble : Unlisted → Option Trouble
+unlisted_trouble (CannotRead path reason) = Some (Unread (string_bytes path) reason)
+unlisted_trouble OutOfMemory = None
+
+-- some paths were read, one after the other
+abbrev pub AreSomeRead : Reads → Reads → Type 0
+AreSomeRead old new = (paths : List Text) × AreReadInTurn paths old new

@@ -1,0 +1,90 @@
+-- Which tables `gather` is to read.
+use Rattle.std.specs.Prelude.{◌≡◌, ◌⊎◌, ◌==◌, All, Contains, true, false, List, [], ◌∷◌, ◌++◌, Option, Some, None, codes, map, nat_eq, ⊤}
+use Rattle.std.specs.List.{AllZip, list_any, starts_with}
+use Rattle.std.specs.Str.{IsUtf8}
+use Rattle.clap.specs.Words.{Text}
+use Rattle.cs_io.specs.Folders.{Tree}
+use Rattle.cs_io.specs.declared.folders.FileKind.{FileKind}
+use Rattle.cs_io.specs.declared.folders.FileKind.TheVariants.{Program, Regular}
+use Rattle.cs_place.specs.Places.{is_part_name}
+use Rattle.cs_args.specs.CommandLine.{AskedGather}
+
+-- a table to gather: its path, and whose it is, unless its lines name users
+pub record Given : Type 0 where
+  pub path : Text
+  pub user : Option Text
+
+abbrev pub system_table : Text → Given
+system_table path = record { path = path; user = None }
+
+abbrev pub user_table : Text → Text → Given
+user_table path user = record { path = path; user = Some user }
+
+-- ---- the tables that the words name
+
+-- what stands behind the last slash of a path, or all of it
+abbrev pub IsLastPart : Text → Text → Type 0
+IsLastPart path part = (list_any (λ byte. byte == 47) part ≡ false)
+    × ((path ≡ part) ⊎ ((before : Text) × (path ≡ before ++ (47 ∷ part))))
+
+-- a user's table, where the last part of its path is the user
+abbrev pub IsUserFile : Text → Given → Type 0
+IsUserFile path given = (user : Text) × IsLastPart path user × (given ≡ user_table path user)
+
+-- system tables, and then users' tables
+abbrev pub AreNamed : AskedGather → List Given → Type 0
+AreNamed a named = (users : List Given) × AllZip IsUserFile a.user users
+    × (named ≡ map system_table a.system ++ users)
+
+-- ---- the tables below a root folder
+
+-- paths below a folder begin so: with its own path, of which a slash at the end isn't doubled. A
+-- folder by the name of standard input is called `./-`.
+abbrev pub IsFront : Text → Text → Type 0
+IsFront root front = (root ≡ front ++ (47 ∷ [])) ⊎ ((root ≡ front)
+    ⊎ ((root ≡ codes "-") × (front ≡ codes "./-")))
+
+-- and so where a root folder is asked
+abbrev pub IsFrontAsked : Option Text → Option Text → Type 0
+IsFrontAsked None front = front ≡ None
+IsFrontAsked (Some root) front = (text : Text) × IsFront root text × (front ≡ Some text)
+
+-- the name of a user's table: a text without a dot at its front
+abbrev pub IsUserName : Text → Type 0
+IsUserName name = IsUtf8 name × (starts_with nat_eq name (46 ∷ []) ≡ false)
+
+-- the table of the machine, one in the folder of system tables, or one in that of users' tables,
+-- where this is so of the folder and the name
+abbrev pub IsTableBelow : Text → (Text → Text → Type 0) → Given → Type 0
+IsTableBelow front IsSo given =
+    (given ≡ system_table (front ++ codes "/etc/crontab"))
+    ⊎ (((name : Text) × (is_part_name name ≡ true) × IsSo (front ++ codes "/etc/cron.d/") name
+    × (given ≡ system_table ((front ++ codes "/etc/cron.d/") ++ name)))
+    ⊎ ((name : Text) × IsUserName name × IsSo (front ++ codes "/var/spool/cron/crontabs/") name
+    × (given ≡ user_table ((front ++ codes "/var/spool/cron/crontabs/") ++ name) name)))
+
+abbrev pub IsBelow : Text → Given → Type 0
+IsBelow front = IsTableBelow front (λ folder name. ⊤)
+
+-- a regular file, whoever may execute it; one without bytes has no table
+abbrev pub IsFile : Option FileKind → Type 0
+IsFile kind = (kind ≡ Some Regular) ⊎ (kind ≡ Some Program)
+
+abbrev pub IsFileAt : Tree → Text → Type 0
+IsFileAt tree path = (kind : Option FileKind) × (tree.kind path ≡ Some kind) × IsFile kind
+
+-- this name is in a folder
+abbrev pub IsIn : Tree → Text → Text → Type 0
+IsIn tree folder name =
+    (names : List Text) × (tree.names folder ≡ Some (Some names)) × Contains names name
+
+-- cron(8) reads this table, as far as its folders and files are known
+abbrev pub IsReadByCron : Tree → Text → Given → Type 0
+IsReadByCron tree front given = IsFileAt tree given.path × IsTableBelow front (IsIn tree) given
+
+-- tables below the root folder, with all that cron(8) reads there; none where no root is asked
+abbrev pub AreFound : Tree → Option Text → List Given → Type 0
+AreFound tree None found = found ≡ []
+AreFound tree (Some root) found = (front : Text) × IsFront root front
+    × All (IsBelow front) found
+    × ((given : Given) → IsReadByCron tree front given → Contains found given)

@@ -1,0 +1,138 @@
+//! Tables to gather.
+ghost use Rattle.std.specs.Prelude.{◌≡◌, ◌++◌, IfErr, OnOk, map, option_map, string_bytes};
+ghost use Rattle.std.specs.List.{AllZip};
+ghost use Rattle.cs_args.specs.Asked.{asked_gather};
+ghost use Rattle.cs_gather.specs.Tables.{AreNamed, IsLastPart, IsUserFile, system_table, user_table};
+ghost use Rattle.cs_gather.specs.Answer.{AddsAs, FaultsAs};
+
+use crate::fault::GatherFault;
+use crate::gathering::Gathering;
+use crate::programs::Parts;
+use cs_args::GatherWords;
+use std::alloc::{AllocError, Global};
+use std::marker::Model;
+
+/// A table to gather: a system table, or that of a user.
+#[derive(Drop)]
+pub(crate) struct Given {
+    place: String,
+    owner: Option<String>,
+}
+
+impl Model for Given {
+    ghost use Rattle.std.specs.Prelude.{option_map};
+    ghost use Rattle.std.specs.Prelude.{string_bytes};
+    ghost use Rattle.cs_gather.specs.Tables.{Given};
+
+    ghost Value = { Given };
+
+    ghost view = { λ a. record {
+      path = string_bytes a.place;
+      user = option_map string_bytes a.owner;
+    } };
+}
+
+impl Given {
+    /// A table whose lines name users.
+    pub(crate) fn system(path: String) -> Given
+        ensures { result ≡ system_table (string_bytes path) }
+    {
+        Given {
+            place: path,
+            owner: None,
+        }
+    }
+
+    /// The table of a user.
+    pub(crate) fn user(path: String, user: String) -> Given
+        ensures { result ≡ user_table (string_bytes path) (string_bytes user) }
+    {
+        Given {
+            place: path,
+            owner: Some(user),
+        }
+    }
+
+    /// Its path.
+    pub(crate) fn path(&self) -> &str
+        ensures { result.now ≡ self.now.path }
+    {
+        self.place.as_str()
+    }
+
+    /// Whose it is, unless its lines name users.
+    pub(crate) fn owner(&self) -> Option<&str>
+        ensures { option_map (λ user. user.now) result ≡ self.now.user }
+    {
+        match &self.owner {
+            Some(user) => Some(user.as_str()),
+            None => None,
+        }
+    }
+
+    /// Adds its commands, as its bytes say them, with these parts.
+    pub(crate) fn add(
+        &self,
+        alloc: Global,
+        gathering: &mut Gathering,
+        bytes: &[u8],
+        parts: &[Parts],
+    ) -> Result<(), GatherFault>
+        ensures ok { OnOk result
+            (AddsAs self.now.user self.now.path bytes.now parts.now gathering.old gathering.new) }
+        ensures err { IfErr result
+            (FaultsAs self.now.user self.now.path bytes.now parts.now gathering.old) }
+    {
+        match self.owner() {
+            Some(user) => gathering.add_user(alloc, self.path(), user, bytes, parts),
+            None => gathering.add_system(alloc, self.path(), bytes, parts),
+        }
+    }
+}
+
+/// What stands behind the last slash of a path, or all of it.
+fn last_part(path: &str) -> &str
+    ensures { IsLastPart path.now result.now }
+{
+    let mut part = path;
+    while let Some((_, behind)) = part.split_once('/') {
+        part = behind;
+    }
+    part
+}
+
+/// Adds system tables.
+fn push_system(alloc: Global, paths: &[&str], tables: &mut Vec<Given>) -> Result<(), AllocError>
+    ensures { OnOk result (tables.new.items
+        ≡ tables.old.items ++ map system_table (map (λ path. path.now) paths.now)) }
+{
+    for path in paths {
+        tables.push(Given::system(String::from_str(alloc, path)?))?;
+    }
+    Ok(())
+}
+
+/// Adds users' tables.
+fn push_users(alloc: Global, paths: &[&str], tables: &mut Vec<Given>) -> Result<(), AllocError>
+    ensures { OnOk result ((users : _) × (tables.new.items ≡ tables.old.items ++ users)
+        × AllZip IsUserFile (map (λ path. path.now) paths.now) users) }
+{
+    for path in paths {
+        let user = String::from_str(alloc, last_part(path))?;
+        tables.push(Given::user(String::from_str(alloc, path)?, user))?;
+    }
+    Ok(())
+}
+
+/// Adds the tables that the words name.
+pub(crate) fn push_named(
+    alloc: Global,
+    request: &GatherWords<'_>,
+    tables: &mut Vec<Given>,
+) -> Result<(), AllocError>
+    ensures { OnOk result ((named : _) × (tables.new.items ≡ tables.old.items ++ named)
+        × AreNamed (asked_gather request.now) named) }
+{
+    push_system(alloc, &request.system, tables)?;
+    push_users(alloc, &request.user, tables)
+}

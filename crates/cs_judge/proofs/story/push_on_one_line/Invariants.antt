@@ -1,6 +1,0 @@
-use Rattle.std.proofs.Common.{◌≡◌, ◌++◌, map, take}
-use Rattle.cs_judge.specs.Story.{on_one_line}
-use Rattle.cs_judge.proofs.story.push_on_one_line.Given as goal
-
-abbrev pub invariant-loop-byte : goal.invariant-loop-byte
-invariant-loop-byte l = l.text.items ≡ l.fn.text.items ++ map on_one_line (take l.byte-index l.words)

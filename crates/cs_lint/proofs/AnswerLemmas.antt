@@ -1,0 +1,336 @@
+-- What is answered to `lint`.
+use Rattle.std.proofs.Common.{◌≡◌, ◌≢◌, ◌<◌, ◌≤◌, ◌==◌, ◌&&◌, ◌||◌, ◌⊎◌, ◌∙◌, ℕ, ℤ, Bool, true, false, not, nat_le, if◌then◌else◌, List, [], Option, Some, None, IfSome, Bor, ap, arith, inl, inr, length, option_map, refl, slice_index_or, subst, sym}
+use Rattle.std.specs.List.{list_any}
+use Rattle.std.specs.Option.{option_copied}
+use Rattle.std.proofs.lemmas.Bool.{cases_lt, eqb-true}
+use Rattle.std.proofs.lemmas.List.{nil_from_length}
+use Rattle.std.proofs.lemmas.List.Folds.{list_any_none}
+use Rattle.std.proofs.Math.Bool.{and-false}
+use Rattle.clap.specs.Words.{Text}
+use Rattle.cs_table.specs.Table.{nowhere}
+use Rattle.cs_table.specs.Text.{lines_of}
+use Rattle.cs_crontab.specs.Reading.{line_of}
+use Rattle.cs_crontab.specs.declared.table.When.{When}
+use Rattle.cs_crontab.specs.declared.fault.LineFault.TheVariants.{TooLong}
+use Rattle.cs_table.specs.declared.limits.TheConstants.{MAX_TABLE}
+use Rattle.cs_anacrontab.specs.declared.fault.JobFault.TheVariants.{TooLong as JobsTooLong}
+use Rattle.cs_args.specs.CommandLine.{AskedLint}
+use Rattle.cs_io.specs.Files.{Failed, IsFresh, IsUpTo, Reads}
+use Rattle.cs_io.specs.declared.reason.Reason.{Reason}
+use Rattle.cs_lint.specs.Changes.{AreChangesAfter}
+use Rattle.cs_lint.specs.declared.change.Change.{Change}
+use Rattle.cs_plan.specs.Plan.{Declared}
+use Rattle.cs_lint.specs.Clock.{changes_told, clock_verdict, is_odd_then, summer_time, told_of_some, when_in}
+use Rattle.cs_lint.specs.Refused.{AreTaken, IsPlanOf, Judges}
+use Rattle.cs_lint.specs.Startup.{is_odd_some}
+use Rattle.cs_lint.specs.Wanted.{has_name, is_wanted}
+use Rattle.cs_lint.specs.declared.wanted.Wanted.{Wanted}
+use Rattle.cs_lint.specs.declared.report.Verdict.{Verdict}
+use Rattle.cs_lint.specs.declared.report.Verdict.TheVariants.{Clean, Odd, Faulty}
+use Rattle.cs_files.specs.Response.{Ending}
+use Rattle.cs_files.specs.Reads.{IsRead, IsUnreadAt}
+use Rattle.cs_files.specs.Trouble.{IsHonestOf, IsUnread, NoTimeZone, TellsPath, Trouble, Unread, ends, trouble, trouble_status}
+use Rattle.cs_files.specs.declared.fault.Fault.{Fault}
+use Rattle.cs_files.proofs.TroubleLemmas.{some_is}
+use Rattle.cs_lint.specs.Answer.{AreChanges, AreHeld, AreHeldTables, HasCleanPlan, HasNoZone, IfAllKnown, IfKnown, IfShort, IsAsked, IsCleanTable, IsLong, IsShort, IsNoZone, IsSomeUpTo, IsTrueOf, IsUnreadFile, IsUnreadZone, IsUnreadable, LintsFiles, TellsZone, ToldOdd, verdict_status}
+
+-- a file can't be read, or is no time zone's
+pub unread_answer : (a : AskedLint) (now : ℤ) (files : List ℕ → Option (List ℕ)) (before after : Failed) (e : Fault) (r : Ending) → IfSome (trouble e) (IsUnreadable a files before after) → option_map (ends []) (trouble e) ≡ Some r → LintsFiles a now files before after r
+unread_answer a now files before after e r = by_trouble (trouble e)
+  where
+    by_trouble : (o : Option Trouble) → IfSome o (IsUnreadable a files before after) → option_map (ends []) o ≡ Some r → LintsFiles a now files before after r
+    by_trouble None h is = absurd (cc)
+    by_trouble (Some t) told is = inr (t, told, sym (some_is (ends [] t) r is))
+
+-- a file can't be read
+pub unread_file : (a : AskedLint) (files : List ℕ → Option (List ℕ)) (before after : Failed) (e : Fault) → IsUnreadFile e → IfSome (trouble e) (IsUnreadable a files before after)
+unread_file a files before after e = by_trouble (trouble e)
+  where
+    by_trouble : (o : Option Trouble) → IfSome o (λ t. (path : Text) × TellsPath path t) → IfSome o (IsUnreadable a files before after)
+    by_trouble None told = tt
+    by_trouble (Some t) told = inl told
+
+-- ---- what is known of a file
+
+-- it holds of each text
+if_known : (files : List ℕ → Option (List ℕ)) (path : Option Text) (R : Option (List ℕ) → Type 0) → ((text : Option (List ℕ)) → R text) → IfKnown files path R
+if_known files None R h = h None
+if_known files (Some path) R h = if_some (files path)
+  where
+    if_some : (o : Option (List ℕ)) → IfSome o (λ text. R (Some text))
+    if_some None = tt
+    if_some (Some text) = h (Some text)
+
+-- it holds of each text of which another thing does
+known_so : (files : List ℕ → Option (List ℕ)) (path : Option Text) (Q R : Option (List ℕ) → Type 0) → ((text : Option (List ℕ)) → Q text → R text) → IfKnown files path Q → IfKnown files path R
+known_so files None Q R h is = h None is
+known_so files (Some path) Q R h is = if_some (files path) is
+  where
+    if_some : (o : Option (List ℕ)) → IfSome o (λ text. Q (Some text)) → IfSome o (λ text. R (Some text))
+    if_some None is = tt
+    if_some (Some text) is = h (Some text) is
+
+-- ---- what is judged
+
+-- the bytes of a file that is lent
+pub bytes_lent : {T : Type 0} (lent : Option (Bor T)) (held : Option T) (bytes_of : T → List ℕ) (bytes : Option (List ℕ)) → option_copied lent ≡ held → option_map bytes_of held ≡ bytes → option_map (λ file. bytes_of file.now) lent ≡ bytes
+bytes_lent None held bytes_of bytes same is = ap (option_map bytes_of) same ∙ is
+bytes_lent (Some file) held bytes_of bytes same is = ap (option_map bytes_of) same ∙ is
+
+-- what holds of texts holds of the same texts
+pub same_texts : (R : List ℕ → Option (List ℕ) → Option (List ℕ) → Type 0) (t u : List ℕ) (j k d e : Option (List ℕ)) → t ≡ u → j ≡ k → d ≡ e → R t j d → R u k e
+same_texts R t u j k d e table jobs declarations is =
+    subst (λ (x : Option (List ℕ)). R u k x) declarations (subst (λ (x : Option (List ℕ)). R u x d) jobs (subst (λ (x : List ℕ). R x j d) table is))
+
+-- ---- tables that are too long
+
+-- two crontabs that are too long are judged alike, whatever is beside them
+long_table : (v : Verdict) (held text : List ℕ) (j k d e : Option (List ℕ)) → MAX_TABLE < length held → MAX_TABLE < length text → Judges v held j d → Judges v text k e
+long_table Clean held text j k d e l m (table, jobs, means, other, plan) = absurd (let s = means.short in omega (arith, s, l))
+long_table Odd held text j k d e l m (table, jobs, means, other, plan) = absurd (let s = means.short in omega (arith, s, l))
+long_table Faulty held text j k d e l m is = inl (nowhere TooLong, inl (m, refl))
+
+-- and so are two anacrontabs
+long_jobs : (v : Verdict) (t : List ℕ) (held text d e : Option (List ℕ)) → IsLong held → IsLong text → Judges v t held d → Judges v t text e
+long_jobs v t None text d e l m is = absurd l
+long_jobs v t (Some held) None d e l m is = absurd m
+long_jobs Clean t (Some held) (Some text) d e l m (table, jobs, means, others, plan) = absurd (let s = others.short in omega (arith, s, l))
+long_jobs Odd t (Some held) (Some text) d e l m (table, jobs, means, others, plan) = absurd (let s = others.short in omega (arith, s, l))
+long_jobs Faulty t (Some held) (Some text) d e l m is = inr (inl (nowhere JobsTooLong, inl (m, refl)))
+
+short_or_long : (o : Option (List ℕ)) → IsShort o ⊎ IsLong o
+short_or_long None = inl tt
+short_or_long (Some text) = elim (cases_lt MAX_TABLE (length text)) [
+  | inl long ↦ inr long
+  | inr short ↦ inl short
+]
+
+-- what was judged of the bytes that were read is so of the files
+pub judged : (a : AskedLint) (now : ℤ) (files : List ℕ → Option (List ℕ)) (v : Verdict) (table : List ℕ) (jobs declarations : Option (List ℕ)) (changes : List Change)
+    → AreHeld a now files table jobs declarations changes → Judges v table jobs declarations → IfAllKnown files a (Judges v)
+judged a now files v table jobs declarations changes (tables, more) is = by_table (files a.table) tables.0
+  where
+    beside : (j : Option (List ℕ)) → length table ≤ MAX_TABLE → IsSomeUpTo jobs j → IfKnown files a.declarations (Judges v table j)
+    beside j short (inr (l, m)) = if_known files a.declarations (Judges v table j) (λ d. long_jobs v table jobs j declarations d l m is)
+    beside j short (inl same) = elim (short_or_long jobs) [
+      | inl few ↦ known_so files a.declarations (λ d. declarations ≡ d) (Judges v table j) (λ d e. subst (λ (k : Option (List ℕ)). Judges v table k d) same (subst (λ (x : Option (List ℕ)). Judges v table jobs x) e is)) ((more short few).0)
+      | inr long ↦ if_known files a.declarations (Judges v table j) (λ d. long_jobs v table jobs j declarations d long (subst IsLong same long) is)
+    ]
+
+    all_long : (t : List ℕ) → MAX_TABLE < length table → MAX_TABLE < length t → IfKnown files a.anacrontab (λ j. IfKnown files a.declarations (Judges v t j))
+    all_long t l m = if_known files a.anacrontab (λ j. IfKnown files a.declarations (Judges v t j)) (λ j. if_known files a.declarations (Judges v t j) (λ d. long_table v table t jobs j declarations d l m is))
+
+    by_table : (o : Option (List ℕ)) → IfSome o (λ t. IsUpTo MAX_TABLE t table) → IfSome o (λ t. IfKnown files a.anacrontab (λ j. IfKnown files a.declarations (Judges v t j)))
+    by_table None read = tt
+    by_table (Some t) (inr (l, m)) = all_long t l m
+    by_table (Some t) (inl same) = elim (cases_lt MAX_TABLE (length table)) [
+      | inl long ↦ all_long t long (subst (λ (b : List ℕ). MAX_TABLE < length b) same long)
+      | inr short ↦ subst (λ (b : List ℕ). IfKnown files a.anacrontab (λ j. IfKnown files a.declarations (Judges v b j))) same
+          (known_so files a.anacrontab (IsSomeUpTo jobs) (λ j. IfKnown files a.declarations (Judges v table j)) (λ j up. beside j short up) (tables.1 short))
+    ]
+
+-- a table that reads as an anacrontab is odd at least
+pub at_least_odd : (v r : Verdict) (table : List ℕ) (jobs declarations : Option (List ℕ)) → (r ≡ v) ⊎ ((v ≡ Clean) × (r ≡ Odd)) → Judges v table jobs declarations → Judges r table jobs declarations
+at_least_odd v r table jobs declarations (inl same) judges = rw same judges
+at_least_odd v r table jobs declarations (inr (clean, odd)) judges = rw odd (rw clean at judges)
+
+-- the status of a verdict that isn't odd
+pub none_odd : (v r : Verdict) (status : ℕ) → r ≡ v → v ≢ Odd → status ≡ verdict_status r → status ≢ 1
+none_odd v Clean status same other is = λ one. absurd (omega (arith, is, one))
+none_odd v Odd status same other is = absurd (other (sym same))
+none_odd v Faulty status same other is = λ one. absurd (omega (arith, is, one))
+
+-- ---- the clocks
+
+long_no_short : (o : Option (List ℕ)) → IsLong o → IsShort o → ⊥
+long_no_short None l s = l
+long_no_short (Some text) l s = omega (arith, l, s)
+
+-- what holds of the bytes that were read of tables that aren't too long is so of their files
+pub short_so : (a : AskedLint) (files : List ℕ → Option (List ℕ)) (table : List ℕ) (jobs : Option (List ℕ)) (R : List ℕ → Type 0)
+    → AreHeldTables a files table jobs → (length table ≤ MAX_TABLE → IsShort jobs → R table) → IfShort files a R
+short_so a files table jobs R (read, beside) h = by_table (files a.table) read
+  where
+    held_short : (j : Option (List ℕ)) → IsSomeUpTo jobs j → IsShort j → IsShort jobs
+    held_short j (inl same) few = subst IsShort (sym same) few
+    held_short j (inr (l, m)) few = absurd (long_no_short j m few)
+
+    of_held : length table ≤ MAX_TABLE → IfKnown files a.anacrontab (λ j. IsShort j → R table)
+    of_held short = known_so files a.anacrontab (IsSomeUpTo jobs) (λ j. IsShort j → R table) (λ j up few. h short (held_short j up few)) (beside short)
+
+    by_table : (o : Option (List ℕ)) → IfSome o (λ t. IsUpTo MAX_TABLE t table) → IfSome o (λ t. length t ≤ MAX_TABLE → IfKnown files a.anacrontab (λ j. IsShort j → R t))
+    by_table None up = tt
+    by_table (Some t) (inl same) = subst (λ (b : List ℕ). length b ≤ MAX_TABLE → IfKnown files a.anacrontab (λ j. IsShort j → R b)) same of_held
+    by_table (Some t) (inr (l, m)) = λ short. absurd (omega (arith, short, m))
+
+-- ---- where nothing odd was found
+
+-- no test passes where none of the elements does
+none_any : {X : Type 0} (p : X → Bool) → ((x : X) → p x ≡ false) → (xs : List X) → list_any p xs ≡ false
+none_any p never xs = list_any_none p xs (λ k d below. never (slice_index_or xs k d))
+
+-- no change is told of a table, if none is of each line
+no_clock : (w : Wanted) (changes : List Change) (table : List ℕ) → ((line : List ℕ) → is_odd_then w changes line ≡ false) → clock_verdict w changes table ≡ Clean
+no_clock w changes table never =
+    ap (λ (b : Bool). if nat_le (length table) MAX_TABLE && b then Odd else Clean) (none_any (is_odd_then w changes) never (lines_of table))
+    ∙ ap (λ (b : Bool). if b then Odd else Clean) (and-false (nat_le (length table) MAX_TABLE))
+
+-- where faults alone are told none is
+only_faults : (w : Wanted) (changes : List Change) (line : List ℕ) → w.faults_only ≡ true → is_odd_then w changes line ≡ false
+only_faults w changes line only =
+    none_any (λ change. is_wanted w summer_time) (λ change. ap (λ (b : Bool). not b && ((length w.only.now == 0 || has_name w.only.now summer_time) && not (has_name w.except.now summer_time))) only) (changes_told changes line)
+
+-- nor where the clocks don't change
+no_change : (w : Wanted) (line : List ℕ) → is_odd_then w [] line ≡ false
+unfolding changes_told
+no_change w line = by_when (when_in (line_of line))
+  where
+    by_when : (o : Option When) → list_any (λ change. is_wanted w summer_time) (told_of_some [] o) ≡ false
+    by_when None = refl
+    by_when (Some when) = refl
+
+-- a list whose test says that it's empty is
+pub none_there : {X : Type 0} (xs : List X) (empty : Bool) → empty ≡ (length xs == 0) → empty ≡ true → xs ≡ []
+none_there xs empty is so = nil_from_length xs (eqb-true _ 0 (sym is ∙ so))
+
+-- so of no line where it isn't looked for
+pub clock_passed : (w : Wanted) (changes : List Change) (table : List ℕ) → (changes ≡ []) ⊎ (w.faults_only ≡ true) → clock_verdict w changes table ≡ Clean
+clock_passed w changes table (inl none) = no_clock w changes table (λ line. subst (λ (c : List Change). is_odd_then w c line ≡ false) (sym none) (no_change w line))
+clock_passed w changes table (inr only) = no_clock w changes table (λ line. only_faults w changes line only)
+
+-- what isn't odd in the end wasn't before
+pub still_clean : (v r : Verdict) → (r ≡ v) ⊎ ((v ≡ Clean) × (r ≡ Odd)) → r ≡ Clean → v ≡ Clean
+still_clean v r (inl same) clean = sym same ∙ clean
+still_clean v r (inr (clean, odd)) is = clean
+
+-- what would have been found isn't there
+pub not_found : (odd : Bool) (v : Verdict) → (odd ≡ true → v ≢ Clean) → v ≡ Clean → odd ≡ false
+not_found true v found clean = absurd (found refl clean)
+not_found false v found clean = refl
+
+-- nor is anything odd about the plan
+pub plan_clean : (w : Wanted) (v : Verdict) (t : List ℕ) (j d : Option (List ℕ)) → (plan : Option Declared) × IsPlanOf plan t j d × (is_odd_some w t plan ≡ true → v ≢ Clean) → v ≡ Clean → HasCleanPlan w t j d
+plan_clean w v t j d (plan, is, found) clean = (plan, is, not_found (is_odd_some w t plan) v found clean)
+
+-- files that are taken aren't too long
+table_short : (t : List ℕ) (j d : Option (List ℕ)) → AreTaken t j d → length t ≤ MAX_TABLE
+table_short t j d (table, jobs, means, others, plan) = means.short
+
+jobs_short : (t : List ℕ) (j d : Option (List ℕ)) → AreTaken t j d → IsShort j
+jobs_short t None d is = tt
+jobs_short t (Some text) d (table, jobs, means, others, plan) = others.short
+
+-- what holds of a crontab that was read, and isn't too long, holds of its file
+known_table : (o : Option (List ℕ)) (table : List ℕ) (R : List ℕ → Type 0) → IfSome o (λ t. IsUpTo MAX_TABLE t table) → length table ≤ MAX_TABLE → R table → IfSome o R
+known_table None table R read short is = tt
+known_table (Some t) table R (inl same) short is = subst R same is
+known_table (Some t) table R (inr (l, m)) short is = absurd (omega (arith, l, short))
+
+-- .. and so of all files
+known_all : (a : AskedLint) (now : ℤ) (files : List ℕ → Option (List ℕ)) (table : List ℕ) (jobs declarations : Option (List ℕ)) (changes : List Change) (R : List ℕ → Option (List ℕ) → Option (List ℕ) → Type 0)
+    → AreHeld a now files table jobs declarations changes → length table ≤ MAX_TABLE → IsShort jobs → R table jobs declarations → IfAllKnown files a R
+known_all a now files table jobs declarations changes R (tables, more) short few is =
+    known_table (files a.table) table (λ t. IfKnown files a.anacrontab (λ j. IfKnown files a.declarations (R t j))) tables.0 short
+    (known_so files a.anacrontab (IsSomeUpTo jobs) (λ j. IfKnown files a.declarations (R table j)) beside (tables.1 short))
+  where
+    beside : (j : Option (List ℕ)) → IsSomeUpTo jobs j → IfKnown files a.declarations (R table j)
+    beside j (inr (l, m)) = absurd (long_no_short jobs l few)
+    beside j (inl same) = known_so files a.declarations (λ d. declarations ≡ d) (R table j) (λ d e. subst (λ (k : Option (List ℕ)). R table k d) same (subst (λ (x : Option (List ℕ)). R table jobs x) e is)) ((more short few).0)
+
+-- status 0 is that of nothing found
+pub none_found : (v : Verdict) (status : ℕ) → status ≡ verdict_status v → status ≡ 0 → v ≡ Clean
+none_found Clean status is zero = refl
+none_found Odd status is zero = absurd (omega (arith, is, zero))
+none_found Faulty status is zero = absurd (omega (arith, is, zero))
+
+-- nothing odd was found in the files
+pub told_odd : (a : AskedLint) (now : ℤ) (files : List ℕ → Option (List ℕ)) (table : List ℕ) (jobs declarations : Option (List ℕ)) (changes : List Change) (wanted : Wanted) (verdict : Verdict) (r : Ending)
+    → AreHeld a now files table jobs declarations changes → IsAsked a wanted → r.status ≡ verdict_status verdict → Judges verdict table jobs declarations
+    → (r.status ≡ 0 → IsCleanTable wanted changes table) → (r.status ≡ 0 → HasCleanPlan wanted table jobs declarations) → ToldOdd a now files r
+told_odd a now files table jobs declarations changes wanted verdict r held asked status judges clean planned = (
+  wanted,
+  changes,
+  asked,
+  short_so a files table jobs (λ t. IfKnown files a.zone (λ zone. AreChanges now zone changes)) held.0 (λ short few. (held.1 short few).1),
+  λ zero.
+      let taken : AreTaken table jobs declarations = subst (λ (v : Verdict). Judges v table jobs declarations) (none_found verdict r.status status zero) judges in
+      let short = table_short table jobs declarations taken in
+      let few = jobs_short table jobs declarations taken in
+      (known_table (files a.table) table (IsCleanTable wanted changes) held.0.0 short (clean zero), known_all a now files table jobs declarations changes (HasCleanPlan wanted) held short few (planned zero)),
+)
+
+-- the file of the zone can't be read, or is none
+pub unread_zone : (a : AskedLint) (files held : List ℕ → Option (List ℕ)) (before middle after : Failed) (table : List ℕ) (jobs : Option (List ℕ)) (e : Fault)
+    → AreHeldTables a files table jobs → held ≡ files → middle ≡ before → IsUnreadZone a.zone middle after e
+    → (length table ≤ MAX_TABLE → IsShort jobs → IsTrueOf held a.zone e) → IfSome (trouble e) (IsUnreadable a files before after)
+unread_zone a files held before middle after table jobs e tables same kept = by_trouble (trouble e)
+  where
+    by_trouble : (o : Option Trouble) → IfSome o (λ t. ((unread : Text) × TellsPath unread t) ⊎ ((after ≡ middle) × TellsZone a.zone t))
+        → (length table ≤ MAX_TABLE → IsShort jobs → IfSome o (λ t. TellsZone a.zone t → HasNoZone held a.zone)) → IfSome o (IsUnreadable a files before after)
+    by_trouble None told is = tt
+    by_trouble (Some t) (inl path) is = inl path
+    by_trouble (Some t) (inr (as_before, zone)) is = inr (
+      as_before ∙ kept,
+      zone,
+      short_so a files table jobs (λ text. HasNoZone files a.zone) tables (λ short few. subst (λ (f : List ℕ → Option (List ℕ)). HasNoZone f a.zone) same (is short few zone)),
+    )
+
+-- a file that can't be read isn't told to be no zone's
+pub unread_is_other : (files : List ℕ → Option (List ℕ)) (path : Text) (before after : Failed) (e : Fault) → IsUnreadAt path after e → IsUnreadZone (Some path) before after e × IsTrueOf files (Some path) e
+unread_is_other files path before after e = by_trouble (trouble e)
+  where
+    other : (t : Trouble) (reason : Reason) (zone : Text) → t ≡ Unread path reason → t ≡ NoTimeZone zone → ⊥
+    other t reason zone one two = absurd (cc)
+
+    by_trouble : (o : Option Trouble) → IfSome o (λ t. (after path ≡ true) × TellsPath path t)
+        → IfSome o (λ t. ((unread : Text) × TellsPath unread t) ⊎ ((after ≡ before) × TellsZone (Some path) t)) × IfSome o (λ t. TellsZone (Some path) t → HasNoZone files (Some path))
+    by_trouble None is = (tt, tt)
+    by_trouble (Some t) (failed, (reason, is)) = (inl (path, (reason, is)), λ zone. absurd (other t reason zone.0 is zone.2))
+
+-- and what is no zone is told so
+pub none_is_told : (path : Text) (bytes : List ℕ) (before after : Failed) (e : Fault) → after ≡ before
+    → IfSome (trouble e) (λ t. (t ≡ NoTimeZone path) × IsNoZone bytes) → IsUnreadZone (Some path) before after e
+none_is_told path bytes before after e same = by_trouble (trouble e)
+  where
+    by_trouble : (o : Option Trouble) → IfSome o (λ t. (t ≡ NoTimeZone path) × IsNoZone bytes) → IfSome o (λ t. ((unread : Text) × TellsPath unread t) ⊎ ((after ≡ before) × TellsZone (Some path) t))
+    by_trouble None is = tt
+    by_trouble (Some t) (is, none) = inr (same, (path, refl, is))
+
+-- bytes that are no zone's were read of a file that is none
+no_zone_read : (text bytes : List ℕ) → IsUpTo MAX_TABLE text bytes → IsNoZone bytes → IsNoZone text
+no_zone_read text bytes (inl same) none = subst IsNoZone same none
+no_zone_read text bytes (inr (l, m)) none = inl m
+
+pub none_is_true : (files left : List ℕ → Option (List ℕ)) (path : Text) (bytes : List ℕ) (e : Fault) → IsFresh files left → IsRead MAX_TABLE path left bytes
+    → IfSome (trouble e) (λ t. (t ≡ NoTimeZone path) × IsNoZone bytes) → IsTrueOf files (Some path) e
+none_is_true files left path bytes e fresh read = by_trouble (trouble e)
+  where
+    by_file : (whole rest : Option (List ℕ)) → IfSome whole (λ text. rest ≡ Some text) → IfSome rest (λ text. IsUpTo MAX_TABLE text bytes) → IsNoZone bytes → IfSome whole (λ text. IsNoZone text)
+    by_file None rest same up none = tt
+    by_file (Some text) rest same up none = no_zone_read text bytes (subst (λ (o : Option (List ℕ)). IfSome o (λ t. IsUpTo MAX_TABLE t bytes)) same up) none
+
+    by_trouble : (o : Option Trouble) → IfSome o (λ t. (t ≡ NoTimeZone path) × IsNoZone bytes) → IfSome o (λ t. TellsZone (Some path) t → HasNoZone files (Some path))
+    by_trouble None is = tt
+    by_trouble (Some t) (is, none) = λ zone. by_file (files path) (left path) (fresh path) read none
+
+-- the changes of a zone that was read are those of its file
+pub changes_read : (files left : List ℕ → Option (List ℕ)) (path : Text) (bytes : List ℕ) (now : ℤ) (changes : List Change) → IsFresh files left → IsRead MAX_TABLE path left bytes
+    → (length bytes ≤ MAX_TABLE) × AreChangesAfter bytes now changes → IfSome (files path) (λ zone. AreChangesAfter zone now changes)
+changes_read files left path bytes now changes fresh read (short, are) = by_file (files path) (left path) (fresh path) read
+  where
+    of_text : (text : List ℕ) → IsUpTo MAX_TABLE text bytes → AreChangesAfter text now changes
+    of_text text (inl same) = subst (λ (b : List ℕ). AreChangesAfter b now changes) same are
+    of_text text (inr (l, m)) = absurd (omega (arith, l, short))
+
+    by_file : (whole rest : Option (List ℕ)) → IfSome whole (λ text. rest ≡ Some text) → IfSome rest (λ text. IsUpTo MAX_TABLE text bytes) → IfSome whole (λ zone. AreChangesAfter zone now changes)
+    by_file None rest same up = tt
+    by_file (Some text) rest same up = of_text text (subst (λ (o : Option (List ℕ)). IfSome o (λ t. IsUpTo MAX_TABLE t bytes)) same up)
+
+-- which is no status of a failed device
+pub zone_is_honest : (failed : Failed) (reads : Reads) (path : Text) (bytes : List ℕ) (e : Fault) → IfSome (trouble e) (λ t. (t ≡ NoTimeZone path) × IsNoZone bytes) → IsHonestOf failed reads e
+zone_is_honest failed reads path bytes e = by_trouble (trouble e)
+  where
+    by_trouble : (o : Option Trouble) → IfSome o (λ t. (t ≡ NoTimeZone path) × IsNoZone bytes)
+        → IfSome o (λ t. trouble_status t ≡ 6 → (unread : Text) × IsUnread unread failed reads × TellsPath unread t)
+    by_trouble None is = tt
+    by_trouble (Some t) (is, none) = λ six. absurd (let s : trouble_status t ≡ 3 = ap trouble_status is in omega (arith, s, six))

@@ -1,0 +1,173 @@
+-- What is answered to `lint`.
+use Rattle.std.specs.Prelude.{◌≡◌, ◌≢◌, ◌≤◌, ◌<◌, ◌⊎◌, ◌++◌, ℕ, ℤ, false, true, List, [], Option, Some, None, IfSome}
+use Rattle.std.specs.Prelude.{Contains, length, map}
+use Rattle.clap.specs.Words.{Text}
+use Rattle.cs_table.specs.declared.limits.TheConstants.{MAX_TABLE}
+use Rattle.cs_explain.specs.Odd.{odd_named}
+use Rattle.cs_args.specs.CommandLine.{AskedLint}
+use Rattle.cs_io.specs.Files.{Failed, IsUpTo}
+use Rattle.cs_lint.specs.Changes.{AreChangesAfter, AreNoZone}
+use Rattle.cs_lint.specs.declared.change.Change.{Change}
+use Rattle.cs_plan.specs.Plan.{Declared}
+use Rattle.cs_lint.specs.Clock.{clock_verdict}
+use Rattle.cs_lint.specs.Odd.{is_odd_table}
+use Rattle.cs_lint.specs.Refused.{IsPlanOf, Judges}
+use Rattle.cs_lint.specs.Startup.{is_odd_some}
+use Rattle.cs_lint.specs.declared.report.Verdict.{Verdict}
+use Rattle.cs_lint.specs.declared.report.Verdict.TheVariants.{Clean, Odd, Faulty}
+use Rattle.cs_lint.specs.declared.wanted.Wanted.{Wanted}
+use Rattle.cs_files.specs.Response.{Ending}
+use Rattle.cs_files.specs.Trouble.{NoTimeZone, TellsPath, Trouble, ends, trouble}
+use Rattle.cs_files.specs.declared.fault.Fault.{Fault}
+
+-- this holds of the text at a path, or of no text where there is no path; where the bytes of the file
+-- aren't known nothing is said
+abbrev pub IfKnown : (List ℕ → Option (List ℕ)) → Option Text → (Option (List ℕ) → Type 0) → Type 0
+IfKnown files None R = R None
+IfKnown files (Some path) R = IfSome (files path) (λ text. R (Some text))
+
+-- and of the texts of all files of a call
+abbrev pub IfAllKnown : (List ℕ → Option (List ℕ)) → AskedLint
+    → (List ℕ → Option (List ℕ) → Option (List ℕ) → Type 0) → Type 0
+IfAllKnown files a R = IfSome (files a.table) (λ table. IfKnown files a.anacrontab (λ jobs.
+    IfKnown files a.declarations (λ declarations. R table jobs declarations)))
+
+-- the status where nothing was found, where odd things alone were, and where a fault was among them
+abbrev pub verdict_status : Verdict → ℕ
+verdict_status Clean = 0
+verdict_status Odd = 1
+verdict_status Faulty = 3
+
+-- all that was found is told on standard output alone, and the status is that of a verdict
+abbrev pub IsLinted : (Verdict → Type 0) → Ending → Type 0
+IsLinted Judged ending =
+    (ending.err ≡ []) × ((verdict : Verdict) × (ending.status ≡ verdict_status verdict)
+    × Judged verdict)
+
+-- a text is longer than a table may be
+abbrev pub IsLong : Option (List ℕ) → Type 0
+IsLong None = ⊥
+IsLong (Some text) = MAX_TABLE < length text
+
+abbrev pub IsShort : Option (List ℕ) → Type 0
+IsShort text = IfSome text (λ bytes. length bytes ≤ MAX_TABLE)
+
+-- this holds of the text of the crontab, where both tables aren't too long
+abbrev pub IfShort : (List ℕ → Option (List ℕ)) → AskedLint → (List ℕ → Type 0) → Type 0
+IfShort files a R = IfSome (files a.table) (λ table. length table ≤ MAX_TABLE
+    → IfKnown files a.anacrontab (λ jobs. IsShort jobs → R table))
+
+-- a text is no time zone file, or is too long for one
+abbrev pub IsNoZone : List ℕ → Type 0
+IsNoZone text = (MAX_TABLE < length text) ⊎ AreNoZone text
+
+-- the next changes of the clocks of a time zone after an instant; without a zone there are none
+abbrev pub AreChanges : ℤ → Option (List ℕ) → List Change → Type 0
+AreChanges now None changes = changes ≡ []
+AreChanges now (Some zone) changes = AreChangesAfter zone now changes
+
+-- these are the odd names that the words are but for the case of letters, in their order
+abbrev pub AreMeant : List Text → List (List ℕ) → Type 0
+AreMeant words names = map odd_named words ≡ map (λ name. Some name) names
+
+-- each of the words is an odd name so
+abbrev pub AreNamed : List Text → Type 0
+AreNamed words = (names : List (List ℕ)) × AreMeant words names
+
+-- it is one of the words, and no odd name
+abbrev pub IsNoName : List Text → Text → Type 0
+IsNoName words word = Contains words word × (odd_named word ≡ None)
+
+-- so are odd findings asked for
+pub record IsAsked (a : AskedLint) (wanted : Wanted) : Type 0 where
+  pub faults_only : wanted.faults_only ≡ a.faults_only
+  pub only : AreMeant a.only (map (λ name. name.now) wanted.only.now)
+  pub except : AreMeant a.except (map (λ name. name.now) wanted.except.now)
+
+-- nothing that is told is odd in a line of the crontab, and no change of the clocks is told of one
+abbrev pub IsCleanTable : Wanted → List Change → List ℕ → Type 0
+IsCleanTable wanted changes table =
+    (is_odd_table wanted table ≡ false) × (clock_verdict wanted changes table ≡ Clean)
+
+-- nothing that is told is odd about the plan that the files make, if they make one
+abbrev pub HasCleanPlan : Wanted → List ℕ → Option (List ℕ) → Option (List ℕ) → Type 0
+HasCleanPlan wanted table jobs declarations = (plan : Option Declared)
+    × IsPlanOf plan table jobs declarations × (is_odd_some wanted table plan ≡ false)
+
+-- so it is of the files
+abbrev pub AreClean : (List ℕ → Option (List ℕ)) → AskedLint → Wanted → List Change → Type 0
+AreClean files a wanted changes =
+    IfSome (files a.table) (IsCleanTable wanted changes) × IfAllKnown files a (HasCleanPlan wanted)
+
+-- where the status is 0, the files are so by what is asked for and by the next changes of the clocks
+-- of the time zone, after this instant
+abbrev pub ToldOdd : AskedLint → ℤ → (List ℕ → Option (List ℕ)) → Ending → Type 0
+ToldOdd a now files ending = (wanted : Wanted) × (changes : List Change) × IsAsked a wanted
+    × IfShort files a (λ table. IfKnown files a.zone (λ zone. AreChanges now zone changes))
+    × (ending.status ≡ 0 → AreClean files a wanted changes)
+
+-- it is told that the file of a time zone is none
+abbrev pub TellsZone : Option Text → Trouble → Type 0
+TellsZone path t = (zone : Text) × (path ≡ Some zone) × (t ≡ NoTimeZone zone)
+
+-- and so it is, where its bytes are known
+abbrev pub HasNoZone : (List ℕ → Option (List ℕ)) → Option Text → Type 0
+HasNoZone files path = IfKnown files path (λ zone. IfSome zone IsNoZone)
+
+-- it is told which file can't be read, or that the file of the time zone is none
+abbrev pub IsUnreadable : AskedLint → (List ℕ → Option (List ℕ)) → Failed → Failed → Trouble
+    → Type 0
+IsUnreadable a files before after t = ((path : Text) × TellsPath path t)
+    ⊎ ((after ≡ before) × TellsZone a.zone t × IfShort files a (λ table. HasNoZone files a.zone))
+
+-- what is answered of all files: what was found in them, where the status is 3 exactly where their
+-- readers refuse them, and isn't 1 where faults alone are told; or which of them can't be read, or
+-- that the file of the time zone is none
+abbrev pub LintsFiles : AskedLint → ℤ → (List ℕ → Option (List ℕ)) → Failed → Failed → Ending
+    → Type 0
+LintsFiles a now files before after ending =
+    ((after ≡ before) × IsLinted (λ verdict. IfAllKnown files a (Judges verdict)) ending
+    × (a.faults_only ≡ true → ending.status ≢ 1) × ToldOdd a now files ending)
+    ⊎ ((t : Trouble) × IsUnreadable a files before after t × (ending ≡ ends [] t))
+
+-- what is answered to `lint`: that a word is no odd name, at status 4 and before a file is read;
+-- else what is answered of all files
+abbrev pub AnswersLint : AskedLint → ℤ → (List ℕ → Option (List ℕ)) → Failed → Failed → Ending
+    → Type 0
+AnswersLint a now files before after ending =
+    ((word : Text) × IsNoName (a.only ++ a.except) word × (after ≡ before) × (ending.status ≡ 4)
+    × (ending.out ≡ []))
+    ⊎ (AreNamed a.only × AreNamed a.except × LintsFiles a now files before after ending)
+
+-- a file can't be read
+abbrev pub IsUnreadFile : Fault → Type 0
+IsUnreadFile fault = IfSome (trouble fault) (λ t. (path : Text) × TellsPath path t)
+
+-- it is told that the file of a time zone can't be read, or is none
+abbrev pub IsUnreadZone : Option Text → Failed → Failed → Fault → Type 0
+IsUnreadZone path before after fault = IfSome (trouble fault)
+    (λ t. ((unread : Text) × TellsPath unread t) ⊎ ((after ≡ before) × TellsZone path t))
+
+-- it isn't told falsely that it is none
+abbrev pub IsTrueOf : (List ℕ → Option (List ℕ)) → Option Text → Fault → Type 0
+IsTrueOf files path fault =
+    IfSome (trouble fault) (λ t. TellsZone path t → HasNoZone files path)
+
+-- what was read is the text, or both are longer than a table may be
+abbrev pub IsSomeUpTo : Option (List ℕ) → Option (List ℕ) → Type 0
+IsSomeUpTo held text = (held ≡ text) ⊎ (IsLong held × IsLong text)
+
+-- what was read of both tables; an anacrontab behind a table that is too long may be another one
+abbrev pub AreHeldTables : AskedLint → (List ℕ → Option (List ℕ)) → List ℕ → Option (List ℕ)
+    → Type 0
+AreHeldTables a files table jobs =
+    IfSome (files a.table) (λ text. IsUpTo MAX_TABLE text table)
+    × (length table ≤ MAX_TABLE → IfKnown files a.anacrontab (IsSomeUpTo jobs))
+
+-- and of all files, with the changes of the clocks
+abbrev pub AreHeld : AskedLint → ℤ → (List ℕ → Option (List ℕ)) → List ℕ → Option (List ℕ)
+    → Option (List ℕ) → List Change → Type 0
+AreHeld a now files table jobs declarations changes = AreHeldTables a files table jobs
+    × (length table ≤ MAX_TABLE → IsShort jobs
+    → IfKnown files a.declarations (λ text. declarations ≡ text)
+    × IfKnown files a.zone (λ zone. AreChanges now zone changes))

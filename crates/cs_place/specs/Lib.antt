@@ -1,0 +1,4 @@
+pub mod Places
+pub mod Mark
+pub mod Shown
+pub mod PartName

@@ -1,0 +1,5 @@
+pub mod Answer
+pub mod Check
+pub mod Loads
+pub mod Overload
+pub mod Safe

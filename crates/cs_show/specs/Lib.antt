@@ -1,0 +1,5 @@
+pub mod DayAnswer
+pub mod DayText
+pub mod Replay
+pub mod Replayed
+pub mod Verdict

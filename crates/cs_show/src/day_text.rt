@@ -1,0 +1,175 @@
+//! The answer of `day`.
+ghost use Rattle.std.specs.Prelude.{◌≡◌, ◌++◌, ◌-◌, ◌*◌, ◌≤◌, OnOk, IfOk, [], ◌∷◌, string_bytes, flat_map, map};
+ghost use Rattle.std.specs.List.{range_with_len};
+ghost use Rattle.cs_civil.specs.Calendar.{kind};
+ghost use Rattle.cs_show.specs.DayText.{catch_up_text, clock, date_line, days_apart, due_text, end_text, identifier_line, job_text, start_text, weekday_part, window_text};
+
+use cs_civil::{Day, Hours, day_text, four_days, kind_of, weekday_name};
+use cs_schedule::Schedule;
+use cs_windows::{Occupied, Window, windows_on};
+use std::alloc::{AllocError, Global};
+
+/// Adds `HH:MM` of a minute of a day.
+#[tactic(auto, unfolding(crate::specs::DayText::clock))]
+fn add_clock(text: &mut Vec<u8>, minute: u16) -> Result<(), AllocError>
+    ensures { OnOk result (text.new.items ≡ text.old.items ++ clock minute) }
+{
+    let hour = minute / 60;
+    let rest = minute % 60;
+    text.extend_from_slice([
+        b'0' + (hour / 10) as u8,
+        b'0' + (hour % 10) as u8,
+        b':',
+        b'0' + (rest / 10) as u8,
+        b'0' + (rest % 10) as u8,
+    ]
+    .as_slice())?;
+    Ok(())
+}
+
+/// Adds how many days lie between, on this side of the printed day.
+#[tactic(auto, unfolding(crate::specs::DayText::days_apart))]
+fn add_days_apart(
+    alloc: Global,
+    text: &mut Vec<u8>,
+    days: u32,
+    side: &str,
+) -> Result<(), AllocError>
+    ensures { OnOk result (text.new.items ≡ text.old.items ++ days_apart days side.now) }
+{
+    let apart = match days {
+        0 => return Ok(()),
+        1 => format!(in alloc; " the day {side}")?,
+        _ => format!(in alloc; " {days} days {side}")?,
+    };
+    text.extend_from_slice(apart.as_bytes())?;
+    Ok(())
+}
+
+/// Adds where a window ends, by the minute behind it, counted from the start of the printed day.
+#[tactic(auto, using(crate::proofs::TextLemmas::two_parts), unfolding(crate::specs::DayText::end_text))]
+fn add_end(alloc: Global, text: &mut Vec<u8>, end: u32) -> Result<(), AllocError>
+    ensures { OnOk result (text.new.items ≡ text.old.items ++ end_text end) }
+{
+    if end <= 1_440 {
+        return add_clock(text, end as u16);
+    }
+    add_clock(text, (end % 1_440) as u16)?;
+    add_days_apart(alloc, text, end / 1_440, "after")
+}
+
+/// Adds where a window begins.
+#[tactic(auto, using(crate::proofs::TextLemmas::two_parts), unfolding(crate::specs::DayText::start_text))]
+fn add_start(alloc: Global, text: &mut Vec<u8>, window: &Window) -> Result<(), AllocError>
+    ensures { OnOk result (text.new.items ≡ text.old.items ++ start_text window.now) }
+{
+    add_clock(text, window.from)?;
+    add_days_apart(alloc, text, u32::from(window.day_back), "before")
+}
+
+/// Adds the line of a window.
+#[tactic(auto, unfolding(crate::specs::DayText::window_text))]
+fn add_window(alloc: Global, text: &mut Vec<u8>, window: &Window) -> Result<(), AllocError>
+    ensures { OnOk result (text.new.items ≡ text.old.items ++ window_text window.now) }
+{
+    text.extend_from_slice(b"  ".as_slice())?;
+    add_start(alloc, text, window)?;
+    text.extend_from_slice(b" to ".as_slice())?;
+    let end = u32::from(window.from) + u32::from(window.reach);
+    add_end(
+        alloc,
+        text,
+        end.saturating_sub(1_440 * u32::from(window.day_back)),
+    )?;
+    text.push(b'\n')?;
+    Ok(())
+}
+
+/// Adds the lines of windows.
+fn add_windows(alloc: Global, text: &mut Vec<u8>, windows: &[Window]) -> Result<(), AllocError>
+    ensures { OnOk result (text.new.items ≡ text.old.items ++ flat_map window_text windows.now) }
+{
+    for window in windows {
+        add_window(alloc, text, window)?;
+    }
+    Ok(())
+}
+
+/// Adds what is printed of a command line: how often it is due, and the windows of its runs.
+#[tactic(auto, using(crate::proofs::TextLemmas::two_parts), unfolding(crate::specs::DayText::job_text, crate::specs::DayText::due_text))]
+pub fn add_job(
+    alloc: Global,
+    text: &mut Vec<u8>,
+    number: u32,
+    schedule: &Schedule,
+    day: Day,
+    max: u16,
+) -> Result<(), AllocError>
+    requires { 3 ≤ day }
+    ensures { OnOk result
+        (text.new.items ≡ text.old.items ++ job_text day max number schedule.now) }
+{
+    let due = schedule.minutes_of(kind_of(day)).len();
+    text.extend_from_slice(format!(in alloc; "line {number}: due {due}\n")?.as_bytes())?;
+    let occupied = [Occupied::Cron {
+        schedule,
+        reach: max,
+    }];
+    let windows = windows_on(alloc, occupied.as_slice(), four_days(day).as_slice())?;
+    add_windows(alloc, text, windows.as_slice())
+}
+
+/// Adds the line that names an anacron job.
+fn add_identifier(text: &mut Vec<u8>, identifier: &[u8]) -> Result<(), AllocError>
+    ensures { OnOk result (text.new.items ≡ text.old.items ++ identifier_line identifier.now) }
+{
+    text.extend_from_slice(b"job ".as_slice())?;
+    text.extend_from_slice(identifier)?;
+    text.extend_from_slice(b": catch-up\n".as_slice())?;
+    Ok(())
+}
+
+/// Adds what is printed of an anacron job: the windows in which catch-up may occupy the machine.
+#[tactic(auto, using(crate::proofs::TextLemmas::two_parts), unfolding(crate::specs::DayText::catch_up_text))]
+pub fn add_catch_up(
+    alloc: Global,
+    text: &mut Vec<u8>,
+    identifier: &[u8],
+    hours: Hours,
+    day: Day,
+    max: u16,
+) -> Result<(), AllocError>
+    requires day { 3 ≤ day }
+    requires max { (1 ≤ max) × (max ≤ 4_320) }
+    ensures { OnOk result (text.new.items
+        ≡ text.old.items ++ catch_up_text day max hours.from hours.to identifier.now) }
+{
+    add_identifier(text, identifier)?;
+    let from = hours.from();
+    let occupied = [Occupied::CatchUp {
+        from,
+        reach: hours.to() + max - 1 - from,
+    }];
+    let windows = windows_on(alloc, occupied.as_slice(), four_days(day).as_slice())?;
+    add_windows(alloc, text, windows.as_slice())
+}
+
+/// Adds the weekday and the end of the line.
+#[tactic(auto, unfolding(crate::specs::DayText::weekday_part))]
+fn add_weekday(text: &mut Vec<u8>, dow: u8) -> Result<(), AllocError>
+    ensures { OnOk result (text.new.items ≡ text.old.items ++ weekday_part dow) }
+{
+    text.push(b' ')?;
+    text.extend_from_slice(weekday_name(dow).as_bytes())?;
+    text.push(b'\n')?;
+    Ok(())
+}
+
+/// Adds the line of the date.
+#[tactic(auto, using(crate::proofs::TextLemmas::two_parts), unfolding(crate::specs::DayText::date_line))]
+pub fn add_date(text: &mut Vec<u8>, day: Day) -> Result<(), AllocError>
+    ensures { OnOk result (text.new.items ≡ text.old.items ++ date_line day) }
+{
+    text.extend_from_slice(day_text(day).as_slice())?;
+    add_weekday(text, kind_of(day).dow())
+}

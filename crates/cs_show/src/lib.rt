@@ -1,0 +1,11 @@
+//! The answers that show a table and a script: `day` and `replay`.
+#![tactic(auto)]
+
+mod day;
+mod day_text;
+mod replay;
+mod replay_text;
+mod verdict;
+
+pub use day::answer_day;
+pub use replay::answer_replay;

@@ -15,13 +15,15 @@ import tempfile
 from collections import Counter
 from concurrent.futures import ThreadPoolExecutor
 from contextlib import contextmanager
+from functools import cache
 from pathlib import Path
 
 # A draft tells the offset of the time zone.
 os.environ["TZ"] = "UTC"
 
 TOP = Path(__file__).resolve().parent.parent
-PROGRAM = TOP / "crates/cronsafe/out/cronsafe"
+PROGRAM = TOP / "tests/program"
+WHICH = TOP / "share/cronsafe/which"
 # What is told of a plan that decides nothing.
 NO_CONFLICT = (
     b"note: no two jobs can conflict, unless one still runs when it starts again: no exclusive group "
@@ -52,7 +54,7 @@ def wanted(what, right, got):
 def words_of(doc, has_names=True, **options):
     """Returns what is asked of a test program: options with their defaults, and `names` of tests.
 
-    An option `program` has to be a program that is there.
+    An option `program` has to be a program, or a command of programs, that is there.
     """
     parser = argparse.ArgumentParser(
         prog=NAME,
@@ -67,8 +69,10 @@ def words_of(doc, has_names=True, **options):
     asked = parser.parse_args()
     if "program" in options:
         asked.program = asked.program.resolve()
-        if not asked.program.is_file() or not os.access(asked.program, os.X_OK):
-            raise BadUse(f"there is no program {asked.program}: ./cronsafe --help builds it")
+        for word in "--help", "explain":
+            it = itself(asked.program, word)
+            if not it.is_file() or not os.access(it, os.X_OK):
+                raise BadUse(f"there is no program {it}: ./cronsafe {word} builds it")
     return asked
 
 
@@ -90,8 +94,34 @@ def folder_with(files):
         yield Path(folder)
 
 
+@cache
+def suffix_of(word):
+    """Returns what the program that answers a word has behind its name: '-aids' or ''."""
+    call = ["sh", "-c", '. "$0" && printf %s "$1"', WHICH, word]
+    return subprocess.run(call, stdout=subprocess.PIPE, check=True).stdout.decode()
+
+
+@cache
+def itself(program, word):
+    """Returns the program that a command, as of an installation, becomes for a call's first word.
+
+    What isn't such a command is returned as it is.
+    """
+    if program == PROGRAM:
+        name = f"cronsafe{suffix_of(word).replace('-', '_')}"
+        return TOP / f"crates/{name}/out/{name}"
+    if program.is_file() and program.read_bytes().startswith(b"#!"):
+        return program.parents[1] / f"lib/cronsafe/cronsafe{suffix_of(word)}"
+    return program
+
+
 def called(program, words, folder, stdin=b"", seconds=10, **more):
-    """Returns status, standard output and standard error of a call of the program."""
+    """Returns status, standard output and standard error of a call of the program.
+
+    A library that is preloaded and limits are for the program itself, not for the sh before it.
+    """
+    if "preexec_fn" in more or "LD_PRELOAD" in more.get("env", ()):
+        program = itself(program, words[0] if words else "")
     pipes = dict.fromkeys(("stdin", "stdout", "stderr"), subprocess.PIPE)
     given = {"executable": program, "cwd": folder, "start_new_session": True, **pipes, **more}
     try:

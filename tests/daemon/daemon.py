@@ -6,7 +6,7 @@ import signal
 import subprocess
 import time
 
-from harness import Fault, called, wanted
+from harness import Fault, called, itself, wanted
 
 # a call that starts no daemon, or one that has to end by itself at once
 SECONDS = 60
@@ -134,6 +134,8 @@ class Room:
     def start(self, words, output=None, given=INPUT, **variables):
         """Starts and returns a daemon with OUTSIDE and these variables in its environment."""
         self.write("given", given)
+        if "LD_PRELOAD" in variables:
+            words = [itself(words[0], words[1]), *words[1:]]
         env = {**os.environ, "OUTSIDE": "inherited", **variables}
         with (
             open(self.folder / "given", "rb") as given,
